@@ -1,5 +1,5 @@
-//! `count-words`: reads a text, and prints its ten commonest words with their counts. Four threads count on
-//! one map, in which each word has an atomic counter of its own.
+//! `count-words`: reads a text, and prints its ten commonest words with their counts. Four threads
+//! count on one map, in which each word has an atomic counter of its own.
 #![tactic(auto)]
 
 use papaya::{Refused, Session};
@@ -46,8 +46,8 @@ fn count_all(
     Ok(())
 }
 
-/// The words with their counts, the commonest first, and of words that are as common the first one by the
-/// alphabet. A count is told by what it lacks to the greatest number.
+/// The words with their counts, the commonest first, and of words that are as common the first one
+/// by the alphabet. A count is told by what it lacks to the greatest number.
 fn by_count(
     rt: &impl Wait,
     alloc: Global,

@@ -1,5 +1,5 @@
--- What the contracts of the map that threads share speak of: its history, and what a call answers and does.
--- The first seven lines are enough for `get`, `insert` and plain calls.
+-- What the contracts of the map that threads share speak of: its history, and what a call answers
+-- and does. The first seven lines are enough for `get`, `insert` and plain calls.
 pub use Rattle.papaya_book.specs.Logs.{Member, Stored}
 pub use Rattle.papaya_lookup.specs.History.{AllLegalChanges, Change, IsLegalHistory, Makes, changed, key_of, replay, replay_from}
 pub use Rattle.papaya_lookup.specs.Answers.{IsAnsweredBetween, IsPairAnsweredBetween}

@@ -1,7 +1,7 @@
 //! A hash map that threads share, and the same map for one caller: `papaya` 0.2.5, proved.
 //!
-//! This crate names the public items of the others again, and has no code of its own. Its `specs/` name the
-//! definitions again that a caller's contracts and proofs cite: `Threads` and `Seq`.
+//! This crate names the public items of the others again, and has no code of its own. Its `specs/`
+//! name the definitions again that a caller's contracts and proofs cite: `Threads` and `Seq`.
 //!
 //! - [`HashMap`] is the map that threads share, and a [`Session`] one thread's way to it.
 //! - [`HashMap::pin`] gives a [`HashMapRef`], which has all calls, and [`HashMap::pass`] a [`Pass`], the

@@ -2,7 +2,10 @@
 use Rattle.std.proofs.Common.{◌≡◌, ℕ, refl}
 use Rattle.papaya_words.specs.declared.probe.ResizeMode.{ResizeMode}
 use Rattle.papaya_ask.specs.declared.ask.Answer.{Answer as Call_answer}
-use Rattle.papaya_ask.specs.declared.ask.Answer.TheVariants.{Word as Word_read, Exchanged, Found as Found_instead, Yes, Op, Size, Made as Made_number, Ok as Ok_done, Refused as Was_refused}
+use Rattle.papaya_ask.specs.declared.ask.Answer.TheVariants.{Word as Word_read, Exchanged}
+use Rattle.papaya_ask.specs.declared.ask.Answer.TheVariants.{Found as Found_instead, Yes, Op, Size}
+use Rattle.papaya_ask.specs.declared.ask.Answer.TheVariants.{Made as Made_number, Ok as Ok_done}
+use Rattle.papaya_ask.specs.declared.ask.Answer.TheVariants.{Refused as Was_refused}
 use Rattle.papaya_copy.specs.declared.carry.Carried.{Carried}
 use Rattle.papaya_copy.specs.declared.carry.Carried.TheVariants as carried
 use Rattle.papaya_copy.specs.declared.carry.Carry.{Carry}
@@ -84,7 +87,8 @@ step_after step mode initial number (answers.Count count) = step_specs.at_count 
 
 -- what leads the machine within leads the one around it
 module _ (mode : ResizeMode) (initial : ℕ) where
-  pub carry_links : (hash : ℕ) (link : Link) (answer : Answer) → carry_after (carries.Linking hash link) mode initial answer ≡ carried_on hash (link_after link mode initial answer)
+  pub carry_links : (hash : ℕ) (link : Link) (answer : Answer)
+      → carry_after (carries.Linking hash link) mode initial answer ≡ carried_on hash (link_after link mode initial answer)
   carry_links hash link (answers.Call (Word_read word)) = refl
   carry_links hash link (answers.Call Exchanged) = refl
   carry_links hash link (answers.Call (Found_instead word)) = refl
@@ -97,7 +101,8 @@ module _ (mode : ResizeMode) (initial : ℕ) where
   carry_links hash link (answers.Hash h) = refl
   carry_links hash link (answers.Count count) = refl
 
-  pub settle_carries : (slot : Slot) (word : ℕ) (carry : Carry) (answer : Answer) → settle_after (settles.Carrying word carry) slot mode initial answer ≡ settled_by word mode (carry_after carry mode initial answer)
+  pub settle_carries : (slot : Slot) (word : ℕ) (carry : Carry) (answer : Answer)
+      → settle_after (settles.Carrying word carry) slot mode initial answer ≡ settled_by word mode (carry_after carry mode initial answer)
   settle_carries slot word carry (answers.Call (Word_read w)) = refl
   settle_carries slot word carry (answers.Call Exchanged) = refl
   settle_carries slot word carry (answers.Call (Found_instead w)) = refl
@@ -111,7 +116,8 @@ module _ (mode : ResizeMode) (initial : ℕ) where
   settle_carries slot word carry (answers.Count count) = refl
 
   module _ (number : ℕ) where
-    pub step_links : (from : ℕ) (link : Link) (answer : Answer) → step_after (steps.Linking from link) mode initial number answer ≡ linked_to from (link_after link mode initial answer)
+    pub step_links : (from : ℕ) (link : Link) (answer : Answer)
+        → step_after (steps.Linking from link) mode initial number answer ≡ linked_to from (link_after link mode initial answer)
     step_links from link (answers.Call (Word_read w)) = refl
     step_links from link (answers.Call Exchanged) = refl
     step_links from link (answers.Call (Found_instead w)) = refl
@@ -124,7 +130,8 @@ module _ (mode : ResizeMode) (initial : ℕ) where
     step_links from link (answers.Hash h) = refl
     step_links from link (answers.Count count) = refl
 
-    pub step_settles : (chunk : Chunk) (settle : Settle) (answer : Answer) → step_after (steps.Settling chunk settle) mode initial number answer ≡ settled_to chunk (settle_after settle (slot_of chunk) mode initial answer)
+    pub step_settles : (chunk : Chunk) (settle : Settle) (answer : Answer)
+        → step_after (steps.Settling chunk settle) mode initial number answer ≡ settled_to chunk (settle_after settle (slot_of chunk) mode initial answer)
     step_settles chunk settle (answers.Call (Word_read w)) = refl
     step_settles chunk settle (answers.Call Exchanged) = refl
     step_settles chunk settle (answers.Call (Found_instead w)) = refl
@@ -137,7 +144,8 @@ module _ (mode : ResizeMode) (initial : ℕ) where
     step_settles chunk settle (answers.Hash h) = refl
     step_settles chunk settle (answers.Count count) = refl
 
-    pub copying_steps : (aim : Aim) (step : Step) (answer : Answer) → copying_after (copyings.Stepping aim step) mode initial number answer ≡ leads aim mode (step_after step mode initial number answer)
+    pub copying_steps : (aim : Aim) (step : Step) (answer : Answer)
+        → copying_after (copyings.Stepping aim step) mode initial number answer ≡ leads aim mode (step_after step mode initial number answer)
     copying_steps aim step (answers.Call (Word_read w)) = refl
     copying_steps aim step (answers.Call Exchanged) = refl
     copying_steps aim step (answers.Call (Found_instead w)) = refl
@@ -150,7 +158,8 @@ module _ (mode : ResizeMode) (initial : ℕ) where
     copying_steps aim step (answers.Hash h) = refl
     copying_steps aim step (answers.Count count) = refl
 
-    pub copying_settles : (slot : Slot) (settle : Settle) (answer : Answer) → copying_after (copyings.Lone slot settle) mode initial number answer ≡ lone slot (settle_after settle slot mode initial answer)
+    pub copying_settles : (slot : Slot) (settle : Settle) (answer : Answer)
+        → copying_after (copyings.Lone slot settle) mode initial number answer ≡ lone slot (settle_after settle slot mode initial answer)
     copying_settles slot settle (answers.Call (Word_read w)) = refl
     copying_settles slot settle (answers.Call Exchanged) = refl
     copying_settles slot settle (answers.Call (Found_instead w)) = refl

@@ -1,5 +1,6 @@
 -- What each answer leaves to a call that is set aside, with no other caller beside it.
-use Rattle.std.proofs.Common.{◌≡◌, ◌⊎◌, inl, inr, ⊎_elim, ℕ, ◌+◌, ◌*◌, ◌^◌, ◌<◌, ◌≤◌, ◌==◌, ◌&&◌, nat_lt, not, cond, false, Some, refl, sym, ap, subst, arith, eqb-true}
+use Rattle.std.proofs.Common.{◌≡◌, ◌⊎◌, inl, inr, ⊎_elim, ℕ, ◌+◌, ◌*◌, ◌^◌, ◌<◌, ◌≤◌, ◌==◌, ◌&&◌}
+use Rattle.std.proofs.Common.{nat_lt, not, cond, false, Some, refl, sym, ap, subst, arith, eqb-true}
 use Rattle.std.proofs.lemmas.Bool.{cond_both}
 use Rattle.papaya_words.specs.declared.probe.ResizeMode.{ResizeMode}
 use Rattle.papaya_words.specs.declared.probe.ResizeMode.TheVariants.{Incremental, Blocking}
@@ -20,7 +21,9 @@ use Rattle.papaya_copy.specs.declared.step.Step.TheVariants as steps
 use Rattle.papaya_copy.specs.declared.step.Stepped.{Stepped}
 use Rattle.papaya_copy.specs.declared.step.Stepped.TheVariants as stepped
 use Rattle.papaya_copy.specs.Link.{follows, link_ask}
-use Rattle.papaya_copy.specs.Step.{aimed, chunk_at, chunk_read, first_chunk, is_further, linked_to, next_chunk, next_cursor, next_slot, settled_to, slot_of, step_ask}
+use Rattle.papaya_copy.specs.Step.{aimed, chunk_at, chunk_read, first_chunk, is_further, linked_to}
+use Rattle.papaya_copy.specs.Step.{next_chunk, next_cursor, next_slot, settled_to, slot_of}
+use Rattle.papaya_copy.specs.Step.{step_ask}
 use Rattle.papaya_chain.specs.declared.ask.Answer.{Answer}
 use Rattle.papaya_chain.specs.declared.machine.Machine.{Machine}
 use Rattle.papaya_chain.specs.Machine.{after_linked, link_after}
@@ -50,23 +53,40 @@ module _ (words words' : At → ℕ) (before later : Budget) (m : Machine) where
   abbrev pub Lowers : ℕ → Machine → Type 0
   Lowers most m' = (IsSpent before later ⊎ ((later ≡ before) × (rank_of (words' words_at.Root) m' < most))) × IsCallRead words' m'
 
-  module _ (inc : IsIncremental m.call.mode) (link : Link) (left : (t : ℕ) → left_by m.call.state ≡ Some t → words' words_at.Root ≤ t) (behind : left_by m.call.state ≡ Some (follows link)) where
+  module _ (inc : IsIncremental m.call.mode) (link : Link) (left : (t : ℕ) → left_by m.call.state ≡ Some t → words' words_at.Root ≤ t)
+      (behind : left_by m.call.state ≡ Some (follows link)) where
     -- where the making of a table led
-    linked_lowers : (end : Linked) → IsSpent before later ⊎ ((later ≡ before) × (left_of_linked end < left_of_link link)) → IsLinkedRead words' end → ((table : ℕ) → end ≡ linked.Table table → follows link < table) → Lowers (rank 1 0 (left_of_link link)) (after_linked m end)
-    linked_lowers (linked.On link') nears read up = (⊎_elim (λ (h : IsSpent before later). inl h) (λ (h : (later ≡ before) × (left_of_link link' < left_of_link link)). let l = h.1 in inr (h.0, omega (arith, l))) nears, (inc, read, left))
+    linked_lowers : (end : Linked) → IsSpent before later ⊎ ((later ≡ before) × (left_of_linked end < left_of_link link)) → IsLinkedRead words' end
+        → ((table : ℕ) → end ≡ linked.Table table → follows link < table) → Lowers (rank 1 0 (left_of_link link)) (after_linked m end)
+    linked_lowers (linked.On link') nears read
+        up = (
+          ⊎_elim (λ (h : IsSpent before later). inl h)
+              (λ (h : (later ≡ before) × (left_of_link link' < left_of_link link)). let l = h.1 in inr (h.0, omega (arith, l))) nears,
+          (inc, read, left),
+        )
     linked_lowers (linked.Table table) nears read up =
         let a : words' words_at.Root ≤ follows link = left (follows link) behind in
-        let b : follows link < table = up table refl in
-        (⊎_elim (λ (h : IsSpent before later). inl h) (λ (h : (later ≡ before) × (2 * 2 ^ 102 < left_of_link link)). let l = h.1 in let most = link_most link in absurd (omega (arith, l, most))) nears, onward_current words' m inc table (omega (arith, a, b)) left)
-    linked_lowers (linked.Refused refused) nears read up = (⊎_elim (λ (h : IsSpent before later). inl h) (λ (h : (later ≡ before) × (0 < left_of_link link)). inr (h.0, omega arith)) nears, (tt, tt))
+        let b : follows link < table = up table refl in (
+          ⊎_elim (λ (h : IsSpent before later). inl h)
+              (λ (h : (later ≡ before) × (2 * 2 ^ 102 < left_of_link link)). let l = h.1 in let most = link_most link in absurd (omega (arith, l, most)))
+              nears,
+          onward_current words' m inc table (omega (arith, a, b)) left,
+        )
+    linked_lowers (linked.Refused refused) nears read
+        up = (⊎_elim (λ (h : IsSpent before later). inl h) (λ (h : (later ≡ before) × (0 < left_of_link link)). inr (h.0, omega arith)) nears, (tt, tt))
 
 -- the making of the next table
-pub linking_lowers : (words words' : At → ℕ) (before later : Budget) (m : Machine) → IsIncremental m.call.mode → (link : Link) → IsLinkRead words link → ((t : ℕ) → left_by m.call.state ≡ Some t → words words_at.Root ≤ t) → left_by m.call.state ≡ Some (follows link) → (answer : Answer) → IsCopyPrompt words (link_ask link) answer words' → SpendsCopy (link_ask link) answer before later
-    → ((table : ℕ) → link_after link m.call.mode m.call.initial answer ≡ linked.Table table → follows link < table) → Lowers words words' before later m (rank 1 0 (left_of_link link)) (after_linked m (link_after link m.call.mode m.call.initial answer))
+pub linking_lowers : (words words' : At → ℕ) (before later : Budget) (m : Machine) → IsIncremental m.call.mode → (link : Link) → IsLinkRead words link
+    → ((t : ℕ) → left_by m.call.state ≡ Some t → words words_at.Root ≤ t) → left_by m.call.state ≡ Some (follows link) → (answer : Answer)
+    → IsCopyPrompt words (link_ask link) answer words' → SpendsCopy (link_ask link) answer before later
+    → ((table : ℕ) → link_after link m.call.mode m.call.initial answer ≡ linked.Table table → follows link < table)
+    → Lowers words words' before later m (rank 1 0 (left_of_link link)) (after_linked m (link_after link m.call.mode m.call.initial answer))
 linking_lowers words words' before later m inc link read left behind answer prompt spends up =
     let e = link_ends m.call.mode words words' m.call.initial link answer read prompt in
-    let same : words' words_at.Root ≡ words words_at.Root = stays_at words words' answer (link_ask link) prompt words_at.Root (link_puts link words_at.Root tt) in
-    linked_lowers words words' before later m inc link (λ t h. let l = left t h in omega (arith, l, same)) behind (link_after link m.call.mode m.call.initial answer)
+    let same : words' words_at.Root ≡ words words_at.Root = stays_at words words' answer (link_ask link) prompt words_at.Root
+    (link_puts link words_at.Root tt) in
+    linked_lowers words words' before later m inc link (λ t h. let l = left t h in omega (arith, l, same)) behind
+    (link_after link m.call.mode m.call.initial answer)
     (copy_spends words words' before later (link_ask link) answer prompt spends _ _ e.0) e.1 up
 
 -- a chunk that has begun, and one that is not over yet
@@ -94,7 +114,8 @@ begun_rank root aim (steps.Aiming from behind) h = refl
 begun_rank root aim (steps.Linking from link) h = refl
 begun_rank root aim (steps.Judging from to) h = refl
 begun_rank root aim (steps.Sizing from to) h = refl
-begun_rank root aim (steps.AtChunk cursor) h = ap (λ b. cond b (rank 5 0 (left_of_step (steps.AtChunk cursor))) (rank 1 0 (left_of_step (steps.AtChunk cursor)))) h
+begun_rank root aim (steps.AtChunk cursor) h = ap
+    (λ b. cond b (rank 5 0 (left_of_step (steps.AtChunk cursor))) (rank 1 0 (left_of_step (steps.AtChunk cursor)))) h
 begun_rank root aim (steps.Settling chunk settle) h = refl
 begun_rank root aim (steps.Advancing cursor) h = refl
 begun_rank root aim (steps.Promoting from to) h = refl
@@ -124,56 +145,73 @@ linked_goes from (linked.Refused refused) = tt
 
 settled_goes : (chunk : Chunk) (end : Settled) → GoesOn (settled_to chunk end)
 settled_goes chunk (settled.On settle) = tt
-settled_goes chunk settled.Settled = cond_both (nat_lt (chunk.at + 1) chunk.end) (stepped.On (steps.Settling (next_slot chunk) settles.Looking)) (stepped.On (steps.Advancing chunk.cursor)) GoesOn (λ _. tt) (λ _. tt)
+settled_goes chunk settled.Settled = cond_both (nat_lt (chunk.at + 1) chunk.end) (stepped.On (steps.Settling (next_slot chunk) settles.Looking))
+    (stepped.On (steps.Advancing chunk.cursor)) GoesOn (λ _. tt) (λ _. tt)
 settled_goes chunk (settled.Unfit table) = tt
 settled_goes chunk (settled.Refused refused) = tt
 
 next_goes : (cursor : Cursor) → cursor.copied ≡ false → IsBegun (next_cursor cursor)
 next_goes cursor first =
-    cond_both (is_further cursor) (steps.AtChunk (next_chunk cursor)) (cond (not cursor.wrapped && nat_lt 0 cursor.start) (steps.AtChunk (first_chunk cursor)) (steps.Promoting cursor.from cursor.to)) IsBegun (λ _. first)
-    (λ _. cond_both (not cursor.wrapped && nat_lt 0 cursor.start) (steps.AtChunk (first_chunk cursor)) (steps.Promoting cursor.from cursor.to) IsBegun (λ _. first) (λ _. tt))
+    cond_both (is_further cursor) (steps.AtChunk (next_chunk cursor))
+    (cond (not cursor.wrapped && nat_lt 0 cursor.start) (steps.AtChunk (first_chunk cursor)) (steps.Promoting cursor.from cursor.to)) IsBegun (λ _. first)
+    (λ _. cond_both (not cursor.wrapped && nat_lt 0 cursor.start) (steps.AtChunk (first_chunk cursor)) (steps.Promoting cursor.from cursor.to) IsBegun
+    (λ _. first) (λ _. tt))
 
 chunk_read_goes : (cursor : Cursor) (done : ℕ) → cursor.copied ≡ false → GoesOn (chunk_read cursor done)
 chunk_read_goes cursor done first =
-    cond_both (not (done == 0)) (stepped.On (next_cursor cursor)) (cond cursor.copied (stepped.Further (chunk_at cursor)) (stepped.On (steps.Settling (chunk_at cursor) settles.Looking))) GoesOn
+    cond_both (not (done == 0)) (stepped.On (next_cursor cursor))
+    (cond cursor.copied (stepped.Further (chunk_at cursor)) (stepped.On (steps.Settling (chunk_at cursor) settles.Looking))) GoesOn
     (λ _. next_goes cursor first)
-    (λ _. cond_both cursor.copied (stepped.Further (chunk_at cursor)) (stepped.On (steps.Settling (chunk_at cursor) settles.Looking)) GoesOn (λ copied. absurd (cc (copied, first))) (λ _. tt))
+    (λ _. cond_both cursor.copied (stepped.Further (chunk_at cursor)) (stepped.On (steps.Settling (chunk_at cursor) settles.Looking)) GoesOn
+    (λ copied. absurd (cc (copied, first))) (λ _. tt))
 
 -- after a chunk that was copied the next word has a lower rank
-pub next_ranks : (root : ℕ) (aim : Aim) (cursor : Cursor) → left_of_step (next_cursor cursor) < left_of_step (steps.AtChunk cursor) → rank_of_step root aim (next_cursor cursor) < rank 5 0 (left_of_step (steps.AtChunk cursor))
+pub next_ranks : (root : ℕ) (aim : Aim) (cursor : Cursor) → left_of_step (next_cursor cursor) < left_of_step (steps.AtChunk cursor)
+    → rank_of_step root aim (next_cursor cursor) < rank 5 0 (left_of_step (steps.AtChunk cursor))
 next_ranks root aim cursor =
-    cond_both (is_further cursor) (steps.AtChunk (next_chunk cursor)) (cond (not cursor.wrapped && nat_lt 0 cursor.start) (steps.AtChunk (first_chunk cursor)) (steps.Promoting cursor.from cursor.to)) Falls
+    cond_both (is_further cursor) (steps.AtChunk (next_chunk cursor))
+    (cond (not cursor.wrapped && nat_lt 0 cursor.start) (steps.AtChunk (first_chunk cursor)) (steps.Promoting cursor.from cursor.to)) Falls
     (λ _. cursor_falls (next_chunk cursor))
-    (λ _. cond_both (not cursor.wrapped && nat_lt 0 cursor.start) (steps.AtChunk (first_chunk cursor)) (steps.Promoting cursor.from cursor.to) Falls (λ _. cursor_falls (first_chunk cursor)) (λ _ less. omega arith))
+    (λ _. cond_both (not cursor.wrapped && nat_lt 0 cursor.start) (steps.AtChunk (first_chunk cursor)) (steps.Promoting cursor.from cursor.to) Falls
+    (λ _. cursor_falls (first_chunk cursor)) (λ _ less. omega arith))
   where
     Falls : Step → Type 0
     Falls step = left_of_step step < left_of_step (steps.AtChunk cursor) → rank_of_step root aim step < rank 5 0 (left_of_step (steps.AtChunk cursor))
 
     cursor_falls : (next : Cursor) → Falls (steps.AtChunk next)
     cursor_falls next less =
-        cond_both next.copied (rank 5 0 (left_of_step (steps.AtChunk next))) (rank 1 0 (left_of_step (steps.AtChunk next))) (λ r. r < rank 5 0 (left_of_step (steps.AtChunk cursor)))
+        cond_both next.copied (rank 5 0 (left_of_step (steps.AtChunk next))) (rank 1 0 (left_of_step (steps.AtChunk next)))
+        (λ r. r < rank 5 0 (left_of_step (steps.AtChunk cursor)))
         (λ _. omega (arith, less)) (λ _. omega (arith, less))
 
-aimed_goes : (mode : ResizeMode) (words : At → ℕ) (from behind : ℕ) → HasNext mode words (steps.Aiming from behind) → GoesOn (aimed from behind mode (words (words_at.Next behind)))
+aimed_goes : (mode : ResizeMode) (words : At → ℕ) (from behind : ℕ) → HasNext mode words (steps.Aiming from behind)
+    → GoesOn (aimed from behind mode (words (words_at.Next behind)))
 aimed_goes (Incremental chunk) words from behind some =
     cond_both (words (words_at.Next behind) == 0) (stepped.Last from) (stepped.On (steps.Sizing from (words (words_at.Next behind)))) GoesOn
     (λ e. let none : words (words_at.Next behind) ≡ 0 = eqb-true (words (words_at.Next behind)) 0 e in absurd (omega (arith, none, some)))
     (λ _. tt)
 aimed_goes Blocking words from behind some =
-    cond_both (words (words_at.Next behind) == 0) (stepped.On (steps.Linking from (links.Sizing behind from (not (behind == from))))) (stepped.On (steps.Judging from (words (words_at.Next behind)))) GoesOn (λ _. tt) (λ _. tt)
+    cond_both (words (words_at.Next behind) == 0) (stepped.On (steps.Linking from (links.Sizing behind from (not (behind == from)))))
+    (stepped.On (steps.Judging from (words (words_at.Next behind)))) GoesOn (λ _. tt) (λ _. tt)
 
 -- so a chunk goes on until it is over
-pub step_goes : (mode : ResizeMode) (initial number : ℕ) (words words' : At → ℕ) (step : Step) (answer : Answer) → IsMidway step → HasNext mode words step → IsCopyPrompt words (step_ask step) answer words' → GoesOn (step_after step mode initial number answer)
+pub step_goes : (mode : ResizeMode) (initial number : ℕ) (words words' : At → ℕ) (step : Step) (answer : Answer) → IsMidway step
+    → HasNext mode words step → IsCopyPrompt words (step_ask step) answer words' → GoesOn (step_after step mode initial number answer)
 step_goes mode initial number words words' steps.AtRoot answer h next told = absurd h
-step_goes mode initial number words words' (steps.Aiming from behind) answer h next told = subst (λ a. GoesOn (step_after (steps.Aiming from behind) mode initial number a)) (sym told.0.0) (aimed_goes mode words from behind next)
-step_goes mode initial number words words' (steps.Linking from link) answer h next told = subst GoesOn (sym (step_links mode initial number from link answer)) (linked_goes from (link_after link mode initial answer))
+step_goes mode initial number words words' (steps.Aiming from behind) answer h next
+    told = subst (λ a. GoesOn (step_after (steps.Aiming from behind) mode initial number a)) (sym told.0.0) (aimed_goes mode words from behind next)
+step_goes mode initial number words words' (steps.Linking from link) answer h next told = subst GoesOn
+    (sym (step_links mode initial number from link answer)) (linked_goes from (link_after link mode initial answer))
 step_goes mode initial number words words' (steps.Judging from to) answer h next told =
     subst (λ a. GoesOn (step_after (steps.Judging from to) mode initial number a)) (sym told.0.0)
     (cond_both (words (words_at.Aborted to) == 0) (steps.Sizing from to) (steps.Aiming from to) IsBegun (λ _. tt) (λ _. tt))
 step_goes mode initial number words words' (steps.Sizing from to) answer h next told =
     let (slots, limit, size, e) = told.0 in
     subst (λ a. GoesOn (step_after (steps.Sizing from to) mode initial number a)) (sym e) refl
-step_goes mode initial number words words' (steps.AtChunk cursor) answer h next told = subst (λ a. GoesOn (step_after (steps.AtChunk cursor) mode initial number a)) (sym told.0.0) (chunk_read_goes cursor (words (words_at.Done cursor.to cursor.at)) h)
-step_goes mode initial number words words' (steps.Settling chunk settle) answer h next told = subst GoesOn (sym (step_settles mode initial number chunk settle answer)) (settled_goes chunk (settle_after settle (slot_of chunk) mode initial answer))
+step_goes mode initial number words words' (steps.AtChunk cursor) answer h next
+    told = subst (λ a. GoesOn (step_after (steps.AtChunk cursor) mode initial number a)) (sym told.0.0)
+    (chunk_read_goes cursor (words (words_at.Done cursor.to cursor.at)) h)
+step_goes mode initial number words words' (steps.Settling chunk settle) answer h next told = subst GoesOn
+    (sym (step_settles mode initial number chunk settle answer)) (settled_goes chunk (settle_after settle (slot_of chunk) mode initial answer))
 step_goes mode initial number words words' (steps.Advancing cursor) answer h next told = absurd h
 step_goes mode initial number words words' (steps.Promoting from to) answer h next told = absurd h

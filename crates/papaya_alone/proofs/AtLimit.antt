@@ -1,11 +1,16 @@
 -- A call takes a number for each pair that it makes, where there is a limit on them.
-use Rattle.std.proofs.Common.{◌≡◌, ◌⊎◌, inl, inr, ℕ, ◌+◌, ◌<◌, ◌≤◌, ◌==◌, nat_lt, le-ltb, lt-ltb, Bool, true, false, cond, Option, None, Some, refl, sym, ap, ◌∙◌, subst}
+use Rattle.std.proofs.Common.{◌≡◌, ◌⊎◌, inl, inr, ℕ, ◌+◌, ◌<◌, ◌≤◌, ◌==◌, nat_lt, le-ltb, lt-ltb}
+use Rattle.std.proofs.Common.{Bool, true, false, cond, Option, None, Some, refl, sym, ap, ◌∙◌}
+use Rattle.std.proofs.Common.{subst}
 use Rattle.std.proofs.lemmas.Bool.{cond_both, cond-false, cond-true}
 use Rattle.papaya_words.specs.declared.probe.Refused.TheVariants.{Limit}
 use Rattle.papaya_words.specs.declared.probe.ResizeMode.{ResizeMode}
 use Rattle.papaya_words.specs.declared.probe.ResizeMode.TheVariants.{Incremental, Blocking}
 use Rattle.papaya_ask.specs.declared.ask.Answer.{Answer as Call_answer}
-use Rattle.papaya_ask.specs.declared.ask.Answer.TheVariants.{Word as Word_read, Exchanged, Found as Found_instead, Yes, Op, Size, Made as Made_number, Ok as Ok_done, Refused as Was_refused}
+use Rattle.papaya_ask.specs.declared.ask.Answer.TheVariants.{Word as Word_read, Exchanged}
+use Rattle.papaya_ask.specs.declared.ask.Answer.TheVariants.{Found as Found_instead, Yes, Op, Size}
+use Rattle.papaya_ask.specs.declared.ask.Answer.TheVariants.{Made as Made_number, Ok as Ok_done}
+use Rattle.papaya_ask.specs.declared.ask.Answer.TheVariants.{Refused as Was_refused}
 use Rattle.papaya_ask.specs.declared.ask.Ask.{Ask as Call_ask}
 use Rattle.papaya_ask.specs.declared.ask.Ask.TheVariants.{Load, Exchange, MakeKey, MakeValue, MakePair, MakePairOf, Done as Ask_done}
 use Rattle.papaya_ask.specs.declared.ask.At.{At}
@@ -29,7 +34,10 @@ use Rattle.papaya_call.specs.declared.need.Need.{Need}
 use Rattle.papaya_call.specs.declared.write.Write.{Write}
 use Rattle.papaya_call.specs.Compute.{in_place_of}
 use Rattle.papaya_call.specs.Made.{answered, grown, grown_as, make_ask, number_ask, number_kind, pair_ask, taken, taken_as, told, told_as, told_limit, wanted}
-use Rattle.papaya_call.specs.Machine.{asks, exchanged, kind_asked, made_at_exchanged, made_at_op, made_at_word, made_decided, made_in, made_to_pair, number_told, numbered, served_kind, write_made, write_taken, write_told}
+use Rattle.papaya_call.specs.Machine.{asks, exchanged, kind_asked, made_at_exchanged, made_at_op}
+use Rattle.papaya_call.specs.Machine.{made_at_word, made_decided, made_in, made_to_pair}
+use Rattle.papaya_call.specs.Machine.{number_told, numbered, served_kind, write_made, write_taken}
+use Rattle.papaya_call.specs.Machine.{write_told}
 use Rattle.papaya_call.specs.Machine as call_machine
 use Rattle.papaya_call.specs.Write.{made_of, made_to_write, served_ask, serves, write_grown}
 use Rattle.papaya_copy.specs.declared.copying.Aim.{Aim}
@@ -45,7 +53,9 @@ use Rattle.papaya_chain.specs.declared.ask.Answer.TheVariants as answers
 use Rattle.papaya_chain.specs.declared.machine.Machine.{Machine}
 use Rattle.papaya_chain.specs.declared.machine.Phase.{Phase}
 use Rattle.papaya_chain.specs.declared.machine.Phase.TheVariants.{Calling, Linking, Copying as Copying_root}
-use Rattle.papaya_chain.specs.Machine.{after, after_copied, after_in, after_linked, aim_for, ask_of, asks_in, called, copying_after, goes_on, grows_as, kind_in, kind_of_ask, leaves, link_after, onward, stepped, told_next}
+use Rattle.papaya_chain.specs.Machine.{after, after_copied, after_in, after_linked, aim_for, ask_of}
+use Rattle.papaya_chain.specs.Machine.{asks_in, called, copying_after, goes_on, grows_as, kind_in}
+use Rattle.papaya_chain.specs.Machine.{kind_of_ask, leaves, link_after, onward, stepped, told_next}
 use Rattle.papaya_call_law.specs.Alone.{IsNumberRead}
 use Rattle.papaya_call_law.specs.Says.{MakesPair}
 use Rattle.papaya_call_law.proofs.Makings.{IsMakeAsk, make_asks, pair_holds, pair_made}
@@ -121,7 +131,8 @@ module _ (call : Call_machine) where
 
   -- how many numbers were taken leads it on
   module _ (count : ℕ) (next : Option Made) (is : told call.made count ≡ next) where
-    told_asks : (stage : State) → NumberIs Wanted call.made stage → next_ask stage (Word_read count) ≡ asks (number_told next call.made) call.hash (numbered next stage)
+    told_asks : (stage : State) → NumberIs Wanted call.made stage
+        → next_ask stage (Word_read count) ≡ asks (number_told next call.made) call.hash (numbered next stage)
     told_asks (Writing write) h =
         ap (λ o. asks (write_made o call.made count) call.hash (write_told o call.made write count)) h.0
         ∙ ap (λ t. asks (number_told t call.made) call.hash (numbered t (Writing write))) is
@@ -129,7 +140,8 @@ module _ (call : Call_machine) where
     told_asks stage h = absurd h
 
   -- the number that is free is taken next
-  free_asks : (count : ℕ) (stage : State) → NumberIs Wanted call.made stage → asks (record call.made { number = Free count }) call.hash stage ≡ Exchange Made_word count (count + 1)
+  free_asks : (count : ℕ) (stage : State) → NumberIs Wanted call.made stage
+      → asks (record call.made { number = Free count }) call.hash stage ≡ Exchange Made_word count (count + 1)
   free_asks count (Writing write) h = ap (λ o. served_ask o write (record call.made { number = Free count })) h.0
   free_asks count (Pairing purpose) h = refl
   free_asks count stage h = absurd h
@@ -140,7 +152,8 @@ module _ (call : Call_machine) where
       let next : Made = record call.made { number = Taken } in
       let is : taken call.made ≡ next = ap (taken_as call.made) h.1 in
       subst IsLogAsk
-      (sym (ap (λ o. asks (write_taken o call.made) call.hash (exchanged o write)) h.0 ∙ ap (λ made. asks made call.hash (Writing write)) is ∙ ap (λ o. served_ask o write next) h.0))
+      (sym (ap (λ o. asks (write_taken o call.made) call.hash (exchanged o write)) h.0 ∙ ap (λ made. asks made call.hash (Writing write)) is
+      ∙ ap (λ o. served_ask o write next) h.0))
       (make_logs next write.old)
   taken_asks old (Pairing purpose) h =
       let next : Made = record call.made { number = Taken } in
@@ -170,7 +183,8 @@ module _ (m : Machine) (ask : Call_ask) (asking : ask_of m ≡ asked.Call ask) w
       ∙ ap (asks_in (call_machine.after m.call told)) calls
 
 -- a call that makes a pair goes on by itself
-pairing_steps : (m : Machine) (number : Number) (count : ℕ) (stage : State) → NumberIs number m.call.made stage → told_next m stage count ≡ stepped m (Word_read count)
+pairing_steps : (m : Machine) (number : Number) (count : ℕ) (stage : State) → NumberIs number m.call.made stage
+    → told_next m stage count ≡ stepped m (Word_read count)
 pairing_steps m number count (Writing write) h = refl
 pairing_steps m number count (Pairing purpose) h = refl
 pairing_steps m number count stage h = absurd h
@@ -180,8 +194,10 @@ module _ (m : Machine) (most count : ℕ) (limit : m.call.made.limit ≡ Some mo
   wants : NumberIs Wanted m.call.made m.call.state
   wants = number_is m (Load Made_word) asking
 
-  word_asks : (next : Option Made) → told m.call.made count ≡ next → ask_of (after m (answers.Call (Word_read count))) ≡ asked.Call (asks (number_told next m.call.made) m.call.hash (numbered next m.call.state))
-  word_asks next is = stepped_asks m (Load Made_word) asking (Word_read count) (pairing_steps m Wanted count m.call.state wants) ∙ ap asked.Call (told_asks m.call count next is m.call.state wants)
+  word_asks : (next : Option Made) → told m.call.made count ≡ next
+      → ask_of (after m (answers.Call (Word_read count))) ≡ asked.Call (asks (number_told next m.call.made) m.call.hash (numbered next m.call.state))
+  word_asks next is = stepped_asks m (Load Made_word) asking (Word_read count) (pairing_steps m Wanted count m.call.state wants)
+      ∙ ap asked.Call (told_asks m.call count next is m.call.state wants)
 
   -- at the limit it ends refused
   pub limit_full : most ≤ count → ask_of (after m (answers.Call (Word_read count))) ≡ asked.Call (Ask_done (Reply_refused Limit))
@@ -190,7 +206,8 @@ module _ (m : Machine) (most count : ℕ) (limit : m.call.made.limit ≡ Some mo
   -- below it a number is free
   pub limit_free : count < most → ask_of (after m (answers.Call (Word_read count))) ≡ asked.Call (Exchange Made_word count (count + 1))
   limit_free free =
-      word_asks (Some (record m.call.made { number = Free count })) (told_free m.call.made most count limit (number_of Wanted m.call.made m.call.state wants) free)
+      word_asks (Some (record m.call.made { number = Free count }))
+      (told_free m.call.made most count limit (number_of Wanted m.call.made m.call.state wants) free)
       ∙ ap asked.Call (free_asks m.call count m.call.state wants)
 
 module _ (m : Machine) (old new : ℕ) (asking : ask_of m ≡ asked.Call (Exchange Made_word old new)) where
@@ -229,7 +246,8 @@ module _ (made : Made) (most : ℕ) (limit : made.limit ≡ Some most) where
   -- no number comes of what is told of them
   limit_number : (count : ℕ) (l : Option ℕ) → l ≡ Some most → (number_told (told_limit made l count) made).number ≡ Taken → made.number ≡ Taken
   limit_number count None e h = absurd cc
-  limit_number count (Some n) e h = cond_both (nat_lt count n) (Some (record made { number = Free count })) None (λ t. (number_told t made).number ≡ Taken → made.number ≡ Taken) (λ _ free. absurd cc) (λ _ same. same) h
+  limit_number count (Some n) e h = cond_both (nat_lt count n) (Some (record made { number = Free count })) None
+      (λ t. (number_told t made).number ≡ Taken → made.number ≡ Taken) (λ _ free. absurd cc) (λ _ same. same) h
 
   told_number : (number : Number) → made.number ≡ number → (count : ℕ) → (number_told (told_as made number count) made).number ≡ Taken → made.number ≡ Taken
   told_number Wanted is count h = limit_number count made.limit limit h
@@ -237,7 +255,8 @@ module _ (made : Made) (most : ℕ) (limit : made.limit ≡ Some most) where
   told_number Taken is count h = is
 
   -- an exchange takes one
-  take_number : (old : ℕ) (number : Number) → made.number ≡ number → (taken_as made number).number ≡ Taken → IsTakeAsk (number_ask number made old) ⊎ (made.number ≡ Taken)
+  take_number : (old : ℕ) (number : Number) → made.number ≡ number → (taken_as made number).number ≡ Taken → IsTakeAsk (number_ask number made old)
+      ⊎ (made.number ≡ Taken)
   take_number old Wanted is h = inr h
   take_number old (Free count) is h = inl tt
   take_number old Taken is h = inr is
@@ -259,7 +278,8 @@ module _ (made : Made) (most : ℕ) (limit : made.limit ≡ Some most) where
 -- a pair that was made for a place leaves the number
 written_number : (write : Write) (n : ℕ) (G : Grown) → (made_to_write G write n).number ≡ (made_to_pair G).number
 written_number write n (On made) = refl
-written_number write n (Pair made) = cond_both (write.old == 0) (record made { own = Some n }) (record made { of = Some (made_of write n) }) (λ (y : Made). y.number ≡ made.number) (λ _. refl) (λ _. refl)
+written_number write n (Pair made) = cond_both (write.old == 0) (record made { own = Some n }) (record made { of = Some (made_of write n) })
+    (λ (y : Made). y.number ≡ made.number) (λ _. refl) (λ _. refl)
 
 -- and so does what a closure answered
 answered_number : (kind : OpKind) (made : Made) → (answered kind made).number ≡ made.number
@@ -274,7 +294,8 @@ decided_number task kind made = refl
 module _ (call : Call_machine) (most : ℕ) (limit : call.made.limit ≡ Some most) where
   -- a number was taken, or there was one, and no pair was logged
   abbrev Numbered : Call_ask → Call_answer → Type 0
-  Numbered ask told = IsNumberTaken (asked.Call ask) (answers.Call told) ⊎ ((call.made.number ≡ Taken) × (IsPairLogged (asked.Call ask) (answers.Call told) → ⊥))
+  Numbered ask told = IsNumberTaken (asked.Call ask) (answers.Call told)
+      ⊎ ((call.made.number ≡ Taken) × (IsPairLogged (asked.Call ask) (answers.Call told) → ⊥))
 
   word_number : (count : ℕ) (stage : State) → (made_at_word call.made count stage).number ≡ Taken → call.made.number ≡ Taken
   word_number count (Writing write) h = by_served (serves call.made write) h
@@ -285,10 +306,12 @@ module _ (call : Call_machine) (most : ℕ) (limit : call.made.limit ≡ Some mo
   word_number count (Pairing purpose) h = told_number call.made most limit call.made.number refl count h
   word_number count stage h = h
 
-  exchanged_number : (stage : State) → (made_at_exchanged call.made stage).number ≡ Taken → IsTakeAsk (asks call.made call.hash stage) ⊎ (call.made.number ≡ Taken)
+  exchanged_number : (stage : State) → (made_at_exchanged call.made stage).number ≡ Taken → IsTakeAsk (asks call.made call.hash stage)
+      ⊎ (call.made.number ≡ Taken)
   exchanged_number (Writing write) h = by_served (serves call.made write) h
     where
-      by_served : (served : Option ℕ) → (write_taken served call.made).number ≡ Taken → IsTakeAsk (served_ask served write call.made) ⊎ (call.made.number ≡ Taken)
+      by_served : (served : Option ℕ) → (write_taken served call.made).number ≡ Taken → IsTakeAsk (served_ask served write call.made)
+          ⊎ (call.made.number ≡ Taken)
       by_served None took = take_number call.made most limit write.old call.made.number refl took
       by_served (Some n) same = inr same
   exchanged_number (Pairing purpose) h = take_number call.made most limit (in_place_of purpose) call.made.number refl h
@@ -299,10 +322,12 @@ module _ (call : Call_machine) (most : ℕ) (limit : call.made.limit ≡ Some mo
   op_number task kind (Showing removal) h = sym (decided_number task kind call.made) ∙ h
   op_number task kind stage h = h
 
-  made_number : (n : ℕ) (stage : State) → (made_in call.made n stage).number ≡ Taken → (call.made.number ≡ Taken) × (MakesPair (asks call.made call.hash stage) → ⊥)
+  made_number : (n : ℕ) (stage : State) → (made_in call.made n stage).number ≡ Taken → (call.made.number ≡ Taken)
+      × (MakesPair (asks call.made call.hash stage) → ⊥)
   made_number n (Writing write) h = by_served (serves call.made write) h
     where
-      by_served : (served : Option ℕ) → (write_grown served call.made write n).number ≡ Taken → (call.made.number ≡ Taken) × (MakesPair (served_ask served write call.made) → ⊥)
+      by_served : (served : Option ℕ) → (write_grown served call.made write n).number ≡ Taken → (call.made.number ≡ Taken)
+          × (MakesPair (served_ask served write call.made) → ⊥)
       by_served None logged = log_number_kept call.made most limit write.old (sym (written_number write n (grown call.made write.old)) ∙ logged)
       by_served (Some k) same = (same, λ pair. pair)
   made_number n (Pairing purpose) h = log_number_kept call.made most limit (in_place_of purpose) h
@@ -342,7 +367,9 @@ module _ (m : Machine) where
 
   grows_made : (mode : ResizeMode) (need : Need) (next : ℕ) → (grows_as m mode need next).call.made ≡ m.call.made
   grows_made Blocking need next = refl
-  grows_made (Incremental chunk) need next = cond_both (next == 0) (record m { phase = Linking (links.Sizing (call_machine.needed need) (call_machine.needed need) false) }) (onward m next) (λ (y : Machine). y.call.made ≡ m.call.made) (λ _. refl) (λ _. onward_made next)
+  grows_made (Incremental chunk) need next = cond_both (next == 0)
+      (record m { phase = Linking (links.Sizing (call_machine.needed need) (call_machine.needed need) false) }) (onward m next)
+      (λ (y : Machine). y.call.made ≡ m.call.made) (λ _. refl) (λ _. onward_made next)
 
   linked_made : (end : Linked) → (after_linked m end).call.made ≡ m.call.made
   linked_made (linked.On link) = refl
@@ -362,7 +389,8 @@ module _ (m : Machine) where
     steps_number next h = word_number m.call most limit next m.call.state h
 
     goes_number : (next : ℕ) → HasNumber (cond (next == 0) (stepped m (Word_read next)) (onward m next)) → HasNumber m
-    goes_number next h = cond_both (next == 0) (stepped m (Word_read next)) (onward m next) (λ y. HasNumber y → HasNumber m) (λ _ steps. steps_number next steps) (λ _ on. sym (ap (λ (made : Made). made.number) (onward_made next)) ∙ on) h
+    goes_number next h = cond_both (next == 0) (stepped m (Word_read next)) (onward m next) (λ y. HasNumber y → HasNumber m)
+        (λ _ steps. steps_number next steps) (λ _ on. sym (ap (λ (made : Made). made.number) (onward_made next)) ∙ on) h
 
     leaves_number : (task : Task) (next : ℕ) → HasNumber (leaves m task next) → HasNumber m
     leaves_number Get next h = steps_number next h
@@ -387,12 +415,15 @@ module _ (m : Machine) where
     called_number (Was_refused refused) h = answer_number m.call most limit (Was_refused refused) h
 
     -- of the machine
-    phase_number : (answer : Answer) (phase : Phase) → HasNumber (after_in m answer phase) → IsNumberTaken (asks_in m.call phase) answer ⊎ (HasNumber m × (IsPairLogged (asks_in m.call phase) answer → ⊥))
+    phase_number : (answer : Answer) (phase : Phase) → HasNumber (after_in m answer phase) → IsNumberTaken (asks_in m.call phase) answer
+        ⊎ (HasNumber m × (IsPairLogged (asks_in m.call phase) answer → ⊥))
     phase_number (answers.Call told) Calling h = called_number told h
     phase_number (answers.Hash hash) Calling h = inr (h, λ pair. pair)
     phase_number (answers.Count count) Calling h = inr (h, λ pair. pair)
-    phase_number answer (Linking link) h = inr (sym (ap (λ (made : Made). made.number) (linked_made (link_after link m.call.mode m.call.initial answer))) ∙ h, λ pair. pair)
-    phase_number answer (Copying_root copying) h = inr (sym (ap (λ (made : Made). made.number) (copied_made (copying_after copying m.call.mode m.call.initial m.number answer))) ∙ h, λ pair. pair)
+    phase_number answer (Linking link) h = inr
+        (sym (ap (λ (made : Made). made.number) (linked_made (link_after link m.call.mode m.call.initial answer))) ∙ h, λ pair. pair)
+    phase_number answer (Copying_root copying) h = inr
+        (sym (ap (λ (made : Made). made.number) (copied_made (copying_after copying m.call.mode m.call.initial m.number answer))) ∙ h, λ pair. pair)
 
     pub limit_each : (answer : Answer) → HasNumber (after m answer) → IsNumberTaken (ask_of m) answer ⊎ (HasNumber m × (IsPairLogged (ask_of m) answer → ⊥))
     limit_each answer h = phase_number answer m.phase h

@@ -6,7 +6,10 @@ use Rattle.papaya_ask.specs.declared.ask.At.TheVariants as words_at
 use Rattle.papaya_ask.specs.declared.ask.Ask.{Ask}
 use Rattle.papaya_ask.specs.declared.ask.Ask.TheVariants as call_asks
 use Rattle.papaya_ask.specs.declared.ask.Answer.{Answer}
-use Rattle.papaya_ask.specs.declared.ask.Answer.TheVariants.{Word as Word_read, Exchanged, Found as Found_instead, Yes, Op, Size, Made as Made_number, Ok as Ok_done, Refused as Was_refused}
+use Rattle.papaya_ask.specs.declared.ask.Answer.TheVariants.{Word as Word_read, Exchanged}
+use Rattle.papaya_ask.specs.declared.ask.Answer.TheVariants.{Found as Found_instead, Yes, Op, Size}
+use Rattle.papaya_ask.specs.declared.ask.Answer.TheVariants.{Made as Made_number, Ok as Ok_done}
+use Rattle.papaya_ask.specs.declared.ask.Answer.TheVariants.{Refused as Was_refused}
 use Rattle.papaya_ask.specs.declared.ask.StepKind.{StepKind}
 use Rattle.papaya_ask.specs.declared.ask.StepKind.TheVariants as kinds
 use Rattle.papaya_ask.specs.declared.call.Task.{Task}
@@ -45,7 +48,8 @@ module _ (before later : Budget) where
   call_spent kind (call_asks.Exchange at old new) Exchanged h = exchange_spent kind h
   call_spent kind ask answer h = inr h
 
-module _ (words words' : At → ℕ) (bare : IsBare words) (before later : Budget) (start : ℕ) (helped : Bool) (call : Call_machine) (known : IsNumberRead words call.made.number) where
+module _ (words words' : At → ℕ) (bare : IsBare words) (before later : Budget) (start : ℕ) (helped : Bool) (call : Call_machine)
+    (known : IsNumberRead words call.made.number) where
   -- the machine in a stage of its call
   abbrev in_stage : Stage → Machine
   in_stage stage = record { call = record call { state = stage }; number = start; helped = helped; phase = Calling }
@@ -55,13 +59,18 @@ module _ (words words' : At → ℕ) (bare : IsBare words) (before later : Budge
   Lowered stage m' = (IsSpent before later ⊎ ((later ≡ before) × (rank_of (words' words_at.Root) m' < rank_in call.made stage))) × IsCallRead words' m'
 
   -- a first table is opened by an exchange
-  opens : (stage : Stage) (told : Answer) → IsOpening stage → IsRead words stage → IsPrompt call.task words (asks call.made call.hash stage) told words' → SpendsCall (kind_asked call.made stage) (asks call.made call.hash stage) told before later → IsSpent before later
+  opens : (stage : Stage) (told : Answer) → IsOpening stage → IsRead words stage
+      → IsPrompt call.task words (asks call.made call.hash stage) told words'
+      → SpendsCall (kind_asked call.made stage) (asks call.made call.hash stage) told before later → IsSpent before later
   opens (Opening t) told is read prompt spends =
       let done : (told ≡ Exchanged) × IsPut words words_at.Root t words' = exchange_done _ _ (words words_at.Root) 0 read prompt in
       inr (subst (λ y. SpendsCall (Some kinds.Open) (call_asks.Exchange words_at.Root 0 t) y before later) done.0 spends)
   opens stage told is read prompt spends = absurd is
 
-  module _ (stage : Stage) (read : IsRead words stage) (ahead : IsAheadIn call.mode words stage) (number : IsNumberAsked words (asks call.made call.hash stage)) (told : Answer) (prompt : IsPrompt call.task words (asks call.made call.hash stage) told words') (spends : SpendsCall (kind_asked call.made stage) (asks call.made call.hash stage) told before later) where
+  module _ (stage : Stage) (read : IsRead words stage) (ahead : IsAheadIn call.mode words stage)
+      (number : IsNumberAsked words (asks call.made call.hash stage)) (told : Answer)
+      (prompt : IsPrompt call.task words (asks call.made call.hash stage) told words')
+      (spends : SpendsCall (kind_asked call.made stage) (asks call.made call.hash stage) told before later) where
     -- the call goes on for itself
     steps_on : Lowered stage (stepped (in_stage stage) told)
     steps_on =
@@ -75,16 +84,23 @@ module _ (words words' : At → ℕ) (bare : IsBare words) (before later : Budge
               (λ (less : rank_in (call_machine.after m told).made (call_machine.after m told).state < rank_in call.made stage). inr (kept, less))
               ends.0)
               (call_spent before later (kind_asked call.made stage) (asks call.made call.hash stage) told spends),
-          ((machine_stable words words' m bare told known read prompt).read, subst (λ how. IsAheadIn how words' (call_machine.after m told).state) (sym (settings_stable m told).0) ends.1),
+          (
+            (machine_stable words words' m bare told known read prompt).read,
+            subst (λ how. IsAheadIn how words' (call_machine.after m told).state)
+                (sym (settings_stable m told).0) ends.1,
+          ),
         )
 
     -- what the next table's number is
-    next_number : (t word : ℕ) → word ≡ words (words_at.Next t) → (words (words_at.Next t) ≡ 0) ⊎ ((t < words (words_at.Next t)) × (words (words_at.Next t) ≤ 2 ^ 32)) → (word ≡ 0) ⊎ ((t < word) × (word ≤ 2 ^ 32))
+    next_number : (t word : ℕ) → word ≡ words (words_at.Next t) → (words (words_at.Next t) ≡ 0)
+        ⊎ ((t < words (words_at.Next t)) × (words (words_at.Next t) ≤ 2 ^ 32)) → (word ≡ 0) ⊎ ((t < word) × (word ≤ 2 ^ 32))
     next_number t word is h = subst (λ n. (n ≡ 0) ⊎ ((t < n) × (n ≤ 2 ^ 32))) (sym is) h
 
     -- there is none, or the call goes on to it
-    either : IsIncremental call.mode → (t : ℕ) → left_by stage ≡ Some t → words' words_at.Root ≤ t → rank 2 (further t) (2 ^ 68 + 3) ≤ rank_in call.made stage → later ≡ before → (word : ℕ) → (word ≡ 0) ⊎ ((t < word) × (word ≤ 2 ^ 32))
-        → Lowered stage (stepped (in_stage stage) (Word_read word)) → Lowered stage (cond (word == 0) (stepped (in_stage stage) (Word_read word)) (onward (in_stage stage) word))
+    either : IsIncremental call.mode → (t : ℕ) → left_by stage ≡ Some t → words' words_at.Root ≤ t
+        → rank 2 (further t) (2 ^ 68 + 3) ≤ rank_in call.made stage → later ≡ before → (word : ℕ) → (word ≡ 0) ⊎ ((t < word) × (word ≤ 2 ^ 32))
+        → Lowered stage (stepped (in_stage stage) (Word_read word))
+        → Lowered stage (cond (word == 0) (stepped (in_stage stage) (Word_read word)) (onward (in_stage stage) word))
     either inc t left least most kept word up inner =
         cond_both (word == 0) (stepped (in_stage stage) (Word_read word)) (onward (in_stage stage) word) (Lowered stage)
         (λ none. inner)
@@ -94,7 +110,8 @@ module _ (words words' : At → ℕ) (bare : IsBare words) (before later : Budge
         (inr (kept, omega (arith, l, most)), f.1))
 
     -- a call that looks for its key leaves its table
-    leaves_on : (task : Task) → IsIncremental call.mode → (t : ℕ) → left_by stage ≡ Some t → words' words_at.Root ≤ t → rank 2 (further t) (2 ^ 68 + 3) ≤ rank_in call.made stage → later ≡ before → (word : ℕ) → (word ≡ 0) ⊎ ((t < word) × (word ≤ 2 ^ 32))
+    leaves_on : (task : Task) → IsIncremental call.mode → (t : ℕ) → left_by stage ≡ Some t → words' words_at.Root ≤ t
+        → rank 2 (further t) (2 ^ 68 + 3) ≤ rank_in call.made stage → later ≡ before → (word : ℕ) → (word ≡ 0) ⊎ ((t < word) × (word ≤ 2 ^ 32))
         → Lowered stage (stepped (in_stage stage) (Word_read word)) → Lowered stage (leaves (in_stage stage) task word)
     leaves_on Get inc t left least most kept word up inner = inner
     leaves_on (Insert replace) inc t left least most kept word up inner = either inc t left least most kept word up inner
@@ -102,7 +119,8 @@ module _ (words words' : At → ℕ) (bare : IsBare words) (before later : Budge
     leaves_on Compute inc t left least most kept word up inner = either inc t left least most kept word up inner
 
   -- in each stage
-  called_lowers : (stage : Stage) → IsRead words stage → IsAheadIn call.mode words stage → IsNumberAsked words (asks call.made call.hash stage) → (told : Answer) → IsPrompt call.task words (asks call.made call.hash stage) told words'
+  called_lowers : (stage : Stage) → IsRead words stage → IsAheadIn call.mode words stage → IsNumberAsked words (asks call.made call.hash stage)
+      → (told : Answer) → IsPrompt call.task words (asks call.made call.hash stage) told words'
       → SpendsCall (kind_asked call.made stage) (asks call.made call.hash stage) told before later → Lowered stage (called (in_stage stage) told)
   called_lowers stage read ahead number Exchanged prompt spends = steps_on stage read ahead number Exchanged prompt spends
   called_lowers stage read ahead number (Found_instead word) prompt spends = steps_on stage read ahead number (Found_instead word) prompt spends
@@ -115,14 +133,20 @@ module _ (words words' : At → ℕ) (bare : IsBare words) (before later : Budge
   called_lowers (Leaving t) read ahead number (Word_read word) prompt spends =
       let is : word ≡ words (words_at.Next t) = cc prompt.0 in
       let least = ahead_least words' call.mode t (still_ahead words words' call call.mode t (prompt.1 words_at.Root) ahead.1) in
-      leaves_on (Leaving t) read ahead number (Word_read word) prompt spends call.task ahead.0 t refl least (omega arith) spends word (next_number (Leaving t) read ahead number (Word_read word) prompt spends t word is number) (steps_on (Leaving t) read ahead number (Word_read word) prompt spends)
+      leaves_on (Leaving t) read ahead number (Word_read word) prompt spends call.task ahead.0 t refl least (omega arith) spends word
+      (next_number (Leaving t) read ahead number (Word_read word) prompt spends t word is number)
+      (steps_on (Leaving t) read ahead number (Word_read word) prompt spends)
   called_lowers (Growing need) read ahead number (Word_read word) prompt spends =
       let is : word ≡ words (words_at.Next (needed need)) = cc prompt.0 in
-      let f = grows_lowers words' (in_stage (Growing need)) call.mode refl need word refl (still_ahead words words' call call.mode (needed need) (prompt.1 words_at.Root) ahead) (prompt.1 (words_at.Next (needed need)) ∙ sym is) (next_number (Growing need) read ahead number (Word_read word) prompt spends (needed need) word is number) in
+      let f = grows_lowers words' (in_stage (Growing need)) call.mode refl need word refl
+      (still_ahead words words' call call.mode (needed need) (prompt.1 words_at.Root) ahead) (prompt.1 (words_at.Next (needed need)) ∙ sym is)
+      (next_number (Growing need) read ahead number (Word_read word) prompt spends (needed need) word is number) in
       (inr (spends, f.0), f.1)
   called_lowers stage read ahead number (Word_read word) prompt spends = steps_on stage read ahead number (Word_read word) prompt spends
 
   -- of the call
-  pub call_lowers : IsRead words call.state → IsAheadIn call.mode words call.state → IsNumberAsked words (asks call.made call.hash call.state) → (told : Answer) → IsPrompt call.task words (asks call.made call.hash call.state) told words'
-      → SpendsCall (kind_asked call.made call.state) (asks call.made call.hash call.state) told before later → Lowered call.state (called (in_stage call.state) told)
+  pub call_lowers : IsRead words call.state → IsAheadIn call.mode words call.state → IsNumberAsked words (asks call.made call.hash call.state)
+      → (told : Answer) → IsPrompt call.task words (asks call.made call.hash call.state) told words'
+      → SpendsCall (kind_asked call.made call.state) (asks call.made call.hash call.state) told before later
+      → Lowered call.state (called (in_stage call.state) told)
   call_lowers read ahead number told prompt spends = called_lowers call.state read ahead number told prompt spends

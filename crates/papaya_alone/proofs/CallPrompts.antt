@@ -2,7 +2,11 @@
 use Rattle.std.proofs.Common.{◌≡◌, ⊎_elim, ℕ, ◌==◌, ◌&&◌, Bool, true, false, Option, Some, None, List, [], ◌++◌, cond, refl, sym, ap, ◌∙◌, subst, eqb-true}
 use Rattle.papaya_words.specs.Word.{live_word, pair_of}
 use Rattle.papaya_ask.specs.declared.ask.Ask.{Ask}
-use Rattle.papaya_ask.specs.declared.ask.Ask.TheVariants.{Load, Exchange as Ask_exchange, SameKey, ShowNone, ShowPair, SizeOf, MakeKey, MakeValue, MakePair, MakePairOf, MakeTable, AddToShard, Done as Ask_done, LoadHint, WriteHint}
+use Rattle.papaya_ask.specs.declared.ask.Ask.TheVariants.{Load, Exchange as Ask_exchange, SameKey}
+use Rattle.papaya_ask.specs.declared.ask.Ask.TheVariants.{ShowNone, ShowPair, SizeOf, MakeKey}
+use Rattle.papaya_ask.specs.declared.ask.Ask.TheVariants.{MakeValue, MakePair, MakePairOf}
+use Rattle.papaya_ask.specs.declared.ask.Ask.TheVariants.{MakeTable, AddToShard, Done as Ask_done}
+use Rattle.papaya_ask.specs.declared.ask.Ask.TheVariants.{LoadHint, WriteHint}
 use Rattle.papaya_ask.specs.declared.ask.Answer.{Answer}
 use Rattle.papaya_ask.specs.declared.ask.At.{At}
 use Rattle.papaya_ask.specs.declared.ask.At.TheVariants as words_at
@@ -11,7 +15,11 @@ use Rattle.papaya_ask.specs.declared.ask.StepKind.TheVariants as kinds
 use Rattle.papaya_ask.specs.declared.search.Search.TheVariants.{Sizing, Looking, Reading, Comparing}
 use Rattle.papaya_call.specs.declared.machine.Machine.{Machine}
 use Rattle.papaya_call.specs.declared.machine.State.{State as Stage}
-use Rattle.papaya_call.specs.declared.machine.State.TheVariants.{AtRoot, Making, Opening, Searching, Writing, Offering, Showing, Pairing, Putting, Deleting, Counting, Noting, Uncounting, Leaving, Growing, Ended}
+use Rattle.papaya_call.specs.declared.machine.State.TheVariants.{AtRoot, Making, Opening, Searching}
+use Rattle.papaya_call.specs.declared.machine.State.TheVariants.{Writing, Offering, Showing}
+use Rattle.papaya_call.specs.declared.machine.State.TheVariants.{Pairing, Putting, Deleting}
+use Rattle.papaya_call.specs.declared.machine.State.TheVariants.{Counting, Noting, Uncounting}
+use Rattle.papaya_call.specs.declared.machine.State.TheVariants.{Leaving, Growing, Ended}
 use Rattle.papaya_call.specs.declared.made.Made.{Made}
 use Rattle.papaya_call.specs.Machine.{ask_of, asks, kind_of_ask}
 use Rattle.papaya_law.specs.Allows.{AllAllowed}
@@ -53,7 +61,8 @@ module _ {K P : Type 0} (g : Setting K P) (c : Coding K P) (s : State P) (k : K)
   slots_alike t x v w e (words_at.Slot u y) = put_alike v w (s.slot u y) ((u == t) && (y == x)) e
 
   -- exchanges of which one is asked leave the same words
-  asked_alike : (kind : Option StepKind) (at : At) (new : ℕ) (e e' : Exchange P) → IsAsked g c k kind at new s loaded e → IsAsked g c k kind at new s loaded e' → (a : At) → word_of g c (after s e) a ≡ word_of g c (after s e') a
+  asked_alike : (kind : Option StepKind) (at : At) (new : ℕ) (e e' : Exchange P) → IsAsked g c k kind at new s loaded e
+      → IsAsked g c k kind at new s loaded e' → (a : At) → word_of g c (after s e) a ≡ word_of g c (after s e') a
   asked_alike (Some kinds.Open) words_at.Root new e e' h i a = ap (λ y. word_of g c (after s y) a) (h ∙ sym i)
   asked_alike (Some kinds.Claim) (words_at.Slot t x) new e e' (p, own, same, is) (q, own', same', is') a =
       ap (λ y. word_of g c (after s y) a) is ∙ slots_alike t x (Live p) (Live q) (own_alike new p q own own') a ∙ sym (ap (λ y. word_of g c (after s y) a) is')
@@ -65,7 +74,8 @@ module _ {K P : Type 0} (g : Setting K P) (c : Coding K P) (s : State P) (k : K)
   asked_alike (Some kinds.Take) words_at.Made new e e' h i a = ap (λ y. word_of g c (after s y) a) (h ∙ sym i)
   asked_alike kind at new e e' h i a = absurd h
 
-module _ {K P : Type 0} (g : Setting K P) (c : Coding K P) (hashed : IsHashed g c) (begun since : List (Exchange P)) (may : AllAllowed g start (begun ++ since)) (k : K) where
+module _ {K P : Type 0} (g : Setting K P) (c : Coding K P) (hashed : IsHashed g c) (begun since : List (Exchange P))
+    (may : AllAllowed g start (begun ++ since)) (k : K) where
   -- the state after all exchanges
   abbrev now : State P
   now = run (begun ++ since) start
@@ -80,14 +90,16 @@ module _ {K P : Type 0} (g : Setting K P) (c : Coding K P) (hashed : IsHashed g 
     same_none es none at = ap (λ l. word_of g c (run l now) at) none
 
     -- a pair whose key is compared is the one last told of
-    compared_in : (made : Made) (stage : Stage) → ReliesStage g c begun since k loaded m.task stage → (n : ℕ) → asks made m.hash stage ≡ SameKey n → (p : P) × (loaded.last ≡ Some p) × (c.number p ≡ n)
+    compared_in : (made : Made) (stage : Stage) → ReliesStage g c begun since k loaded m.task stage → (n : ℕ) → asks made m.hash stage ≡ SameKey n
+        → (p : P) × (loaded.last ≡ Some p) × (c.number p ≡ n)
     compared_in made AtRoot x n e = absurd cc
     compared_in made Making x n e = absurd cc
     compared_in made (Opening u) x n e = absurd cc
     compared_in made (Searching (Sizing u)) x n e = absurd cc
     compared_in made (Searching (Looking at)) x n e = absurd cc
     compared_in made (Searching (Reading at)) x n e = absurd cc
-    compared_in made (Searching (Comparing at word)) x n e = let is : pair_of word ≡ n = cc e in (x.0, x.1, sym (ap pair_of x.2.as_loaded ∙ (code_pair g c hashed.coding x.2.was x.0 x.2.names)) ∙ is)
+    compared_in made (Searching (Comparing at word)) x n e = let is : pair_of word ≡ n = cc e in
+        (x.0, x.1, sym (ap pair_of x.2.as_loaded ∙ (code_pair g c hashed.coding x.2.was x.0 x.2.names)) ∙ is)
     compared_in made (Writing write) x n e = absurd (subst IsWriteAsk e (write_asks made write))
     compared_in made (Offering gap) x n e = absurd cc
     compared_in made (Showing removal) x n e = absurd cc
@@ -104,7 +116,8 @@ module _ {K P : Type 0} (g : Setting K P) (c : Coding K P) (hashed : IsHashed g 
     -- a next table on the chain has a greater number
     number_in : (ask : Ask) → IsNamed g c hashed begun since may k ask → IsNumberAsked (word_of g c now) ask
     number_in (Load words_at.Root) named = tt
-    number_in (Load (words_at.Next t)) named = number_there g c hashed now (map_left g (begun ++ since)) keeps bounded (record { call = loaded; kept = None }) (words_at.Next t) named
+    number_in (Load (words_at.Next t)) named = number_there g c hashed now (map_left g (begun ++ since)) keeps bounded
+        (record { call = loaded; kept = None }) (words_at.Next t) named
     number_in (Load (words_at.Aborted t)) named = tt
     number_in (Load (words_at.Done t chunk)) named = tt
     number_in (Load (words_at.Slot t x)) named = tt
@@ -129,13 +142,15 @@ module _ {K P : Type 0} (g : Setting K P) (c : Coding K P) (hashed : IsHashed g 
     asked_number = number_in (ask_of m) (ask_named g c hashed begun since may k loaded m.task m.hash m.made m.state r.stage)
 
     -- a told answer is prompt
-    prompt_of : (ask : Ask) → ask_of m ≡ ask → (answer : Answer) (es : List (Exchange P)) (loaded' : LoadedPairs P) → IsServed m.task ask answer → IsTold g c k now (kind_of_ask m) loaded ask answer es loaded' → IsPrompt m.task (word_of g c now) ask answer (word_of g c (run es now))
+    prompt_of : (ask : Ask) → ask_of m ≡ ask → (answer : Answer) (es : List (Exchange P)) (loaded' : LoadedPairs P) → IsServed m.task ask answer
+        → IsTold g c k now (kind_of_ask m) loaded ask answer es loaded' → IsPrompt m.task (word_of g c now) ask answer (word_of g c (run es now))
     prompt_of (Load at) is answer es loaded' served told = (told.0, same_none es told.1)
     prompt_of (Ask_exchange at old new) is answer es loaded' served told =
         by_each (word_of g c now at == old)
         (λ e (a, (x, asked, one), h').
         let made = machine_may g c hashed begun since may k m loaded r at old new is (eqb-true (word_of g c now at) old e) in
-        let alike : (b : At) → word_of g c (run es now) b ≡ word_of g c (after now made.0) b = λ b. ap (λ l. word_of g c (run l now) b) one ∙ asked_alike g c now k loaded (kind_of_ask m) at new x made.0 asked made.1 b in
+        let alike : (b : At) → word_of g c (run es now) b ≡ word_of g c (after now made.0) b = λ b. ap (λ l. word_of g c (run l now) b) one
+        ∙ asked_alike g c now k loaded (kind_of_ask m) at new x made.0 asked made.1 b in
         (a, record { here = alike at ∙ made.3.here; others = λ other differs. alike other ∙ made.3.others other differs }))
         (λ e (a, none, h'). (a, same_none es none)) told
     prompt_of (LoadHint t x) is answer es loaded' served told = ((told.0.0, told.0.2), same_none es told.1.0)
@@ -158,5 +173,6 @@ module _ {K P : Type 0} (g : Setting K P) (c : Coding K P) (hashed : IsHashed g 
     prompt_of (Ask_done reply) is answer es loaded' served told = absurd served
 
     -- of the call
-    pub call_prompt : (answer : Answer) (es : List (Exchange P)) (loaded' : LoadedPairs P) → IsServed m.task (ask_of m) answer → IsTold g c k now (kind_of_ask m) loaded (ask_of m) answer es loaded' → IsPrompt m.task (word_of g c now) (ask_of m) answer (word_of g c (run es now))
+    pub call_prompt : (answer : Answer) (es : List (Exchange P)) (loaded' : LoadedPairs P) → IsServed m.task (ask_of m) answer
+        → IsTold g c k now (kind_of_ask m) loaded (ask_of m) answer es loaded' → IsPrompt m.task (word_of g c now) (ask_of m) answer (word_of g c (run es now))
     call_prompt answer es loaded' served told = prompt_of (ask_of m) refl answer es loaded' served told

@@ -1,5 +1,7 @@
 -- What each answer leaves to a call in a table that it has come to.
-use Rattle.std.proofs.Common.{◌≡◌, ◌⊎◌, inl, inr, ⊎_elim, ℕ, ◌+◌, ◌*◌, ◌-◌, ◌^◌, ◌<◌, ◌≤◌, ◌==◌, nat_lt, ltb-true, Bool, true, false, Option, Some, None, refl, sym, ap, ◌∙◌, subst, arith}
+use Rattle.std.proofs.Common.{◌≡◌, ◌⊎◌, inl, inr, ⊎_elim, ℕ, ◌+◌, ◌*◌, ◌-◌, ◌^◌, ◌<◌, ◌≤◌, ◌==◌}
+use Rattle.std.proofs.Common.{nat_lt, ltb-true, Bool, true, false, Option, Some, None, refl, sym}
+use Rattle.std.proofs.Common.{ap, ◌∙◌, subst, arith}
 use Rattle.std.proofs.lemmas.Bool.{cond_both}
 use Rattle.papaya_words.specs.Word.{kind_of, pair_of, may_hold}
 use Rattle.papaya_words.specs.declared.probe.Refused.{Refused}
@@ -37,13 +39,19 @@ use Rattle.papaya_call.specs.declared.made.Number.TheVariants.{Wanted, Free, Tak
 use Rattle.papaya_call.specs.declared.write.Write.{Write}
 use Rattle.papaya_call.specs.declared.machine.Machine.{Machine}
 use Rattle.papaya_call.specs.declared.machine.State.{State}
-use Rattle.papaya_call.specs.declared.machine.State.TheVariants.{AtRoot, Making, Opening, Searching, Writing, Offering, Showing, Pairing, Putting, Deleting, Counting, Noting, Uncounting, Leaving, Growing, Ended}
+use Rattle.papaya_call.specs.declared.machine.State.TheVariants.{AtRoot, Making, Opening, Searching}
+use Rattle.papaya_call.specs.declared.machine.State.TheVariants.{Writing, Offering, Showing}
+use Rattle.papaya_call.specs.declared.machine.State.TheVariants.{Pairing, Putting, Deleting}
+use Rattle.papaya_call.specs.declared.machine.State.TheVariants.{Counting, Noting, Uncounting}
+use Rattle.papaya_call.specs.declared.machine.State.TheVariants.{Leaving, Growing, Ended}
 use Rattle.papaya_ask.specs.Search.{IsSize, next_place, go_on, look_at, match_at, look, at_yes as search_compared, hinted}
 use Rattle.papaya_call.specs.Compute.{fills, in_place_of, lacks, offered, chosen, provides, recalled, recalls}
 use Rattle.papaya_call.specs.Made.{answered, serves_at}
 use Rattle.papaya_call.specs.Machine.{after, ask_of, asks, absent, at_root, left as next_or_end, passes, replaces, removes, computes, goes_as, written, agreed}
 use Rattle.papaya_call_law.proofs.Leads.{occupies_leads}
-use Rattle.papaya_call_law.specs.Alone.{IsNumberRead, IsPut, IsMaking, IsSame, IsSaying, IsPrompt, IsRead, left, left_in, left_to_log, left_to_number, left_to_pair, left_to_serve_with, left_to_write}
+use Rattle.papaya_call_law.specs.Alone.{IsNumberRead, IsPut, IsMaking, IsSame, IsSaying, IsPrompt}
+use Rattle.papaya_call_law.specs.Alone.{IsRead, left, left_in, left_to_log, left_to_number}
+use Rattle.papaya_call_law.specs.Alone.{left_to_pair, left_to_serve_with, left_to_write}
 use Rattle.papaya_call_law.proofs.AloneSteps.{by_saying, exchange_done}
 use Rattle.papaya_call_law.proofs.Makings.{HoldsOfPairAsks, pair_holds, pairing_leads, unserved_leads, write_then, write_then_is}
 use Rattle.papaya_call_law.proofs.ReliesLearn.{by_test}
@@ -90,7 +98,8 @@ hinted_sees at hash hint =
     (λ _. let f = go_on_sees at in let l = f.0 in (omega (arith, l), f.1))
 
 -- what the word at a place tells
-look_sees : (kind : Kind) (at : Place) (word : ℕ) → SeesIn (rank 2 (further at.table) (2 ^ 68 + 3 * (at.limit - at.probe.len) + 17)) at.table (look_at kind at word)
+look_sees : (kind : Kind) (at : Place) (word : ℕ)
+    → SeesIn (rank 2 (further at.table) (2 ^ 68 + 3 * (at.limit - at.probe.len) + 17)) at.table (look_at kind at word)
 look_sees word_kinds.Empty at word = (omega arith, refl)
 look_sees word_kinds.Live at word = (omega arith, refl)
 look_sees word_kinds.Marked at word = (omega arith, refl)
@@ -108,7 +117,8 @@ match_sees word_kinds.Tombstone at word = (omega arith, refl)
 match_sees word_kinds.Closed at word = (omega arith, refl)
 
 -- and one that was compared
-compared_sees : (at : Place) (word : ℕ) (same : Bool) → SeesIn (rank 2 (further at.table) (2 ^ 68 + 3 * (at.limit - at.probe.len) + 16)) at.table (search_compared (Comparing at word) same)
+compared_sees : (at : Place) (word : ℕ) (same : Bool)
+    → SeesIn (rank 2 (further at.table) (2 ^ 68 + 3 * (at.limit - at.probe.len) + 16)) at.table (search_compared (Comparing at word) same)
 compared_sees at word true = let f = match_sees (kind_of word) at word in let l = f.0 in (omega (arith, l), f.1)
 compared_sees at word false = go_on_sees at
 
@@ -180,16 +190,19 @@ module _ (made : Made) (how : ResizeMode) (words : At → ℕ) where
       let write : Write = record { place = at; old = word } in
       let put : Put = record { write = write; pair = new.pair } in
       cond_both (old == n) (recalled new at word) (Showing (record { place = at; word = word })) (Leads (rank 2 0 0))
-      (λ _. cond_both (serves_at new at.table at.probe.i) (Putting put) (Pairing (purposes.Again write)) (Leads (rank 2 0 0)) (λ _. (omega arith, tt)) (λ _. (omega (arith, pair_most made word), tt)))
+      (λ _. cond_both (serves_at new at.table at.probe.i) (Putting put) (Pairing (purposes.Again write)) (Leads (rank 2 0 0)) (λ _. (omega arith, tt))
+      (λ _. (omega (arith, pair_most made word), tt)))
       (λ _. (omega arith, tt))
   recalls_leads (Some (choices.Remove old)) at word n =
       let removal : Removal = record { place = at; word = word } in
       cond_both (old == n) (Deleting removal) (Showing removal) (Leads (rank 2 0 0)) (λ _. (omega arith, tt)) (λ _. (omega arith, tt))
 
   -- or shown to a closure
-  computes_leads : (kind : Kind) (held : Remembered) (at : Place) (word : ℕ) → IsAhead how words at.table → Leads (rank 2 (further at.table) (2 ^ 68 + 3)) (computes kind held at word)
+  computes_leads : (kind : Kind) (held : Remembered) (at : Place) (word : ℕ) → IsAhead how words at.table
+      → Leads (rank 2 (further at.table) (2 ^ 68 + 3)) (computes kind held at word)
   computes_leads word_kinds.Empty held at word h = (omega arith, h)
-  computes_leads word_kinds.Live held at word h = more (rank 2 0 0) _ (recalls held.choice at word (pair_of word)) (omega arith) (recalls_leads held.choice at word (pair_of word))
+  computes_leads word_kinds.Live held at word h = more (rank 2 0 0) _ (recalls held.choice at word (pair_of word)) (omega arith)
+      (recalls_leads held.choice at word (pair_of word))
   computes_leads word_kinds.Marked held at word h = (omega arith, h)
   computes_leads word_kinds.Copied held at word h = (omega arith, h)
   computes_leads word_kinds.Tombstone held at word h = (omega arith, h)
@@ -214,23 +227,30 @@ module _ (made : Made) (how : ResizeMode) (words : At → ℕ) where
 
 module _ (made : Made) (words : At → ℕ) where
   -- a table was passed
-  passes_leads : (how : ResizeMode) (task : Task) (fill : Option ℕ) (t : ℕ) → IsAhead how words t → Leads made how words (rank 2 (further t) (2 ^ 68 + 16)) (passes task how fill t)
+  passes_leads : (how : ResizeMode) (task : Task) (fill : Option ℕ) (t : ℕ) → IsAhead how words t
+      → Leads made how words (rank 2 (further t) (2 ^ 68 + 16)) (passes task how fill t)
   passes_leads (Incremental chunk) task fill t h = (omega arith, (tt, h))
-  passes_leads Blocking task fill t h = more made Blocking words (rank 2 (further t) (2 ^ 68 + 10)) _ (absent task fill (gaps.After t)) (omega arith) (absent_leads made Blocking words task fill (gaps.After t) h)
+  passes_leads Blocking task fill t h = more made Blocking words (rank 2 (further t) (2 ^ 68 + 10)) _ (absent task fill (gaps.After t)) (omega arith)
+      (absent_leads made Blocking words task fill (gaps.After t) h)
 
 module _ (made : Made) (how : ResizeMode) (words : At → ℕ) where
   -- where a search leads, no more is left than it saw
   goes_leads : (task : Task) (held : Remembered) (s : Probed) → IsAhead how words (seen_in s) → Leads made how words (rank_of_seen s) (goes_as task how held s)
   goes_leads task held (seen.On search) h = (omega arith, h)
   goes_leads Get held (seen.Here at word) h = (omega arith, tt)
-  goes_leads (Insert false) held (seen.Here at word) h = occupies_leads (Leads made how words (rank_of_seen (seen.Here at word))) (kind_of word) at word (omega arith, tt) (omega arith, h)
-  goes_leads (Insert true) held (seen.Here at word) h = more made how words (rank 2 (further at.table) (2 ^ 68 + 3)) _ (replaces (kind_of word) at word) (omega arith) (replaces_leads made how words (kind_of word) at word h)
-  goes_leads RemoveIf held (seen.Here at word) h = more made how words (rank 2 (further at.table) (2 ^ 68 + 3)) _ (removes (kind_of word) at word) (omega arith) (removes_leads made how words (kind_of word) at word h)
-  goes_leads Compute held (seen.Here at word) h = more made how words (rank 2 (further at.table) (2 ^ 68 + 3)) _ (computes (kind_of word) held at word) (omega arith) (computes_leads made how words (kind_of word) held at word h)
+  goes_leads (Insert false) held (seen.Here at word) h = occupies_leads (Leads made how words (rank_of_seen (seen.Here at word))) (kind_of word) at
+      word (omega arith, tt) (omega arith, h)
+  goes_leads (Insert true) held (seen.Here at word) h = more made how words (rank 2 (further at.table) (2 ^ 68 + 3)) _
+      (replaces (kind_of word) at word) (omega arith) (replaces_leads made how words (kind_of word) at word h)
+  goes_leads RemoveIf held (seen.Here at word) h = more made how words (rank 2 (further at.table) (2 ^ 68 + 3)) _ (removes (kind_of word) at word)
+      (omega arith) (removes_leads made how words (kind_of word) at word h)
+  goes_leads Compute held (seen.Here at word) h = more made how words (rank 2 (further at.table) (2 ^ 68 + 3)) _
+      (computes (kind_of word) held at word) (omega arith) (computes_leads made how words (kind_of word) held at word h)
   goes_leads Get held (seen.Empty at) h = (omega arith, tt)
   goes_leads (Insert replace) held (seen.Empty at) h = (omega (arith, write_most made (record { place = at; old = 0 })), tt)
   goes_leads RemoveIf held (seen.Empty at) h = (omega arith, tt)
-  goes_leads Compute held (seen.Empty at) h = more made how words (rank 2 (further at.table) (2 ^ 68 + 10)) _ (lacks held.fill (gaps.At at)) (omega arith) (lacks_leads made how words held.fill (gaps.At at) h)
+  goes_leads Compute held (seen.Empty at) h = more made how words (rank 2 (further at.table) (2 ^ 68 + 10)) _ (lacks held.fill (gaps.At at))
+      (omega arith) (lacks_leads made how words held.fill (gaps.At at) h)
   goes_leads Get held (seen.Over t) h = passes_leads made words how Get held.fill t h
   goes_leads (Insert replace) held (seen.Over t) h = (omega arith, h)
   goes_leads RemoveIf held (seen.Over t) h = passes_leads made words how RemoveIf held.fill t h
@@ -243,12 +263,16 @@ module _ (made : Made) (how : ResizeMode) (words : At → ℕ) where
 
   -- a call begins at the root
   pub root_leads : (task : Task) (fill : Option ℕ) (word : ℕ) → words Root ≡ word → Leads made how words (rank 3 0 0 - 1) (at_root task fill word)
-  root_leads Get fill word is = cond_both (word == 0) (Ended Absent) (Searching (Sizing word)) (Leads made how words (rank 3 0 0 - 1)) (λ _. (omega arith, tt)) (λ _. (omega arith, at_root_ahead how word is))
-  root_leads (Insert replace) fill word is = cond_both (word == 0) Making (Searching (Sizing word)) (Leads made how words (rank 3 0 0 - 1)) (λ _. (omega arith, tt)) (λ _. (omega arith, at_root_ahead how word is))
-  root_leads RemoveIf fill word is = cond_both (word == 0) (Ended Absent) (Searching (Sizing word)) (Leads made how words (rank 3 0 0 - 1)) (λ _. (omega arith, tt)) (λ _. (omega arith, at_root_ahead how word is))
+  root_leads Get fill word is = cond_both (word == 0) (Ended Absent) (Searching (Sizing word)) (Leads made how words (rank 3 0 0 - 1))
+      (λ _. (omega arith, tt)) (λ _. (omega arith, at_root_ahead how word is))
+  root_leads (Insert replace) fill word is = cond_both (word == 0) Making (Searching (Sizing word)) (Leads made how words (rank 3 0 0 - 1))
+      (λ _. (omega arith, tt)) (λ _. (omega arith, at_root_ahead how word is))
+  root_leads RemoveIf fill word is = cond_both (word == 0) (Ended Absent) (Searching (Sizing word)) (Leads made how words (rank 3 0 0 - 1))
+      (λ _. (omega arith, tt)) (λ _. (omega arith, at_root_ahead how word is))
   root_leads Compute fill word is =
       cond_both (word == 0) (lacks fill gaps.NoRoot) (Searching (Sizing word)) (Leads made how words (rank 3 0 0 - 1))
-      (λ _. more made how words (rank 2 (2 ^ 32) (2 ^ 68 + 10)) _ (lacks fill gaps.NoRoot) (omega arith) (lacks_leads made how words fill gaps.NoRoot tt)) (λ _. (omega arith, at_root_ahead how word is))
+      (λ _. more made how words (rank 2 (2 ^ 32) (2 ^ 68 + 10)) _ (lacks fill gaps.NoRoot) (omega arith)
+      (lacks_leads made how words fill gaps.NoRoot tt)) (λ _. (omega arith, at_root_ahead how word is))
 
   -- the closure of a removal answered
   agreed_leads : (removal : Removal) (agrees : Bool) → Leads made how words (rank 1 0 8) (agreed removal agrees)
@@ -257,10 +281,12 @@ module _ (made : Made) (how : ResizeMode) (words : At → ℕ) where
 
   -- a pair was written
   written_leads : (write : Write) (n : ℕ) → Leads made how words (rank 1 0 0) (written write n)
-  written_leads write n = cond_both (write.old == 0) (Counting (claimed_by write n)) (Ended (Replaced (pair_of write.old) n)) (Leads made how words (rank 1 0 0)) (λ _. (omega arith, tt)) (λ _. (omega arith, tt))
+  written_leads write n = cond_both (write.old == 0) (Counting (claimed_by write n)) (Ended (Replaced (pair_of write.old) n))
+      (Leads made how words (rank 1 0 0)) (λ _. (omega arith, tt)) (λ _. (omega arith, tt))
 
   -- what its closure answered leads on
-  offered_leads : (gap : Gap) (kind : OpKind) → IsGapAhead how words gap → Leads (answered kind made) how words (rank 2 (hops_of gap) (2 ^ 68 + 9)) (offered gap kind)
+  offered_leads : (gap : Gap) (kind : OpKind) → IsGapAhead how words gap
+      → Leads (answered kind made) how words (rank 2 (hops_of gap) (2 ^ 68 + 9)) (offered gap kind)
   offered_leads gap op_kinds.Insert h = (omega (arith, pair_most (answered op_kinds.Insert made) 0), h)
   offered_leads gap op_kinds.Remove h = (omega arith, tt)
   offered_leads gap (op_kinds.Abort t) h = (omega arith, tt)
@@ -277,7 +303,8 @@ some_less made (purposes.Replace write) = omega arith
 some_less made (purposes.Again write) = omega arith
 
 -- the pair that a compute made leads on
-provides_leads : (made' made : Made) (how : ResizeMode) (words : At → ℕ) (purpose : Purpose) (n : ℕ) → IsPurposeAhead how words purpose → (rank_in made' (provides purpose n) < rank_to_serve made purpose) × IsAheadIn how words (provides purpose n)
+provides_leads : (made' made : Made) (how : ResizeMode) (words : At → ℕ) (purpose : Purpose) (n : ℕ) → IsPurposeAhead how words purpose
+    → (rank_in made' (provides purpose n) < rank_to_serve made purpose) × IsAheadIn how words (provides purpose n)
 provides_leads made' made how words (purposes.Fill gap) n h = let f = fills_leads made' how words gap n h in let l = f.0 in (omega (arith, l), f.1)
 provides_leads made' made how words (purposes.Replace write) n h = (omega arith, tt)
 provides_leads made' made how words (purposes.Again write) n h = (omega arith, tt)
@@ -305,7 +332,8 @@ module _ (words words' : At → ℕ) (m : Machine) where
   still_purpose (purposes.Again write) same h = tt
 
   -- what was to be made was made, or refused
-  making_ends : (made : Made) (s : State) (answer : Answer) → IsMaking answer → ((n : ℕ) → Ends made s (Made_number n)) → ((refused : Refused) → Ends made s (Was_refused refused)) → Ends made s answer
+  making_ends : (made : Made) (s : State) (answer : Answer) → IsMaking answer → ((n : ℕ) → Ends made s (Made_number n))
+      → ((refused : Refused) → Ends made s (Was_refused refused)) → Ends made s answer
   making_ends made s answer told by_made by_refused =
       ⊎_elim
       (λ (h : (n : ℕ) × (answer ≡ Made_number n)). subst (Ends made s) (sym h.1) (by_made h.0))
@@ -313,41 +341,52 @@ module _ (words words' : At → ℕ) (m : Machine) where
       told
 
   -- a search learns the size of its table
-  size_ends : (made : Made) (t : ℕ) (answer : Answer) → (slots : ℕ) × (limit : ℕ) × IsSize slots limit × (answer ≡ Size slots limit) → IsAhead m.mode words' t → Ends made (Searching (Sizing t)) answer
-  size_ends made t answer (slots, limit, size, e) h = let few : limit < 2 ^ 32 = size.few in subst (Ends made (Searching (Sizing t))) (sym e) (inr (omega arith), h)
+  size_ends : (made : Made) (t : ℕ) (answer : Answer) → (slots : ℕ) × (limit : ℕ) × IsSize slots limit × (answer ≡ Size slots limit)
+      → IsAhead m.mode words' t → Ends made (Searching (Sizing t)) answer
+  size_ends made t answer (slots, limit, size, e) h = let few : limit < 2 ^ 32 = size.few in
+      subst (Ends made (Searching (Sizing t))) (sym e) (inr (omega arith), h)
 
   -- where fewer steps are left to a call that makes a pair, less is left by its rank
   abbrev Follows : Made → State → State → Type 0
   Follows made s next = (made' : Made) → left_in made' next < left_in made s → (rank_in made' next < rank_in made s) × IsAheadIn m.mode words' next
 
-  follows : (made : Made) (s : State) (answer : Answer) → Follows made s (after (record m { made = made; state = s }) answer).state → (left (after (record m { made = made; state = s }) answer) < left_in made s) → Ends made s answer
+  follows : (made : Made) (s : State) (answer : Answer) → Follows made s (after (record m { made = made; state = s }) answer).state
+      → (left (after (record m { made = made; state = s }) answer) < left_in made s) → Ends made s answer
   follows made s answer f less = let h = f (after (record m { made = made; state = s }) answer).made less in (inr h.0, h.1)
 
   -- an insertion's pair is made, then it is written
-  writing_ends : (made : Made) (write : Write) (answer : Answer) → IsNumberRead words made.number → IsRead words (Writing write) → IsPrompt m.task words (asks made m.hash (Writing write)) answer words' → Ends made (Writing write) answer
+  writing_ends : (made : Made) (write : Write) (answer : Answer) → IsNumberRead words made.number → IsRead words (Writing write)
+      → IsPrompt m.task words (asks made m.hash (Writing write)) answer words' → Ends made (Writing write) answer
   writing_ends made write answer known read told =
       follows made (Writing write) answer
       (subst (Follows made (Writing write)) (sym (write_then_is m made write answer)) (by_served (serves made write) refl))
       (writing_nearer words words' m made answer known write read told)
     where
       written_follows : (n : ℕ) → Follows made (Writing write) (written write n)
-      written_follows n made' less = cond_both (write.old == 0) (Counting (claimed_by write n)) (Ended (Replaced (pair_of write.old) n)) (λ s. left_in made' s < left_to_write made write → (rank_in made' s < rank 1 0 (left_to_write made write)) × IsAheadIn m.mode words' s)
+      written_follows n made' less = cond_both (write.old == 0) (Counting (claimed_by write n)) (Ended (Replaced (pair_of write.old) n))
+          (λ s. left_in made' s < left_to_write made write → (rank_in made' s < rank 1 0 (left_to_write made write)) × IsAheadIn m.mode words' s)
           (λ _ l. (omega (arith, l), tt)) (λ _ l. (omega (arith, l), tt)) less
 
       by_served : (served : Option ℕ) → serves made write ≡ served → Follows made (Writing write) (write_then m served made write answer)
-      by_served None is = unserved_leads m (Follows made (Writing write)) (λ refused made' less. (omega (arith, less), tt)) made write (λ made' less. (omega (arith, less), tt)) answer
+      by_served None is = unserved_leads m (Follows made (Writing write)) (λ refused made' less. (omega (arith, less), tt)) made write
+          (λ made' less. (omega (arith, less), tt)) answer
       by_served (Some n) is =
-          let done : (answer ≡ Exchanged) × IsPut words (Slot write.place.table write.place.probe.i) _ words' = exchange_done _ _ (words (Slot write.place.table write.place.probe.i)) write.old read (subst (λ o. IsPrompt m.task words (served_ask o write made) answer words') is told) in
+          let done : (answer ≡ Exchanged) × IsPut words (Slot write.place.table write.place.probe.i) _ words' = exchange_done _ _
+          (words (Slot write.place.table write.place.probe.i)) write.old read
+          (subst (λ o. IsPrompt m.task words (served_ask o write made) answer words') is told) in
           subst (λ a. Follows made (Writing write) (write_then m (Some n) made write a)) (sym done.0) (written_follows n)
 
   -- a call that makes a pair leaves the root
-  pairing_root : (purpose : Purpose) (made : Made) (answer : Answer) → IsPrompt m.task words (asks made m.hash (Pairing purpose)) answer words' → words' Root ≡ words Root
-  pairing_root purpose made answer told = pair_holds (λ ask. IsPrompt m.task words ask answer words' → words' Root ≡ words Root) each made (in_place_of purpose) told
+  pairing_root : (purpose : Purpose) (made : Made) (answer : Answer) → IsPrompt m.task words (asks made m.hash (Pairing purpose)) answer words'
+      → words' Root ≡ words Root
+  pairing_root purpose made answer told = pair_holds (λ ask. IsPrompt m.task words ask answer words' → words' Root ≡ words Root) each made
+      (in_place_of purpose) told
     where
       each : HoldsOfPairAsks (λ ask. IsPrompt m.task words ask answer words' → words' Root ≡ words Root)
       each = record {
         loads = λ told. told.1 Root;
-        takes = λ count told. by_test (words Made_word == count) ((answer ≡ Exchanged) × IsPut words Made_word (count + 1) words') ((answer ≡ Found_instead (words Made_word)) × IsSame words words') (words' Root ≡ words Root) told
+        takes = λ count told. by_test (words Made_word == count) ((answer ≡ Exchanged) × IsPut words Made_word (count + 1) words')
+            ((answer ≡ Found_instead (words Made_word)) × IsSame words words') (words' Root ≡ words Root) told
             (λ _ done. done.1.others Root (λ (e : Root ≡ Made_word). cc)) (λ _ lost. lost.1 Root);
         key = λ told. told.1 Root;
         value = λ told. told.1 Root;
@@ -356,13 +395,16 @@ module _ (words words' : At → ℕ) (m : Machine) where
       }
 
   -- a compute's pair is made
-  pairing_ends : (made : Made) (purpose : Purpose) (answer : Answer) → IsNumberRead words made.number → IsRead words (Pairing purpose) → IsPurposeAhead m.mode words' purpose → IsPrompt m.task words (asks made m.hash (Pairing purpose)) answer words' → Ends made (Pairing purpose) answer
+  pairing_ends : (made : Made) (purpose : Purpose) (answer : Answer) → IsNumberRead words made.number → IsRead words (Pairing purpose)
+      → IsPurposeAhead m.mode words' purpose → IsPrompt m.task words (asks made m.hash (Pairing purpose)) answer words' → Ends made (Pairing purpose) answer
   pairing_ends made purpose answer known read h told =
       follows made (Pairing purpose) answer
-      (pairing_leads m (Follows made (Pairing purpose)) (λ refused made' less. (some_less made purpose, tt)) made purpose (λ made' less. (stays_less made' purpose less, h)) (λ n made' less. provides_leads made' made m.mode words' purpose n h) answer)
+      (pairing_leads m (Follows made (Pairing purpose)) (λ refused made' less. (some_less made purpose, tt)) made purpose
+      (λ made' less. (stays_less made' purpose less, h)) (λ n made' less. provides_leads made' made m.mode words' purpose n h) answer)
       (pairing_nearer words words' m made answer known purpose read told)
     where
-      stays_less : (made' : Made) (purpose : Purpose) → left_in made' (Pairing purpose) < left_in made (Pairing purpose) → rank_to_serve made' purpose < rank_to_serve made purpose
+      stays_less : (made' : Made) (purpose : Purpose) → left_in made' (Pairing purpose) < left_in made (Pairing purpose)
+          → rank_to_serve made' purpose < rank_to_serve made purpose
       stays_less made' (purposes.Fill gap) less = omega (arith, less)
       stays_less made' (purposes.Replace write) less = omega (arith, less)
       stays_less made' (purposes.Again write) less = omega (arith, less)
@@ -370,14 +412,18 @@ module _ (words words' : At → ℕ) (m : Machine) where
   -- a closure was shown a pair
   showing_ends : (made : Made) (removal : Removal) (answer : Answer) → IsSaying m.task answer → Ends made (Showing removal) answer
   showing_ends made removal answer told =
-      by_saying (λ task said. let m' : Machine = after (record m { task = task; made = made; state = Showing removal }) said in (⊥ ⊎ (rank_in m'.made m'.state < rank 1 0 9)) × IsAheadIn m.mode words' m'.state)
+      by_saying (λ task said. let m' : Machine = after (record m { task = task; made = made; state = Showing removal }) said in
+      (⊥ ⊎ (rank_in m'.made m'.state < rank 1 0 9)) × IsAheadIn m.mode words' m'.state)
       (λ agrees. let f = agreed_leads made m.mode words' removal agrees in let l = f.0 in (inr (omega (arith, l)), f.1))
       (λ kind. let f = chosen_leads made m.mode words' removal kind in let l = f.0 in (inr (omega (arith, l)), f.1)) m.task answer told
 
   -- a next table is further on
-  next_ends : (made : Made) (how : ResizeMode) (t word : ℕ) → IsIncremental how → IsAhead how words' t → (word ≡ 0) ⊎ ((t < word) × (word ≤ 2 ^ 32)) → (rank_in made (next_or_end m.task m.remembered.fill t word) < rank 2 (further t) (2 ^ 68 + 16)) × IsAheadIn how words' (next_or_end m.task m.remembered.fill t word)
+  next_ends : (made : Made) (how : ResizeMode) (t word : ℕ) → IsIncremental how → IsAhead how words' t → (word ≡ 0) ⊎ ((t < word) × (word ≤ 2 ^ 32))
+      → (rank_in made (next_or_end m.task m.remembered.fill t word) < rank 2 (further t) (2 ^ 68 + 16))
+      × IsAheadIn how words' (next_or_end m.task m.remembered.fill t word)
   next_ends made (Incremental chunk) t word inc h number =
-      cond_both (word == 0) (absent m.task m.remembered.fill (gaps.After t)) (Searching (Sizing word)) (λ s. (rank_in made s < rank 2 (further t) (2 ^ 68 + 16)) × IsAheadIn (Incremental chunk) words' s)
+      cond_both (word == 0) (absent m.task m.remembered.fill (gaps.After t)) (Searching (Sizing word))
+      (λ s. (rank_in made s < rank 2 (further t) (2 ^ 68 + 16)) × IsAheadIn (Incremental chunk) words' s)
       (λ none. let f = absent_leads made (Incremental chunk) words' m.task m.remembered.fill (gaps.After t) h in let l = f.0 in (omega (arith, l), f.1))
       (λ some.
       ⊎_elim
@@ -387,12 +433,14 @@ module _ (words words' : At → ℕ) (m : Machine) where
   next_ends made Blocking t word inc h number = absurd inc
 
   -- in each state
-  ends_in : (made : Made) (s : State) (answer : Answer) → IsNumberRead words made.number → IsRead words s → IsAheadIn m.mode words s → IsNumberAsked words (asks made m.hash s) → IsPrompt m.task words (asks made m.hash s) answer words' → Ends made s answer
+  ends_in : (made : Made) (s : State) (answer : Answer) → IsNumberRead words made.number → IsRead words s → IsAheadIn m.mode words s
+      → IsNumberAsked words (asks made m.hash s) → IsPrompt m.task words (asks made m.hash s) answer words' → Ends made s answer
   ends_in made AtRoot answer known read h number told =
       let f = root_leads made m.mode words' m.task m.remembered.fill (words Root) (told.1 Root) in
       let l = f.0 in
       subst (Ends made AtRoot) (sym told.0) (inr (omega (arith, l)), f.1)
-  ends_in made Making answer known read h number told = making_ends made Making answer told.0 (λ n. (inr (omega arith), tt)) (λ refused. (inr (omega arith), tt))
+  ends_in made Making answer known read h number told = making_ends made Making answer told.0 (λ n. (inr (omega arith), tt))
+      (λ refused. (inr (omega arith), tt))
   ends_in made (Opening t) answer known read h number told =
       let done : (answer ≡ Exchanged) × IsPut words Root t words' = exchange_done _ _ (words Root) 0 read told in
       subst (Ends made (Opening t)) (sym done.0) (inl tt, at_root_ahead made m.mode words' m.mode t done.1.here)
@@ -400,21 +448,24 @@ module _ (words words' : At → ℕ) (m : Machine) where
   ends_in made (Searching (Looking at)) answer known read h number told =
       let hint : ℕ = told.0.0 in
       let a = hinted_sees at m.hash hint in
-      let b = goes_leads made m.mode words' m.task m.remembered (hinted at m.hash hint) (subst (IsAhead m.mode words') (sym a.1) (still_ahead m.mode at.table (told.1 Root) h)) in
+      let b = goes_leads made m.mode words' m.task m.remembered (hinted at m.hash hint)
+      (subst (IsAhead m.mode words') (sym a.1) (still_ahead m.mode at.table (told.1 Root) h)) in
       let i = a.0 in
       let j = b.0 in
       subst (Ends made (Searching (Looking at))) (sym told.0.1) (inr (omega (arith, i, j)), b.1)
   ends_in made (Searching (Reading at)) answer known read h number told =
       let word : ℕ = words (Slot at.table at.probe.i) in
       let a = look_sees (kind_of word) at word in
-      let b = goes_leads made m.mode words' m.task m.remembered (look at word) (subst (IsAhead m.mode words') (sym a.1) (still_ahead m.mode at.table (told.1 Root) h)) in
+      let b = goes_leads made m.mode words' m.task m.remembered (look at word)
+      (subst (IsAhead m.mode words') (sym a.1) (still_ahead m.mode at.table (told.1 Root) h)) in
       let i = a.0 in
       let j = b.0 in
       subst (Ends made (Searching (Reading at))) (sym told.0) (inr (omega (arith, i, j)), b.1)
   ends_in made (Searching (Comparing at word)) answer known read h number told =
       let same : Bool = told.0.0 in
       let a = compared_sees at word same in
-      let b = goes_leads made m.mode words' m.task m.remembered (search_compared (Comparing at word) same) (subst (IsAhead m.mode words') (sym a.1) (still_ahead m.mode at.table (told.1 Root) h)) in
+      let b = goes_leads made m.mode words' m.task m.remembered (search_compared (Comparing at word) same)
+      (subst (IsAhead m.mode words') (sym a.1) (still_ahead m.mode at.table (told.1 Root) h)) in
       let i = a.0 in
       let j = b.0 in
       subst (Ends made (Searching (Comparing at word))) (sym told.0.1) (inr (omega (arith, i, j)), b.1)
@@ -446,5 +497,6 @@ module _ (words words' : At → ℕ) (m : Machine) where
   ends_in made (Ended reply) answer known read h number told = absurd told
 
   -- of the machine
-  pub call_ends : (answer : Answer) → IsNumberRead words m.made.number → IsRead words m.state → IsAheadIn m.mode words m.state → IsNumberAsked words (ask_of m) → IsPrompt m.task words (ask_of m) answer words' → Ends m.made m.state answer
+  pub call_ends : (answer : Answer) → IsNumberRead words m.made.number → IsRead words m.state → IsAheadIn m.mode words m.state
+      → IsNumberAsked words (ask_of m) → IsPrompt m.task words (ask_of m) answer words' → Ends m.made m.state answer
   call_ends answer known read h number told = ends_in m.made m.state answer known read h number told

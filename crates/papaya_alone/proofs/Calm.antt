@@ -52,7 +52,8 @@ module _ (words words' : At → ℕ) where
   calm_same same (Slot t x) = same (Slot t x)
   calm_same same Made_word = same Made_word
 
-  calm_others : (at : At) → ((other : At) → (other ≡ at → ⊥) → words' other ≡ words other) → (other : At) → (other ≡ at → ⊥) → calm words' other ≡ calm words other
+  calm_others : (at : At) → ((other : At) → (other ≡ at → ⊥) → words' other ≡ words other) → (other : At) → (other ≡ at → ⊥)
+      → calm words' other ≡ calm words other
   calm_others at same Root else = same Root else
   calm_others at same (Next t) else = refl
   calm_others at same (Aborted t) else = same (Aborted t) else
@@ -70,7 +71,8 @@ module _ (words words' : At → ℕ) where
 
     exchange_calm : (at : At) (old new : ℕ) → IsShown at → IsCalm (Exchange at old new)
     exchange_calm at old new h told =
-        subst (λ w. MatchBool (w == old) ((answer ≡ Exchanged) × IsPut (calm words) at new (calm words')) ((answer ≡ Found_instead w) × IsSame (calm words) (calm words'))) (sym (shown words at h))
+        subst (λ w. MatchBool (w == old) ((answer ≡ Exchanged) × IsPut (calm words) at new (calm words'))
+        ((answer ≡ Found_instead w) × IsSame (calm words) (calm words'))) (sym (shown words at h))
         (by_each (words at == old) (λ _ done. (done.0, calm_put at new h done.1)) (λ _ lost. (lost.0, calm_same lost.1)) told)
 
     each_calm : HoldsOfPairAsks IsCalm
@@ -105,13 +107,20 @@ module _ (words words' : At → ℕ) where
     purpose_calm (Again write) read = read
 
     module _ (known : IsNumberRead words made.number) where
-      nears : (state : State) → IsRead (calm words) state → IsCalm m.task answer (asks made m.hash state) → IsPrompt m.task words (asks made m.hash state) answer words' → Nears state
-      nears state read calms told = machine_nears (calm words) (calm words') (record m { made = made; state = state }) answer (number_calm made.number known) read (λ t. refl) (calms told)
+      nears : (state : State) → IsRead (calm words) state → IsCalm m.task answer (asks made m.hash state)
+          → IsPrompt m.task words (asks made m.hash state) answer words' → Nears state
+      nears state read calms told = machine_nears (calm words) (calm words') (record m { made = made; state = state }) answer
+          (number_calm made.number known) read (λ t. refl) (calms told)
 
       -- to an insertion that writes
-      pub writing_nearer : (write : Write) → IsRead words (Writing write) → IsPrompt m.task words (asks made m.hash (Writing write)) answer words' → Nears (Writing write)
-      writing_nearer write read told = nears (Writing write) read (write_holds (IsCalm m.task answer) (each_calm m.task answer) write (λ n. exchange_calm m.task answer (Slot write.place.table write.place.probe.i) write.old (live_word n) tt) made) told
+      pub writing_nearer : (write : Write) → IsRead words (Writing write) → IsPrompt m.task words (asks made m.hash (Writing write)) answer words'
+          → Nears (Writing write)
+      writing_nearer write read told = nears (Writing write) read
+          (write_holds (IsCalm m.task answer) (each_calm m.task answer) write
+          (λ n. exchange_calm m.task answer (Slot write.place.table write.place.probe.i) write.old (live_word n) tt) made) told
 
       -- and to a compute that makes its pair
-      pub pairing_nearer : (purpose : Purpose) → IsRead words (Pairing purpose) → IsPrompt m.task words (asks made m.hash (Pairing purpose)) answer words' → Nears (Pairing purpose)
-      pairing_nearer purpose read told = nears (Pairing purpose) (purpose_calm purpose read) (pair_holds (IsCalm m.task answer) (each_calm m.task answer) made (in_place_of purpose)) told
+      pub pairing_nearer : (purpose : Purpose) → IsRead words (Pairing purpose)
+          → IsPrompt m.task words (asks made m.hash (Pairing purpose)) answer words' → Nears (Pairing purpose)
+      pairing_nearer purpose read told = nears (Pairing purpose) (purpose_calm purpose read)
+          (pair_holds (IsCalm m.task answer) (each_calm m.task answer) made (in_place_of purpose)) told

@@ -1,5 +1,7 @@
 -- What each answer leaves to the carry of a pair.
-use Rattle.std.proofs.Common.{◌≡◌, ◌⊎◌, inl, inr, ℕ, ◌+◌, ◌*◌, ◌-◌, ◌^◌, ◌<◌, ◌≤◌, ◌==◌, nat_lt, ltb-true, Bool, true, false, refl, sym, ap, ◌∙◌, subst, arith, eqb-true}
+use Rattle.std.proofs.Common.{◌≡◌, ◌⊎◌, inl, inr, ℕ, ◌+◌, ◌*◌, ◌-◌, ◌^◌, ◌<◌, ◌≤◌, ◌==◌, nat_lt}
+use Rattle.std.proofs.Common.{ltb-true, Bool, true, false, refl, sym, ap, ◌∙◌, subst, arith}
+use Rattle.std.proofs.Common.{eqb-true}
 use Rattle.std.proofs.lemmas.Bool.{cond_both}
 use Rattle.papaya_words.specs.Word.{kind_of, may_hold}
 use Rattle.papaya_words.specs.declared.word.Kind.{Kind}
@@ -66,12 +68,14 @@ carry_puts (carries.Aborting table) word other h e = subst IsOfRoot e h
 
 module _ (mode : ResizeMode) (words words' : At → ℕ) (slot : Slot) (word : ℕ) where
   -- the marked word stands in its slot still, and its target was not given up
-  pub still_alive : (how : ResizeMode) → IsAlive how words slot.to → words' (words_at.Aborted slot.to) ≡ words (words_at.Aborted slot.to) → IsAlive how words' slot.to
+  pub still_alive : (how : ResizeMode) → IsAlive how words slot.to → words' (words_at.Aborted slot.to) ≡ words (words_at.Aborted slot.to)
+      → IsAlive how words' slot.to
   still_alive (Incremental chunk) alive same = tt
   still_alive Blocking alive same = same ∙ alive
 
   -- where neither was exchanged
-  still : IsCarrying mode words slot word → words' (words_at.Aborted slot.to) ≡ words (words_at.Aborted slot.to) → word_in mode words' slot ≡ word_in mode words slot → IsCarrying mode words' slot word
+  still : IsCarrying mode words slot word → words' (words_at.Aborted slot.to) ≡ words (words_at.Aborted slot.to)
+      → word_in mode words' slot ≡ word_in mode words slot → IsCarrying mode words' slot word
   still h same there = record { alive = still_alive mode h.alive same; stands = there ∙ h.stands; marked = h.marked }
 
   same_still : IsCarrying mode words slot word → IsSame words words' → IsCarrying mode words' slot word
@@ -83,26 +87,33 @@ module _ (mode : ResizeMode) (words : At → ℕ) (bare : IsBare words) (slot : 
   Within most end = (left_of_carried end ≤ most) × IsCarriedRead mode words slot word end
 
   -- no place is left
-  filled : (how : ResizeMode) (hash table : ℕ) → IsAtTarget how slot table → IsAlive how words slot.to → (left_of_carry (fills hash table how) ≤ further table * 2 ^ 34 + 6) × IsCarryRead how words slot (fills hash table how)
+  filled : (how : ResizeMode) (hash table : ℕ) → IsAtTarget how slot table → IsAlive how words slot.to
+      → (left_of_carry (fills hash table how) ≤ further table * 2 ^ 34 + 6) × IsCarryRead how words slot (fills hash table how)
   filled (Incremental chunk) hash table here alive = (omega arith, tt)
   filled Blocking hash table here alive = (omega arith, ap (λ t. words (words_at.Aborted t)) here ∙ alive)
 
   -- the key is not at this place
-  goes_within : (hash : ℕ) (at : Place) → IsAtTarget mode slot at.table → Within (further at.table * 2 ^ 34 + 3 * (at.limit - at.probe.len) + 6) (goes_on hash at mode)
+  goes_within : (hash : ℕ) (at : Place) → IsAtTarget mode slot at.table
+      → Within (further at.table * 2 ^ 34 + 3 * (at.limit - at.probe.len) + 6) (goes_on hash at mode)
   goes_within hash at here =
-      cond_both (nat_lt at.probe.len at.limit) (carried.On (carries.Looking hash (next_place at))) (carried.On (fills hash at.table mode)) (Within (further at.table * 2 ^ 34 + 3 * (at.limit - at.probe.len) + 6))
+      cond_both (nat_lt at.probe.len at.limit) (carried.On (carries.Looking hash (next_place at))) (carried.On (fills hash at.table mode))
+      (Within (further at.table * 2 ^ 34 + 3 * (at.limit - at.probe.len) + 6))
       (λ more. let l : at.probe.len < at.limit = ltb-true at.probe.len at.limit more in (omega arith, (h, here)))
       (λ over. let f = filled mode hash at.table here h.alive in let l = f.0 in (omega (arith, l), (h, f.1)))
 
   -- a hint spares the word, or the word is loaded next
-  hinted_within : (hash : ℕ) (at : Place) (hint : ℕ) → IsAtTarget mode slot at.table → Within (further at.table * 2 ^ 34 + 3 * (at.limit - at.probe.len) + 8) (hinted hash at mode hint)
+  hinted_within : (hash : ℕ) (at : Place) (hint : ℕ) → IsAtTarget mode slot at.table
+      → Within (further at.table * 2 ^ 34 + 3 * (at.limit - at.probe.len) + 8) (hinted hash at mode hint)
   hinted_within hash at hint here =
-      cond_both (may_hold hint hash) (carried.On (carries.Reading hash at)) (goes_on hash at mode) (Within (further at.table * 2 ^ 34 + 3 * (at.limit - at.probe.len) + 8))
+      cond_both (may_hold hint hash) (carried.On (carries.Reading hash at)) (goes_on hash at mode)
+      (Within (further at.table * 2 ^ 34 + 3 * (at.limit - at.probe.len) + 8))
       (λ same. (omega arith, (h, here)))
       (λ other. let f = goes_within hash at here in let l = f.0 in (omega (arith, l), f.1))
 
   -- what the word at a place tells
-  look_within : (kind : Kind) (hash : ℕ) (at : Place) (found : ℕ) → words (words_at.Slot at.table at.probe.i) ≡ found → (kind ≡ word_kinds.Empty → found ≡ 0) → IsAtTarget mode slot at.table → Within (further at.table * 2 ^ 34 + 3 * (at.limit - at.probe.len) + 7) (look_at kind hash at mode found)
+  look_within : (kind : Kind) (hash : ℕ) (at : Place) (found : ℕ) → words (words_at.Slot at.table at.probe.i) ≡ found
+      → (kind ≡ word_kinds.Empty → found ≡ 0) → IsAtTarget mode slot at.table
+      → Within (further at.table * 2 ^ 34 + 3 * (at.limit - at.probe.len) + 7) (look_at kind hash at mode found)
   look_within word_kinds.Empty hash at found stands none here = (omega arith, (h, stands ∙ none refl))
   look_within word_kinds.Live hash at found stands none here = (omega arith, (h, here))
   look_within word_kinds.Marked hash at found stands none here = (omega arith, (h, here))
@@ -111,7 +122,8 @@ module _ (mode : ResizeMode) (words : At → ℕ) (bare : IsBare words) (slot : 
   look_within word_kinds.Closed hash at found stands none here = let f = goes_within hash at here in let l = f.0 in (omega (arith, l), f.1)
 
   -- the keys match, or they do not
-  compared_within : (hash : ℕ) (at : Place) (same : Bool) → IsAtTarget mode slot at.table → Within (further at.table * 2 ^ 34 + 3 * (at.limit - at.probe.len) + 6) (compared hash at mode same)
+  compared_within : (hash : ℕ) (at : Place) (same : Bool) → IsAtTarget mode slot at.table
+      → Within (further at.table * 2 ^ 34 + 3 * (at.limit - at.probe.len) + 6) (compared hash at mode same)
   compared_within hash at true here = (omega arith, h)
   compared_within hash at false here = goes_within hash at here
 
@@ -127,9 +139,11 @@ module _ (mode : ResizeMode) (words : At → ℕ) (bare : IsBare words) (slot : 
   linked_within hash (linked.Refused refused) inc read = (omega arith, tt)
 
   -- a next table is further on
-  passed_within : (hash table next : ℕ) → IsIncremental mode → words (words_at.Next table) ≡ next → IsNumber words (words_at.Next table) → Within (further table * 2 ^ 34 + 5) (carried.On (passed hash table next))
+  passed_within : (hash table next : ℕ) → IsIncremental mode → words (words_at.Next table) ≡ next → IsNumber words (words_at.Next table)
+      → Within (further table * 2 ^ 34 + 5) (carried.On (passed hash table next))
   passed_within hash table next inc is number =
-      cond_both (next == 0) (carries.Linking hash (links.Sizing table table true)) (carries.Sizing hash next) (λ y. Within (further table * 2 ^ 34 + 5) (carried.On y))
+      cond_both (next == 0) (carries.Linking hash (links.Sizing table table true)) (carries.Sizing hash next)
+      (λ y. Within (further table * 2 ^ 34 + 5) (carried.On y))
       (λ none. (omega arith, (h, (inc, is ∙ eqb-true next 0 none))))
       (λ some. (lower number some, (h, any_target mode next inc)))
     where
@@ -140,21 +154,26 @@ module _ (mode : ResizeMode) (words : At → ℕ) (bare : IsBare words) (slot : 
 module _ (mode : ResizeMode) (initial : ℕ) (words words' : At → ℕ) (bare : IsBare words') (slot : Slot) (word : ℕ) where
   -- after this answer
   abbrev pub CarryEnds : Carry → Answer → Type 0
-  CarryEnds carry answer = Nears answer (left_of_carried (carry_after carry mode initial answer)) (left_of_carry carry) × IsCarriedRead mode words' slot word (carry_after carry mode initial answer)
+  CarryEnds carry answer = Nears answer (left_of_carried (carry_after carry mode initial answer)) (left_of_carry carry)
+      × IsCarriedRead mode words' slot word (carry_after carry mode initial answer)
 
   -- in each state
-  pub carry_ends : (carry : Carry) (answer : Answer) → IsCarrying mode words slot word → IsCarryRead mode words slot carry → IsCopyPrompt words (carry_ask carry word) answer words' → CarryEnds carry answer
-  carry_ends (carries.Hashing table) answer h read told = subst (CarryEnds (carries.Hashing table)) (sym told.0.1) (inr (omega arith), (same_still mode words words' slot word h told.1, read))
+  pub carry_ends : (carry : Carry) (answer : Answer) → IsCarrying mode words slot word → IsCarryRead mode words slot carry
+      → IsCopyPrompt words (carry_ask carry word) answer words' → CarryEnds carry answer
+  carry_ends (carries.Hashing table) answer h read told = subst (CarryEnds (carries.Hashing table)) (sym told.0.1)
+      (inr (omega arith), (same_still mode words words' slot word h told.1, read))
   carry_ends (carries.Sizing hash table) answer h read told =
       let (slots, limit, size, e) = told.0 in
-      subst (CarryEnds (carries.Sizing hash table)) (sym e) (inr (let few = size.few in omega (arith, few)), (same_still mode words words' slot word h told.1, read))
+      subst (CarryEnds (carries.Sizing hash table)) (sym e)
+      (inr (let few = size.few in omega (arith, few)), (same_still mode words words' slot word h told.1, read))
   carry_ends (carries.Looking hash at) answer h read told =
       let f = hinted_within mode words' bare slot word (same_still mode words words' slot word h told.1) hash at told.0.0 read in
       let l = f.0 in
       subst (CarryEnds (carries.Looking hash at)) (sym told.0.1) (inr (omega (arith, l)), f.1)
   carry_ends (carries.Reading hash at) answer h read told =
       let there : At = words_at.Slot at.table at.probe.i in
-      let f = look_within mode words' bare slot word (same_still mode words words' slot word h told.1) (kind_of (words there)) hash at (words there) (told.1 there) (λ e. sym (told.1 there) ∙ bare at.table at.probe.i (ap kind_of (told.1 there) ∙ e)) read in
+      let f = look_within mode words' bare slot word (same_still mode words words' slot word h told.1) (kind_of (words there)) hash at (words there)
+      (told.1 there) (λ e. sym (told.1 there) ∙ bare at.table at.probe.i (ap kind_of (told.1 there) ∙ e)) read in
       let l = f.0 in
       subst (CarryEnds (carries.Reading hash at)) (sym told.0.0) (inr (omega (arith, l)), f.1)
   carry_ends (carries.Comparing hash at found) answer h read told =
@@ -168,21 +187,30 @@ module _ (mode : ResizeMode) (initial : ℕ) (words words' : At → ℕ) (bare :
         inl tt,
         (
           still mode words words' slot word h (done.1.others (words_at.Aborted slot.to) (λ e. cc))
-              (done.1.others (words_at.Slot slot.from slot.index) (λ (e : words_at.Slot slot.from slot.index ≡ there). let s = h.stands in let z : words (words_at.Slot slot.from slot.index) ≡ 0 = ap words e ∙ read in marked_some word h.marked (sym s ∙ z))),
+              (done.1.others (words_at.Slot slot.from slot.index)
+              (λ (e : words_at.Slot slot.from slot.index ≡ there). let s = h.stands in
+              let z : words (words_at.Slot slot.from slot.index) ≡ 0 = ap words e ∙ read in marked_some word h.marked (sym s ∙ z))),
           tt,
         ),
       )
-  carry_ends (carries.Placed hash at) answer h read told = subst (CarryEnds (carries.Placed hash at)) (sym told.0) (inr (omega arith), same_still mode words words' slot word h told.1)
+  carry_ends (carries.Placed hash at) answer h read told = subst (CarryEnds (carries.Placed hash at)) (sym told.0)
+      (inr (omega arith), same_still mode words words' slot word h told.1)
   carry_ends (carries.Passing hash table) answer h read told =
-      let f = passed_within mode words' bare slot word (same_still mode words words' slot word h told.1) hash table (words (words_at.Next table)) read (told.1 (words_at.Next table)) (subst (λ n. (n ≡ 0) ⊎ ((table < n) × (n ≤ 2 ^ 32))) (sym (told.1 (words_at.Next table))) told.0.1) in
+      let f = passed_within mode words' bare slot word (same_still mode words words' slot word h told.1) hash table (words (words_at.Next table)) read
+      (told.1 (words_at.Next table)) (subst (λ n. (n ≡ 0) ⊎ ((table < n) × (n ≤ 2 ^ 32))) (sym (told.1 (words_at.Next table))) told.0.1) in
       let l = f.0 in
       subst (CarryEnds (carries.Passing hash table)) (sym told.0.0) (inr (omega (arith, l)), f.1)
   carry_ends (carries.Linking hash link) answer h read told =
       let e = link_ends mode words words' initial link answer read.1 told in
       let other : (x : At) → (IsPutAt (link_ask link) x → ⊥) → words' x ≡ words x = stays_at words words' answer (link_ask link) told in
-      let f = linked_within mode words' bare slot word (still mode words words' slot word h (other (words_at.Aborted slot.to) (link_puts link (words_at.Aborted slot.to) tt)) (other (words_at.Slot slot.from slot.index) (link_puts link (words_at.Slot slot.from slot.index) tt))) hash (link_after link mode initial answer) read.0 e.1 in
-      subst (λ y. Nears answer (left_of_carried y) (left_of_link link) × IsCarriedRead mode words' slot word y) (sym (carry_links mode initial hash link answer))
+      let f = linked_within mode words' bare slot word
+      (still mode words words' slot word h (other (words_at.Aborted slot.to) (link_puts link (words_at.Aborted slot.to) tt))
+      (other (words_at.Slot slot.from slot.index) (link_puts link (words_at.Slot slot.from slot.index) tt))) hash
+      (link_after link mode initial answer) read.0 e.1 in
+      subst (λ y. Nears answer (left_of_carried y) (left_of_link link) × IsCarriedRead mode words' slot word y)
+      (sym (carry_links mode initial hash link answer))
       (nearer answer (left_of_linked (link_after link mode initial answer)) (left_of_link link) _ _ e.0 (λ less. let l = f.0 in omega (arith, l, less)), f.1)
   carry_ends (carries.Aborting table) answer h read told =
-      let done : (answer ≡ answers.Call Exchanged) × IsPut words (words_at.Aborted table) 1 words' = exchange_done _ _ (words (words_at.Aborted table)) 0 read told in
+      let done : (answer ≡ answers.Call Exchanged)
+      × IsPut words (words_at.Aborted table) 1 words' = exchange_done _ _ (words (words_at.Aborted table)) 0 read told in
       subst (CarryEnds (carries.Aborting table)) (sym done.0) (inl tt, tt)

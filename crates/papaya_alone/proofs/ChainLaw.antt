@@ -79,7 +79,12 @@ some_budget kind (asks.Call ask) (answers.Hash hash) = (nothing_left, nothing_le
 some_budget kind (asks.Call ask) (answers.Count count) = (nothing_left, nothing_left, refl)
 some_budget kind (asks.Copy ask) answer = some_copy ask answer
 
-module _ {K P : Type 0} (g : Setting K P) (c : Coding K P) (hashed : IsHashed g c) (begun since : List (Exchange P)) (may : AllAllowed g start (begun ++ since)) (bounded : IsBounded g (run (begun ++ since) start)) (k : K) (m : Machine) (loaded : LoadedPairs P) (r : Relies g c begun since k m loaded) (made : HasWords g (link_in m.phase)) (current : IsCurrent (word_of g c (run (begun ++ since) start)) m) (answer : Answer) (es : List (Exchange P)) (loaded' : LoadedPairs P) (told : IsTold g c k (run (begun ++ since) start) (kind_of_ask m) (follows_of m) loaded (ask_of m) answer es loaded') (served : IsServedAsk m.call.task (ask_of m) answer) where
+module _ {K P : Type 0} (g : Setting K P) (c : Coding K P) (hashed : IsHashed g c) (begun since : List (Exchange P))
+    (may : AllAllowed g start (begun ++ since)) (bounded : IsBounded g (run (begun ++ since) start)) (k : K) (m : Machine) (loaded : LoadedPairs P)
+    (r : Relies g c begun since k m loaded) (made : HasWords g (link_in m.phase)) (current : IsCurrent (word_of g c (run (begun ++ since) start)) m)
+    (answer : Answer) (es : List (Exchange P)) (loaded' : LoadedPairs P)
+    (told : IsTold g c k (run (begun ++ since) start) (kind_of_ask m) (follows_of m) loaded (ask_of m) answer es loaded')
+    (served : IsServedAsk m.call.task (ask_of m) answer) where
   -- the state comes from all exchanges
   reaches : run es (run (begun ++ since) start) ≡ run (begun ++ (since ++ es)) start
   reaches = sym (run-append (begun ++ since) es start) ∙ ap (λ l. run l start) (append_assoc begun since es)
@@ -97,16 +102,23 @@ module _ {K P : Type 0} (g : Setting K P) (c : Coding K P) (hashed : IsHashed g 
 
   -- the budget is spent, or less is left; and what was read stands there still
   falls : (before later : Budget) → Spends (kind_of_ask m) (ask_of m) answer before later
-      → (IsSpent before later ⊎ ((later ≡ before) × (rank_of (run (begun ++ (since ++ es)) start).root (after m answer) < rank_of (run (begun ++ since) start).root m))) × IsCallRead (word_of g c (run (begun ++ (since ++ es)) start)) (after m answer)
+      → (IsSpent before later ⊎ ((later ≡ before)
+      × (rank_of (run (begun ++ (since ++ es)) start).root (after m answer) < rank_of (run (begun ++ since) start).root m)))
+      × IsCallRead (word_of g c (run (begun ++ (since ++ es)) start)) (after m answer)
   falls before later spends =
-      subst (λ s. (IsSpent before later ⊎ ((later ≡ before) × (rank_of s.root (after m answer) < rank_of (run (begun ++ since) start).root m))) × IsCallRead (word_of g c s) (after m answer)) reaches
-      (phase_falls g c hashed begun since may k bounded loaded m.number m.helped m.call r.call r.cut answer es loaded' before later m.phase made r.phase current.number current.read told served spends)
+      subst (λ s. (IsSpent before later ⊎ ((later ≡ before) × (rank_of s.root (after m answer) < rank_of (run (begun ++ since) start).root m)))
+      × IsCallRead (word_of g c s) (after m answer)) reaches
+      (phase_falls g c hashed begun since may k bounded loaded m.number m.helped m.call r.call r.cut answer es loaded' before later m.phase made
+      r.phase current.number current.read told served spends)
 
   -- a call that is set aside knows as much of the numbers as before
-  aside_number : (t : ℕ) → left_by m.call.state ≡ Some t → (call : Call_machine) → (after m answer).call ≡ call → call.made ≡ m.call.made → IsNumberRead words' (after m answer).call.made.number
+  aside_number : (t : ℕ) → left_by m.call.state ≡ Some t → (call : Call_machine) → (after m answer).call ≡ call → call.made ≡ m.call.made
+      → IsNumberRead words' (after m answer).call.made.number
   aside_number t left call is same =
-      let counts : words' words_at.Made ≡ words words_at.Made = aside_counts g c hashed begun since may k bounded loaded m.number m.helped m.call r.call r.cut answer es loaded' nothing_left nothing_left t left m.phase made r.phase told in
-      subst (λ (d : Call_machine). IsNumberRead words' d.made.number) (sym is) (subst (λ (n : Made). IsNumberRead words' n.number) (sym same) (by_number m.call.made.number counts current.number))
+      let counts : words' words_at.Made ≡ words words_at.Made = aside_counts g c hashed begun since may k bounded loaded m.number m.helped m.call
+      r.call r.cut answer es loaded' nothing_left nothing_left t left m.phase made r.phase told in
+      subst (λ (d : Call_machine). IsNumberRead words' d.made.number) (sym is)
+      (subst (λ (n : Made). IsNumberRead words' n.number) (sym same) (by_number m.call.made.number counts current.number))
     where
       by_number : (number : Number) → words' words_at.Made ≡ words words_at.Made → IsNumberRead words number → IsNumberRead words' number
       by_number Wanted counts read = tt
@@ -118,27 +130,36 @@ module _ {K P : Type 0} (g : Setting K P) (c : Coding K P) (hashed : IsHashed g 
   own_number own =
       let (call', tells) = own_told g c k (run (begun ++ since) start) m loaded answer es loaded' order told own in
       let serves = subst (λ a. IsServedAsk m.call.task (ask_of m) a) own.is served in
-      let prompt = call_prompt g c hashed begun since may k bounded m.call loaded.call r.call own.told es call' (subst (λ phase. IsServedAsk m.call.task (asks_in m.call phase) (answers.Call own.told)) own.phase serves) tells in
+      let prompt = call_prompt g c hashed begun since may k bounded m.call loaded.call r.call own.told es call'
+      (subst (λ phase. IsServedAsk m.call.task (asks_in m.call phase) (answers.Call own.told)) own.phase serves) tells in
       let read = subst (IsPhaseRead m.call.mode words m.call.state) own.phase current.read in
-      subst (λ (d : Call_machine). IsNumberRead words' d.made.number) (sym own.call) (machine_stable words words' m.call (words_bare g c (run (begun ++ since) start)) own.told current.number read.0 prompt).number
+      subst (λ (d : Call_machine). IsNumberRead words' d.made.number) (sym own.call)
+      (machine_stable words words' m.call (words_bare g c (run (begun ++ since) start)) own.told current.number read.0 prompt).number
 
   number_stable : IsNumberRead words' (after m answer).call.made.number
   number_stable = elim (machine_goes m answer order) [
     | inl waits ↦ aside_number waits.from waits.left m.call waits.call refl
     | inr (inl own) ↦ own_number own
     | inr (inr (inl enters)) ↦ aside_number enters.from enters.left (record m.call { state = Searching (Sizing enters.table) }) enters.call refl
-    | inr (inr (inr (inl begins))) ↦ aside_number begins.from begins.left (call_machine.after (record m.call { state = At_root }) (Word_read begins.root)) begins.call refl
+    | inr (inr (inr (inl begins))) ↦ aside_number begins.from begins.left
+        (call_machine.after (record m.call { state = At_root }) (Word_read begins.root)) begins.call refl
     | inr (inr (inr (inr ends))) ↦ aside_number ends.from ends.left (record m.call { state = Ended (Reply_refused ends.refused) }) ends.call refl
   ]
 
   -- the measure falls
-  pub call_nears : (before later : Budget) → Spends (kind_of_ask m) (ask_of m) answer before later → later.exchanges < 2 ^ 128 → IsStanding (after m answer) → measure later (run (begun ++ (since ++ es)) start).root (after m answer) < measure before (run (begun ++ since) start).root m
+  pub call_nears : (before later : Budget) → Spends (kind_of_ask m) (ask_of m) answer before later → later.exchanges < 2 ^ 128
+      → IsStanding (after m answer) → measure later (run (begun ++ (since ++ es)) start).root (after m answer) < measure before
+      (run (begun ++ since) start).root m
   call_nears before later spends few standing =
       let small = rank_small (run (begun ++ (since ++ es)) start).root (after m answer) standing in
-      measure_less before later (rank_of (run (begun ++ since) start).root m) (rank_of (run (begun ++ (since ++ es)) start).root (after m answer)) few (omega (arith, small)) (falls before later spends).0
+      measure_less before later (rank_of (run (begun ++ since) start).root m) (rank_of (run (begun ++ (since ++ es)) start).root (after m answer)) few
+      (omega (arith, small)) (falls before later spends).0
 
   -- what was read stands there still
   pub call_current : IsCurrent (word_of g c (run (begun ++ (since ++ es)) start)) (after m answer)
   call_current =
       let (before, later, spends) = some_budget (kind_of_ask m) (ask_of m) answer in
-      record { number = subst (λ s. IsNumberRead (word_of g c s) (after m answer).call.made.number) reaches number_stable; read = (falls before later spends).1 }
+      record {
+        number = subst (λ s. IsNumberRead (word_of g c s) (after m answer).call.made.number) reaches number_stable;
+        read = (falls before later spends).1;
+      }

@@ -1,5 +1,7 @@
 -- What each answer leaves to a copy of a chunk, of a resize that is pending.
-use Rattle.std.proofs.Common.{◌≡◌, inl, inr, ⊎_elim, ℕ, zero, suc, ◌+◌, ◌-◌, ◌/◌, ◌<◌, ◌≤◌, ◌==◌, ◌&&◌, max, nat_lt, not, cond, Bool, true, false, Option, List, refl, sym, ap, ◌∙◌, subst, arith, eq-eqb, eqb-true}
+use Rattle.std.proofs.Common.{◌≡◌, inl, inr, ⊎_elim, ℕ, zero, suc, ◌+◌, ◌-◌, ◌/◌, ◌<◌, ◌≤◌, ◌==◌}
+use Rattle.std.proofs.Common.{◌&&◌, max, nat_lt, not, cond, Bool, true, false, Option, List, refl}
+use Rattle.std.proofs.Common.{sym, ap, ◌∙◌, subst, arith, eq-eqb, eqb-true}
 use Rattle.std.proofs.Math.Nat.{add-div_right}
 use Rattle.std.specs.Prelude.{MatchBool}
 use Rattle.std.proofs.lemmas.Bool.{cases_lt, cond_both, not-false}
@@ -53,7 +55,8 @@ use Rattle.papaya_alone.proofs.SettleEnds.{settle_puts}
 use Rattle.papaya_alone.proofs.Telling.{stays_at}
 
 -- without blocking copies go from a root behind it at once
-behind_root : {K P : Type 0} (g : Setting K P) (c : Coding K P) (s : State P) (last kept : Option P) (slots t behind : ℕ) → IsModeOf (Incremental slots) g.blocking → ReliesStep g c s last kept (steps.Aiming t behind) → behind ≡ t
+behind_root : {K P : Type 0} (g : Setting K P) (c : Coding K P) (s : State P) (last kept : Option P) (slots t behind : ℕ)
+    → IsModeOf (Incremental slots) g.blocking → ReliesStep g c s last kept (steps.Aiming t behind) → behind ≡ t
 behind_root g c s last kept slots t behind moded r = ⊎_elim (λ (e : behind ≡ t). e) (λ h. let b = h.0 in absurd (cc (b, moded))) r.given_up
 
 -- one chunk more is due, or not
@@ -77,17 +80,20 @@ due_turned false later a b e f le = absurd (cc e)
 -- no more chunks are due than there are
 pub due_most : (words : At → ℕ) (to chunks : ℕ) → due_of words to chunks ≤ chunks
 due_most words to zero = omega arith
-due_most words to (suc n) = let h = due_most words to n in cond_both (words (words_at.Done to n) == 0) (due_of words to n + 1) (due_of words to n) (λ y. y ≤ suc n) (λ _. omega (arith, h)) (λ _. omega (arith, h))
+due_most words to (suc n) = let h = due_most words to n in
+    cond_both (words (words_at.Done to n) == 0) (due_of words to n + 1) (due_of words to n) (λ y. y ≤ suc n) (λ _. omega (arith, h)) (λ _. omega (arith, h))
 
 -- where a chunk's word is 0, some are
 due_some : (words : At → ℕ) (to at : ℕ) → words (words_at.Done to at) ≡ 0 → (chunks : ℕ) → at < chunks → 0 < due_of words to chunks
 due_some words to at none zero lt = absurd (omega (arith, lt))
 due_some words to at none (suc n) lt =
     ⊎_elim
-    (λ (less : at < n). let h = due_some words to at none n less in cond_both (words (words_at.Done to n) == 0) (due_of words to n + 1) (due_of words to n) (λ y. 0 < y) (λ _. omega (arith, h)) (λ _. h))
+    (λ (less : at < n). let h = due_some words to at none n less in
+    cond_both (words (words_at.Done to n) == 0) (due_of words to n + 1) (due_of words to n) (λ y. 0 < y) (λ _. omega (arith, h)) (λ _. h))
     (λ (more : n ≤ at). let is : at ≡ n = omega (arith, lt, more) in
     cond_both (words (words_at.Done to n) == 0) (due_of words to n + 1) (due_of words to n) (λ y. 0 < y) (λ _. omega arith)
-    (λ e. absurd (let z : (words (words_at.Done to n) == 0) ≡ true = eq-eqb (words (words_at.Done to n)) 0 (subst (λ i. words (words_at.Done to i) ≡ 0) is none) in cc (z, e))))
+    (λ e. absurd (let z : (words (words_at.Done to n) == 0) ≡ true = eq-eqb (words (words_at.Done to n)) 0
+    (subst (λ i. words (words_at.Done to i) ≡ 0) is none) in cc (z, e))))
     (cases_lt at n)
 
 module _ (words words' : At → ℕ) (to : ℕ) (still : (chunk : ℕ) → words' (words_at.Done to chunk) ≡ 0 → words (words_at.Done to chunk) ≡ 0) where
@@ -98,21 +104,25 @@ module _ (words words' : At → ℕ) (to : ℕ) (still : (chunk : ℕ) → words
   -- so no more are due
   pub due_falls : (chunks : ℕ) → due_of words' to chunks ≤ due_of words to chunks
   due_falls zero = omega arith
-  due_falls (suc n) = due_step (words (words_at.Done to n) == 0) (words' (words_at.Done to n) == 0) (due_of words to n) (due_of words' to n) (zero_before n) (due_falls n)
+  due_falls (suc n) = due_step (words (words_at.Done to n) == 0) (words' (words_at.Done to n) == 0) (due_of words to n) (due_of words' to n)
+      (zero_before n) (due_falls n)
 
   -- and fewer, where a word is 0 no more
-  pub due_less : (at : ℕ) → words (words_at.Done to at) ≡ 0 → words' (words_at.Done to at) ≡ 1 → (chunks : ℕ) → at < chunks → due_of words' to chunks < due_of words to chunks
+  pub due_less : (at : ℕ) → words (words_at.Done to at) ≡ 0 → words' (words_at.Done to at) ≡ 1 → (chunks : ℕ) → at < chunks
+      → due_of words' to chunks < due_of words to chunks
   due_less at none one zero lt = absurd (omega (arith, lt))
   due_less at none one (suc n) lt =
       ⊎_elim
-      (λ (less : at < n). due_lower (words (words_at.Done to n) == 0) (words' (words_at.Done to n) == 0) (due_of words to n) (due_of words' to n) (zero_before n) (due_less at none one n less))
+      (λ (less : at < n). due_lower (words (words_at.Done to n) == 0) (words' (words_at.Done to n) == 0) (due_of words to n) (due_of words' to n)
+      (zero_before n) (due_less at none one n less))
       (λ (more : n ≤ at). let is : at ≡ n = omega (arith, lt, more) in
       due_turned (words (words_at.Done to n) == 0) (words' (words_at.Done to n) == 0) (due_of words to n) (due_of words' to n)
       (eq-eqb (words (words_at.Done to n)) 0 (subst (λ i. words (words_at.Done to i) ≡ 0) is none))
       (ap (λ w. w == 0) (subst (λ i. words' (words_at.Done to i) ≡ 1) is one)) (due_falls n))
       (cases_lt at n)
 
-module _ {K P : Type 0} (g : Setting K P) (c : Coding K P) (s : State P) (last kept : Option P) (words' : At → ℕ) (slots initial number began from to due : ℕ) (moded : IsModeOf (Incremental slots) g.blocking) (cut : IsCutAs (Incremental slots) g.chunk_of) where
+module _ {K P : Type 0} (g : Setting K P) (c : Coding K P) (s : State P) (last kept : Option P) (words' : At → ℕ)
+    (slots initial number began from to due : ℕ) (moded : IsModeOf (Incremental slots) g.blocking) (cut : IsCutAs (Incremental slots) g.chunk_of) where
   -- the words, and how many chunks the table has
   abbrev words : At → ℕ
   words = word_of g c s
@@ -124,12 +134,17 @@ module _ {K P : Type 0} (g : Setting K P) (c : Coding K P) (s : State P) (last k
   abbrev WillBe : Stepped → Type 0
   WillBe end = WillCopyIn words' from to chunks due (copied Chunk began (leads aims.Chunk (Incremental slots) end))
 
-  module _ (d : IsDue words from to chunks due) (rises : from < to) (next : words' (words_at.Next from) ≡ to) (still : (chunk : ℕ) → words' (words_at.Done to chunk) ≡ 0 → words (words_at.Done to chunk) ≡ 0) where
+  module _ (d : IsDue words from to chunks due) (rises : from < to) (next : words' (words_at.Next from) ≡ to)
+      (still : (chunk : ℕ) → words' (words_at.Done to chunk) ≡ 0 → words (words_at.Done to chunk) ≡ 0) where
     -- it is pending still while the root is in its place
     still_due : words' words_at.Root ≡ words words_at.Root → IsDue words' from to chunks due
-    still_due root = record { pending = record { root = root ∙ d.pending.root; next = next; some = d.pending.some; more = d.pending.more }; within = let w = d.within in let f = due_falls words words' to still chunks in omega (arith, w, f) }
+    still_due root = record {
+      pending = record { root = root ∙ d.pending.root; next = next; some = d.pending.some; more = d.pending.more };
+      within = let w = d.within in let f = due_falls words words' to still chunks in omega (arith, w, f);
+    }
 
-    still_fewer : (copied_one : Bool) → MatchBool copied_one (due_of words to chunks < due) (Unit {0}) → MatchBool copied_one (due_of words' to chunks < due) (Unit {0})
+    still_fewer : (copied_one : Bool) → MatchBool copied_one (due_of words to chunks < due) (Unit {0})
+        → MatchBool copied_one (due_of words' to chunks < due) (Unit {0})
     still_fewer true less = let f = due_falls words words' to still chunks in omega (arith, less, f)
     still_fewer false h = tt
 
@@ -140,12 +155,14 @@ module _ {K P : Type 0} (g : Setting K P) (c : Coding K P) (s : State P) (last k
         let size : cursor.len ≡ g.size from = r.len ∙ ap g.size (sym root ∙ d.pending.root) in
         let within = r.within in
         let lt : cursor.begun < g.size from = omega (arith, within, size) in
-        subst (λ y. y < chunks) (sym (cut cursor.begun) ∙ is) (chunk_counted (chunk_len (Incremental slots)) (chunk_some (Incremental slots)) (g.size from) cursor.begun lt)
+        subst (λ y. y < chunks) (sym (cut cursor.begun) ∙ is)
+        (chunk_counted (chunk_len (Incremental slots)) (chunk_some (Incremental slots)) (g.size from) cursor.begun lt)
 
     -- there is a root
     root_leads : (root : ℕ) → words words_at.Root ≡ root → words' words_at.Root ≡ root → WillBe (stepped.Root root)
     root_leads root is stays =
-        cond_both (root == 0) copied_to.Chunk (copied_to.On (copyings.Stepping aims.Chunk (steps.Aiming root root))) (λ y. WillCopyIn words' from to chunks due (copied Chunk began y))
+        cond_both (root == 0) copied_to.Chunk (copied_to.On (copyings.Stepping aims.Chunk (steps.Aiming root root)))
+        (λ y. WillCopyIn words' from to chunks due (copied Chunk began y))
         (λ none. let z = eqb-true root 0 none in let f = d.pending.root in let l = d.pending.some in absurd (omega (arith, z, f, l, is)))
         (λ some. (still_due (stays ∙ sym is), tt))
 
@@ -157,24 +174,32 @@ module _ {K P : Type 0} (g : Setting K P) (c : Coding K P) (s : State P) (last k
         (λ some. (still_due root, is))
 
     -- the next word is loaded, or all were
-    next_leads : (cursor : Cursor) → cursor.to ≡ to → MatchBool cursor.copied (due_of words' to chunks < due) (Unit {0}) → words' words_at.Root ≡ words words_at.Root → WillBe (stepped.On (next_cursor cursor))
+    next_leads : (cursor : Cursor) → cursor.to ≡ to → MatchBool cursor.copied (due_of words' to chunks < due) (Unit {0})
+        → words' words_at.Root ≡ words words_at.Root → WillBe (stepped.On (next_cursor cursor))
     next_leads cursor goes fewer root =
-        cond_both (is_further cursor) (steps.AtChunk (next_chunk cursor)) (cond (not cursor.wrapped && nat_lt 0 cursor.start) (steps.AtChunk (first_chunk cursor)) (steps.Promoting cursor.from cursor.to)) (λ y. WillBe (stepped.On y))
+        cond_both (is_further cursor) (steps.AtChunk (next_chunk cursor))
+        (cond (not cursor.wrapped && nat_lt 0 cursor.start) (steps.AtChunk (first_chunk cursor)) (steps.Promoting cursor.from cursor.to))
+        (λ y. WillBe (stepped.On y))
         (λ _. (still_due root, (goes, fewer)))
         (λ _.
-        cond_both (not cursor.wrapped && nat_lt 0 cursor.start) (steps.AtChunk (first_chunk cursor)) (steps.Promoting cursor.from cursor.to) (λ y. WillBe (stepped.On y))
+        cond_both (not cursor.wrapped && nat_lt 0 cursor.start) (steps.AtChunk (first_chunk cursor)) (steps.Promoting cursor.from cursor.to)
+        (λ y. WillBe (stepped.On y))
         (λ _. (still_due root, (goes, fewer)))
         (λ _. (still_due root, goes)))
 
     -- a chunk was copied, and this one was not
-    fewer_left : (cursor : Cursor) → cursor.at < chunks → words' (words_at.Done to cursor.at) ≡ 0 → words' words_at.Root ≡ words words_at.Root → (copied_one : Bool) → copied_one ≡ true → MatchBool copied_one (due_of words' to chunks < due) (Unit {0}) → IsFewer words' from to chunks due
-    fewer_left cursor lt none root true e fewer = record { pending = (still_due root).pending; fewer = fewer; some = due_some words' to cursor.at none chunks lt }
+    fewer_left : (cursor : Cursor) → cursor.at < chunks → words' (words_at.Done to cursor.at) ≡ 0 → words' words_at.Root ≡ words words_at.Root
+        → (copied_one : Bool) → copied_one ≡ true → MatchBool copied_one (due_of words' to chunks < due) (Unit {0}) → IsFewer words' from to chunks due
+    fewer_left cursor lt none root true e fewer =
+        record { pending = (still_due root).pending; fewer = fewer; some = due_some words' to cursor.at none chunks lt }
     fewer_left cursor lt none root false e fewer = absurd (cc e)
 
     -- the word of a chunk was loaded
-    chunk_read_leads : (cursor : Cursor) (done : ℕ) → cursor.to ≡ to → cursor.at < chunks → words' (words_at.Done to cursor.at) ≡ done → MatchBool cursor.copied (due_of words' to chunks < due) (Unit {0}) → words' words_at.Root ≡ words words_at.Root → WillBe (chunk_read cursor done)
+    chunk_read_leads : (cursor : Cursor) (done : ℕ) → cursor.to ≡ to → cursor.at < chunks → words' (words_at.Done to cursor.at) ≡ done
+        → MatchBool cursor.copied (due_of words' to chunks < due) (Unit {0}) → words' words_at.Root ≡ words words_at.Root → WillBe (chunk_read cursor done)
     chunk_read_leads cursor done goes lt is fewer root =
-        cond_both (not (done == 0)) (stepped.On (next_cursor cursor)) (cond cursor.copied (stepped.Further (chunk_at cursor)) (stepped.On (steps.Settling (chunk_at cursor) settles.Looking))) WillBe
+        cond_both (not (done == 0)) (stepped.On (next_cursor cursor))
+        (cond cursor.copied (stepped.Further (chunk_at cursor)) (stepped.On (steps.Settling (chunk_at cursor) settles.Looking))) WillBe
         (λ _. next_leads cursor goes fewer root)
         (λ e.
         cond_both cursor.copied (stepped.Further (chunk_at cursor)) (stepped.On (steps.Settling (chunk_at cursor) settles.Looking)) WillBe
@@ -185,7 +210,8 @@ module _ {K P : Type 0} (g : Setting K P) (c : Coding K P) (s : State P) (last k
     settled_leads : (chunk : Slots) → chunk.cursor.to ≡ to → words' words_at.Root ≡ words words_at.Root → (end : Settled) → WillBe (settled_to chunk end)
     settled_leads chunk goes root (settled.On settle) = (still_due root, goes)
     settled_leads chunk goes root settled.Settled =
-        cond_both (nat_lt (next_slot chunk).at chunk.end) (stepped.On (steps.Settling (next_slot chunk) settles.Looking)) (stepped.On (steps.Advancing chunk.cursor)) WillBe
+        cond_both (nat_lt (next_slot chunk).at chunk.end) (stepped.On (steps.Settling (next_slot chunk) settles.Looking))
+        (stepped.On (steps.Advancing chunk.cursor)) WillBe
         (λ _. (still_due root, goes))
         (λ _. (still_due root, goes))
     settled_leads chunk goes root (settled.Unfit table) = (still_due root, tt)
@@ -195,7 +221,8 @@ module _ {K P : Type 0} (g : Setting K P) (c : Coding K P) (s : State P) (last k
     Leads step answer = WillBe (step_after step (Incremental slots) initial number answer)
 
     -- in each step
-    step_leads : (step : Step) (answer : Answer) → ReliesStep g c s last kept step → IsStepRead (Incremental slots) words step → WillCopyStep words to chunks due step → IsCopyPrompt words (step_ask step) answer words' → Leads step answer
+    step_leads : (step : Step) (answer : Answer) → ReliesStep g c s last kept step → IsStepRead (Incremental slots) words step
+        → WillCopyStep words to chunks due step → IsCopyPrompt words (step_ask step) answer words' → Leads step answer
     step_leads steps.AtRoot answer r read goes told = subst (Leads steps.AtRoot) (sym told.0.0) (root_leads (words words_at.Root) refl (told.1 words_at.Root))
     step_leads (steps.Aiming t behind) answer r read goes told =
         let there : behind ≡ from = behind_root g c s last kept slots t behind moded r ∙ sym read ∙ d.pending.root in
@@ -207,10 +234,13 @@ module _ {K P : Type 0} (g : Setting K P) (c : Coding K P) (s : State P) (last k
     step_leads (steps.AtChunk cursor) answer r read goes told =
         let lt = at_counted cursor r read.root in
         subst (Leads (steps.AtChunk cursor)) (sym told.0.0)
-        (chunk_read_leads cursor (words (words_at.Done cursor.to cursor.at)) goes.0 lt (told.1 (words_at.Done to cursor.at) ∙ ap (λ u. words (words_at.Done u cursor.at)) (sym goes.0)) (still_fewer cursor.copied goes.1) (told.1 words_at.Root))
+        (chunk_read_leads cursor (words (words_at.Done cursor.to cursor.at)) goes.0 lt
+        (told.1 (words_at.Done to cursor.at) ∙ ap (λ u. words (words_at.Done u cursor.at)) (sym goes.0)) (still_fewer cursor.copied goes.1)
+        (told.1 words_at.Root))
     step_leads (steps.Settling chunk settle) answer r read goes told =
         subst WillBe (sym (step_settles (Incremental slots) initial number chunk settle answer))
-        (settled_leads chunk goes (stays_at words words' answer (settle_ask settle (slot_of chunk)) told words_at.Root (settle_puts settle (slot_of chunk) words_at.Root tt)) (settle_after settle (slot_of chunk) (Incremental slots) initial answer))
+        (settled_leads chunk goes (stays_at words words' answer (settle_ask settle (slot_of chunk)) told words_at.Root
+        (settle_puts settle (slot_of chunk) words_at.Root tt)) (settle_after settle (slot_of chunk) (Incremental slots) initial answer))
     step_leads (steps.Advancing cursor) answer r read goes told =
         let here : At = words_at.Done cursor.to cursor.at in
         let done : (answer ≡ answers.Call Exchanged) × IsPut words here 1 words' = exchange_done _ _ (words here) 0 read.0.due told in
@@ -227,21 +257,30 @@ module _ {K P : Type 0} (g : Setting K P) (c : Coding K P) (s : State P) (last k
         subst (Leads (steps.Promoting t n)) (sym done.0) (inl (λ same. omega (arith, here, same, goes, rises)))
     step_leads _ answer r read goes told = absurd goes
 
-module _ {K P : Type 0} (g : Setting K P) (c : Coding K P) (hashed : IsHashed g c) (s : State P) (m : K → Option P) (keeps : IsKeeping g s m) (bounded : IsBounded g s) (slots initial number : ℕ) (loaded : LoadedPairs P) (moded : IsModeOf (Incremental slots) g.blocking) (cut : IsCutAs (Incremental slots) g.chunk_of) (from to due : ℕ) where
+module _ {K P : Type 0} (g : Setting K P) (c : Coding K P) (hashed : IsHashed g c) (s : State P) (m : K → Option P) (keeps : IsKeeping g s m)
+    (bounded : IsBounded g s) (slots initial number : ℕ) (loaded : LoadedPairs P) (moded : IsModeOf (Incremental slots) g.blocking)
+    (cut : IsCutAs (Incremental slots) g.chunk_of) (from to due : ℕ) where
   -- after each answer
-  pub stage_copies : (stage : Stage) → ReliesStage g c s loaded stage → HasWords g (link_of stage) → IsStageRead (Incremental slots) (word_of g c s) Chunk stage → WillCopyIn (word_of g c s) from to (chunks_of (g.size from) slots) due stage → (answer : Answer) (es : List (Exchange P)) (loaded' : LoadedPairs P) → IsStageTold g c s stage loaded answer es loaded'
+  pub stage_copies : (stage : Stage) → ReliesStage g c s loaded stage → HasWords g (link_of stage)
+      → IsStageRead (Incremental slots) (word_of g c s) Chunk stage → WillCopyIn (word_of g c s) from to (chunks_of (g.size from) slots) due stage
+      → (answer : Answer) (es : List (Exchange P)) (loaded' : LoadedPairs P) → IsStageTold g c s stage loaded answer es loaded'
       → WillCopyIn (word_of g c (run es s)) from to (chunks_of (g.size from) slots) due (after_in Chunk (Incremental slots) initial number answer stage)
   stage_copies (Copying began (copyings.Stepping aims.Chunk step)) (own, r) made read (d, goes) answer es loaded' told =
       let copying = copyings.Stepping aims.Chunk step in
       let h = told_of_ask g c s loaded (Copying began copying) (copying_ask copying) refl answer es loaded' told in
       let answers_so = prompt g c hashed s m keeps bounded (Incremental slots) initial number loaded copying r made read.0 answer es loaded' h in
-      let may = (stage_learns g c hashed s m keeps Chunk (Incremental slots) initial number loaded moded cut (Copying began copying) (own, r) answer (λ _. made) es loaded' told).0 in
+      let may = (stage_learns g c hashed s m keeps Chunk (Incremental slots) initial number loaded moded cut (Copying began copying) (own, r) answer
+      (λ _. made) es loaded' told).0 in
       let later = later_run g hashed.lawful es s may in
       let is : s.next from ≡ to = d.pending.next in
       let some : 0 < to = d.pending.more in
-      let rises : from < to = ⊎_elim (λ (e : s.next from ≡ 0). absurd (omega (arith, e, is, some))) (λ h. let l = h.1 in omega (arith, l, is)) ((keeping_sound g s m keeps).rises from) in
-      subst (λ y. WillCopyIn (word_of g c (run es s)) from to (chunks_of (g.size from) slots) due (copied Chunk began y)) (sym (copying_steps (Incremental slots) initial number aims.Chunk step answer))
-      (step_leads g c s loaded.call.last loaded.kept (word_of g c (run es s)) slots initial number began from to due moded cut d rises (later.next from (omega (arith, is, some)) ∙ is) (λ chunk. undone (s.done to chunk) ((run es s).done to chunk) (later.done to chunk)) step answer r.1 read.0.1 goes answers_so)
+      let rises : from < to = ⊎_elim (λ (e : s.next from ≡ 0). absurd (omega (arith, e, is, some))) (λ h. let l = h.1 in omega (arith, l, is))
+      ((keeping_sound g s m keeps).rises from) in
+      subst (λ y. WillCopyIn (word_of g c (run es s)) from to (chunks_of (g.size from) slots) due (copied Chunk began y))
+      (sym (copying_steps (Incremental slots) initial number aims.Chunk step answer))
+      (step_leads g c s loaded.call.last loaded.kept (word_of g c (run es s)) slots initial number began from to due moded cut d rises
+      (later.next from (omega (arith, is, some)) ∙ is) (λ chunk. undone (s.done to chunk) ((run es s).done to chunk) (later.done to chunk)) step
+      answer r.1 read.0.1 goes answers_so)
     where
       undone : (before after : Bool) → (before ≡ true → after ≡ true) → ◌≡◌ {A = ℕ} (cond after 1 0) 0 → ◌≡◌ {A = ℕ} (cond before 1 0) 0
       undone true true keeps e = e

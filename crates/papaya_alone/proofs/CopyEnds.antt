@@ -56,14 +56,16 @@ module _ (mode : ResizeMode) (words : At → ℕ) where
   last_within (aims.All met) table read = (omega arith, tt)
 
   -- a chunk was copied, and this one was not
-  further_within : (aim : Aim) (chunk : Chunk) → IsAimRead mode words aim → IsSteppedRead mode words (stepped.Further chunk) → Within (left_of_chunk chunk settles.Looking) (further_of aim chunk)
+  further_within : (aim : Aim) (chunk : Chunk) → IsAimRead mode words aim → IsSteppedRead mode words (stepped.Further chunk)
+      → Within (left_of_chunk chunk settles.Looking) (further_of aim chunk)
   further_within (aims.Search table) chunk read there = (omega arith, tt)
   further_within (aims.Settle slot) chunk read there = (omega arith, any_alive mode slot.to read)
   further_within aims.Chunk chunk read there = (omega arith, tt)
   further_within (aims.All met) chunk read there = (omega arith, (tt, there))
 
   -- a root is to be copied, or there is none
-  one_within : (aim : Aim) (root : ℕ) → IsAimRead mode words aim → words words_at.Root ≡ root → Within (2 ^ 102) (over aim) → Within (2 ^ 102 + 6 + 2 * 2 ^ 32) (cond (root == 0) (over aim) (copied.On (copyings.Stepping aim (steps.Aiming root root))))
+  one_within : (aim : Aim) (root : ℕ) → IsAimRead mode words aim → words words_at.Root ≡ root → Within (2 ^ 102) (over aim)
+      → Within (2 ^ 102 + 6 + 2 * 2 ^ 32) (cond (root == 0) (over aim) (copied.On (copyings.Stepping aim (steps.Aiming root root))))
   one_within aim root read is none =
       cond_both (root == 0) (over aim) (copied.On (copyings.Stepping aim (steps.Aiming root root))) (Within (2 ^ 102 + 6 + 2 * 2 ^ 32))
       (λ e. let l = none.0 in (omega (arith, l), none.1))
@@ -73,12 +75,14 @@ module _ (mode : ResizeMode) (words : At → ℕ) where
   all_within : (how : ResizeMode) (met root : ℕ) → words words_at.Root ≡ root → Within (2 ^ 102 + 6 + 2 * 2 ^ 32) (all_of met how root)
   all_within (Incremental chunk) met root is = (omega arith, (tt, is))
   all_within Blocking met root is =
-      cond_both ((met == 0) || (met == root)) (copied.On (copyings.Stepping (aims.All root) (steps.Aiming root root))) (copied.Root root) (Within (2 ^ 102 + 6 + 2 * 2 ^ 32))
+      cond_both ((met == 0) || (met == root)) (copied.On (copyings.Stepping (aims.All root) (steps.Aiming root root))) (copied.Root root)
+      (Within (2 ^ 102 + 6 + 2 * 2 ^ 32))
       (λ e. (omega arith, (tt, is)))
       (λ e. (omega arith, tt))
 
   -- the root is told
-  root_within : (how : ResizeMode) (aim : Aim) (root : ℕ) → IsAimRead mode words aim → words words_at.Root ≡ root → Within (2 ^ 102 + 6 + 2 * 2 ^ 32) (at_root aim how root)
+  root_within : (how : ResizeMode) (aim : Aim) (root : ℕ) → IsAimRead mode words aim → words words_at.Root ≡ root
+      → Within (2 ^ 102 + 6 + 2 * 2 ^ 32) (at_root aim how root)
   root_within how (aims.Search table) root read is = one_within (aims.Search table) root read is (last_within (aims.Search table) root read)
   root_within how (aims.Settle slot) root read is = one_within (aims.Settle slot) root read is (last_within (aims.Settle slot) root read)
   root_within how aims.Chunk root read is = one_within aims.Chunk root read is (last_within aims.Chunk root read)
@@ -106,7 +110,8 @@ module _ (mode : ResizeMode) (words : At → ℕ) where
 module _ (mode : ResizeMode) (initial number : ℕ) (words words' : At → ℕ) (bare : IsBare words') where
   -- after this answer
   abbrev pub CopyEnds : Copying → Answer → Type 0
-  CopyEnds copying answer = Nears answer (left_of_copied (copying_after copying mode initial number answer)) (left_of_copying copying) × IsCopiedRead mode words' (copying_after copying mode initial number answer)
+  CopyEnds copying answer = Nears answer (left_of_copied (copying_after copying mode initial number answer)) (left_of_copying copying)
+      × IsCopiedRead mode words' (copying_after copying mode initial number answer)
 
   -- an aim is of a mode whatever the words are
   pub same_aim : (aim : Aim) → IsAimRead mode words aim → IsAimRead mode words' aim
@@ -116,7 +121,8 @@ module _ (mode : ResizeMode) (initial number : ℕ) (words words' : At → ℕ) 
   same_aim (aims.All met) read = tt
 
   -- in each state
-  pub copying_ends : (copying : Copying) (answer : Answer) → IsCopyingRead mode words copying → IsCopyPrompt words (copying_ask copying) answer words' → CopyEnds copying answer
+  pub copying_ends : (copying : Copying) (answer : Answer) → IsCopyingRead mode words copying → IsCopyPrompt words (copying_ask copying) answer words'
+      → CopyEnds copying answer
   copying_ends (copyings.Stepping aim step) answer read told =
       let e = step_ends mode initial number words words' bare step answer read.1 told in
       let end : Stepped = step_after step mode initial number answer in
@@ -127,5 +133,6 @@ module _ (mode : ResizeMode) (initial number : ℕ) (words words' : At → ℕ) 
       let e = settle_ends mode initial words words' bare slot settle answer read told in
       let end : Settled = settle_after settle slot mode initial answer in
       let f = lone_within mode words' slot end e.1 in
-      subst (λ y. Nears answer (left_of_copied y) (left_of_settle settle) × IsCopiedRead mode words' y) (sym (copying_settles mode initial number slot settle answer))
+      subst (λ y. Nears answer (left_of_copied y) (left_of_settle settle) × IsCopiedRead mode words' y)
+      (sym (copying_settles mode initial number slot settle answer))
       (nearer answer (left_of_settled end) (left_of_settle settle) _ _ e.0 (λ less. let l = f.0 in omega (arith, l, less)), f.1)

@@ -21,7 +21,11 @@ use Rattle.papaya_alone.proofs.CopyEnds.{copying_ends}
 use Rattle.papaya_alone.proofs.CopyPrompts.{told_prompt, words_bare}
 use Rattle.papaya_alone.proofs.Telling.{copy_spends}
 
-module _ {K P : Type 0} (g : Setting K P) (c : Coding K P) (hashed : IsHashed g c) (s : State P) (m : K → Option P) (keeps : IsKeeping g s m) (bounded : IsBounded g s) (mode : ResizeMode) (initial number : ℕ) (loaded : LoadedPairs P) (copying : Copying) (r : ReliesCopying g c s loaded.call.last loaded.kept copying) (made : HasWords g (link_in_copying copying)) (read : IsCopyingRead mode (word_of g c s) copying) (answer : Answer) (es : List (Exchange P)) (loaded' : LoadedPairs P) (told : IsCopyTold g c s (copying_kind copying) (copying_follows copying) loaded (copying_ask copying) answer es loaded') where
+module _ {K P : Type 0} (g : Setting K P) (c : Coding K P) (hashed : IsHashed g c) (s : State P) (m : K → Option P) (keeps : IsKeeping g s m)
+    (bounded : IsBounded g s) (mode : ResizeMode) (initial number : ℕ) (loaded : LoadedPairs P) (copying : Copying)
+    (r : ReliesCopying g c s loaded.call.last loaded.kept copying) (made : HasWords g (link_in_copying copying))
+    (read : IsCopyingRead mode (word_of g c s) copying) (answer : Answer) (es : List (Exchange P)) (loaded' : LoadedPairs P)
+    (told : IsCopyTold g c s (copying_kind copying) (copying_follows copying) loaded (copying_ask copying) answer es loaded') where
   -- what is told of the words is what they answer
   pub prompt : IsCopyPrompt (word_of g c s) (copying_ask copying) answer (word_of g c (run es s))
   prompt =
@@ -30,7 +34,8 @@ module _ {K P : Type 0} (g : Setting K P) (c : Coding K P) (hashed : IsHashed g 
       (copying_may g c hashed s m keeps loaded.call.last loaded.kept copying r made) answer es loaded' told
 
   -- the budget is spent, or less is left
-  pub copy_nears : (before later : Budget) → SpendsCopy (copying_ask copying) answer before later → IsSpent before later ⊎ ((later ≡ before) × (left_of_copied (copying_after copying mode initial number answer) < left_of_copying copying))
+  pub copy_nears : (before later : Budget) → SpendsCopy (copying_ask copying) answer before later → IsSpent before later
+      ⊎ ((later ≡ before) × (left_of_copied (copying_after copying mode initial number answer) < left_of_copying copying))
   copy_nears before later spends =
       copy_spends (word_of g c s) (word_of g c (run es s)) before later (copying_ask copying) answer prompt spends _ _
       (copying_ends mode initial number (word_of g c s) (word_of g c (run es s)) (words_bare g c (run es s)) copying answer read prompt).0

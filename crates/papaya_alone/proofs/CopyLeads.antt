@@ -67,22 +67,27 @@ module _ (words : At → ℕ) where
 
   settled_last : (chunk : Chunk) (end : Settled) → IsLast (settled_to chunk end)
   settled_last chunk (settled.On settle) = tt
-  settled_last chunk settled.Settled = cond_both (nat_lt (next_slot chunk).at chunk.end) (stepped.On (steps.Settling (next_slot chunk) settles.Looking)) (stepped.On (steps.Advancing chunk.cursor)) IsLast (λ _. tt) (λ _. tt)
+  settled_last chunk settled.Settled = cond_both (nat_lt (next_slot chunk).at chunk.end)
+      (stepped.On (steps.Settling (next_slot chunk) settles.Looking)) (stepped.On (steps.Advancing chunk.cursor)) IsLast (λ _. tt) (λ _. tt)
   settled_last chunk (settled.Unfit table) = tt
   settled_last chunk (settled.Refused refused) = tt
 
-  aimed_last : (mode : ResizeMode) (from behind next : ℕ) → (IsIncremental mode → behind ≡ from) → words words_at.Root ≡ from → words (words_at.Next behind) ≡ next → IsLast (aimed from behind mode next)
+  aimed_last : (mode : ResizeMode) (from behind next : ℕ) → (IsIncremental mode → behind ≡ from) → words words_at.Root ≡ from
+      → words (words_at.Next behind) ≡ next → IsLast (aimed from behind mode next)
   aimed_last (Incremental chunk) from behind next lined root is =
       cond_both (next == 0) (stepped.Last from) (stepped.On (steps.Sizing from next)) IsLast
       (λ none. ap (λ t. words (words_at.Next t)) (root ∙ sym (lined tt)) ∙ is ∙ eqb-true next 0 none)
       (λ _. tt)
   aimed_last Blocking from behind next lined root is =
-      cond_both (next == 0) (stepped.On (steps.Linking from (links.Sizing behind from (not (behind == from))))) (stepped.On (steps.Judging from next)) IsLast (λ _. tt) (λ _. tt)
+      cond_both (next == 0) (stepped.On (steps.Linking from (links.Sizing behind from (not (behind == from))))) (stepped.On (steps.Judging from next))
+      IsLast (λ _. tt) (λ _. tt)
 
   chunk_read_last : (cursor : Cursor) (done : ℕ) → IsLast (chunk_read cursor done)
   chunk_read_last cursor done =
-      cond_both (not (done == 0)) (stepped.On (next_cursor cursor)) (cond cursor.copied (stepped.Further (chunk_at cursor)) (stepped.On (steps.Settling (chunk_at cursor) settles.Looking))) IsLast (λ _. tt)
-      (λ _. cond_both cursor.copied (stepped.Further (chunk_at cursor)) (stepped.On (steps.Settling (chunk_at cursor) settles.Looking)) IsLast (λ _. tt) (λ _. tt))
+      cond_both (not (done == 0)) (stepped.On (next_cursor cursor))
+      (cond cursor.copied (stepped.Further (chunk_at cursor)) (stepped.On (steps.Settling (chunk_at cursor) settles.Looking))) IsLast (λ _. tt)
+      (λ _. cond_both cursor.copied (stepped.Further (chunk_at cursor)) (stepped.On (steps.Settling (chunk_at cursor) settles.Looking)) IsLast
+      (λ _. tt) (λ _. tt))
 
   module _ (mode : ResizeMode) (from : ℕ) (some : 0 < from) where
     -- it copies all still, or its root is the root no more, or has no next table
@@ -95,7 +100,8 @@ module _ (words : At → ℕ) where
     all_of_leads (Incremental chunk) root is = refl
     all_of_leads Blocking root is =
         cond_both (from == 0 || from == root) (copied.On (copyings.Stepping (aims.All root) (steps.Aiming root root))) (copied.Root root) LeadsAll
-        (λ e. ap aims.All (sym (eqb-true from root (or_other (from == 0) (from == root) e (λ none. let zero : from ≡ 0 = eqb-true from 0 none in omega (arith, zero, some))))))
+        (λ e. ap aims.All (sym (eqb-true from root
+        (or_other (from == 0) (from == root) e (λ none. let zero : from ≡ 0 = eqb-true from 0 none in omega (arith, zero, some))))))
         (λ e same. absurd (or_false (from == 0) (from == root) e (eq-eqb from root (sym same ∙ is))))
 
     all_leads : (end : Stepped) → IsSteppedRead mode words end → IsLast end → LeadsAll (leads (aims.All from) mode end)
@@ -114,18 +120,22 @@ module _ (mode : ResizeMode) (initial number : ℕ) (words words' : At → ℕ) 
   abbrev StepLast : Step → Answer → Type 0
   StepLast step answer = IsLast words' (step_after step mode initial number answer)
 
-  step_last : (step : Step) (answer : Answer) → IsLinedStep mode step → IsStepRead mode words step → IsCopyPrompt words (step_ask step) answer words' → StepLast step answer
+  step_last : (step : Step) (answer : Answer) → IsLinedStep mode step → IsStepRead mode words step → IsCopyPrompt words (step_ask step) answer words'
+      → StepLast step answer
   step_last steps.AtRoot answer lined read told = subst (StepLast steps.AtRoot) (sym told.0.0) tt
   step_last (steps.Aiming from behind) answer lined read told =
       subst (StepLast (steps.Aiming from behind)) (sym told.0.0)
       (aimed_last words' mode from behind (words (words_at.Next behind)) lined (told.1 words_at.Root ∙ read) (told.1 (words_at.Next behind)))
-  step_last (steps.Linking from link) answer lined read told = subst (IsLast words') (sym (step_links mode initial number from link answer)) (linked_last words' from (link_after link mode initial answer))
+  step_last (steps.Linking from link) answer lined read told = subst (IsLast words') (sym (step_links mode initial number from link answer))
+      (linked_last words' from (link_after link mode initial answer))
   step_last (steps.Judging from to) answer lined read told = subst (StepLast (steps.Judging from to)) (sym told.0.0) tt
   step_last (steps.Sizing from to) answer lined read told =
       let (slots, limit, size, e) = told.0 in
       subst (StepLast (steps.Sizing from to)) (sym e) tt
-  step_last (steps.AtChunk cursor) answer lined read told = subst (StepLast (steps.AtChunk cursor)) (sym told.0.0) (chunk_read_last words' cursor (words (words_at.Done cursor.to cursor.at)))
-  step_last (steps.Settling chunk settle) answer lined read told = subst (IsLast words') (sym (step_settles mode initial number chunk settle answer)) (settled_last words' chunk (settle_after settle (slot_of chunk) mode initial answer))
+  step_last (steps.AtChunk cursor) answer lined read told = subst (StepLast (steps.AtChunk cursor)) (sym told.0.0)
+      (chunk_read_last words' cursor (words (words_at.Done cursor.to cursor.at)))
+  step_last (steps.Settling chunk settle) answer lined read told = subst (IsLast words') (sym (step_settles mode initial number chunk settle answer))
+      (settled_last words' chunk (settle_after settle (slot_of chunk) mode initial answer))
   step_last (steps.Advancing cursor) answer lined read told =
       let here : At = words_at.Done cursor.to cursor.at in
       let done : (answer ≡ answers.Call Exchanged) × IsPut words here 1 words' = exchange_done _ _ (words here) 0 read.0.due told in
@@ -135,10 +145,13 @@ module _ (mode : ResizeMode) (initial number : ℕ) (words words' : At → ℕ) 
       subst (StepLast (steps.Promoting from to)) (sym done.0) tt
 
   -- of a copy of all
-  pub copy_leads : (from : ℕ) (some : 0 < from) (copying : Copying) (answer : Answer) → aim_of copying ≡ aims.All from → IsLined mode copying → IsCopyingRead mode words copying → IsCopyPrompt words (copying_ask copying) answer words' → LeadsAll words' mode from some (copying_after copying mode initial number answer)
+  pub copy_leads : (from : ℕ) (some : 0 < from) (copying : Copying) (answer : Answer) → aim_of copying ≡ aims.All from → IsLined mode copying
+      → IsCopyingRead mode words copying → IsCopyPrompt words (copying_ask copying) answer words'
+      → LeadsAll words' mode from some (copying_after copying mode initial number answer)
   copy_leads from some (copyings.Stepping aim step) answer is lined read told =
       let end : Stepped = step_after step mode initial number answer in
       subst (LeadsAll words' mode from some) (sym (copying_steps mode initial number aim step answer))
       (subst (λ a. LeadsAll words' mode from some (leads a mode end)) (sym is)
-      (all_leads words' mode from some end (step_ends mode initial number words words' bare step answer read.1 told).1 (step_last step answer lined read.1 told)))
+      (all_leads words' mode from some end (step_ends mode initial number words words' bare step answer read.1 told).1
+      (step_last step answer lined read.1 told)))
   copy_leads from some (copyings.Lone slot settle) answer is lined read told = absurd cc

@@ -8,7 +8,9 @@ use Rattle.papaya_ask.specs.declared.ask.At.{At}
 use Rattle.papaya_ask.specs.declared.ask.At.TheVariants as words_at
 use Rattle.papaya_ask.specs.declared.ask.StepKind.{StepKind}
 use Rattle.papaya_ask.specs.declared.copy_ask.CopyAsk.{CopyAsk}
-use Rattle.papaya_ask.specs.declared.copy_ask.CopyAsk.TheVariants.{Load, Exchange as Ask_exchange, SizeOf, HashOf, SamePair, Count, MakeTable, LoadHint, WriteHint}
+use Rattle.papaya_ask.specs.declared.copy_ask.CopyAsk.TheVariants.{Load, Exchange as Ask_exchange}
+use Rattle.papaya_ask.specs.declared.copy_ask.CopyAsk.TheVariants.{SizeOf, HashOf, SamePair, Count}
+use Rattle.papaya_ask.specs.declared.copy_ask.CopyAsk.TheVariants.{MakeTable, LoadHint, WriteHint}
 use Rattle.papaya_chain.specs.declared.ask.Answer.{Answer}
 use Rattle.papaya_chain.specs.declared.ask.Answer.TheVariants as answers
 use Rattle.papaya_law.specs.Allows.{Allows}
@@ -44,7 +46,8 @@ module _ {K P : Type 0} (g : Setting K P) (c : Coding K P) (s : State P) where
   pub words_bare : IsBare (word_of g c s)
   words_bare t i e = empty_none (s.slot t i) (sym (code_kind g c (s.slot t i)) ∙ e)
 
-module _ {K P : Type 0} (g : Setting K P) (c : Coding K P) (hashed : IsHashed g c) (s : State P) (m : K → Option P) (keeps : IsKeeping g s m) (bounded : IsBounded g s) (loaded : LoadedPairs P) where
+module _ {K P : Type 0} (g : Setting K P) (c : Coding K P) (hashed : IsHashed g c) (s : State P) (m : K → Option P) (keeps : IsKeeping g s m)
+    (bounded : IsBounded g s) (loaded : LoadedPairs P) where
   -- the words
   abbrev words : At → ℕ
   words = word_of g c s
@@ -59,7 +62,8 @@ module _ {K P : Type 0} (g : Setting K P) (c : Coding K P) (hashed : IsHashed g 
   number_there (words_at.Next t) there =
       ⊎_elim
       (λ (e : s.next t ≡ 0). inl e)
-      (λ (h : (0 < t) × (t < s.next t)). let less = h.1 in inr (less, bounded.number (s.next t) (next_on s.next (keeping_sound g s m keeps).rises s.first t there (omega (arith, less)))))
+      (λ (h : (0 < t) × (t < s.next t)). let less = h.1 in
+      inr (less, bounded.number (s.next t) (next_on s.next (keeping_sound g s m keeps).rises s.first t there (omega (arith, less)))))
       ((keeping_sound g s m keeps).rises t)
   number_there (words_at.Aborted t) there = tt
   number_there (words_at.Done t chunk) there = tt
@@ -69,17 +73,21 @@ module _ {K P : Type 0} (g : Setting K P) (c : Coding K P) (hashed : IsHashed g 
   module _ (kind_asked : Option StepKind) (behind : ℕ) where
     -- an exchange of it whose old word stands there is one of the law
     abbrev pub MayAsk : CopyAsk → Type 0
-    MayAsk q = (at : At) (old new : ℕ) → q ≡ Ask_exchange at old new → word_of g c s at ≡ old → (e : Exchange P) × IsCopyAsked c kind_asked at new s loaded.kept e × Allows g s e × IsWritten g c s at new (after s e)
+    MayAsk q = (at : At) (old new : ℕ) → q ≡ Ask_exchange at old new → word_of g c s at ≡ old → (e : Exchange P)
+        × IsCopyAsked c kind_asked at new s loaded.kept e × Allows g s e × IsWritten g c s at new (after s e)
 
     -- a told answer is prompt
-    pub told_prompt : (q : CopyAsk) → AreThere g c s loaded.call.last loaded.kept q → MayAsk q → (answer : Answer) (es : List (Exchange P)) (loaded' : LoadedPairs P) → IsCopyTold g c s kind_asked behind loaded q answer es loaded' → IsCopyPrompt words q answer (word_of g c (run es s))
+    pub told_prompt : (q : CopyAsk) → AreThere g c s loaded.call.last loaded.kept q → MayAsk q
+        → (answer : Answer) (es : List (Exchange P)) (loaded' : LoadedPairs P) → IsCopyTold g c s kind_asked behind loaded q answer es loaded'
+        → IsCopyPrompt words q answer (word_of g c (run es s))
     told_prompt (Load at) there may answer es loaded' told = ((told.0, number_there at there), same_none es told.1)
     told_prompt (Ask_exchange at old new) there may answer es loaded' told =
         by_each (word_of g c s at == old)
         (λ e (a, (x, asked, one, h')).
         let made = may at old new refl (eqb-true (word_of g c s at) old e) in
         let same : made.0 ≡ x = one_asked c kind_asked at new s loaded.kept made.0 x made.1 asked in
-        let put : IsWritten g c s at new (run es s) = subst (λ l. IsWritten g c s at new (run l s)) (sym one) (subst (λ y. IsWritten g c s at new (after s y)) same made.3) in
+        let put : IsWritten g c s at new (run es s) = subst (λ l. IsWritten g c s at new (run l s)) (sym one)
+        (subst (λ y. IsWritten g c s at new (after s y)) same made.3) in
         (a, record { here = put.here; others = put.others }))
         (λ e (a, none, h'). (a, same_none es none)) told
     told_prompt (LoadHint t x) there may answer es loaded' told = ((told.0.0, told.0.2), same_none es told.1.0)

@@ -38,14 +38,16 @@ link_puts (links.Linking behind table chunks) other h e = subst IsNoNext e h
 module _ (mode : ResizeMode) (words words' : At → ℕ) (initial : ℕ) where
   -- after this answer
   abbrev pub LinkEnds : Link → Answer → Type 0
-  LinkEnds link answer = Nears answer (left_of_linked (link_after link mode initial answer)) (left_of_link link) × IsLinkedRead words' (link_after link mode initial answer)
+  LinkEnds link answer = Nears answer (left_of_linked (link_after link mode initial answer)) (left_of_link link)
+      × IsLinkedRead words' (link_after link mode initial answer)
 
   -- in each state
   pub link_ends : (link : Link) (answer : Answer) → IsLinkRead words link → IsCopyPrompt words (link_ask link) answer words' → LinkEnds link answer
   link_ends (links.Sizing behind source unfit) answer read told =
       let (slots, limit, size, e) = told.0 in
       subst (LinkEnds (links.Sizing behind source unfit)) (sym e)
-      (cond_both (source == behind) (links.Counting behind unfit slots slots) (links.Measuring behind source unfit slots) (λ l. Nears (answers.Call (Size slots limit)) (left_of_link l) 5 × IsLinkRead words' l)
+      (cond_both (source == behind) (links.Counting behind unfit slots slots) (links.Measuring behind source unfit slots)
+      (λ l. Nears (answers.Call (Size slots limit)) (left_of_link l) 5 × IsLinkRead words' l)
       (λ same. (inr (omega arith), told.1 (Next behind) ∙ read))
       (λ other. (inr (omega arith), told.1 (Next behind) ∙ read)))
   link_ends (links.Measuring behind source unfit len) answer read told =
@@ -55,7 +57,8 @@ module _ (mode : ResizeMode) (words words' : At → ℕ) (initial : ℕ) where
       let asked : ℕ = length_after len told.0.0 initial unfit in
       let chunks : ℕ = chunk_count source (chunk_len mode) in
       subst (LinkEnds (links.Counting behind unfit len source)) (sym told.0.1)
-      (cond_both (nat_le asked (2 ^ 32)) (linked.On (making behind len unfit chunks asked)) (linked.Refused Capacity) (λ l. Nears (answers.Count told.0.0) (left_of_linked l) 3 × IsLinkedRead words' l)
+      (cond_both (nat_le asked (2 ^ 32)) (linked.On (making behind len unfit chunks asked)) (linked.Refused Capacity)
+      (λ l. Nears (answers.Count told.0.0) (left_of_linked l) 3 × IsLinkedRead words' l)
       (λ fits. (inr (omega arith), told.1 (Next behind) ∙ read))
       (λ over. (inr (omega arith), tt)))
   link_ends (links.Making behind len limit chunks) answer read told =

@@ -64,7 +64,9 @@ module _ {K P : Type 0} (g : Setting K P) (s : State P) (sound : IsSound g s) wh
   pub root_on : (t : ℕ) → IsOn s.first s.next t → IsOn s.first s.next s.root
   root_on t (some, (k, is)) =
       ⊎_elim
-      (λ (none : (s.root ≡ 0) × (s.first ≡ 0)). let first : 0 < s.first = pos_before s.next sound.rises 0 k s.first (omega arith) (subst (λ n. 0 < n) (sym is) some) in let z = none.1 in absurd (omega (arith, first, z)))
+      (λ (none : (s.root ≡ 0) × (s.first ≡ 0)).
+      let first : 0 < s.first = pos_before s.next sound.rises 0 k s.first (omega arith) (subst (λ n. 0 < n) (sym is) some) in let z = none.1 in
+      absurd (omega (arith, first, z)))
       (λ (on : IsOn s.first s.next s.root). on)
       sound.root
 
@@ -98,7 +100,10 @@ pub blocks : (how : ResizeMode) (blocking : Bool) → IsModeOf how blocking → 
 blocks (Incremental chunk) blocking is e = absurd (cc (is, e))
 blocks Blocking blocking is e = refl
 
-module _ {K P : Type 0} (g : Setting K P) (c : Coding K P) (hashed : IsHashed g c) (begun since : List (Exchange_made P)) (may : AllAllowed g start (begun ++ since)) (k : K) (bounded : IsBounded g (run (begun ++ since) start)) (loaded : LoadedPairs P) (number : ℕ) (helped : Bool) (call : Call_machine) (r : calls.Relies g c begun since k call loaded.call) (cut : IsCutAs call.mode g.chunk_of) (answer : Answer) (es : List (Exchange_made P)) (loaded' : LoadedPairs P) (before later : Budget) where
+module _ {K P : Type 0} (g : Setting K P) (c : Coding K P) (hashed : IsHashed g c) (begun since : List (Exchange_made P))
+    (may : AllAllowed g start (begun ++ since)) (k : K) (bounded : IsBounded g (run (begun ++ since) start)) (loaded : LoadedPairs P) (number : ℕ)
+    (helped : Bool) (call : Call_machine) (r : calls.Relies g c begun since k call loaded.call) (cut : IsCutAs call.mode g.chunk_of) (answer : Answer)
+    (es : List (Exchange_made P)) (loaded' : LoadedPairs P) (before later : Budget) where
   -- the state, and the words before the answer and after it
   abbrev now : State P
   now = run (begun ++ since) start
@@ -130,11 +135,17 @@ module _ {K P : Type 0} (g : Setting K P) (c : Coding K P) (hashed : IsHashed g 
   left_on t e = come_on g c hashed begun since may k t (left_come g c hashed begun since may k loaded.call call.task call.state r.stage t e)
 
   -- it asks for itself
-  calling_falls : IsNumberRead words call.made.number → IsPhaseRead call.mode words call.state Calling → IsTold g c k now (kind_of_ask (at_phase Calling)) (follows_of (at_phase Calling)) loaded (ask_of (at_phase Calling)) answer es loaded' → IsServedAsk call.task (ask_of (at_phase Calling)) answer → Spends (kind_of_ask (at_phase Calling)) (ask_of (at_phase Calling)) answer before later → Falls Calling
+  calling_falls : IsNumberRead words call.made.number → IsPhaseRead call.mode words call.state Calling
+      → IsTold g c k now (kind_of_ask (at_phase Calling)) (follows_of (at_phase Calling)) loaded (ask_of (at_phase Calling)) answer es loaded'
+      → IsServedAsk call.task (ask_of (at_phase Calling)) answer
+      → Spends (kind_of_ask (at_phase Calling)) (ask_of (at_phase Calling)) answer before later → Falls Calling
   calling_falls known read told served spends =
       let is : answer ≡ answers.Call told.told = told.is in
-      subst (λ a. IsServedAsk call.task (ask_of (at_phase Calling)) a → Spends (kind_of_ask (at_phase Calling)) (ask_of (at_phase Calling)) a before later → Lowers words words' before later (at_phase Calling) (rank_of_phase now.root call Calling) (after (at_phase Calling) a)) (sym is)
-      (λ serves spent. call_lowers words words' (words_bare g c now) before later number helped call known read.0 read.1 (asked_number g c hashed begun since may k bounded call loaded.call r) told.told
+      subst (λ a. IsServedAsk call.task (ask_of (at_phase Calling)) a
+      → Spends (kind_of_ask (at_phase Calling)) (ask_of (at_phase Calling)) a before later
+      → Lowers words words' before later (at_phase Calling) (rank_of_phase now.root call Calling) (after (at_phase Calling) a)) (sym is)
+      (λ serves spent. call_lowers words words' (words_bare g c now) before later number helped call known read.0 read.1
+      (asked_number g c hashed begun since may k bounded call loaded.call r) told.told
       (call_prompt g c hashed begun since may k bounded call loaded.call r told.told es told.call serves told.tells) spent)
       served spends
 
@@ -144,7 +155,8 @@ module _ {K P : Type 0} (g : Setting K P) (c : Coding K P) (hashed : IsHashed g 
   takes_none ask there is = is
 
   -- its next table is made
-  module _ (link : Link) (made : HasWords g (Some link)) (at : IsLinking g c begun since k (at_phase (Linking link)) link) (told : IsCopyTold g c now (link_kind link) (follows link) loaded (link_ask link) answer es loaded') where
+  module _ (link : Link) (made : HasWords g (Some link)) (at : IsLinking g c begun since k (at_phase (Linking link)) link)
+      (told : IsCopyTold g c now (link_kind link) (follows link) loaded (link_ask link) answer es loaded') where
     link_named : AreThere g c now loaded.call.last loaded.kept (link_ask link)
     link_named = link_there g c hashed now (map_left g (begun ++ since)) keeps loaded.call.last loaded.kept link at.relies
 
@@ -160,10 +172,12 @@ module _ {K P : Type 0} (g : Setting K P) (c : Coding K P) (hashed : IsHashed g 
     linking_falls : IsPhaseRead call.mode words call.state (Linking link) → SpendsCopy (link_ask link) answer before later → Falls (Linking link)
     linking_falls read spends =
         let out = link_learns_all g c hashed begun since may call.mode cut call.initial loaded link at.relies answer (λ _. made) es loaded' told in
-        let later_sound : IsSound g (run (begun ++ (since ++ es)) start) = keeping_sound g (run (begun ++ (since ++ es)) start) (map_left g (begun ++ (since ++ es))) (keeping g hashed.lawful (begun ++ (since ++ es)) out.0) in
+        let later_sound : IsSound g (run (begun ++ (since ++ es)) start) = keeping_sound g (run (begun ++ (since ++ es)) start)
+        (map_left g (begun ++ (since ++ es))) (keeping g hashed.lawful (begun ++ (since ++ es)) out.0) in
         linking_lowers words words' before later (at_phase (Linking link)) read.0 link read.1 read.2 at.left answer link_prompt spends
         (λ table e.
-        let led : ((run (begun ++ (since ++ es)) start).next (follows link) ≡ table) × (0 < table) = subst (ReliesLinked g c (run (begun ++ (since ++ es)) start) loaded'.call.last loaded'.kept (follows link)) e out.1 in
+        let led : ((run (begun ++ (since ++ es)) start).next (follows link) ≡ table)
+        × (0 < table) = subst (ReliesLinked g c (run (begun ++ (since ++ es)) start) loaded'.call.last loaded'.kept (follows link)) e out.1 in
         let next = led.0 in
         let some = led.1 in
         ⊎_elim
@@ -172,14 +186,16 @@ module _ {K P : Type 0} (g : Setting K P) (c : Coding K P) (hashed : IsHashed g 
         (later_sound.rises (follows link)))
 
   -- the root is copied
-  module _ (copying : Copying) (relies : ReliesCopying g c now loaded.call.last loaded.kept copying) (made : HasWords g (link_in_copying copying)) (told : IsCopyTold g c now (copying_kind copying) (copying_follows copying) loaded (copying_ask copying) answer es loaded') where
+  module _ (copying : Copying) (relies : ReliesCopying g c now loaded.call.last loaded.kept copying) (made : HasWords g (link_in_copying copying))
+      (told : IsCopyTold g c now (copying_kind copying) (copying_follows copying) loaded (copying_ask copying) answer es loaded') where
     copy_named : AreThere g c now loaded.call.last loaded.kept (copying_ask copying)
     copy_named = copying_there g c hashed now (map_left g (begun ++ since)) keeps loaded.call.last loaded.kept copying relies
 
     -- what is told of the words is what they answer
     copy_prompt : IsCopyPrompt words (copying_ask copying) answer words'
     copy_prompt =
-        told_prompt g c hashed now (map_left g (begun ++ since)) keeps bounded loaded (copying_kind copying) (copying_follows copying) (copying_ask copying) copy_named
+        told_prompt g c hashed now (map_left g (begun ++ since)) keeps bounded loaded (copying_kind copying) (copying_follows copying)
+        (copying_ask copying) copy_named
         (copying_may g c hashed now (map_left g (begun ++ since)) keeps loaded.call.last loaded.kept copying relies made) answer es loaded' told
 
     -- as many numbers are taken as before
@@ -187,8 +203,10 @@ module _ {K P : Type 0} (g : Setting K P) (c : Coding K P) (hashed : IsHashed g 
     copy_counts = stays_at words words' answer (copying_ask copying) copy_prompt words_at.Made (takes_none (copying_ask copying) copy_named)
 
     -- what is known of the words then
-    copying_falls : IsFor (at_phase (Copying_root copying)) (aim_of copying) → IsPhaseRead call.mode words call.state (Copying_root copying) → IsKnown call.mode words copying → SpendsCopy (copying_ask copying) answer before later → Falls (Copying_root copying)
-    copying_falls which read known spends = copying_lowers words words' (words_bare g c now) (words_bare g c (run es now)) before later (at_phase (Copying_root copying)) copying answer which read.1 read.0 known copy_prompt spends
+    copying_falls : IsFor (at_phase (Copying_root copying)) (aim_of copying) → IsPhaseRead call.mode words call.state (Copying_root copying)
+        → IsKnown call.mode words copying → SpendsCopy (copying_ask copying) answer before later → Falls (Copying_root copying)
+    copying_falls which read known spends = copying_lowers words words' (words_bare g c now) (words_bare g c (run es now)) before later
+        (at_phase (Copying_root copying)) copying answer which read.1 read.0 known copy_prompt spends
 
   -- a table that copies go to without blocking is the next one
   target_next : g.blocking ≡ false → (from to : ℕ) → IsTarget g now from to → now.next from ≡ to
@@ -199,7 +217,9 @@ module _ {K P : Type 0} (g : Setting K P) (c : Coding K P) (hashed : IsHashed g 
       target.mode
 
   -- without blocking the root has a next table, no later than the one where the call goes on
-  known_helping : (how : ResizeMode) → IsIncremental how → g.blocking ≡ false → (copying : Copying) → ReliesCopying g c now loaded.call.last loaded.kept copying → IsCopyingRead how words copying → IsAsideAhead how words call.state copying → (t : ℕ) → left_by call.state ≡ Some t → 0 < now.next t → AimsAt (aim_of copying) (now.next t)
+  known_helping : (how : ResizeMode) → IsIncremental how → g.blocking ≡ false → (copying : Copying)
+      → ReliesCopying g c now loaded.call.last loaded.kept copying → IsCopyingRead how words copying → IsAsideAhead how words call.state copying
+      → (t : ℕ) → left_by call.state ≡ Some t → 0 < now.next t → AimsAt (aim_of copying) (now.next t)
       → IsKnown how words copying
   known_helping (Incremental chunk) how inc (copyings.Stepping aim steps.AtRoot) relies read ahead t left some is = (root_on g now sound t (left_on t left)).0
   known_helping (Incremental chunk) how inc (copyings.Stepping aim (steps.Aiming from behind)) relies read ahead t left some is =
@@ -222,7 +242,8 @@ module _ {K P : Type 0} (g : Setting K P) (c : Coding K P) (hashed : IsHashed g 
   known_helping Blocking how inc copying relies read ahead t left some is = absurd how
 
   -- with blocking there is a root
-  known_all : (how : ResizeMode) → how ≡ Blocking → (copying : Copying) (met : ℕ) → aim_of copying ≡ aims.All met → (t : ℕ) → left_by call.state ≡ Some t → IsKnown how words copying
+  known_all : (how : ResizeMode) → how ≡ Blocking → (copying : Copying) (met : ℕ) → aim_of copying ≡ aims.All met → (t : ℕ)
+      → left_by call.state ≡ Some t → IsKnown how words copying
   known_all (Incremental chunk) e copying met is t left = absurd (cc e)
   known_all Blocking e (copyings.Stepping aim steps.AtRoot) met is t left = (root_on g now sound t (left_on t left)).0
   known_all Blocking e (copyings.Stepping aim (steps.Aiming from behind)) met is t left = tt
@@ -236,27 +257,40 @@ module _ {K P : Type 0} (g : Setting K P) (c : Coding K P) (hashed : IsHashed g 
   known_all Blocking e (copyings.Lone slot settle) met is t left = tt
 
   -- the root is copied for a call
-  helping_falls : (copying : Copying) → HasWords g (link_in_copying copying) → ReliesPhase g c begun since k (at_phase (Copying_root copying)) loaded (Copying_root copying) → IsPhaseRead call.mode words call.state (Copying_root copying) → IsCopyTold g c now (copying_kind copying) (copying_follows copying) loaded (copying_ask copying) answer es loaded' → SpendsCopy (copying_ask copying) answer before later → Falls (Copying_root copying)
+  helping_falls : (copying : Copying) → HasWords g (link_in_copying copying)
+      → ReliesPhase g c begun since k (at_phase (Copying_root copying)) loaded (Copying_root copying)
+      → IsPhaseRead call.mode words call.state (Copying_root copying)
+      → IsCopyTold g c now (copying_kind copying) (copying_follows copying) loaded (copying_ask copying) answer es loaded'
+      → SpendsCopy (copying_ask copying) answer before later → Falls (Copying_root copying)
   helping_falls copying made (inl at) read told spends =
       let inc : IsIncremental call.mode = incremental call.mode g.blocking r.mode at.mode in
       let is : AimsAt (aim_of copying) (now.next at.table) = subst (λ a. AimsAt a (now.next at.table)) (sym at.aim) (aims_at call.state (now.next at.table)) in
       let some = at.next in
-      let up : at.table < now.next at.table = ⊎_elim (λ (none : now.next at.table ≡ 0). absurd (omega (arith, none, some))) (λ (h : (0 < at.table) × (at.table < now.next at.table)). h.1) (sound.rises at.table) in
-      copying_falls copying at.relies made told (inl (inc, (now.next at.table, is, (at.table, at.left, up)))) read (known_helping call.mode inc at.mode copying at.relies read.0 read.1 at.table at.left at.next is) spends
+      let up : at.table < now.next at.table = ⊎_elim (λ (none : now.next at.table ≡ 0). absurd (omega (arith, none, some)))
+      (λ (h : (0 < at.table) × (at.table < now.next at.table)). h.1) (sound.rises at.table) in
+      copying_falls copying at.relies made told (inl (inc, (now.next at.table, is, (at.table, at.left, up)))) read
+      (known_helping call.mode inc at.mode copying at.relies read.0 read.1 at.table at.left at.next is) spends
   helping_falls copying made (inr at) read told spends =
       let e : call.mode ≡ Blocking = blocks call.mode g.blocking r.mode at.mode in
       copying_falls copying at.relies made told (inr (e, (at.met, at.aim))) read (known_all call.mode e copying at.met at.aim at.table at.left) spends
 
   -- in each phase
-  pub phase_falls : (phase : Phase) → HasWords g (link_in phase) → ReliesPhase g c begun since k (at_phase phase) loaded phase → IsNumberRead words call.made.number → IsPhaseRead call.mode words call.state phase → IsTold g c k now (kind_of_ask (at_phase phase)) (follows_of (at_phase phase)) loaded (ask_of (at_phase phase)) answer es loaded' → IsServedAsk call.task (ask_of (at_phase phase)) answer → Spends (kind_of_ask (at_phase phase)) (ask_of (at_phase phase)) answer before later → Falls phase
+  pub phase_falls : (phase : Phase) → HasWords g (link_in phase) → ReliesPhase g c begun since k (at_phase phase) loaded phase
+      → IsNumberRead words call.made.number → IsPhaseRead call.mode words call.state phase
+      → IsTold g c k now (kind_of_ask (at_phase phase)) (follows_of (at_phase phase)) loaded (ask_of (at_phase phase)) answer es loaded'
+      → IsServedAsk call.task (ask_of (at_phase phase)) answer → Spends (kind_of_ask (at_phase phase)) (ask_of (at_phase phase)) answer before later → Falls phase
   phase_falls Calling made at known read told served spends = calling_falls known read told served spends
   phase_falls (Linking link) made at known read told served spends = linking_falls link made at told read spends
   phase_falls (Copying_root copying) made at known read told served spends = helping_falls copying made at read told spends
 
   -- where the call is set aside, as many numbers are taken as before
-  pub aside_counts : (t : ℕ) → left_by call.state ≡ Some t → (phase : Phase) → HasWords g (link_in phase) → ReliesPhase g c begun since k (at_phase phase) loaded phase → IsTold g c k now (kind_of_ask (at_phase phase)) (follows_of (at_phase phase)) loaded (ask_of (at_phase phase)) answer es loaded' → words' words_at.Made ≡ words words_at.Made
+  pub aside_counts : (t : ℕ) → left_by call.state ≡ Some t → (phase : Phase) → HasWords g (link_in phase)
+      → ReliesPhase g c begun since k (at_phase phase) loaded phase
+      → IsTold g c k now (kind_of_ask (at_phase phase)) (follows_of (at_phase phase)) loaded (ask_of (at_phase phase)) answer es loaded'
+      → words' words_at.Made ≡ words words_at.Made
   aside_counts t left Calling made at told =
-      let tells = subst (λ a. call_told.IsTold g c k now (call_machine.kind_of_ask call) loaded.call a told.told es told.call) (aside_asks call.made call.hash call.state t left) told.tells in
+      let tells = subst (λ a. call_told.IsTold g c k now (call_machine.kind_of_ask call) loaded.call a told.told es told.call)
+      (aside_asks call.made call.hash call.state t left) told.tells in
       ap (λ l. word_of g c (run l now) words_at.Made) tells.1
   aside_counts t left (Linking link) made at told = link_counts link made at told
   aside_counts t left (Copying_root copying) made (inl at) told = copy_counts copying at.relies made told

@@ -9,7 +9,11 @@ use Rattle.papaya_call.specs.declared.compute.Gap.TheVariants as gaps
 use Rattle.papaya_call.specs.declared.compute.Purpose.{Purpose}
 use Rattle.papaya_call.specs.declared.compute.Purpose.TheVariants as purposes
 use Rattle.papaya_call.specs.declared.machine.State.{State}
-use Rattle.papaya_call.specs.declared.machine.State.TheVariants.{AtRoot, Making, Opening, Searching, Writing, Offering, Showing, Pairing, Putting, Deleting, Counting, Noting, Uncounting, Leaving, Growing, Ended}
+use Rattle.papaya_call.specs.declared.machine.State.TheVariants.{AtRoot, Making, Opening, Searching}
+use Rattle.papaya_call.specs.declared.machine.State.TheVariants.{Writing, Offering, Showing}
+use Rattle.papaya_call.specs.declared.machine.State.TheVariants.{Pairing, Putting, Deleting}
+use Rattle.papaya_call.specs.declared.machine.State.TheVariants.{Counting, Noting, Uncounting}
+use Rattle.papaya_call.specs.declared.machine.State.TheVariants.{Leaving, Growing, Ended}
 use Rattle.papaya_call.specs.declared.made.Made.{Made}
 use Rattle.papaya_call.specs.Machine.{IsStandingState}
 use Rattle.papaya_copy.specs.declared.carry.Carry.{Carry}
@@ -99,7 +103,8 @@ step_small (steps.Sizing from to) h = omega arith
 step_small (steps.AtChunk cursor) h =
     let a = h.start in
     let b = h.most in
-    cond_both cursor.wrapped (cursor.start - cursor.at) (cursor.len - cursor.begun + cursor.start + 1) (λ left. cursor.len * 2 ^ 68 + 2 ^ 68 + left + 3 < 2 ^ 104) (λ _. omega (arith, a, b)) (λ _. omega (arith, a, b))
+    cond_both cursor.wrapped (cursor.start - cursor.at) (cursor.len - cursor.begun + cursor.start + 1)
+    (λ left. cursor.len * 2 ^ 68 + 2 ^ 68 + left + 3 < 2 ^ 104) (λ _. omega (arith, a, b)) (λ _. omega (arith, a, b))
 step_small (steps.Settling chunk settle) h = let a = h.0.within in let b = h.0.cursor.most in let s = settle_small settle h.1 in omega (arith, a, b, s)
 step_small (steps.Advancing cursor) h = omega arith
 step_small (steps.Promoting from to) h = omega arith
@@ -113,9 +118,11 @@ root_small : (root : ℕ) (aim : Aim) → rank_at_root root aim < 2 ^ 190
 root_small root (aims.Search t) = omega arith
 root_small root (aims.Settle slot) = omega arith
 root_small root aims.Chunk = omega arith
-root_small root (aims.All met) = cond_both (met == 0 || met == root) (rank 1 0 (2 * 2 ^ 102)) (rank 3 0 0) (λ r. r < 2 ^ 190) (λ _. omega arith) (λ _. omega arith)
+root_small root (aims.All met) = cond_both (met == 0 || met == root) (rank 1 0 (2 * 2 ^ 102)) (rank 3 0 0) (λ r. r < 2 ^ 190) (λ _. omega arith)
+    (λ _. omega arith)
 
-phase_small : (root : ℕ) (m : Machine) (phase : Phase) → IsStandingState m.call.task m.call.state → IsStandingPhase phase → rank_of_phase root m.call phase < 2 ^ 190
+phase_small : (root : ℕ) (m : Machine) (phase : Phase) → IsStandingState m.call.task m.call.state → IsStandingPhase phase
+    → rank_of_phase root m.call phase < 2 ^ 190
 phase_small root m Calling h h' = state_small m.call.task m.call.made m.call.state h
 phase_small root m (Linking link) h h' = let l = link_most link in omega (arith, l)
 phase_small root m (Copying_root (copyings.Stepping aim steps.AtRoot)) h h' = root_small root aim
@@ -125,8 +132,10 @@ phase_small root m (Copying_root (copyings.Stepping aim (steps.Judging from to))
 phase_small root m (Copying_root (copyings.Stepping aim (steps.Sizing from to))) h h' = let s = step_small (steps.Sizing from to) h' in omega (arith, s)
 phase_small root m (Copying_root (copyings.Stepping aim (steps.AtChunk cursor))) h h' =
     let s = step_small (steps.AtChunk cursor) h' in
-    cond_both cursor.copied (rank 5 0 (left_of_step (steps.AtChunk cursor))) (rank 1 0 (left_of_step (steps.AtChunk cursor))) (λ r. r < 2 ^ 190) (λ _. omega (arith, s)) (λ _. omega (arith, s))
-phase_small root m (Copying_root (copyings.Stepping aim (steps.Settling chunk settle))) h h' = let s = step_small (steps.Settling chunk settle) h' in omega (arith, s)
+    cond_both cursor.copied (rank 5 0 (left_of_step (steps.AtChunk cursor))) (rank 1 0 (left_of_step (steps.AtChunk cursor))) (λ r. r < 2 ^ 190)
+    (λ _. omega (arith, s)) (λ _. omega (arith, s))
+phase_small root m (Copying_root (copyings.Stepping aim (steps.Settling chunk settle))) h h' = let s = step_small (steps.Settling chunk settle) h' in
+    omega (arith, s)
 phase_small root m (Copying_root (copyings.Stepping aim (steps.Advancing cursor))) h h' = omega arith
 phase_small root m (Copying_root (copyings.Stepping aim (steps.Promoting from to))) h h' = omega arith
 phase_small root m (Copying_root (copyings.Lone slot settle)) h h' = let s = settle_small settle h' in omega (arith, s)
@@ -143,7 +152,8 @@ tables : (a b e e' : ℕ) → a < b → e' < 2 ^ 128 → a * 2 ^ 128 + e' < b * 
 tables a b e e' less small = omega (arith, less, small)
 
 -- a budget that is spent is less
-budget_less : (before later : Budget) → later.exchanges < 2 ^ 128 → IsSpent before later → later.tables * 2 ^ 128 + later.exchanges < before.tables * 2 ^ 128 + before.exchanges
+budget_less : (before later : Budget) → later.exchanges < 2 ^ 128 → IsSpent before later
+    → later.tables * 2 ^ 128 + later.exchanges < before.tables * 2 ^ 128 + before.exchanges
 budget_less before later few (inl less) = tables later.tables before.tables before.exchanges later.exchanges less few
 budget_less before later few (inr (same, less)) = omega (arith, same, less)
 
@@ -151,4 +161,6 @@ budget_less before later few (inr (same, less)) = omega (arith, same, less)
 pub measure_less : (before later : Budget) (r r' : ℕ) → later.exchanges < 2 ^ 128 → r' < 2 ^ 192 → IsSpent before later ⊎ ((later ≡ before) × (r' < r))
     → (later.tables * 2 ^ 128 + later.exchanges) * 2 ^ 192 + r' < (before.tables * 2 ^ 128 + before.exchanges) * 2 ^ 192 + r
 measure_less before later r r' few small (inl spent) = digits _ _ r r' (budget_less before later few spent) small
-measure_less before later r r' few small (inr (same, less)) = subst (λ b. (b.tables * 2 ^ 128 + b.exchanges) * 2 ^ 192 + r' < (before.tables * 2 ^ 128 + before.exchanges) * 2 ^ 192 + r) (sym same) (omega (arith, less))
+measure_less before later r r' few small
+    (inr (same, less)) = subst (λ b. (b.tables * 2 ^ 128 + b.exchanges) * 2 ^ 192 + r' < (before.tables * 2 ^ 128 + before.exchanges) * 2 ^ 192 + r)
+    (sym same) (omega (arith, less))

@@ -1,5 +1,6 @@
 -- How a call that was set aside goes on, where no other caller is beside it.
-use Rattle.std.proofs.Common.{◌≡◌, ◌⊎◌, ⊎_elim, ℕ, ◌+◌, ◌*◌, ◌^◌, ◌<◌, ◌≤◌, ◌==◌, ◌||◌, Bool, true, false, Some, refl, sym, ap, ◌∙◌, subst, arith, eq-eqb, eqb-true}
+use Rattle.std.proofs.Common.{◌≡◌, ◌⊎◌, ⊎_elim, ℕ, ◌+◌, ◌*◌, ◌^◌, ◌<◌, ◌≤◌, ◌==◌, ◌||◌, Bool, true}
+use Rattle.std.proofs.Common.{false, Some, refl, sym, ap, ◌∙◌, subst, arith, eq-eqb, eqb-true}
 use Rattle.std.proofs.lemmas.Bool.{cond_both}
 use Rattle.papaya_words.specs.declared.probe.ResizeMode.{ResizeMode}
 use Rattle.papaya_words.specs.declared.probe.ResizeMode.TheVariants.{Incremental, Blocking}
@@ -61,7 +62,8 @@ module _ (words : At → ℕ) where
     aim_read (aims.All met) = tt
 
     -- it copies a chunk, or its slot, or goes on
-    goes_current : (helped : Bool) (aim : Aim) (n : ℕ) → AimsAt aim n → words words_at.Root ≤ n → ((t : ℕ) → left_by m.call.state ≡ Some t → words words_at.Root ≤ t) → IsCallRead words (goes_on m helped aim n)
+    goes_current : (helped : Bool) (aim : Aim) (n : ℕ) → AimsAt aim n → words words_at.Root ≤ n
+        → ((t : ℕ) → left_by m.call.state ≡ Some t → words words_at.Root ≤ t) → IsCallRead words (goes_on m helped aim n)
     goes_current false aim n is h left = ((aim_read aim, tt), λ t how e. left t e)
     goes_current true (aims.Search t) n is h left = enters_current n h
     goes_current true (aims.Settle slot) n is h left = (any_alive m.call.mode words m.call.mode slot.to inc, omega (arith, is, h))
@@ -73,7 +75,8 @@ module _ (words : At → ℕ) where
     onward_current n h left = goes_current m.helped (aim_for m.call.state n) n (aims_at m.call.state n) h left
 
   module _ (m : Machine) where
-    goes_rank : (helped : Bool) (aim : Aim) (n t : ℕ) → AimsAt aim n → t < n → n ≤ 2 ^ 32 → rank_of (words words_at.Root) (goes_on m helped aim n) < rank 2 (further t) (2 ^ 68 + 3)
+    goes_rank : (helped : Bool) (aim : Aim) (n t : ℕ) → AimsAt aim n → t < n → n ≤ 2 ^ 32
+        → rank_of (words words_at.Root) (goes_on m helped aim n) < rank 2 (further t) (2 ^ 68 + 3)
     goes_rank false (aims.Search u) n t is up most = omega arith
     goes_rank false (aims.Settle slot) n t is up most = omega arith
     goes_rank false aims.Chunk n t is up most = absurd is
@@ -93,10 +96,12 @@ module _ (words : At → ℕ) where
 
     -- with less left than before
     pub anew_rank : rank_of (words words_at.Root) (begins_anew m (words words_at.Root)) < rank 3 0 0
-    anew_rank = let f = root_leads m.call.made m.call.mode words m.call.task m.call.remembered.fill (words words_at.Root) refl in let l = f.0 in omega (arith, l)
+    anew_rank = let f = root_leads m.call.made m.call.mode words m.call.task m.call.remembered.fill (words words_at.Root) refl in let l = f.0 in
+        omega (arith, l)
 
 -- the next table is there: a call goes on to it, or copies first
-pub goes_on_lowers : (words : At → ℕ) (m : Machine) → IsIncremental m.call.mode → (n t : ℕ) → words words_at.Root ≤ t → ((u : ℕ) → left_by m.call.state ≡ Some u → words words_at.Root ≤ u) → (n == 0) ≡ false → (n ≡ 0) ⊎ ((t < n) × (n ≤ 2 ^ 32))
+pub goes_on_lowers : (words : At → ℕ) (m : Machine) → IsIncremental m.call.mode → (n t : ℕ) → words words_at.Root ≤ t
+    → ((u : ℕ) → left_by m.call.state ≡ Some u → words words_at.Root ≤ u) → (n == 0) ≡ false → (n ≡ 0) ⊎ ((t < n) × (n ≤ 2 ^ 32))
     → (rank_of (words words_at.Root) (onward m n) < rank 2 (further t) (2 ^ 68 + 3)) × IsCallRead words (onward m n)
 goes_on_lowers words m inc n t least left some number =
     ⊎_elim
@@ -118,14 +123,17 @@ all_rank root met is =
 
 module _ (words : At → ℕ) (m : Machine) where
   -- the next table was looked up by a call that needs it: less is left, and what was read stands there
-  pub grows_lowers : (how : ResizeMode) → m.call.mode ≡ how → (need : Need) (n : ℕ) → left_by m.call.state ≡ Some (needed need) → IsAhead how words (needed need) → words (words_at.Next (needed need)) ≡ n → (n ≡ 0) ⊎ ((needed need < n) × (n ≤ 2 ^ 32))
+  pub grows_lowers : (how : ResizeMode) → m.call.mode ≡ how → (need : Need) (n : ℕ) → left_by m.call.state ≡ Some (needed need)
+      → IsAhead how words (needed need) → words (words_at.Next (needed need)) ≡ n → (n ≡ 0) ⊎ ((needed need < n) × (n ≤ 2 ^ 32))
       → (rank_of (words words_at.Root) (grows_as m how need n) < rank 2 (further (needed need)) (2 ^ 68 + 3)) × IsCallRead words (grows_as m how need n)
   grows_lowers Blocking moded need n left ahead is number =
       let a = all_rank (words words_at.Root) (needed need) ahead in
       (omega (arith, a), ((tt, tt), λ t how e. absurd (subst IsIncremental moded how)))
   grows_lowers (Incremental chunk) moded need n left ahead is number =
       let inc : IsIncremental m.call.mode = subst IsIncremental (sym moded) tt in
-      let least : (t : ℕ) → left_by m.call.state ≡ Some t → words words_at.Root ≤ t = λ t e. let same : t ≡ needed need = cc (left, e) in omega (arith, same, ahead) in
-      cond_both (n == 0) (record m { phase = Linking (links.Sizing (needed need) (needed need) false) }) (onward m n) (λ m'. (rank_of (words words_at.Root) m' < rank 2 (further (needed need)) (2 ^ 68 + 3)) × IsCallRead words m')
+      let least : (t : ℕ) → left_by m.call.state ≡ Some t → words words_at.Root ≤ t = λ t e. let same : t ≡ needed need = cc (left, e) in
+      omega (arith, same, ahead) in
+      cond_both (n == 0) (record m { phase = Linking (links.Sizing (needed need) (needed need) false) }) (onward m n)
+      (λ m'. (rank_of (words words_at.Root) m' < rank 2 (further (needed need)) (2 ^ 68 + 3)) × IsCallRead words m')
       (λ none. (omega arith, (inc, is ∙ eqb-true n 0 none, least)))
       (λ some. goes_on_lowers words m inc n (needed need) (ahead_least words (Incremental chunk) (needed need) ahead) least some number)

@@ -1,9 +1,14 @@
 -- When a call that resizes the map has ended, what was wanted is done.
-use Rattle.std.proofs.Common.{◌≡◌, inl, inr, ⊎_elim, ℕ, ◌+◌, ◌<◌, ◌≤◌, ◌^◌, ◌==◌, nat_le, max, Bool, true, false, cond, Option, None, Some, List, [], ◌∷◌, refl, sym, ap, ◌∙◌, subst, arith, eqb-true, leb-true}
+use Rattle.std.proofs.Common.{◌≡◌, inl, inr, ⊎_elim, ℕ, ◌+◌, ◌<◌, ◌≤◌, ◌^◌, ◌==◌, nat_le, max, Bool}
+use Rattle.std.proofs.Common.{true, false, cond, Option, None, Some, List, [], ◌∷◌, refl, sym, ap}
+use Rattle.std.proofs.Common.{◌∙◌, subst, arith, eqb-true, leb-true}
 use Rattle.std.proofs.lemmas.Bool.{cond_both}
 use Rattle.papaya_words.specs.declared.probe.Refused.{Refused}
 use Rattle.papaya_words.specs.declared.probe.ResizeMode.{ResizeMode}
-use Rattle.papaya_ask.specs.declared.ask.Answer.TheVariants.{Word as Word_read, Exchanged, Found as Found_instead, Size, Made as Made_number, Refused as Was_refused}
+use Rattle.papaya_ask.specs.declared.ask.Answer.TheVariants.{Word as Word_read, Exchanged}
+use Rattle.papaya_ask.specs.declared.ask.Answer.TheVariants.{Found as Found_instead, Size}
+use Rattle.papaya_ask.specs.declared.ask.Answer.TheVariants.{Made as Made_number}
+use Rattle.papaya_ask.specs.declared.ask.Answer.TheVariants.{Refused as Was_refused}
 use Rattle.papaya_ask.specs.declared.ask.At.{At}
 use Rattle.papaya_ask.specs.declared.ask.At.TheVariants as words_at
 use Rattle.papaya_ask.specs.declared.call.Reply.TheVariants.{Done as Reply_done}
@@ -19,7 +24,10 @@ use Rattle.papaya_chain.specs.declared.resizer.Resize.{Resize}
 use Rattle.papaya_chain.specs.declared.resizer.Resize.TheVariants.{Chunk, CopyAll, Reserve}
 use Rattle.papaya_chain.specs.declared.resizer.Room.{Room}
 use Rattle.papaya_chain.specs.declared.resizer.State.{State as Stage}
-use Rattle.papaya_chain.specs.declared.resizer.State.TheVariants.{AtRoot, Making, Opening, Sizing, Counting, Looking, Linking, Copying, Done, Refused as Ended_refused}
+use Rattle.papaya_chain.specs.declared.resizer.State.TheVariants.{AtRoot, Making, Opening, Sizing}
+use Rattle.papaya_chain.specs.declared.resizer.State.TheVariants.{Counting, Looking, Linking}
+use Rattle.papaya_chain.specs.declared.resizer.State.TheVariants.{Copying, Done}
+use Rattle.papaya_chain.specs.declared.resizer.State.TheVariants.{Refused as Ended_refused}
 use Rattle.papaya_chain.specs.Machine.{copying_after, link_after}
 use Rattle.papaya_chain.specs.Resizer.{after_in, at_last, at_next, copied, copies, judges, linked, makes, reply_in}
 use Rattle.papaya_chain.specs.Room.{entries_of, room_of, room_of_len}
@@ -69,7 +77,8 @@ room_long pairs room is = by_length (nat_le (entries_of pairs) (2 ^ 32)) is
         subst (λ (r : Room). entries_of pairs ≤ r.len) same (omega arith)
     by_length false e = absurd cc
 
-module _ {K P : Type 0} (g : Setting K P) (c : Coding K P) (s : State P) (loaded : LoadedPairs P) (mode : ResizeMode) (initial number : ℕ) (answer : Answer) (es : List (Exchange P)) (loaded' : LoadedPairs P) where
+module _ {K P : Type 0} (g : Setting K P) (c : Coding K P) (s : State P) (loaded : LoadedPairs P) (mode : ResizeMode) (initial number : ℕ)
+    (answer : Answer) (es : List (Exchange P)) (loaded' : LoadedPairs P) where
   abbrev words : At → ℕ
   words = word_of g c s
 
@@ -77,7 +86,8 @@ module _ {K P : Type 0} (g : Setting K P) (c : Coding K P) (s : State P) (loaded
   later = word_of g c (run es s)
 
   -- it is done, by what the answer is
-  by_answer : (resize : Resize) (stage : Stage) (answer' : Answer) → answer ≡ answer' → IsDone (after_in resize mode initial number answer stage) → IsDone (after_in resize mode initial number answer' stage)
+  by_answer : (resize : Resize) (stage : Stage) (answer' : Answer) → answer ≡ answer' → IsDone (after_in resize mode initial number answer stage)
+      → IsDone (after_in resize mode initial number answer' stage)
   by_answer resize stage answer' is done = subst (λ a. IsDone (after_in resize mode initial number a stage)) is done
 
   -- where nothing was exchanged the words are the same
@@ -85,15 +95,19 @@ module _ {K P : Type 0} (g : Setting K P) (c : Coding K P) (s : State P) (loaded
   same_word none at = ap (λ l. word_of g c (run l s) at) none
 
   -- the first table is made or opened: more is to come
-  made_open : (resize : Resize) (room : Room) → IsStageTold g c s (Making room) loaded answer es loaded' → IsDone (after_in resize mode initial number answer (Making room)) → ⊥
+  made_open : (resize : Resize) (room : Room) → IsStageTold g c s (Making room) loaded answer es loaded'
+      → IsDone (after_in resize mode initial number answer (Making room)) → ⊥
   made_open resize room told done =
       let h = told_of_ask g c s loaded (Making room) (MakeTable room.len room.limit 0) refl answer es loaded' told in
       ⊎_elim
-      (λ (u : (refused : Refused) × (answer ≡ answers.Call (Was_refused refused))). let to = by_answer resize (Making room) (answers.Call (Was_refused u.0)) u.1 done in absurd (cc to))
-      (λ (n : (n : ℕ) × (0 < n) × (answer ≡ answers.Call (Made_number n))). let to = by_answer resize (Making room) (answers.Call (Made_number n.0)) n.2 done in absurd (cc to))
+      (λ (u : (refused : Refused) × (answer ≡ answers.Call (Was_refused refused))).
+      let to = by_answer resize (Making room) (answers.Call (Was_refused u.0)) u.1 done in absurd (cc to))
+      (λ (n : (n : ℕ) × (0 < n) × (answer ≡ answers.Call (Made_number n))).
+      let to = by_answer resize (Making room) (answers.Call (Made_number n.0)) n.2 done in absurd (cc to))
       h.0
 
-  opened_open : (resize : Resize) (table : ℕ) → IsStageTold g c s (Opening table) loaded answer es loaded' → IsDone (after_in resize mode initial number answer (Opening table)) → ⊥
+  opened_open : (resize : Resize) (table : ℕ) → IsStageTold g c s (Opening table) loaded answer es loaded'
+      → IsDone (after_in resize mode initial number answer (Opening table)) → ⊥
   opened_open resize table told done =
       by_test (s.root == 0)
       ((answer ≡ answers.Call Exchanged) × (es ≡ Open table ∷ []) × (loaded' ≡ loaded))
@@ -102,13 +116,15 @@ module _ {K P : Type 0} (g : Setting K P) (c : Coding K P) (s : State P) (loaded
       (λ none (a, e, h). let to = by_answer resize (Opening table) (answers.Call Exchanged) a done in absurd (cc to))
       (λ some (a, h). let to = by_answer resize (Opening table) (answers.Call (Found_instead s.root)) a done in absurd (cc to))
 
-  sized_open : (resize : Resize) (root : ℕ) → IsStageTold g c s (Sizing root) loaded answer es loaded' → IsDone (after_in resize mode initial number answer (Sizing root)) → ⊥
+  sized_open : (resize : Resize) (root : ℕ) → IsStageTold g c s (Sizing root) loaded answer es loaded'
+      → IsDone (after_in resize mode initial number answer (Sizing root)) → ⊥
   sized_open resize root told done =
       let h = told_of_ask g c s loaded (Sizing root) (SizeOf root) refl answer es loaded' told in
       let to = by_answer resize (Sizing root) (answers.Call (Size (g.size root) h.0.0)) h.0.2 done in absurd (cc to)
 
   -- all is copied: there is no root, or it has no next table
-  all_ends : (stage : Stage) → IsStageRead mode words CopyAll stage → IsStageTold g c s stage loaded answer es loaded' → IsDone (after_in CopyAll mode initial number answer stage) → IsWhole later
+  all_ends : (stage : Stage) → IsStageRead mode words CopyAll stage → IsStageTold g c s stage loaded answer es loaded'
+      → IsDone (after_in CopyAll mode initial number answer stage) → IsWhole later
   all_ends AtRoot read told done =
       let h = told_of_ask g c s loaded AtRoot (Load words_at.Root) refl answer es loaded' told in
       cond_both (s.root == 0) Done (Looking s.root 0 None) (λ y. IsDone y → IsWhole later)
@@ -122,7 +138,8 @@ module _ {K P : Type 0} (g : Setting K P) (c : Coding K P) (s : State P) (loaded
   all_ends (Looking root len room) read told done =
       let h = told_of_ask g c s loaded (Looking root len room) (Load (words_at.Next root)) refl answer es loaded' told in
       cond_both (s.next root == 0) (at_last mode root len room) (copies root) (λ y. IsDone y → IsWhole later)
-      (λ none d. inr (ap (λ t. later (words_at.Next t)) (same_word h.1 words_at.Root ∙ read.0.0) ∙ same_word h.1 (words_at.Next root) ∙ eqb-true (s.next root) 0 none))
+      (λ none d. inr (ap (λ t. later (words_at.Next t)) (same_word h.1 words_at.Root ∙ read.0.0) ∙ same_word h.1 (words_at.Next root)
+      ∙ eqb-true (s.next root) 0 none))
       (λ some d. absurd cc)
       (by_answer CopyAll (Looking root len room) (answers.Call (Word_read (s.next root))) h.0 done)
   all_ends (Linking link) read told done = absurd (linked_open (follows link) (link_after link mode initial answer) done)
@@ -132,7 +149,8 @@ module _ {K P : Type 0} (g : Setting K P) (c : Coding K P) (s : State P) (loaded
 
   -- there is room
   module _ (more : ℕ) where
-    room_ends : (root len count : ℕ) → answer ≡ answers.Count count → es ≡ [] → words words_at.Root ≡ root → 0 < root → len ≡ g.size root → (room : Option Room) → room_of (count + more) ≡ room → IsDone (judges root len room) → HasRoom later g.size answer more
+    room_ends : (root len count : ℕ) → answer ≡ answers.Count count → es ≡ [] → words words_at.Root ≡ root → 0 < root → len ≡ g.size root
+        → (room : Option Room) → room_of (count + more) ≡ room → IsDone (judges root len room) → HasRoom later g.size answer more
     room_ends root len count told none is some size None found done = absurd cc
     room_ends root len count told none is some size (Some room) found done =
         cond_both (nat_le room.len len) Done (Looking root len (Some room)) (λ y. IsDone y → HasRoom later g.size answer more)
@@ -144,9 +162,11 @@ module _ {K P : Type 0} (g : Setting K P) (c : Coding K P) (s : State P) (loaded
         (λ few d. absurd cc) done
 
     next_open : (root len : ℕ) (room : Room) (next : ℕ) → IsDone (at_next mode root len (Some room) next) → ⊥
-    next_open root len room next = cond_both (next == 0) (at_last mode root len (Some room)) (copies root) (λ y. IsDone y → ⊥) (λ _ d. absurd cc) (λ _ d. absurd cc)
+    next_open root len room next = cond_both (next == 0) (at_last mode root len (Some room)) (copies root) (λ y. IsDone y → ⊥) (λ _ d. absurd cc)
+        (λ _ d. absurd cc)
 
-    reserve_ends : (stage : Stage) → ReliesStage g c s loaded stage → IsStageRead mode words (Reserve more) stage → IsStageTold g c s stage loaded answer es loaded' → IsDone (after_in (Reserve more) mode initial number answer stage) → HasRoom later g.size answer more
+    reserve_ends : (stage : Stage) → ReliesStage g c s loaded stage → IsStageRead mode words (Reserve more) stage
+        → IsStageTold g c s stage loaded answer es loaded' → IsDone (after_in (Reserve more) mode initial number answer stage) → HasRoom later g.size answer more
     reserve_ends AtRoot r read told done =
         let h = told_of_ask g c s loaded AtRoot (Load words_at.Root) refl answer es loaded' told in
         absurd
@@ -157,18 +177,22 @@ module _ {K P : Type 0} (g : Setting K P) (c : Coding K P) (s : State P) (loaded
     reserve_ends (Sizing root) r read told done = absurd (sized_open (Reserve more) root told done)
     reserve_ends (Counting root len) r read told done =
         let h = told_of_ask g c s loaded (Counting root len) Count refl answer es loaded' told in
-        room_ends root len h.0.0 h.0.1 h.1.0 read.0.0 read.0.1 r.2 (room_of (h.0.0 + more)) refl (by_answer (Reserve more) (Counting root len) (answers.Count h.0.0) h.0.1 done)
+        room_ends root len h.0.0 h.0.1 h.1.0 read.0.0 read.0.1 r.2 (room_of (h.0.0 + more)) refl
+        (by_answer (Reserve more) (Counting root len) (answers.Count h.0.0) h.0.1 done)
     reserve_ends (Looking root len None) r read told done = absurd read.1
     reserve_ends (Looking root len (Some room)) r read told done =
         let h = told_of_ask g c s loaded (Looking root len (Some room)) (Load (words_at.Next root)) refl answer es loaded' told in
-        absurd (next_open root len room (s.next root) (by_answer (Reserve more) (Looking root len (Some room)) (answers.Call (Word_read (s.next root))) h.0 done))
+        absurd (next_open root len room (s.next root)
+        (by_answer (Reserve more) (Looking root len (Some room)) (answers.Call (Word_read (s.next root))) h.0 done))
     reserve_ends (Linking link) r read told done = absurd (linked_open (follows link) (link_after link mode initial answer) done)
-    reserve_ends (Copying from copying) r read told done = absurd (copied_open (Reserve more) (λ e. cc e) from (copying_after copying mode initial number answer) done)
+    reserve_ends (Copying from copying) r read told done = absurd
+        (copied_open (Reserve more) (λ e. cc e) from (copying_after copying mode initial number answer) done)
     reserve_ends Done r read told done = let asked = told.1 in absurd cc
     reserve_ends (Ended_refused refused) r read told done = let asked = told.1 in absurd cc
 
   -- what was wanted is done
-  pub stage_ends : (resize : Resize) (stage : Stage) → ReliesStage g c s loaded stage → IsStageRead mode words resize stage → IsStageTold g c s stage loaded answer es loaded' → IsDone (after_in resize mode initial number answer stage) → HasResized later g.size answer resize
+  pub stage_ends : (resize : Resize) (stage : Stage) → ReliesStage g c s loaded stage → IsStageRead mode words resize stage
+      → IsStageTold g c s stage loaded answer es loaded' → IsDone (after_in resize mode initial number answer stage) → HasResized later g.size answer resize
   stage_ends Chunk stage r read told done = tt
   stage_ends CopyAll stage r read told done = all_ends stage read told done
   stage_ends (Reserve more) stage r read told done = reserve_ends more stage r read told done

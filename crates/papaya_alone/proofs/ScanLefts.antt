@@ -1,5 +1,7 @@
 -- How much is left to a scan, where an answer leads.
-use Rattle.std.proofs.Common.{◌≡◌, ◌⊎◌, inl, inr, ℕ, ◌+◌, ◌-◌, ◌*◌, ◌^◌, ◌<◌, ◌≤◌, ◌==◌, ◌||◌, nat_lt, Bool, true, false, cond, refl, sym, ap, subst, arith, eqb-true, leb-true}
+use Rattle.std.proofs.Common.{◌≡◌, ◌⊎◌, inl, inr, ℕ, ◌+◌, ◌-◌, ◌*◌, ◌^◌, ◌<◌, ◌≤◌, ◌==◌, ◌||◌}
+use Rattle.std.proofs.Common.{nat_lt, Bool, true, false, cond, refl, sym, ap, subst, arith}
+use Rattle.std.proofs.Common.{eqb-true, leb-true}
 use Rattle.std.proofs.lemmas.Bool.{cond_both}
 use Rattle.papaya_ask.specs.declared.ask.At.{At}
 use Rattle.papaya_ask.specs.declared.ask.At.TheVariants as words_at
@@ -20,7 +22,8 @@ use Rattle.papaya_words.specs.declared.probe.ResizeMode.{ResizeMode}
 
 -- a copy of all within its tables has little left
 from_little : (from root left : ℕ) → left < 2 ^ 104 → left_of_from from root left < 2 ^ 122
-from_little from root left small = cond_both (from == 0 || root == from) left (left + 2 ^ 121) (λ y. y < 2 ^ 122) (λ _. omega (arith, small)) (λ _. omega (arith, small))
+from_little from root left small = cond_both (from == 0 || root == from) left (left + 2 ^ 121) (λ y. y < 2 ^ 122) (λ _. omega (arith, small))
+    (λ _. omega (arith, small))
 
 stage_little : (root : ℕ) (stage : Stage) → resizers.IsStandingIn stage → left_of_stage root stage < 2 ^ 122
 stage_little root stages.AtRoot h = omega arith
@@ -55,7 +58,8 @@ module _ (words : At → ℕ) where
 
   -- one with a next table
   table_further : (t a : ℕ) → 0 < words (words_at.Next t) → left_in_table words t a ≡ a + 2 ^ 131
-  table_further t a more = cond_both (words (words_at.Next t) == 0) a (a + 2 ^ 131) (λ y. y ≡ a + 2 ^ 131) (λ none. absurd (let e = eqb-true (words (words_at.Next t)) 0 none in omega (arith, e, more))) (λ _. refl)
+  table_further t a more = cond_both (words (words_at.Next t) == 0) a (a + 2 ^ 131) (λ y. y ≡ a + 2 ^ 131)
+      (λ none. absurd (let e = eqb-true (words (words_at.Next t)) 0 none in omega (arith, e, more))) (λ _. refl)
 
   -- less is left where a slot is looked at
   looks_less : (spot : Spot) (left : ℕ) → 0 < left → left_of_slot spot 4 < left → left_of_scan words (looks spot) < left_in_table words spot.table left
@@ -67,7 +71,8 @@ module _ (words : At → ℕ) where
   -- and in the next slot
   pub next_less : (spot : Spot) (here : ℕ) → 0 < here → left_of_scan words (next spot) < left_of_spot words spot here
   next_less spot here some =
-      cond_both (nat_lt (spot.slot + 1) spot.len) (Looking (record spot { slot = spot.slot + 1 })) Done (λ y. left_of_scan words y < left_of_spot words spot here)
+      cond_both (nat_lt (spot.slot + 1) spot.len) (Looking (record spot { slot = spot.slot + 1 })) Done
+      (λ y. left_of_scan words y < left_of_spot words spot here)
       (λ within. let lt = lt_of within in table_less spot.table ((spot.len - (spot.slot + 1) - 1) * 4 + 4) (left_of_slot spot here) (omega (arith, lt, some)))
       (λ _. let l = table_least spot.table (left_of_slot spot here) in omega (arith, some, l))
     where
@@ -121,7 +126,8 @@ module _ (words : At → ℕ) where
       (λ _. let l = table_last from (2 ^ 40) none in omega (arith, l))
 
   -- less is left where the copy of all leads
-  pub copied_less : (from to : Stage) (left : ℕ) → IsLastFound from to → left_of_stage (words words_at.Root) to < left → left_of_scan words (copied from to) < left + 2 ^ 130
+  pub copied_less : (from to : Stage) (left : ℕ) → IsLastFound from to → left_of_stage (words words_at.Root) to < left
+      → left_of_scan words (copied from to) < left + 2 ^ 130
   copied_less from stages.Done left last less = found_less (found_by from) left last
   copied_less from (stages.Refused refused) left last less = omega arith
   copied_less from stages.AtRoot left last less = omega (arith, less)

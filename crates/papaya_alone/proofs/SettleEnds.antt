@@ -36,7 +36,8 @@ module _ (mode : ResizeMode) (words : At → ℕ) (slot : Slot) where
   to_target Blocking = refl
 
   -- what the word of the slot tells: no more is left than this, and what was read stands there
-  settle_look_within : (kind : Kind) (word : ℕ) → IsAlive mode words slot.to → word_in mode words slot ≡ word → (kind ≡ word_kinds.Empty → word ≡ 0) → kind_of word ≡ kind
+  settle_look_within : (kind : Kind) (word : ℕ) → IsAlive mode words slot.to → word_in mode words slot ≡ word → (kind ≡ word_kinds.Empty → word ≡ 0)
+      → kind_of word ≡ kind
       → (left_of_settled (look_at kind slot word) ≤ 2 ^ 66 + 2 ^ 34 + 4) × IsSettledRead mode words slot (look_at kind slot word)
   settle_look_within word_kinds.Empty word alive stands none is = (omega arith, (alive, stands ∙ none refl))
   settle_look_within word_kinds.Live word alive stands none is = (omega arith, (alive, stands))
@@ -46,12 +47,14 @@ module _ (mode : ResizeMode) (words : At → ℕ) (slot : Slot) where
   settle_look_within word_kinds.Closed word alive stands none is = (omega arith, alive)
 
   -- the pair came to a table
-  finishes_within : (how : ResizeMode) (word : ℕ) → IsCarrying mode words slot word → (left_of_settled (settled_by word how carried.Carried) ≤ 1) × IsSettledRead mode words slot (settled_by word how carried.Carried)
+  finishes_within : (how : ResizeMode) (word : ℕ) → IsCarrying mode words slot word → (left_of_settled (settled_by word how carried.Carried) ≤ 1)
+      × IsSettledRead mode words slot (settled_by word how carried.Carried)
   finishes_within (Incremental chunk) word h = (omega arith, (h.alive, h.stands))
   finishes_within Blocking word h = (omega arith, h.alive)
 
   -- the carry leads on
-  carried_within : (word : ℕ) (end : Carried) → IsCarriedRead mode words slot word end → (left_of_settled (settled_by word mode end) ≤ left_of_carried end + 1) × IsSettledRead mode words slot (settled_by word mode end)
+  carried_within : (word : ℕ) (end : Carried) → IsCarriedRead mode words slot word end
+      → (left_of_settled (settled_by word mode end) ≤ left_of_carried end + 1) × IsSettledRead mode words slot (settled_by word mode end)
   carried_within word (carried.On carry) read = (omega arith, read)
   carried_within word carried.Carried read = finishes_within mode word read
   carried_within word (carried.Unfit table) read = (omega arith, tt)
@@ -69,7 +72,8 @@ settle_puts (settles.Finishing word) slot other h e = subst IsOfRoot e h
 module _ (mode : ResizeMode) (initial : ℕ) (words words' : At → ℕ) (bare : IsBare words') (slot : Slot) where
   -- after this answer
   abbrev pub SettleEnds : Settle → Answer → Type 0
-  SettleEnds settle answer = Nears answer (left_of_settled (settle_after settle slot mode initial answer)) (left_of_settle settle) × IsSettledRead mode words' slot (settle_after settle slot mode initial answer)
+  SettleEnds settle answer = Nears answer (left_of_settled (settle_after settle slot mode initial answer)) (left_of_settle settle)
+      × IsSettledRead mode words' slot (settle_after settle slot mode initial answer)
 
   -- the word of the slot
   abbrev here : At
@@ -80,9 +84,12 @@ module _ (mode : ResizeMode) (initial : ℕ) (words words' : At → ℕ) (bare :
   left_alive new alive put = still_alive mode words words' slot 0 mode alive (put.others (words_at.Aborted slot.to) (λ e. cc))
 
   -- in each state
-  pub settle_ends : (settle : Settle) (answer : Answer) → IsSettleRead mode words slot settle → IsCopyPrompt words (settle_ask settle slot) answer words' → SettleEnds settle answer
+  pub settle_ends : (settle : Settle) (answer : Answer) → IsSettleRead mode words slot settle
+      → IsCopyPrompt words (settle_ask settle slot) answer words' → SettleEnds settle answer
   settle_ends settles.Looking answer read told =
-      let f = settle_look_within mode words' slot (kind_of (words here)) (words here) (still_alive mode words words' slot 0 mode read (told.1 (words_at.Aborted slot.to))) (told.1 here) (λ e. sym (told.1 here) ∙ bare slot.from slot.index (ap kind_of (told.1 here) ∙ e)) refl in
+      let f = settle_look_within mode words' slot (kind_of (words here)) (words here)
+      (still_alive mode words words' slot 0 mode read (told.1 (words_at.Aborted slot.to))) (told.1 here)
+      (λ e. sym (told.1 here) ∙ bare slot.from slot.index (ap kind_of (told.1 here) ∙ e)) refl in
       let l = f.0 in
       subst (SettleEnds settles.Looking) (sym told.0.0) (inr (omega (arith, l)), f.1)
   settle_ends settles.Closing answer read told =
@@ -92,12 +99,14 @@ module _ (mode : ResizeMode) (initial : ℕ) (words words' : At → ℕ) (bare :
       subst (SettleEnds settles.Shutting) (sym told.0) (inr (omega arith), still_alive mode words words' slot 0 mode read (told.1 (words_at.Aborted slot.to)))
   settle_ends (settles.Marking word) answer read told =
       let done : (answer ≡ answers.Call Exchanged) × IsPut words here _ words' = exchange_done _ _ (words here) word read.1 told in
-      subst (SettleEnds (settles.Marking word)) (sym done.0) (inl tt, (record { alive = left_alive _ read.0 done.1; stands = done.1.here; marked = marked_kind word }, to_target mode words' slot mode))
+      subst (SettleEnds (settles.Marking word)) (sym done.0)
+      (inl tt, (record { alive = left_alive _ read.0 done.1; stands = done.1.here; marked = marked_kind word }, to_target mode words' slot mode))
   settle_ends (settles.Carrying word carry) answer read told =
       let e = carry_ends mode initial words words' bare slot word carry answer read.0 read.1 told in
       let end : Carried = carry_after carry mode initial answer in
       let f = carried_within mode words' slot word end e.1 in
-      subst (λ y. Nears answer (left_of_settled y) (left_of_carry carry + 1) × IsSettledRead mode words' slot y) (sym (settle_carries mode initial slot word carry answer))
+      subst (λ y. Nears answer (left_of_settled y) (left_of_carry carry + 1) × IsSettledRead mode words' slot y)
+      (sym (settle_carries mode initial slot word carry answer))
       (nearer answer (left_of_carried end) (left_of_carry carry) _ _ e.0 (λ less. let l = f.0 in omega (arith, l, less)), f.1)
   settle_ends (settles.Finishing word) answer read told =
       let done : (answer ≡ answers.Call Exchanged) × IsPut words here _ words' = exchange_done _ _ (words here) word read.1 told in

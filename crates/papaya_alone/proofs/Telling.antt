@@ -37,7 +37,8 @@ module _ (words words' : At → ℕ) (answer : Answer) where
   pub stays_at : (ask : CopyAsk) → IsCopyPrompt words ask answer words' → (other : At) → (IsPutAt ask other → ⊥) → words' other ≡ words other
   stays_at (Load at) told other else = told.1 other
   stays_at (Exchange at old new) told other else =
-      by_test (words at == old) ((answer ≡ answers.Call Exchanged) × IsPut words at new words') ((answer ≡ answers.Call (Found_instead (words at))) × IsSame words words') (words' other ≡ words other) told
+      by_test (words at == old) ((answer ≡ answers.Call Exchanged) × IsPut words at new words')
+      ((answer ≡ answers.Call (Found_instead (words at))) × IsSame words words') (words' other ≡ words other) told
       (λ e h. h.1.others other else) (λ e h. h.1 other)
   stays_at (LoadHint t x) told other else = told.1 other
   stays_at (WriteHint t x hint) told other else = told.1 other
@@ -48,7 +49,8 @@ module _ (words words' : At → ℕ) (answer : Answer) where
   stays_at (MakeTable slots limit chunks) told other else = told.1 other
 
 -- what was to be made was made or refused
-pub by_making : (Q : Answer → Type 0) (answer : Answer) → IsMaking answer → ((n : ℕ) → Q (answers.Call (Made_number n))) → ((refused : Refused) → Q (answers.Call (Was_refused refused))) → Q answer
+pub by_making : (Q : Answer → Type 0) (answer : Answer) → IsMaking answer → ((n : ℕ) → Q (answers.Call (Made_number n)))
+    → ((refused : Refused) → Q (answers.Call (Was_refused refused))) → Q answer
 by_making Q answer told by_made by_refused =
     ⊎_elim
     (λ (h : (n : ℕ) × (answer ≡ answers.Call (Made_number n))). subst Q (sym h.1) (by_made h.0))
@@ -64,7 +66,8 @@ module _ (words words' : At → ℕ) (before later : Budget) where
   pub spent_by : (ask : CopyAsk) (answer : Answer) → IsCopyPrompt words ask answer words' → Spent ask answer
   spent_by (Load at) answer told = subst (Spent (Load at)) (sym told.0.0) (λ same. inr (same, λ h. h))
   spent_by (Exchange at old new) answer told =
-      by_test (words at == old) ((answer ≡ answers.Call Exchanged) × IsPut words at new words') ((answer ≡ answers.Call (Found_instead (words at))) × IsSame words words') (Spent (Exchange at old new) answer) told
+      by_test (words at == old) ((answer ≡ answers.Call Exchanged) × IsPut words at new words')
+      ((answer ≡ answers.Call (Found_instead (words at))) × IsSame words words') (Spent (Exchange at old new) answer) told
       (λ e h. subst (Spent (Exchange at old new)) (sym h.0) (λ less. inl (inr less)))
       (λ e h. subst (Spent (Exchange at old new)) (sym h.0) (λ same. inr (same, λ x. x)))
   spent_by (LoadHint t x) answer told = subst (Spent (LoadHint t x)) (sym told.0.1) (λ same. inr (same, λ h. h))
@@ -75,11 +78,14 @@ module _ (words words' : At → ℕ) (before later : Budget) where
   spent_by (HashOf n) answer told = subst (Spent (HashOf n)) (sym told.0.1) (λ same. inr (same, λ h. h))
   spent_by (SamePair m n) answer told = subst (Spent (SamePair m n)) (sym told.0.1) (λ same. inr (same, λ h. h))
   spent_by Count answer told = subst (Spent Count) (sym told.0.1) (λ same. inr (same, λ h. h))
-  spent_by (MakeTable slots limit chunks) answer told = by_making (Spent (MakeTable slots limit chunks)) answer told.0 (λ n less. inl (inl less)) (λ refused same. inr (same, λ h. h))
+  spent_by (MakeTable slots limit chunks) answer told = by_making (Spent (MakeTable slots limit chunks)) answer told.0 (λ n less. inl (inl less))
+      (λ refused same. inr (same, λ h. h))
 
   -- so the budget is spent, or less is left
-  pub copy_spends : (ask : CopyAsk) (answer : Answer) → IsCopyPrompt words ask answer words' → SpendsCopy ask answer before later → (a b : ℕ) → Nears answer a b → IsSpent before later ⊎ ((later ≡ before) × (a < b))
+  pub copy_spends : (ask : CopyAsk) (answer : Answer) → IsCopyPrompt words ask answer words' → SpendsCopy ask answer before later → (a b : ℕ)
+      → Nears answer a b → IsSpent before later ⊎ ((later ≡ before) × (a < b))
   copy_spends ask answer told spends a b nears =
       ⊎_elim (λ (spent : IsSpent before later). inl spent)
-      (λ (kept : (later ≡ before) × (IsSpending answer → ⊥)). inr (kept.0, ⊎_elim (λ (h : IsSpending answer). absurd (kept.1 h)) (λ (less : a < b). less) nears))
+      (λ (kept : (later ≡ before) × (IsSpending answer → ⊥)).
+      inr (kept.0, ⊎_elim (λ (h : IsSpending answer). absurd (kept.1 h)) (λ (less : a < b). less) nears))
       (spent_by ask answer told spends)

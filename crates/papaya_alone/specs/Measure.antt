@@ -1,8 +1,8 @@
 -- How much is left to a copy, at most, until it has made a table, exchanged a word or ended. Each
 -- place costs a little, each table that may come after this one more than all places of a table,
--- each slot more than all tables, and all words of chunks that may be loaded yet less than a slot.
--- Where a table was linked or given up a copy may begin anew, so as much is left then as at its
--- beginning.
+-- each slot more than all tables, and all words of chunks that may be loaded yet less than a
+-- slot. Where a table was linked or given up a copy may begin anew, so as much is left then as at
+-- its beginning.
 use Rattle.std.specs.Prelude.{ℕ, ◌+◌, ◌*◌, ◌-◌, ◌^◌, if◌then◌else◌}
 use Rattle.papaya_copy.specs.declared.carry.Carried.{Carried}
 use Rattle.papaya_copy.specs.declared.carry.Carried.TheVariants as carried

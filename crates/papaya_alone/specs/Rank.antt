@@ -9,7 +9,11 @@ use Rattle.papaya_call.specs.declared.compute.Purpose.{Purpose}
 use Rattle.papaya_call.specs.declared.compute.Purpose.TheVariants.{Fill, Replace, Again}
 use Rattle.papaya_call.specs.declared.machine.Machine.{Machine as Call_machine}
 use Rattle.papaya_call.specs.declared.machine.State.{State}
-use Rattle.papaya_call.specs.declared.machine.State.TheVariants.{AtRoot, Making, Opening, Searching, Writing, Offering, Showing, Pairing, Putting, Deleting, Counting, Noting, Uncounting, Leaving, Growing, Ended}
+use Rattle.papaya_call.specs.declared.machine.State.TheVariants.{AtRoot, Making, Opening, Searching}
+use Rattle.papaya_call.specs.declared.machine.State.TheVariants.{Writing, Offering, Showing}
+use Rattle.papaya_call.specs.declared.machine.State.TheVariants.{Pairing, Putting, Deleting}
+use Rattle.papaya_call.specs.declared.machine.State.TheVariants.{Counting, Noting, Uncounting}
+use Rattle.papaya_call.specs.declared.machine.State.TheVariants.{Leaving, Growing, Ended}
 use Rattle.papaya_call.specs.declared.made.Made.{Made}
 use Rattle.papaya_call.specs.Machine.{needed}
 use Rattle.papaya_chain.specs.declared.machine.Machine.{Machine}
@@ -80,8 +84,8 @@ rank_at_root root (aims.All met) = if met == 0 || met == root then rank 1 0 (2 *
     else rank 3 0 0
 rank_at_root root _ = rank 1 0 (2 * 2 ^ 102)
 
--- where a chunk was copied the next one is looked for, and no word is exchanged before the copy is
--- over
+-- where a chunk was copied the next one is looked for, and no word is exchanged before the copy
+-- is over
 abbrev pub rank_of_step : (root : ℕ) → Aim → Step → ℕ
 rank_of_step root aim steps.AtRoot = rank_at_root root aim
 rank_of_step root aim (steps.AtChunk cursor) = if cursor.copied

@@ -21,8 +21,8 @@ use Rattle.papaya_alone.specs.Budget.{Budget}
 use Rattle.papaya_alone.specs.Current.{IsCopyingRead, IsLinkRead}
 use Rattle.papaya_alone.specs.Measure.{left_of_copying, left_of_link}
 
--- A copy of all of a root that is the root no more begins anew when it is over, so more is left to it
--- than to one that begins.
+-- A copy of all of a root that is the root no more begins anew when it is over, so more is left to
+-- it than to one that begins.
 abbrev pub left_of_from : (from root left : ℕ) → ℕ
 left_of_from from root left = if from == 0 || root == from then left else left + 2 ^ 121
 

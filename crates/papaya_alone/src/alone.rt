@@ -61,9 +61,10 @@ pub fn alone_copiers<K, P>()
         (copying_after copying mode initial number answer) }
 {}
 
-/// Each answer brings a call over a chain nearer its end: its measure falls. What the call has read
-/// stands there still, so no exchange is lost. A budget counts how many tables may be made and words
-/// exchanged yet; what is to be made for the call is made or refused, and its closure answers.
+/// Each answer brings a call over a chain nearer its end: its measure falls. What the call has
+/// read stands there still, so no exchange is lost. A budget counts how many tables may be
+/// made and words exchanged yet; what is to be made for the call is made or refused, and its
+/// closure answers.
 pub fn alone_calls<K, P>()
     ensures begins { (words : At → ℕ) (task : Task) (hash : ℕ) (mode : ResizeMode)
         (initial number : ℕ) (limit : Option ℕ)
@@ -91,8 +92,8 @@ pub fn alone_calls<K, P>()
         → IsCurrent (word_of g c (run (begun ++ (since ++ es)) start)) (after m answer) }
 {}
 
-/// Each answer brings a resizer nearer its end: its measure falls, and what it has read stands there
-/// still. When it has ended, what was wanted is done.
+/// Each answer brings a resizer nearer its end: its measure falls, and what it has read stands
+/// there still. When it has ended, what was wanted is done.
 pub fn alone_resizers<K, P>()
     ensures begins { (words : At → ℕ) (resize : Resize) (mode : ResizeMode)
         (initial number : ℕ) → IsResizerRead words (begun resize mode initial number) }

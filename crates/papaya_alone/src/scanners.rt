@@ -20,9 +20,9 @@ use papaya_chain::ask::Answer;
 use papaya_chain::scan_ask::ScanAsk;
 use papaya_chain::scanner::{Scan, Scanner};
 
-/// Each answer brings a scanner nearer its end: its measure falls, and what it has read stands
-/// there still, so no exchange is lost. Where a walk, a clear or a retain ends is said by
-/// `scanners_end`.
+/// Each answer brings a scanner nearer its end: its measure falls, and what it has read
+/// stands there still, so no exchange is lost. Where a walk, a clear or a retain ends is said
+/// by `scanners_end`.
 pub fn alone_scanners<K, P>()
     ensures begins { (words : At → ℕ) (scan : Scan) (mode : ResizeMode)
         (initial number : ℕ) → IsScannerRead words (begun scan mode initial number) }

@@ -49,8 +49,8 @@ pub enum Ask {
     MakeKey,
     /// Log the call's value, or the value that its closure answered last.
     MakeValue,
-    /// Log a pair of the key and the value that the call logged last. Only then does a word name
-    /// it.
+    /// Log a pair of the key and the value that the call logged last. Only then does a word
+    /// name it.
     MakePair,
     /// Log a pair of the key of the pair of this number and the value that the call logged last.
     MakePairOf(u64),

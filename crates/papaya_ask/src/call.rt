@@ -40,8 +40,8 @@ pub enum Task {
     Insert { replace: bool },
     /// A removal of a pair that its closure agrees to: `remove_if` of 0.2.5.
     RemoveIf,
-    /// What a closure answers that is shown the key's pair, or that there is none: `compute` of
-    /// 0.2.5.
+    /// What a closure answers that is shown the key's pair, or that there is none: `compute`
+    /// of 0.2.5.
     Compute,
 }
 

@@ -77,7 +77,8 @@ impl Place {
         }
     }
 
-    /// This hint stands at the place. One of another key, or of a slot that is shut, saves the word.
+    /// This hint stands at the place. One of another key, or of a slot that is shut, saves
+    /// the word.
     #[inline(always)]
     pub fn hinted(self, hash: u64, found: u64) -> Probed
         requires { IsWithin self }

@@ -14,15 +14,34 @@ use Rattle.papaya_lines.specs.declared.closures.Answering.{Answering}
 use Rattle.papaya_lines.specs.declared.script.Line.{Line}
 use Rattle.papaya_backends.specs.Core.{IsCoreRun, Ran, script_says}
 
-module _ {S : Type 0} (hash : S → ℕ → ℕ) (first : CoreState ℕ ℕ S Answering → Type 0) (wrote : List ℕ → Type 0) (turns : List (Turn ℕ ℕ Answering)) (rows : List Line) (bad_line passed : Option ℕ) (before after : CoreState ℕ ℕ S Answering) (trace : List Entry)
-    (begins : first before) (runs : TurnsRun (λ a b. a == b) script_says hash turns (length turns) before after (reverse trace)) (told : (text : List ℕ) × Tells after.store trace no_calls rows 0 trace text passed × wrote text) where
+module _ {S : Type 0} (hash : S → ℕ → ℕ) (first : CoreState ℕ ℕ S Answering → Type 0) (wrote : List ℕ → Type 0) (turns : List (Turn ℕ ℕ Answering))
+    (rows : List Line) (bad_line passed : Option ℕ) (before after : CoreState ℕ ℕ S Answering) (trace : List Entry)
+    (begins : first before) (runs : TurnsRun (λ a b. a == b) script_says hash turns (length turns) before after (reverse trace))
+    (told : (text : List ℕ) × Tells after.store trace no_calls rows 0 trace text passed × wrote text) where
   ran : (lines : List (List ℕ)) (bad : Option ℕ) → IsScript lines 1 turns rows bad_line → bad ≡ option_or passed bad_line → Ran hash first lines wrote bad
-  ran lines bad script is = record { turns = turns; rows = rows; bad_line = bad_line; script = script; before = before; begins = begins; after = after; trace = trace; runs = runs; text = told.0; passed_over = passed; tells = told.1; written = told.2; bad_is = is }
+  ran lines bad script is = record {
+    turns = turns;
+    rows = rows;
+    bad_line = bad_line;
+    script = script;
+    before = before;
+    begins = begins;
+    after = after;
+    trace = trace;
+    runs = runs;
+    text = told.0;
+    passed_over = passed;
+    tells = told.1;
+    written = told.2;
+    bad_is = is;
+  }
 
-  pub ran_all : (known : Option (List ℕ)) → IfSome known (λ text. IsScript (lines_of text) 1 turns rows bad_line) → None ≡ option_or passed bad_line → IfSome known (λ text. IsCoreRun hash first (lines_of text) wrote (Ok tt))
+  pub ran_all : (known : Option (List ℕ)) → IfSome known (λ text. IsScript (lines_of text) 1 turns rows bad_line) → None ≡ option_or passed bad_line
+      → IfSome known (λ text. IsCoreRun hash first (lines_of text) wrote (Ok tt))
   ran_all None script is = tt
   ran_all (Some text) script is = ran (lines_of text) None script is
 
-  pub ran_to : (known : Option (List ℕ)) (n : ℕ) → IfSome known (λ text. IsScript (lines_of text) 1 turns rows bad_line) → Some n ≡ option_or passed bad_line → IfSome known (λ text. IsCoreRun hash first (lines_of text) wrote (Err (failure.Line n)))
+  pub ran_to : (known : Option (List ℕ)) (n : ℕ) → IfSome known (λ text. IsScript (lines_of text) 1 turns rows bad_line)
+      → Some n ≡ option_or passed bad_line → IfSome known (λ text. IsCoreRun hash first (lines_of text) wrote (Err (failure.Line n)))
   ran_to None n script is = tt
   ran_to (Some text) n script is = ran (lines_of text) (Some n) script is

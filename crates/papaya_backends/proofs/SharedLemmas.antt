@@ -17,13 +17,15 @@ plain limit (Ok a) none h = tt
 plain limit (Err refused) none (inl cause) = cause
 plain limit (Err refused) none (inr (is, some)) = absurd (false≢true (subst IsSome none some))
 
-module _ {F : Type 0} (k : ℕ) (g : Shared F (Bor ℕ × Unit {0}) ℕ) (f : F) (follows : (shown : Bor ℕ) (next : ℕ) → g.post f (shown, tt) next → next ≡ follower shown.now) where
+module _ {F : Type 0} (k : ℕ) (g : Shared F (Bor ℕ × Unit {0}) ℕ) (f : F)
+    (follows : (shown : Bor ℕ) (next : ℕ) → g.post f (shown, tt) next → next ≡ follower shown.now) where
   -- the value that was put in is the number after the one that was taken out
   next_put : (h : Seen) (answer : Option (Bor ℕ)) → IsUpdated (λ a b. a == b) k [] h (FnReturnsAt g f) answer → IsFollowed k h answer
   next_put h None is = is
   next_put h (Some v) (p, q, change, key_is, says, of) = (p, q, change, key_is, follows says.shown q.value.value says.says.met ∙ ap follower says.shows, of)
 
-  pub followed : (answer : Result (Option (Bor ℕ)) Refused) → IfOk answer (λ updated. OfHistory (λ h. IsUpdated (λ a b. a == b) k [] h (FnReturnsAt g f) updated))
+  pub followed : (answer : Result (Option (Bor ℕ)) Refused)
+      → IfOk answer (λ updated. OfHistory (λ h. IsUpdated (λ a b. a == b) k [] h (FnReturnsAt g f) updated))
       → IfOk answer (λ updated. OfHistory (λ h. IsFollowed k h updated))
   followed (Ok updated) is = record { history = is.history; legal = is.legal; told = next_put is.history updated is.told }
   followed (Err refused) is = tt

@@ -33,8 +33,8 @@ module _ {S : Type 0} where
   IsCleared s (Err refused) s' = IsCopyCause s refused s'
       × Unchanged (λ a b. a == b) s.store s'.store
 
-  -- The command makes of the one map the other, and this is printed. A removal and a clear are refused
-  -- only while pairs are being moved to a next table.
+  -- The command makes of the one map the other, and this is printed. A removal and a clear are
+  -- refused only while pairs are being moved to a next table.
   abbrev pub Obeys : Command → MapState ℕ ℕ S → Printed → MapState ℕ ℕ S → Type 0
   Obeys (command.Insert k v) s text s' = (answer : Result (Option ℕ) Refused)
       × (text ≡ of_insertion answer) × IsInserted (λ a b. a == b) k v s answer s'

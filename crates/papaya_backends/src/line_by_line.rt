@@ -101,8 +101,8 @@ fn obey_lines<B: Obey, R: Read, W: Write>(
 }
 
 /// Has each line of the input done, and prints its reply. Lines count from 1, and empty ones are
-/// passed over. The first line that fails ends the run; what lines before it print is written out
-/// first.
+/// passed over. The first line that fails ends the run; what lines before it print is written
+/// out first.
 pub fn run_lines<B: Obey, R: Read, W: Write>(
     alloc: Global,
     backend: &mut B,

@@ -14,9 +14,9 @@ use std::test::Fail;
 use std::thread::Threads;
 
 /// Two rounds at 64 keys. The values are the keys' numbers, which sum to 2016; what is not there
-/// counts 1; and the second round of replacements finds each value 1 greater, that of mixed steps the
-/// seven values at multiples of ten. Of a set each yes counts 1: 57 keys are looked up by mixed steps.
-/// What a count or a compute answers is 1 more in the first round, and 2 in the second.
+/// counts 1; and the second round of replacements finds each value 1 greater, that of mixed steps
+/// the seven values at multiples of ten. Of a set each yes counts 1: 57 keys are looked up by mixed
+/// steps. What a count or a compute answers is 1 more in the first round, and 2 in the second.
 const CHECKED: &str = "\
 get-hit: seq 4032 shared 4032 threads 4032 session 4032 pin-a-call 4032 \
     std 4032 rwlock 4032 rwlock-threads 4032 mutex 4032 mutex-threads 4032\n\
@@ -192,8 +192,8 @@ fn number(part: Option<&str>) -> Result<u64, Fail> {
     Ok(part.ok_or("a number")?.parse::<u64>()?)
 }
 
-/// Asserts that a line of insertions has these parts: a name, 40 keys, the time of all, and of single
-/// ones the greatest and three percentiles, none greater than the next.
+/// Asserts that a line of insertions has these parts: a name, 40 keys, the time of all, and of
+/// single ones the greatest and three percentiles, none greater than the next.
 fn is_insertions<A: Abort>(rt: &A, line: &str, name: Option<&str>) -> Result<(), Fail> {
     let mut parts = line.split(' ');
     is_part(rt, parts.next(), name);

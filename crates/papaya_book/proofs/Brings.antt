@@ -1,5 +1,8 @@
 -- An exchange with which a table comes keeps the rule: it takes the pen of the table's seal, so no other table has a word of it.
-use Rattle.std.proofs.Common.{◌≡◌, ◌≢◌, ◌⊎◌, inl, inr, ⊎_elim, ℕ, ◌+◌, ◌-◌, ◌<◌, ◌≤◌, ◌==◌, Bool, true, false, MatchBool, Option, None, Some, List, [], ◌∷◌, ◌++◌, length, slice_get, slice_set, refl, sym, ap, ◌∙◌, subst, arith, eq-eqb, length-set}
+use Rattle.std.proofs.Common.{◌≡◌, ◌≢◌, ◌⊎◌, inl, inr, ⊎_elim, ℕ, ◌+◌, ◌-◌, ◌<◌, ◌≤◌, ◌==◌, Bool}
+use Rattle.std.proofs.Common.{true, false, MatchBool, Option, None, Some, List, [], ◌∷◌, ◌++◌}
+use Rattle.std.proofs.Common.{length, slice_get, slice_set, refl, sym, ap, ◌∙◌, subst, arith}
+use Rattle.std.proofs.Common.{eq-eqb, length-set}
 use Rattle.std.proofs.lemmas.List.{append-nil}
 use Rattle.std.proofs.lemmas.Bool.{cond-true}
 use mathlib.Core.List.{IsPrefix}
@@ -23,19 +26,26 @@ use Rattle.papaya_book.specs.declared.rule.entry.Step.TheVariants as steps
 use Rattle.papaya_book.specs.declared.rule.entry.Event.{Event}
 use Rattle.papaya_book.specs.declared.rule.entry.Event.TheVariants.{Begin, Stepped}
 use Rattle.papaya_book.specs.Sheets.{Sheet}
-use Rattle.papaya_book.specs.Logs.{Stored, brought, coding_of, comes, dealt, entries_of, entry_of, exchange_of, exchanges_of, key_at, kind_of, made_of, name_in, number_of, or_else, owner, place_of, places_of, plan_of, seals_of, setting_of, setting_with, slots_of, state_of, steps_of, table_in, word_names}
+use Rattle.papaya_book.specs.Logs.{Stored, brought, coding_of, comes, dealt, entries_of, entry_of}
+use Rattle.papaya_book.specs.Logs.{exchange_of, exchanges_of, key_at, kind_of, made_of, name_in}
+use Rattle.papaya_book.specs.Logs.{number_of, or_else, owner, place_of, places_of, plan_of}
+use Rattle.papaya_book.specs.Logs.{seals_of, setting_of, setting_with, slots_of, state_of, steps_of}
+use Rattle.papaya_book.specs.Logs.{table_in, word_names}
 use Rattle.papaya_book.specs.Makers.{Brings, CanBring, IsMade, key_of, table_of}
 use Rattle.papaya_book.specs.Rows.{row_len}
 use Rattle.papaya_book.specs.Rule.{IsBlank, IsKept, IsLawfulLog, IsOfMap, IsPlaced, flag, seal_at, word_in}
 use Rattle.papaya_book.specs.Offer.{Answered, LeavesRow, Moved}
 use Rattle.papaya_book.specs.Sheets.{Sheet}
 use Rattle.papaya_book.proofs.Cells.{cell_other, cell_same, home_still, same_or_not}
-use Rattle.papaya_book.proofs.Comes.{IsNew, blank_zero, get_within, no_seal, no_shared, old_or_new, root_or_not, seal_later, table_then, table_there, word_sizes}
+use Rattle.papaya_book.proofs.Comes.{IsNew, blank_zero, get_within, no_seal, no_shared, old_or_new}
+use Rattle.papaya_book.proofs.Comes.{root_or_not, seal_later, table_then, table_there, word_sizes}
 use Rattle.papaya_book.proofs.Exchanges.{begun_is, found_old, row_stepped}
 use Rattle.papaya_book.proofs.Grown.{blank_stays, keyless, sized_more}
 use Rattle.papaya_book.proofs.Joining.{brings_more}
 use Rattle.papaya_book.proofs.Loads.{key_since, row_still, same_cells, shows}
-use Rattle.papaya_book.proofs.Logs.{answered_left, entered_last, entries-append, key_later, name-append, name_since, or_nothing, owner_later, prefix_trans, seals-append, state_more, steps-append}
+use Rattle.papaya_book.proofs.Logs.{answered_left, entered_last, entries-append, key_later}
+use Rattle.papaya_book.proofs.Logs.{name-append, name_since, or_nothing, owner_later, prefix_trans}
+use Rattle.papaya_book.proofs.Logs.{seals-append, state_more, steps-append}
 use Rattle.papaya_book.proofs.Makers.{map_key, sealed_or_map}
 use Rattle.papaya_book.proofs.Names.{word_answer}
 
@@ -45,7 +55,8 @@ or_none None y e = refl
 or_none (Some x) y e = absurd (cc e)
 
 -- where a table comes, the root or the number of a next table is another
-not_counting : {K V : Type 0} (g : Setting K (Stored K V)) (c : Coding K (Stored K V)) (g' : Setting K (Stored K V)) (s : State (Stored K V)) (e : Step K V) (w : Where Sheet) → comes e ≡ names.Table w → Allows g' s (exchange_of e)
+not_counting : {K V : Type 0} (g : Setting K (Stored K V)) (c : Coding K (Stored K V)) (g' : Setting K (Stored K V)) (s : State (Stored K V))
+    (e : Step K V) (w : Where Sheet) → comes e ≡ names.Table w → Allows g' s (exchange_of e)
     → ((a : At) → (a ≡ Made → ⊥) → word_of g c (after s (exchange_of e)) a ≡ word_of g c s a) → ⊥
 not_counting g c g' s (steps.Open v) w is may same = let z : number_of v ≡ s.root = same Root (λ i. cc i) in let none = may.0 in absurd (omega arith)
 not_counting g c g' s (steps.Link t v) w is may same =
@@ -85,11 +96,15 @@ made_since sheet v log pre m =
       apart = m.apart;
     })
 
-module _ {K V S : Type 0} (eq : K → K → Bool) (hash : S → K → ℕ) (plans : (mode : ResizeMode) (most : Option ℕ) (s : S) → IsLawfulPlan (plan_of {V = V} eq (hash s) mode most))
-    (cs : List Cell) (log : List (Event K V S)) (h : IsKept eq hash cs log) (e : Step K V) (w : Where Sheet) (with_it : comes e ≡ names.Table w) (at : At) (k new : ℕ) (key : key_at (steps_of log) at ≡ Some k) (some : new ≢ 0)
+module _ {K V S : Type 0} (eq : K → K → Bool) (hash : S → K → ℕ)
+    (plans : (mode : ResizeMode) (most : Option ℕ) (s : S) → IsLawfulPlan (plan_of {V = V} eq (hash s) mode most))
+    (cs : List Cell) (log : List (Event K V S)) (h : IsKept eq hash cs log) (e : Step K V) (w : Where Sheet) (with_it : comes e ≡ names.Table w)
+    (at : At) (k new : ℕ) (key : key_at (steps_of log) at ≡ Some k) (some : new ≢ 0)
     (may : Allows (setting_with eq (hash h.begun.hasher) h.begun.mode h.begun.limit (names.Table w) log) (state_of log) (exchange_of e))
-    (written : IsWritten (setting_of eq (hash h.begun.hasher) h.begun.mode h.begun.limit log) (coding_of (hash h.begun.hasher)) (state_of log) at new (after (state_of log) (exchange_of e)))
-    (placed : IsPlaced h.begun (name_in log) (comes e)) (none : table_in (steps_of log) (number_of w) ≡ None) (made : IsMade w.value log) (within : w.value.seal < length cs) (away : (cell cs w.value.seal).1 ≡ false) where
+    (written : IsWritten (setting_of eq (hash h.begun.hasher) h.begun.mode h.begun.limit log) (coding_of (hash h.begun.hasher)) (state_of log) at new
+    (after (state_of log) (exchange_of e)))
+    (placed : IsPlaced h.begun (name_in log) (comes e)) (none : table_in (steps_of log) (number_of w) ≡ None) (made : IsMade w.value log)
+    (within : w.value.seal < length cs) (away : (cell cs w.value.seal).1 ≡ false) where
   abbrev b : Begun K V S
   b = h.begun
 
@@ -126,7 +141,8 @@ module _ {K V S : Type 0} (eq : K → K → Bool) (hash : S → K → ℕ) (plan
   word' : (a : At) → word_in eq hash b log' a ≡ word_of g c s' a
   word' a =
       ap (λ (s : State (Stored K V)). word_of (setting_of eq (hash b.hasher) b.mode b.limit log') c s a) (state_more log e)
-      ∙ word_sizes plan (size_in (entries_of log')) (size_in (entries_of log)) (places_in (entries_of log')) (places_in (entries_of log)) (chunks_in (entries_of log')) (chunks_in (entries_of log)) c s' a
+      ∙ word_sizes plan (size_in (entries_of log')) (size_in (entries_of log)) (places_in (entries_of log')) (places_in (entries_of log))
+      (chunks_in (entries_of log')) (chunks_in (entries_of log)) c s' a
 
   cases : (a : At) (j : ℕ) → key_at (steps_of log') a ≡ Some j → (key_at es a ≡ Some j) ⊎ IsNew es e w with_it a j
   cases a j x = old_or_new es e w with_it a j (ap (λ (l : List (Step K V)). key_at l a) (sym steps') ∙ x)
@@ -153,11 +169,13 @@ module _ {K V S : Type 0} (eq : K → K → Bool) (hash : S → K → ℕ) (plan
 
   -- a table of a number that did not come then had not come before
   none_before : (t : ℕ) → table_in (steps_of log') t ≡ None → table_in es t ≡ None
-  none_before t n = or_none (table_in es t) (or_else (Rattle.std.proofs.Common.cond (number_of w == t) (Some w) None) None) (sym (table_then es e w with_it t) ∙ (ap (λ (l : List (Step K V)). table_in l t) (sym steps') ∙ n))
+  none_before t n = or_none (table_in es t) (or_else (Rattle.std.proofs.Common.cond (number_of w == t) (Some w) None) None)
+      (sym (table_then es e w with_it t) ∙ (ap (λ (l : List (Step K V)). table_in l t) (sym steps') ∙ n))
 
   -- the word that is exchanged does not count pairs
   not_made : at ≡ Made → ⊥
-  not_made i = not_counting g c (setting_with eq (hash b.hasher) b.mode b.limit (names.Table w) log) (state_of log) e w with_it may (λ a n. written.others a (λ x. n (x ∙ i)))
+  not_made i = not_counting g c (setting_with eq (hash b.hasher) b.mode b.limit (names.Table w) log) (state_of log) e w with_it may
+      (λ a n. written.others a (λ x. n (x ∙ i)))
 
   unopened' : (state_of log').root ≡ 0 → (t : ℕ) → table_in (steps_of log') t ≡ None
   unopened' r t =
@@ -185,12 +203,21 @@ module _ {K V S : Type 0} (eq : K → K → Bool) (hash : S → K → ℕ) (plan
     rest = h.lawful.rest ++ Stepped e ∷ [];
     is = ap (λ (z : List (Event K V S)). z ++ Stepped e ∷ []) h.lawful.is;
     allowed = allowed';
-    sized = subst AllSized (sym (entries-append log (Stepped e ∷ []))) (sized_more (entries_of log) (entry_of e) h.lawful.sized (λ n x. (let p = made.some_slot in subst (λ (m : Named K V). 0 < slots_of m) (sym with_it) p, subst (λ (m : Named K V). 0 < places_of m) (sym with_it) (omega arith))));
-    placed = λ n x. subst (λ (o : Option Book). IsPlaced b o n) (sym name') (⊎_elim (λ i. h.lawful.placed n i) (λ i. subst (IsPlaced b (name_in log)) i placed) (entered_last n log (Stepped e) x));
+    sized = subst AllSized (sym (entries-append log (Stepped e ∷ [])))
+        (sized_more (entries_of log) (entry_of e) h.lawful.sized
+        (λ n x. (
+          let p = made.some_slot in subst (λ (m : Named K V). 0 < slots_of m) (sym with_it) p,
+          subst (λ (m : Named K V). 0 < places_of m)
+              (sym with_it) (omega arith),
+        )));
+    placed = λ n x. subst (λ (o : Option Book). IsPlaced b o n) (sym name')
+        (⊎_elim (λ i. h.lawful.placed n i) (λ i. subst (IsPlaced b (name_in log)) i placed) (entered_last n log (Stepped e) x));
     blank = λ t n.
         let before = none_before t n in
         subst (λ (s : State (Stored K V)). IsBlank s t) (sym (state_more log e))
-        (blank_stays g c (state_of log) s' t (λ a of_t. written.others a (λ same. let gone : key_at es a ≡ None = keyless es t a of_t before in let there : key_at es a ≡ Some k = ap (key_at es) same ∙ key in cc (gone, there))) (h.lawful.blank t before));
+        (blank_stays g c (state_of log) s' t (λ a of_t.
+        written.others a (λ same. let gone : key_at es a ≡ None = keyless es t a of_t before in
+        let there : key_at es a ≡ Some k = ap (key_at es) same ∙ key in cc (gone, there))) (h.lawful.blank t before));
     unopened = unopened';
     apart = apart';
   }
@@ -223,13 +250,15 @@ module _ {K V S : Type 0} (eq : K → K → Bool) (hash : S → K → ℕ) (plan
       (same_or_not j k (j == k) refl)
 
   keyless_new : (a : At) (j : ℕ) → IsNew es e w with_it a j → key_at es a ≡ Some k → ⊥
-  keyless_new a j n x = ⊎_elim (λ r. n.not_map r) (λ s. let gone : seal_at es a ≡ None = no_seal es a n.none in let there = s.1 in cc (gone, there)) (sealed_or_map es a k x)
+  keyless_new a j n x = ⊎_elim (λ r. n.not_map r) (λ s. let gone : seal_at es a ≡ None = no_seal es a n.none in let there = s.1 in cc (gone, there))
+      (sealed_or_map es a k x)
 
   -- a word of the table that came is 0
   coded_new : (a : At) (j : ℕ) → IsNew es e w with_it a j → cell cs' j ≡ (word_in eq hash b log' a, true)
   coded_new a j n =
       let other : a ≡ at → ⊥ = λ same. keyless_new a j n (ap (key_at es) same ∙ key) in
-      let zero : word_in eq hash b log' a ≡ 0 = word' a ∙ (written.others a other ∙ blank_zero g c (state_of log) a n.not_map (h.lawful.blank (table_of a) n.none)) in
+      let zero : word_in eq hash b log' a ≡ 0 = word' a
+      ∙ (written.others a other ∙ blank_zero g c (state_of log) a n.not_map (h.lawful.blank (table_of a) n.none)) in
       let value : (0, true) ≡ (word_in eq hash b log' a, true) = ap (λ (m : ℕ). (m, true)) (sym zero) in
       ⊎_elim
       (λ i. ap (cell cs') i ∙ (cell_same (slice_set cs k (new, true)) w.value.seal (0, true) past_seal ∙ value))
@@ -252,13 +281,19 @@ module _ {K V S : Type 0} (eq : K → K → Bool) (hash : S → K → ℕ) (plan
         lawful = lawful_brought;
         many = omega arith;
         homes = λ j l. home_still (slice_set cs k (new, true)) w.value.seal j 0 past_seal (home_still cs k j new at_k (h.homes j l));
-        maker = cell_other (slice_set cs k (new, true)) w.value.seal 1 (0, true) (not_seal 1 (ap (λ (z : Cell). z.1) h.maker)) ∙ (cell_other cs k 1 (new, true) (not_maker at k key) ∙ (h.maker ∙ (λ i. (flag (sym name' i) + length (sym seals' i), true))));
+        maker = cell_other (slice_set cs k (new, true)) w.value.seal 1 (0, true) (not_seal 1 (ap (λ (z : Cell). z.1) h.maker))
+            ∙ (cell_other cs k 1 (new, true) (not_maker at k key) ∙ (h.maker ∙ (λ i. (flag (sym name' i) + length (sym seals' i), true))));
         room = subst (λ (z : List ℕ). length z ≤ row_len) (sym seals') h.room;
         coded = λ a j x. ⊎_elim (λ i. coded_old a j i) (λ n. coded_new a j n) (cases a j x);
         counted = λ a j x.
             ⊎_elim
             (λ i. let z = h.counted a j i in (let y = z.0 in omega arith, z.1))
-            (λ n. let p = made.past a j n.key in (⊎_elim (λ i. let l : w.value.seal < length cs' = omega arith in subst (λ (m : ℕ). m < length cs') (sym i) l) (λ o. let l = of_row j o in omega arith) (made.owned a j n.key), inr p))
+            (λ n. let p = made.past a j n.key in (
+              ⊎_elim
+                  (λ i. let l : w.value.seal < length cs' = omega arith in subst (λ (m : ℕ). m < length cs') (sym i) l)
+                  (λ o. let l = of_row j o in omega arith) (made.owned a j n.key),
+              inr p,
+            ))
             (cases a j x);
         owned = λ a j x.
             ⊎_elim
@@ -271,7 +306,8 @@ module _ {K V S : Type 0} (eq : K → K → Bool) (hash : S → K → ℕ) (plan
             (λ o.
             ⊎_elim
             (λ r. inl r)
-            (λ s. inr (inr (owner_later log (Stepped e ∷ []) j s.0 (o ∙ s.1) ∙ sym (ap (λ (l : List (Step K V)). seal_at l a) steps' ∙ seal_later es e w with_it a s.0 s.1))))
+            (λ s. inr (inr (owner_later log (Stepped e ∷ []) j s.0 (o ∙ s.1)
+            ∙ sym (ap (λ (l : List (Step K V)). seal_at l a) steps' ∙ seal_later es e w with_it a s.0 s.1))))
             (sealed_or_map es a j i))
             u)
             (h.owned a j i))
@@ -284,28 +320,38 @@ module _ {K V S : Type 0} (eq : K → K → Bool) (hash : S → K → ℕ) (plan
             (cases a j x);
         fresh = λ j two home out.
             let not_k : j ≢ k = λ i. out at (old_there at j (key ∙ ap (λ (m : ℕ). Some m) (sym i))) in
-            let seal_there : key_at (steps_of log') (Aborted (number_of w)) ≡ Some w.value.seal = ap (λ (l : List (Step K V)). key_at l (Aborted (number_of w))) steps' ∙ ap (Rattle.papaya_book.specs.Logs.in_table (λ s. Some s.seal)) (table_there es e w with_it none) in
+            let seal_there : key_at (steps_of log') (Aborted (number_of w)) ≡ Some w.value.seal = ap
+            (λ (l : List (Step K V)). key_at l (Aborted (number_of w))) steps'
+            ∙ ap (Rattle.papaya_book.specs.Logs.in_table (λ s. Some s.seal)) (table_there es e w with_it none) in
             let not_the_seal : j ≢ w.value.seal = λ i. out (Aborted (number_of w)) (seal_there ∙ ap (λ (m : ℕ). Some m) (sym i)) in
-            let same : cell cs' j ≡ cell cs j = cell_other (slice_set cs k (new, true)) w.value.seal j (0, true) not_the_seal ∙ cell_other cs k j (new, true) not_k in
+            let same : cell cs' j ≡ cell cs j = cell_other (slice_set cs k (new, true)) w.value.seal j (0, true) not_the_seal
+            ∙ cell_other cs k j (new, true) not_k in
             ap (λ (z : Cell). z.0) same ∙ h.fresh j two (sym (ap (λ (z : Cell). z.1) same) ∙ home) (λ a x. out a (old_there a j x));
       }
 
-module _ {K V S : Type 0} (eq : K → K → Bool) (hash : S → K → ℕ) (plans : (mode : ResizeMode) (most : Option ℕ) (s : S) → IsLawfulPlan (plan_of {V = V} eq (hash s) mode most))
-    (b : Begun K V S) (v : List (Event K V S)) (ask : Event K V S) (w : Where Sheet) (k old new : ℕ) (leaves : LeavesRow ask) (key : key_at (steps_of v) (place_of ask) ≡ Some k) (began : IsPrefix (Begin b ∷ []) v)
-    (with_it : brought ask ≡ names.Table w) (some : new ≢ 0) (name : Book) (named : name_in v ≡ Some name) (placed : IsPlaced b (Some name) (names.Table w)) (made : IsMade w.value v)
+module _ {K V S : Type 0} (eq : K → K → Bool) (hash : S → K → ℕ)
+    (plans : (mode : ResizeMode) (most : Option ℕ) (s : S) → IsLawfulPlan (plan_of {V = V} eq (hash s) mode most))
+    (b : Begun K V S) (v : List (Event K V S)) (ask : Event K V S) (w : Where Sheet) (k old new : ℕ) (leaves : LeavesRow ask)
+    (key : key_at (steps_of v) (place_of ask) ≡ Some k) (began : IsPrefix (Begin b ∷ []) v)
+    (with_it : brought ask ≡ names.Table w) (some : new ≢ 0) (name : Book) (named : name_in v ≡ Some name)
+    (placed : IsPlaced b (Some name) (names.Table w)) (made : IsMade w.value v)
     (can : CanBring eq hash b (place_of ask) (kind_of ask) old new (made_of ask) w v) where
-  brings_goes : (cs : List Cell) (log : List (Event K V S)) (h : IsKept eq hash cs log) → IsPrefix v log → h.begun ≡ b → w.value.seal < length cs → (cell cs w.value.seal).1 ≡ false → (t : Bool) → ((cell cs k).0 == old) ≡ t
-      → Goes (IsKept eq hash) shows (Moved ask) k (v, (nib may_write w.value.seal 0, None)) (λ n. either (n == old) new n) (Brings eq hash (step k old new ask) (v, (nib may_write w.value.seal 0, None))) cs log
+  brings_goes : (cs : List Cell) (log : List (Event K V S)) (h : IsKept eq hash cs log) → IsPrefix v log → h.begun ≡ b → w.value.seal < length cs
+      → (cell cs w.value.seal).1 ≡ false → (t : Bool) → ((cell cs k).0 == old) ≡ t
+      → Goes (IsKept eq hash) shows (Moved ask) k (v, (nib may_write w.value.seal 0, None)) (λ n. either (n == old) new n)
+      (Brings eq hash (step k old new ask) (v, (nib may_write w.value.seal 0, None))) cs log
   brings_goes cs log h pre same within away true is =
       let at = place_of ask in
       let names_it = word_names (steps_of log) (state_of log) at in
       let key' = key_since v log at k pre key in
       let stands : word_in eq hash h.begun log at ≡ (cell cs k).0 = sym (ap (λ (c : Cell). c.0) (h.coded at k key')) in
-      let can' : CanBring eq hash h.begun at (kind_of ask) old new (made_of ask) w v = subst (λ (d : Begun K V S). CanBring eq hash d at (kind_of ask) old new (made_of ask) w v) (sym same) can in
+      let can' : CanBring eq hash h.begun at (kind_of ask) old new (made_of ask) w
+      v = subst (λ (d : Begun K V S). CanBring eq hash d at (kind_of ask) old new (made_of ask) w v) (sym same) can in
       let m = can' log pre h.lawful (stands ∙ found_old (cell cs k).0 old is) in
       let e : Step K V = m.0.step in
       let named' : name_in log ≡ Some name = name_since v log name pre named in
-      let placed' : IsPlaced h.begun (name_in log) (comes e) = subst (λ (z : Begun K V S × Option Book × Named K V). IsPlaced z.0 z.1 z.2) (λ i. (sym same i, sym named' i, sym m.0.meant.with_it i)) placed in
+      let placed' : IsPlaced h.begun (name_in log) (comes e) = subst (λ (z : Begun K V S × Option Book × Named K V). IsPlaced z.0 z.1 z.2)
+      (λ i. (sym same i, sym named' i, sym m.0.meant.with_it i)) placed in
       let told : Answered log names_it = word_answer (setting_of eq (hash h.begun.hasher) h.begun.mode h.begun.limit log) log h.lawful.allowed at in
       let made' = made_since w.value v log pre made in
       let more = kept_brought eq hash plans cs log h e w m.0.meant.with_it at k new key' some m.0.allowed m.0.written placed' m.1 made' within away in (
@@ -314,7 +360,16 @@ module _ {K V S : Type 0} (eq : K → K → Bool) (hash : S → K → ℕ) (plan
         Some names_it,
         refl,
         rw is more,
-        inr (names_it, refl, refl, (inr (Stepped e, m.0.meant.with_it ∙ sym with_it, refl), answered_left names_it log (Stepped e ∷ []) told, row_stepped ask log e leaves)),
+        inr (
+          names_it,
+          refl,
+          refl,
+          (
+            inr (Stepped e, m.0.meant.with_it ∙ sym with_it, refl),
+            answered_left names_it log (Stepped e ∷ []) told,
+            row_stepped ask log e leaves,
+          ),
+        ),
         (
           record {
             before = log;
@@ -358,9 +413,14 @@ module _ {K V S : Type 0} (eq : K → K → Bool) (hash : S → K → ℕ) (plan
         ),
       )
 
-  pub brings_moves : Moves (IsKept eq hash) shows (Moved ask) k (v, (nib may_write w.value.seal 0, None)) (λ n. either (n == old) new n) (Brings eq hash (step k old new ask) (v, (nib may_write w.value.seal 0, None)))
+  pub brings_moves : Moves (IsKept eq hash) shows (Moved ask) k (v, (nib may_write w.value.seal 0, None)) (λ n. either (n == old) new n)
+      (Brings eq hash (step k old new ask) (v, (nib may_write w.value.seal 0, None)))
   brings_moves cs log h pre away =
       let key' = key_since v log (place_of ask) k pre key in
       let began' : IsPrefix (Begin b ∷ []) log = prefix_trans (Begin b ∷ []) v log began pre in
-      let a = away refl in
-      ((h.counted (place_of ask) k key').0, ap (λ (c : Cell). c.1) (h.coded (place_of ask) k key'), brings_goes cs log h pre (begun_is eq hash plans b h.begun log began' h.lawful) a.0 a.1 ((cell cs k).0 == old) refl)
+      let a = away refl in (
+        (h.counted (place_of ask) k key').0,
+        ap (λ (c : Cell). c.1) (h.coded (place_of ask) k key'),
+        brings_goes cs log h pre
+            (begun_is eq hash plans b h.begun log began' h.lawful) a.0 a.1 ((cell cs k).0 == old) refl,
+      )

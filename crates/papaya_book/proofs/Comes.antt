@@ -1,5 +1,7 @@
 -- A table that comes: its words' keys are new, and its words are blank.
-use Rattle.std.proofs.Common.{◌≡◌, ◌⊎◌, inl, inr, ⊎_elim, ℕ, zero, suc, ◌-◌, ◌<◌, ◌≤◌, ◌==◌, Bool, true, false, cond, Option, None, Some, List, [], ◌∷◌, ◌++◌, length, slice_get, refl, sym, ap, ◌∙◌, subst, arith, eqb-true, eq-eqb}
+use Rattle.std.proofs.Common.{◌≡◌, ◌⊎◌, inl, inr, ⊎_elim, ℕ, zero, suc, ◌-◌, ◌<◌, ◌≤◌, ◌==◌, Bool}
+use Rattle.std.proofs.Common.{true, false, cond, Option, None, Some, List, [], ◌∷◌, ◌++◌, length}
+use Rattle.std.proofs.Common.{slice_get, refl, sym, ap, ◌∙◌, subst, arith, eqb-true, eq-eqb}
 use Rattle.std.proofs.lemmas.Bool.{cases_Bool, cond-true, cond-false}
 use Rattle.boxcar.specs.Table.{Where}
 use Rattle.logbook.specs.Pages.{Cell, cell}
@@ -34,7 +36,8 @@ root_or_not (Done t c) = inr (λ e. cc e)
 root_or_not (Slot t x) = inr (λ e. cc e)
 root_or_not Made = inr (λ e. cc e)
 
-either_in : {X : Type 0} (f : Sheet → Option X) (o n : Option (Where Sheet)) (j : X) → in_table f (or_else o n) ≡ Some j → (in_table f o ≡ Some j) ⊎ ((o ≡ None) × (in_table f n ≡ Some j))
+either_in : {X : Type 0} (f : Sheet → Option X) (o n : Option (Where Sheet)) (j : X) → in_table f (or_else o n) ≡ Some j → (in_table f o ≡ Some j)
+    ⊎ ((o ≡ None) × (in_table f n ≡ Some j))
 either_in f None n j e = inr (refl, e)
 either_in f (Some w) n j e = inl e
 
@@ -57,7 +60,8 @@ blank_zero g c s (Slot t x) n b = ap (code g c) (b.slots x)
 blank_zero g c s Made n b = absurd (n tt)
 
 -- a word's number does not depend on the tables' sizes
-pub word_sizes : {K P : Type 0} (h : Plan K P) (size size' places places' : ℕ → ℕ) (chunks chunks' : ℕ → ℕ) (c : Coding K P) (s : State P) (at : At) → word_of (planned h size places chunks) c s at ≡ word_of (planned h size' places' chunks') c s at
+pub word_sizes : {K P : Type 0} (h : Plan K P) (size size' places places' : ℕ → ℕ) (chunks chunks' : ℕ → ℕ) (c : Coding K P) (s : State P) (at : At)
+    → word_of (planned h size places chunks) c s at ≡ word_of (planned h size' places' chunks') c s at
 word_sizes h size size' places places' chunks chunks' c s Root = refl
 word_sizes h size size' places places' chunks chunks' c s (Next t) = refl
 word_sizes h size size' places places' chunks chunks' c s (Aborted t) = refl
@@ -85,20 +89,32 @@ module _ {K V : Type 0} (es : List (Step K V)) (e : Step K V) (w : Where Sheet) 
       ∙ (ap (λ (o : Option (Where Sheet)). or_else o (or_else (cond (number_of w == number_of w) (Some w) None) None)) none
       ∙ ap (λ (o : Option (Where Sheet)). or_else o None) (cond-true (number_of w == number_of w) (Some w) None (eq-eqb (number_of w) (number_of w) refl)))
 
-  new_if : {X : Type 0} (f : Sheet → Option X) (t : ℕ) (j : X) → in_table f (or_else (cond (number_of w == t) (Some w) None) None) ≡ Some j → (t ≡ number_of w) × (f w.value ≡ Some j) × (or_else (cond (number_of w == t) (Some w) None) None ≡ Some w)
+  new_if : {X : Type 0} (f : Sheet → Option X) (t : ℕ) (j : X) → in_table f (or_else (cond (number_of w == t) (Some w) None) None) ≡ Some j
+      → (t ≡ number_of w) × (f w.value ≡ Some j) × (or_else (cond (number_of w == t) (Some w) None) None ≡ Some w)
   new_if f t j x =
       ⊎_elim
-      (λ h. let c : cond (number_of w == t) (Some w) None ≡ Some w = cond-true (number_of w == t) (Some w) None h in
-      (sym (eqb-true (number_of w) t h), sym (ap (λ (o : Option (Where Sheet)). in_table f (or_else o None)) c) ∙ x, ap (λ (o : Option (Where Sheet)). or_else o None) c))
+      (λ h. let c : cond (number_of w == t) (Some w) None ≡ Some w = cond-true (number_of w == t) (Some w) None h in (
+        sym (eqb-true (number_of w) t h),
+        sym (ap (λ (o : Option (Where Sheet)). in_table f (or_else o None)) c)
+            ∙ x,
+        ap (λ (o : Option (Where Sheet)). or_else o None) c,
+      ))
       (λ h. let c : cond (number_of w == t) (Some w) None ≡ None = cond-false (number_of w == t) (Some w) None h in
       let none : None ≡ Some j = sym (ap (λ (o : Option (Where Sheet)). in_table f (or_else o None)) c) ∙ x in absurd (cc none))
       (cases_Bool (number_of w == t))
 
-  in_new : {X : Type 0} (f : Sheet → Option X) (t : ℕ) (j : X) → in_table f (table_in (es ++ e ∷ []) t) ≡ Some j → (in_table f (table_in es t) ≡ Some j) ⊎ ((t ≡ number_of w) × (table_in es t ≡ None) × (f w.value ≡ Some j) × (table_in (es ++ e ∷ []) t ≡ Some w))
+  in_new : {X : Type 0} (f : Sheet → Option X) (t : ℕ) (j : X) → in_table f (table_in (es ++ e ∷ []) t) ≡ Some j
+      → (in_table f (table_in es t) ≡ Some j) ⊎ ((t ≡ number_of w) × (table_in es t ≡ None) × (f w.value ≡ Some j) × (table_in (es ++ e ∷ []) t ≡ Some w))
   in_new f t j x =
       ⊎_elim
       (λ h. inl h)
-      (λ h. let n = new_if f t j h.1 in inr (n.0, h.0, n.1, table_then t ∙ (ap (λ (o : Option (Where Sheet)). or_else o (or_else (cond (number_of w == t) (Some w) None) None)) h.0 ∙ n.2)))
+      (λ h. let n = new_if f t j h.1 in inr (
+        n.0,
+        h.0,
+        n.1,
+        table_then t
+            ∙ (ap (λ (o : Option (Where Sheet)). or_else o (or_else (cond (number_of w == t) (Some w) None) None)) h.0 ∙ n.2),
+      ))
       (either_in f (table_in es t) (or_else (cond (number_of w == t) (Some w) None) None) j (sym (ap (in_table f) (table_then t)) ∙ x))
 
   -- a word of the table that came
@@ -113,10 +129,18 @@ module _ {K V : Type 0} (es : List (Step K V)) (e : Step K V) (w : Where Sheet) 
   pub old_or_new : (at : At) (j : ℕ) → key_at (es ++ e ∷ []) at ≡ Some j → (key_at es at ≡ Some j) ⊎ IsNew at j
   old_or_new Root j x = inl x
   old_or_new Made j x = inl x
-  old_or_new (Next t) j x = ⊎_elim (λ h. inl h) (λ h. inr (record { is_table = h.0; none = h.1; key = h.2; seal = ap (in_table (λ s. Some s.seal)) h.3; not_map = λ r. r })) (in_new (λ s. Some s.next) t j x)
-  old_or_new (Aborted t) j x = ⊎_elim (λ h. inl h) (λ h. inr (record { is_table = h.0; none = h.1; key = h.2; seal = ap (in_table (λ s. Some s.seal)) h.3; not_map = λ r. r })) (in_new (λ s. Some s.seal) t j x)
-  old_or_new (Done t d) j x = ⊎_elim (λ h. inl h) (λ h. inr (record { is_table = h.0; none = h.1; key = h.2; seal = ap (in_table (λ s. Some s.seal)) h.3; not_map = λ r. r })) (in_new (λ s. slice_get s.done d) t j x)
-  old_or_new (Slot t i) j x = ⊎_elim (λ h. inl h) (λ h. inr (record { is_table = h.0; none = h.1; key = h.2; seal = ap (in_table (λ s. Some s.seal)) h.3; not_map = λ r. r })) (in_new (λ s. slice_get s.slots i) t j x)
+  old_or_new (Next t) j x = ⊎_elim (λ h. inl h)
+      (λ h. inr (record { is_table = h.0; none = h.1; key = h.2; seal = ap (in_table (λ s. Some s.seal)) h.3; not_map = λ r. r }))
+      (in_new (λ s. Some s.next) t j x)
+  old_or_new (Aborted t) j x = ⊎_elim (λ h. inl h)
+      (λ h. inr (record { is_table = h.0; none = h.1; key = h.2; seal = ap (in_table (λ s. Some s.seal)) h.3; not_map = λ r. r }))
+      (in_new (λ s. Some s.seal) t j x)
+  old_or_new (Done t d) j x = ⊎_elim (λ h. inl h)
+      (λ h. inr (record { is_table = h.0; none = h.1; key = h.2; seal = ap (in_table (λ s. Some s.seal)) h.3; not_map = λ r. r }))
+      (in_new (λ s. slice_get s.done d) t j x)
+  old_or_new (Slot t i) j x = ⊎_elim (λ h. inl h)
+      (λ h. inr (record { is_table = h.0; none = h.1; key = h.2; seal = ap (in_table (λ s. Some s.seal)) h.3; not_map = λ r. r }))
+      (in_new (λ s. slice_get s.slots i) t j x)
 
   -- seals stay
   pub seal_later : (at : At) (seal : ℕ) → seal_at es at ≡ Some seal → seal_at (es ++ e ∷ []) at ≡ Some seal
@@ -124,7 +148,8 @@ module _ {K V : Type 0} (es : List (Step K V)) (e : Step K V) (w : Where Sheet) 
   seal_later Made seal x = x
   seal_later (Next t) seal x = same_seal_in t seal x
     where
-      same_seal_in : (t seal : ℕ) → in_table (λ s. Some s.seal) (table_in es t) ≡ Some seal → in_table (λ s. Some s.seal) (table_in (es ++ e ∷ []) t) ≡ Some seal
+      same_seal_in : (t seal : ℕ) → in_table (λ s. Some s.seal) (table_in es t) ≡ Some seal
+          → in_table (λ s. Some s.seal) (table_in (es ++ e ∷ []) t) ≡ Some seal
       same_seal_in t seal x = Rattle.papaya_book.proofs.Logs.key_later es (e ∷ []) (Aborted t) seal x
   seal_later (Aborted t) seal x = Rattle.papaya_book.proofs.Logs.key_later es (e ∷ []) (Aborted t) seal x
   seal_later (Done t d) seal x = Rattle.papaya_book.proofs.Logs.key_later es (e ∷ []) (Aborted t) seal x
@@ -140,7 +165,8 @@ seal_key es (Done t d) seal x = x
 seal_key es (Slot t i) seal x = x
 
 -- No word of a table that has come is one that was dealt for a table whose seal is away.
-pub no_shared : {K V S : Type 0} (eq : K → K → Bool) (hash : S → K → ℕ) (cs : List Cell) (log : List (Event K V S)) (h : IsKept eq hash cs log) (seal : ℕ) → (cell cs seal).1 ≡ false → (at : At) (j : ℕ) → key_at (steps_of log) at ≡ Some j → 3 ≤ j → owner j log ≡ Some seal → ⊥
+pub no_shared : {K V S : Type 0} (eq : K → K → Bool) (hash : S → K → ℕ) (cs : List Cell) (log : List (Event K V S)) (h : IsKept eq hash cs log)
+    (seal : ℕ) → (cell cs seal).1 ≡ false → (at : At) (j : ℕ) → key_at (steps_of log) at ≡ Some j → 3 ≤ j → owner j log ≡ Some seal → ⊥
 no_shared eq hash cs log h seal away at j key past own =
     let of_map : IsOfMap at → ⊥ = λ r. let z = (map_key (steps_of log) at j r key).1 in absurd (omega arith) in
     ⊎_elim

@@ -1,5 +1,7 @@
 -- An exchange of a word keeps the rule, whatever its kind, and tells what was exchanged.
-use Rattle.std.proofs.Common.{◌≡◌, ◌≢◌, inl, inr, ⊎_elim, ℕ, ◌+◌, ◌<◌, ◌≤◌, ◌==◌, Bool, true, false, Option, None, Some, List, [], ◌∷◌, ◌++◌, length, slice_set, refl, sym, ap, ◌∙◌, subst, arith, length-set}
+use Rattle.std.proofs.Common.{◌≡◌, ◌≢◌, inl, inr, ⊎_elim, ℕ, ◌+◌, ◌<◌, ◌≤◌, ◌==◌, Bool, true, false}
+use Rattle.std.proofs.Common.{Option, None, Some, List, [], ◌∷◌, ◌++◌, length, slice_set, refl, sym}
+use Rattle.std.proofs.Common.{ap, ◌∙◌, subst, arith, length-set}
 use Rattle.std.proofs.lemmas.List.{append-nil}
 use Rattle.std.proofs.lemmas.Bool.Decides.{nat_tests}
 use mathlib.Core.List.{IsPrefix}
@@ -16,7 +18,9 @@ use Rattle.papaya_book.specs.declared.rule.entry.Named.{Named}
 use Rattle.papaya_book.specs.declared.rule.entry.Step.{Step}
 use Rattle.papaya_book.specs.declared.rule.entry.Event.{Event}
 use Rattle.papaya_book.specs.declared.rule.entry.Event.TheVariants.{Begin, Stepped}
-use Rattle.papaya_book.specs.Logs.{Stored, brought, coding_of, comes, dealt, exchange_of, key_at, kind_of, made_of, name_in, place_of, plan_of, seals_of, setting_of, state_of, steps_of, word_names}
+use Rattle.papaya_book.specs.Logs.{Stored, brought, coding_of, comes, dealt, exchange_of, key_at}
+use Rattle.papaya_book.specs.Logs.{kind_of, made_of, name_in, place_of, plan_of, seals_of}
+use Rattle.papaya_book.specs.Logs.{setting_of, state_of, steps_of, word_names}
 use Rattle.papaya_book.specs.Rows.{row_len}
 use Rattle.papaya_book.specs.Rule.{IsKept, IsLawfulLog, IsPlaced, flag, seal_at, word_in}
 use Rattle.papaya_book.specs.Offer.{Answered, LeavesRow, MovesRow, Moved}
@@ -31,15 +35,19 @@ use Rattle.papaya_book.proofs.Names.{word_answer}
 -- an exchange leaves the row
 pub row_stepped : {K V S : Type 0} (ask : Event K V S) (log : List (Event K V S)) (e : Step K V) → LeavesRow ask → MovesRow ask log (log ++ Stepped e ∷ [])
 row_stepped ask log e l =
-    row_left ask log (log ++ Stepped e ∷ []) l (name-append log (Stepped e ∷ []) ∙ or_nothing (name_in log)) (ap (λ (z : List ℕ). length z) (seals-append log (Stepped e ∷ []) ∙ append-nil (seals_of log)))
+    row_left ask log (log ++ Stepped e ∷ []) l (name-append log (Stepped e ∷ []) ∙ or_nothing (name_in log))
+    (ap (λ (z : List ℕ). length z) (seals-append log (Stepped e ∷ []) ∙ append-nil (seals_of log)))
 
 pub found_old : (n old : ℕ) → (n == old) ≡ true → n ≡ old
 found_old n old e = grind (arith, nat_tests)
 
-module _ {K V S : Type 0} (eq : K → K → Bool) (hash : S → K → ℕ) (plans : (mode : ResizeMode) (most : Option ℕ) (s : S) → IsLawfulPlan (plan_of {V = V} eq (hash s) mode most)) where
-  module _ (cs : List Cell) (log : List (Event K V S)) (h : IsKept eq hash cs log) (e : Step K V) (quiet : IsQuiet (comes e)) (at : At) (k new : ℕ) (key : key_at (steps_of log) at ≡ Some k)
+module _ {K V S : Type 0} (eq : K → K → Bool) (hash : S → K → ℕ)
+    (plans : (mode : ResizeMode) (most : Option ℕ) (s : S) → IsLawfulPlan (plan_of {V = V} eq (hash s) mode most)) where
+  module _ (cs : List Cell) (log : List (Event K V S)) (h : IsKept eq hash cs log) (e : Step K V) (quiet : IsQuiet (comes e)) (at : At) (k new : ℕ)
+      (key : key_at (steps_of log) at ≡ Some k)
       (may : Allows (setting_of eq (hash h.begun.hasher) h.begun.mode h.begun.limit log) (state_of log) (exchange_of e))
-      (written : IsWritten (setting_of eq (hash h.begun.hasher) h.begun.mode h.begun.limit log) (coding_of (hash h.begun.hasher)) (state_of log) at new (after (state_of log) (exchange_of e)))
+      (written : IsWritten (setting_of eq (hash h.begun.hasher) h.begun.mode h.begun.limit log) (coding_of (hash h.begun.hasher)) (state_of log) at
+      new (after (state_of log) (exchange_of e)))
       (placed : IsPlaced h.begun (name_in log) (comes e)) where
     abbrev log' : List (Event K V S)
     log' = log ++ Stepped e ∷ []
@@ -60,7 +68,8 @@ module _ {K V S : Type 0} (eq : K → K → Bool) (hash : S → K → ℕ) (plan
     not_maker : 1 ≢ k
     not_maker i = ⊎_elim (λ r. (map_key (steps_of log) at k r key).0 (sym i)) (λ t. absurd (omega arith)) (h.counted at k key).1
 
-    word' : (at' : At) → word_in eq hash h.begun log' at' ≡ word_of (setting_of eq (hash h.begun.hasher) h.begun.mode h.begun.limit log) (coding_of (hash h.begun.hasher)) (after (state_of log) (exchange_of e)) at'
+    word' : (at' : At) → word_in eq hash h.begun log' at' ≡ word_of (setting_of eq (hash h.begun.hasher) h.begun.mode h.begun.limit log)
+        (coding_of (hash h.begun.hasher)) (after (state_of log) (exchange_of e)) at'
     word' at' = word_more eq hash plans h.begun log h.lawful e quiet at k new key may written placed at'
 
     coded_more : (at' : At) (j : ℕ) → key_at (steps_of log') at' ≡ Some j → cell cs' j ≡ (word_in eq hash h.begun log' at', true)
@@ -89,7 +98,8 @@ module _ {K V S : Type 0} (eq : K → K → Bool) (hash : S → K → ℕ) (plan
           coded = coded_more;
           counted = λ at' j x. let z = h.counted at' j (old_key at' j x) in (let y = z.0 in omega arith, z.1);
           owned = λ at' j x.
-              let seal : seal_at (steps_of log') at' ≡ seal_at (steps_of log) at' = ap (λ (l : List (Step K V)). seal_at l at') (steps-append log (Stepped e ∷ [])) ∙ same_seal (steps_of log) e at' quiet in
+              let seal : seal_at (steps_of log') at' ≡ seal_at (steps_of log) at' = ap (λ (l : List (Step K V)). seal_at l at')
+              (steps-append log (Stepped e ∷ [])) ∙ same_seal (steps_of log) e at' quiet in
               ⊎_elim
               (λ i. inl i)
               (λ i. ⊎_elim
@@ -107,23 +117,31 @@ module _ {K V S : Type 0} (eq : K → K → Bool) (hash : S → K → ℕ) (plan
   pub begun_is : (b b' : Begun K V S) (log : List (Event K V S)) → IsPrefix (Begin b ∷ []) log → IsLawfulLog eq hash b' log → b' ≡ b
   begun_is b b' log pre l = let both : Begin b ∷ ([] ++ pre.0) ≡ Begin b' ∷ l.rest = pre.1 ∙ l.is in sym (cc both)
 
-  module _ (b : Begun K V S) (v : List (Event K V S)) (ask : Event K V S) (k old new : ℕ) (leaves : LeavesRow ask) (key : key_at (steps_of v) (place_of ask) ≡ Some k) (began : IsPrefix (Begin b ∷ []) v)
+  module _ (b : Begun K V S) (v : List (Event K V S)) (ask : Event K V S) (k old new : ℕ) (leaves : LeavesRow ask)
+      (key : key_at (steps_of v) (place_of ask) ≡ Some k) (began : IsPrefix (Begin b ∷ []) v)
       (quiet : IsQuiet (brought ask)) (name : Book) (named : name_in v ≡ Some name) (placed : IsPlaced b (Some name) (brought ask))
       (can : CanExchange eq hash b (place_of ask) (kind_of ask) old new (made_of ask) (brought ask) v) where
-    tries_goes : (cs : List Cell) (log : List (Event K V S)) (h : IsKept eq hash cs log) → IsPrefix v log → h.begun ≡ b → (t : Bool) → ((cell cs k).0 == old) ≡ t
-        → Goes (IsKept eq hash) shows (Moved ask) k (v, (no_nib, None)) (λ n. either (n == old) new n) (Tries eq hash (step k old new ask) (v, (no_nib, None))) cs log
+    tries_goes : (cs : List Cell) (log : List (Event K V S)) (h : IsKept eq hash cs log) → IsPrefix v log → h.begun ≡ b → (t : Bool)
+        → ((cell cs k).0 == old) ≡ t
+        → Goes (IsKept eq hash) shows (Moved ask) k (v, (no_nib, None)) (λ n. either (n == old) new n)
+        (Tries eq hash (step k old new ask) (v, (no_nib, None))) cs log
     tries_goes cs log h pre same true is =
         let at = place_of ask in
         let names = word_names (steps_of log) (state_of log) at in
         let key' = key_since v log at k pre key in
         let stands : word_in eq hash h.begun log at ≡ (cell cs k).0 = sym (ap (λ (c : Cell). c.0) (h.coded at k key')) in
-        let can' : CanExchange eq hash h.begun at (kind_of ask) old new (made_of ask) (brought ask) v = subst (λ (d : Begun K V S). CanExchange eq hash d at (kind_of ask) old new (made_of ask) (brought ask) v) (sym same) can in
-        let m : MayStep eq hash h.begun at (kind_of ask) new (made_of ask) (brought ask) log = can' log pre h.lawful (stands ∙ found_old (cell cs k).0 old is) in
+        let can' : CanExchange eq hash h.begun at (kind_of ask) old new (made_of ask) (brought ask)
+        v = subst (λ (d : Begun K V S). CanExchange eq hash d at (kind_of ask) old new (made_of ask) (brought ask) v) (sym same) can in
+        let m : MayStep eq hash h.begun at (kind_of ask) new (made_of ask) (brought ask) log = can' log pre h.lawful
+        (stands ∙ found_old (cell cs k).0 old is) in
         let e : Step K V = m.step in
-        let may : Allows (setting_of eq (hash h.begun.hasher) h.begun.mode h.begun.limit log) (state_of log) (exchange_of e) = subst (λ (g : Setting K (Stored K V)). Allows g (state_of log) (exchange_of e)) (with_quiet eq (hash h.begun.hasher) h.begun.mode h.begun.limit log (brought ask) quiet) m.allowed in
+        let may : Allows (setting_of eq (hash h.begun.hasher) h.begun.mode h.begun.limit log) (state_of log)
+        (exchange_of e) = subst (λ (g : Setting K (Stored K V)). Allows g (state_of log) (exchange_of e))
+        (with_quiet eq (hash h.begun.hasher) h.begun.mode h.begun.limit log (brought ask) quiet) m.allowed in
         let quiet' : IsQuiet (comes e) = subst (λ (n : Named K V). IsQuiet n) (sym m.meant.with_it) quiet in
         let named' : name_in log ≡ Some name = ap name_in (sym pre.1) ∙ name_later v pre.0 name named in
-        let placed' : IsPlaced h.begun (name_in log) (comes e) = subst (λ (z : Begun K V S × Option Book × Named K V). IsPlaced z.0 z.1 z.2) (λ i. (sym same i, sym named' i, sym m.meant.with_it i)) placed in
+        let placed' : IsPlaced h.begun (name_in log) (comes e) = subst (λ (z : Begun K V S × Option Book × Named K V). IsPlaced z.0 z.1 z.2)
+        (λ i. (sym same i, sym named' i, sym m.meant.with_it i)) placed in
         let told : Answered log names = word_answer (setting_of eq (hash h.begun.hasher) h.begun.mode h.begun.limit log) log h.lawful.allowed at in
         let more : IsKept eq hash (slice_set cs k (new, true)) (log ++ Stepped e ∷ []) = kept_more cs log h e quiet' at k new key' may m.written placed' in (
           keeps,
@@ -169,8 +187,13 @@ module _ {K V S : Type 0} (eq : K → K → Bool) (hash : S → K → ℕ) (plan
           },
         )
 
-    pub tries_moves : Moves (IsKept eq hash) shows (Moved ask) k (v, (no_nib, None)) (λ n. either (n == old) new n) (Tries eq hash (step k old new ask) (v, (no_nib, None)))
+    pub tries_moves : Moves (IsKept eq hash) shows (Moved ask) k (v, (no_nib, None)) (λ n. either (n == old) new n)
+        (Tries eq hash (step k old new ask) (v, (no_nib, None)))
     tries_moves cs log h pre away =
         let key' = key_since v log (place_of ask) k pre key in
-        let began' : IsPrefix (Begin b ∷ []) log = Rattle.papaya_book.proofs.Logs.prefix_trans (Begin b ∷ []) v log began pre in
-        ((h.counted (place_of ask) k key').0, ap (λ (c : Cell). c.1) (h.coded (place_of ask) k key'), tries_goes cs log h pre (begun_is b h.begun log began' h.lawful) ((cell cs k).0 == old) refl)
+        let began' : IsPrefix (Begin b ∷ []) log = Rattle.papaya_book.proofs.Logs.prefix_trans (Begin b ∷ []) v log began pre in (
+          (h.counted (place_of ask) k key').0,
+          ap (λ (c : Cell). c.1) (h.coded (place_of ask) k key'),
+          tries_goes cs log h pre
+              (begun_is b h.begun log began' h.lawful) ((cell cs k).0 == old) refl,
+        )

@@ -24,7 +24,8 @@ use Rattle.papaya_book.proofs.Tellings.{opened_with}
 
 module _ {K V S : Type 0} (eq : K → K → Bool) (hash : S → K → ℕ) where
   -- the word that is loaded is the root
-  pub fetches_moves : (v : List (Event K V S)) (ask : Event K V S) → LeavesRow ask → Moves (IsKept eq hash) shows (Moved ask) 0 (v, (no_nib, None)) (λ n. n) (Fetches eq hash (step 0 0 0 ask) (v, (no_nib, None)))
+  pub fetches_moves : (v : List (Event K V S)) (ask : Event K V S) → LeavesRow ask
+      → Moves (IsKept eq hash) shows (Moved ask) 0 (v, (no_nib, None)) (λ n. n) (Fetches eq hash (step 0 0 0 ask) (v, (no_nib, None)))
   fetches_moves v ask leaves cs log h pre away =
       let t = table_of (place_of ask) in
       let named = table_named (table_in (steps_of log) t) in
@@ -45,13 +46,16 @@ module _ {K V S : Type 0} (eq : K → K → Bool) (hash : S → K → ℕ) where
         ),
       )
 
-  module _ (b : Begun K V S) (log : List (Event K V S)) (began : IsPrefix (Begin b ∷ []) log) (t : ℕ) (state : Option (Named K V)) (f : Fetched eq hash t log state) where
+  module _ (b : Begun K V S) (log : List (Event K V S)) (began : IsPrefix (Begin b ∷ []) log) (t : ℕ) (state : Option (Named K V))
+      (f : Fetched eq hash t log state) where
     -- the book was opened with what it was opened with
     pub fetched_lawful : IsLawfulLog eq hash b log
     fetched_lawful = subst (λ (z : Begun K V S). IsLawfulLog eq hash z log) (opened_with eq hash b f.begun log began f.lawful) f.lawful
 
     -- a table that had come is the one that is told
-    pub fetched_told : (hashed : IsHashed (setting_of eq (hash b.hasher) b.mode b.limit log) (coding_of (hash b.hasher))) (name : Book) (called : name_in log ≡ Some name) (seen : List (Event K V S)) → IsPrefix seen log → HasCome seen t → IsFoundTable eq hash b log hashed name called t state
+    pub fetched_told : (hashed : IsHashed (setting_of eq (hash b.hasher) b.mode b.limit log) (coding_of (hash b.hasher))) (name : Book)
+        (called : name_in log ≡ Some name) (seen : List (Event K V S)) → IsPrefix seen log → HasCome seen t
+        → IsFoundTable eq hash b log hashed name called t state
     fetched_told hashed name called seen since come =
         let here = table_since seen log t come.0.value since (come.0, come.1, refl) in
         let gained = f.state_is ∙ ap (λ (o : Option (Where Sheet)). Some (table_named o)) here.1 in

@@ -51,21 +51,25 @@ module _ {K V : Type 0} where
   brings_table (steps.Take m) t h = absurd cc
 
   -- a table of the chain has come, or was there before
-  chain_came : (es : List (Step K V)) (s : State (Stored K V)) (t : ℕ) → Comes (run (exchanges (map entry_of es)) s) t → ((w : Where Sheet) × (table_in es t ≡ Some w)) ⊎ Comes s t
+  chain_came : (es : List (Step K V)) (s : State (Stored K V)) (t : ℕ) → Comes (run (exchanges (map entry_of es)) s) t
+      → ((w : Where Sheet) × (table_in es t ≡ Some w)) ⊎ Comes s t
   chain_came [] s t c = inr c
   chain_came (e ∷ es) s t c =
       ⊎_elim
       (λ h. inl (or_second (table_if (comes e) t) (table_in es t) h.0 h.1))
-      (λ d. ⊎_elim (λ h. let b = brings_table e t h in inl (or_first (table_if (comes e) t) (table_in es t) b.0 b.1)) (λ i. inr i) (comes_after s (exchange_of e) t d))
+      (λ d. ⊎_elim (λ h. let b = brings_table e t h in inl (or_first (table_if (comes e) t) (table_in es t) b.0 b.1)) (λ i. inr i)
+      (comes_after s (exchange_of e) t d))
       (chain_came es (after s (exchange_of e)) t c)
 
   -- the root has come
-  pub root_came : (g : Setting K (Stored K V)) → IsLawful g → (es : List (Step K V)) → AllAllowed g start (exchanges (map entry_of es)) → (n : ℕ) → (run (exchanges (map entry_of es)) start).root ≡ n → n ≢ 0 → (w : Where Sheet) × (table_in es n ≡ Some w)
+  pub root_came : (g : Setting K (Stored K V)) → IsLawful g → (es : List (Step K V)) → AllAllowed g start (exchanges (map entry_of es)) → (n : ℕ)
+      → (run (exchanges (map entry_of es)) start).root ≡ n → n ≢ 0 → (w : Where Sheet) × (table_in es n ≡ Some w)
   root_came g law es may n is some =
       let s = run (exchanges (map entry_of es)) start in
       ⊎_elim
       (λ h. absurd (some (sym is ∙ h.0)))
-      (λ on. let c : Comes s n = subst (Comes s) is (on_comes s s.root on) in ⊎_elim (λ h. h) (λ d. absurd (none_before (Stored K V) n (omega arith) d)) (chain_came es start n c))
+      (λ on. let c : Comes s n = subst (Comes s) is (on_comes s s.root on) in
+      ⊎_elim (λ h. h) (λ d. absurd (none_before (Stored K V) n (omega arith) d)) (chain_came es start n c))
       (sound g law (exchanges (map entry_of es)) may).root
 
   -- so has the table after another one
@@ -73,7 +77,8 @@ module _ {K V : Type 0} where
   next_came es t n is some = ⊎_elim (λ h. h) (λ d. absurd (none_before (Stored K V) n (omega arith) d)) (chain_came es start n (inr (t, is)))
 
   -- so has each table on the chain
-  pub on_came : (es : List (Step K V)) (t : ℕ) → IsOn (run (exchanges (map entry_of es)) start).first (run (exchanges (map entry_of es)) start).next t → (w : Where Sheet) × (table_in es t ≡ Some w)
+  pub on_came : (es : List (Step K V)) (t : ℕ) → IsOn (run (exchanges (map entry_of es)) start).first (run (exchanges (map entry_of es)) start).next t
+      → (w : Where Sheet) × (table_in es t ≡ Some w)
   on_came es t on =
       let some = on.0 in
       ⊎_elim (λ h. h) (λ d. absurd (none_before (Stored K V) t some d)) (chain_came es start t (on_comes (run (exchanges (map entry_of es)) start) t on))
@@ -105,7 +110,8 @@ module _ {K P : Type 0} (g : Setting K P) (c : Coding K P) (lawful : IsLawfulCod
   names_none w n is h = let k : kind w ≡ kind_of n = sym (code_kind g c w) ∙ ap kind_of is in no_pair w (⊎_elim (λ i. inl (k ∙ i)) (λ i. inr (k ∙ i)) h)
 
   -- any other names the pair of its number
-  pub names_some : (w : Word P) (n : ℕ) → code g c w ≡ n → (kind_of n ≡ kinds.Empty → ⊥) → (kind_of n ≡ kinds.Closed → ⊥) → (p : P) × (named w ≡ Some p) × (pair_of n ≡ c.number p)
+  pub names_some : (w : Word P) (n : ℕ) → code g c w ≡ n → (kind_of n ≡ kinds.Empty → ⊥) → (kind_of n ≡ kinds.Closed → ⊥) → (p : P)
+      × (named w ≡ Some p) × (pair_of n ≡ c.number p)
   names_some w n is m o =
       let k : kind_of n ≡ kind w = sym (ap kind_of is) ∙ code_kind g c w in
       let h = some_pair w (λ i. m (k ∙ i)) (λ i. o (k ∙ i)) in (h.0, h.1, sym (ap pair_of is) ∙ (code_pair g c lawful w h.0 h.1))

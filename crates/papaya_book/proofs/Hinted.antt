@@ -38,7 +38,8 @@ module _ {K V S : Type 0} (eq : K → K → Bool) (hash : S → K → ℕ) where
   })
 
   -- a hint of the slot may be written beside the slot's word
-  pub may_say : (b : Begun K V S) (t x k n : ℕ) (seen log : List (Event K V S)) → IsSlotHint eq hash b t x n seen → key_at (steps_of seen) (Slot t x) ≡ Some k → IsPrefix seen log → IsHinted eq hash k n log
+  pub may_say : (b : Begun K V S) (t x k n : ℕ) (seen log : List (Event K V S)) → IsSlotHint eq hash b t x n seen
+      → key_at (steps_of seen) (Slot t x) ≡ Some k → IsPrefix seen log → IsHinted eq hash k n log
   may_say b t x k n seen log is key since = inr (record {
     begun = b;
     before = seen;
@@ -49,7 +50,8 @@ module _ {K V S : Type 0} (eq : K → K → Bool) (hash : S → K → ℕ) where
     is = is;
   })
 
-module _ {K V S H : Type 0} (eq : K → K → Bool) (input : K → List (List ℕ)) (build : S → H) (write : H → List ℕ → H) (finish : H → ℕ) (classes : IsEquivalence eq) (respects : (x y : K) → eq x y ≡ true → input x ≡ input y) (b : Begun K V S) where
+module _ {K V S H : Type 0} (eq : K → K → Bool) (input : K → List (List ℕ)) (build : S → H) (write : H → List ℕ → H) (finish : H → ℕ)
+    (classes : IsEquivalence eq) (respects : (x y : K) → eq x y ≡ true → input x ≡ input y) (b : Begun K V S) where
   abbrev hash : S → K → ℕ
   hash = hash_of input build write finish
 
@@ -71,17 +73,21 @@ module _ {K V S H : Type 0} (eq : K → K → Bool) (input : K → List (List �
         let es = exchanges_of before in let fs = exchanges_of since.0 in
         let all : es ++ fs ≡ exchanges_of log = sym (exchanges_of-append before since.0) ∙ ap exchanges_of since.1 in
         let may : AllAllowed g start (es ++ fs) = subst (AllAllowed g start) (sym all) lawful.allowed in
-        let after : IsLater g (state_of before) (state_of log) = subst (λ (z : List (Exchange (Stored K V))). IsLater g (run es start) (run z start)) all (later g hashed.lawful es fs may) in record {
+        let after : IsLater g (state_of before) (state_of log) = subst (λ (z : List (Exchange (Stored K V))). IsLater g (run es start) (run z start))
+        all (later g hashed.lawful es fs may) in record {
           lawful = lawful;
-          is = hint_lasts g c hashed.coding (state_of before) (state_of log) after t x n (hint_agrees (setting_of eq (hash b.hasher) b.mode b.limit before) g c (λ p. refl) ((state_of before).slot t x) n is.is);
+          is = hint_lasts g c hashed.coding (state_of before) (state_of log) after t x n
+              (hint_agrees (setting_of eq (hash b.hasher) b.mode b.limit before) g c (λ p. refl) ((state_of before).slot t x) n is.is);
         }
 
     -- of which the book was opened with the same, and no two slots share a word
     was_here : (t x k n : ℕ) → key_at (steps_of log) (Slot t x) ≡ Some k → WasHint eq hash k n log → IsSlotHint eq hash b t x n log
     was_here t x k n key w =
         let first : first_in w.before ≡ Some (Begin w.begun) = ap first_in w.is.lawful.is in
-        let same : b ≡ w.begun = opened_with eq hash w.begun b log (prefix_trans (Begin w.begun ∷ []) w.before log (first_prefix (Begin w.begun) w.before first) w.since) lawful in
-        let one : Slot w.table w.place ≡ Slot t x = lawful.apart (Slot w.table w.place) (Slot t x) k (key_since w.before log (Slot w.table w.place) k w.since w.key_is) key in
+        let same : b ≡ w.begun = opened_with eq hash w.begun b log
+        (prefix_trans (Begin w.begun ∷ []) w.before log (first_prefix (Begin w.begun) w.before first) w.since) lawful in
+        let one : Slot w.table w.place ≡ Slot t x = lawful.apart (Slot w.table w.place) (Slot t x) k
+        (key_since w.before log (Slot w.table w.place) k w.since w.key_is) key in
         let table : w.table ≡ t = cc one in let place : w.place ≡ x = cc one in
         subst (λ (z : ℕ × ℕ). IsSlotHint eq hash b z.0 z.1 n log) (λ i. (table i, place i))
         (hint_later w.table w.place n w.before w.since (subst (λ z. IsSlotHint eq hash z w.table w.place n w.before) (sym same) w.is))

@@ -26,7 +26,8 @@ member_last x (y ∷ xs) ys h = inr (member_last x xs ys h)
 
 tables_append : {K V : Type 0} (xs ys : List (Step K V)) → tables_by (xs ++ ys) ≡ tables_by xs ++ tables_by ys
 tables_append [] ys = refl
-tables_append (e ∷ xs) ys = ap (λ l. slots_brought (comes e) ++ l) (tables_append xs ys) ∙ sym (append_assoc (slots_brought (comes e)) (tables_by xs) (tables_by ys))
+tables_append (e ∷ xs) ys = ap (λ l. slots_brought (comes e) ++ l) (tables_append xs ys)
+    ∙ sym (append_assoc (slots_brought (comes e)) (tables_by xs) (tables_by ys))
 
 -- the tables of a longer log begin as those of the shorter one
 pub tables_since : {K V S : Type 0} (v log : List (Event K V S)) → IsPrefix v log → IsPrefix (tables_of v) (tables_of log)
@@ -36,7 +37,8 @@ pub member_since : (len : ℕ) (tables tables' : List ℕ) → IsPrefix tables t
 member_since len tables tables' pre h = subst (Member len) pre.1 (member_first len tables pre.0 h)
 
 -- where there was no room there is none, whatever tables came since
-pub room_since : (initial : ℕ) (tables tables' : List ℕ) (given : List CapacityCause) → IsPrefix tables tables' → HasNoRoom initial tables given → HasNoRoom initial tables' given
+pub room_since : (initial : ℕ) (tables tables' : List ℕ) (given : List CapacityCause) → IsPrefix tables tables' → HasNoRoom initial tables given
+    → HasNoRoom initial tables' given
 room_since initial tables tables' given pre (inl full) = inl full
 room_since initial tables tables' given pre (inr long) = inr (record {
   count = long.count;
@@ -69,7 +71,8 @@ slots_in (s ∷ es) t w e =
     (λ h.
     let is : h.0 ≡ w = let o = ap (λ (z : Option (Where Sheet)). or_else z (table_in es t)) h.1 in cc (o, e) in
     member_first (length w.value.slots) (slots_brought (comes s)) (tables_by es) (slots_named (comes s) t w (h.1 ∙ ap (λ z. Some z) is)))
-    (λ h. member_last (length w.value.slots) (slots_brought (comes s)) (tables_by es) (slots_in es t w (sym (ap (λ (z : Option (Where Sheet)). or_else z (table_in es t)) h) ∙ e)))
+    (λ h. member_last (length w.value.slots) (slots_brought (comes s)) (tables_by es)
+    (slots_in es t w (sym (ap (λ (z : Option (Where Sheet)). or_else z (table_in es t)) h) ∙ e)))
     (none_or (table_if (comes s) t))
 
 -- a table that has come is among them

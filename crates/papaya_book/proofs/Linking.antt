@@ -1,5 +1,7 @@
 -- A table that is linked has come under no number yet: all that have come are on the chain, whose last one has a smaller number.
-use Rattle.std.proofs.Common.{◌≡◌, inl, inr, ⊎_elim, ℕ, zero, suc, ◌<◌, ◌≤◌, ◌==◌, Bool, true, Option, None, Some, List, [], ◌∷◌, ◌++◌, length, map, refl, ap, ◌∙◌, subst, arith}
+use Rattle.std.proofs.Common.{◌≡◌, inl, inr, ⊎_elim, ℕ, zero, suc, ◌<◌, ◌≤◌, ◌==◌, Bool, true}
+use Rattle.std.proofs.Common.{Option, None, Some, List, [], ◌∷◌, ◌++◌, length, map, refl, ap, ◌∙◌}
+use Rattle.std.proofs.Common.{subst, arith}
 use Rattle.std.specs.Cmp.{IsEquivalence}
 use Rattle.std.proofs.lemmas.Bool.{cases_Bool, cond-true, cond-false, eqb-true}
 use Rattle.boxcar.specs.Table.{Where}
@@ -7,7 +9,9 @@ use Rattle.papaya_ask.specs.declared.ask.At.TheVariants.{Next}
 use Rattle.papaya_ask.specs.declared.ask.StepKind.TheVariants as kinds
 use Rattle.papaya_law.specs.Allows.{AllAllowed, Allows}
 use Rattle.papaya_law.specs.Class.{IsOn}
-use Rattle.papaya_law.specs.Exchange.{Exchange, Open, Claim, Replace, Delete, Link, Mark, Close, Place, Finish, Advance, Promote, Abort, Take, Setting, State, after, run, start}
+use Rattle.papaya_law.specs.Exchange.{Exchange, Open, Claim, Replace, Delete, Link, Mark, Close}
+use Rattle.papaya_law.specs.Exchange.{Place, Finish, Advance, Promote, Abort, Take, Setting, State}
+use Rattle.papaya_law.specs.Exchange.{after, run, start}
 use Rattle.papaya_law.specs.Code.{IsHashed}
 use Rattle.papaya_law.specs.Grows.{Agrees, Comes, exchanges}
 use Rattle.papaya_law.specs.Invariant.{IsKeeping, IsSound}
@@ -15,7 +19,9 @@ use Rattle.papaya_law.specs.Meaning.{IsLawful, map_after}
 use Rattle.papaya_law.proofs.Chain.{has_next, next_on}
 use Rattle.papaya_law.proofs.OneMap.{keeping_sound, sound, start_keeps, step_keeps}
 use Rattle.papaya_book.specs.Calls.{HasCome, IsTable}
-use Rattle.papaya_book.specs.Logs.{Stored, coding_of, comes, entry_of, exchange_of, exchanges_of, number_of, setting_of, setting_with, state_of, steps_of, table_if, table_in}
+use Rattle.papaya_book.specs.Logs.{Stored, coding_of, comes, entry_of, exchange_of, exchanges_of}
+use Rattle.papaya_book.specs.Logs.{number_of, setting_of, setting_with, state_of, steps_of}
+use Rattle.papaya_book.specs.Logs.{table_if, table_in}
 use Rattle.papaya_book.specs.Makers.{CanBring}
 use Rattle.papaya_book.specs.Plays.{CanExchange}
 use Rattle.papaya_book.specs.Rule.{IsLawfulLog}
@@ -62,7 +68,8 @@ comes_stays g s (Abort u) sound may t some c = c
 comes_stays g s (Take m) sound may t some c = c
 
 -- through more exchanges too
-comes_still : {K P : Type 0} (g : Setting K P) → IsLawful g → (es : List (Exchange P)) (s : State P) (m : K → Option P) → IsKeeping g s m → AllAllowed g s es → (t : ℕ) → 0 < t → Comes s t → Comes (run es s) t
+comes_still : {K P : Type 0} (g : Setting K P) → IsLawful g → (es : List (Exchange P)) (s : State P) (m : K → Option P) → IsKeeping g s m
+    → AllAllowed g s es → (t : ℕ) → 0 < t → Comes s t → Comes (run es s) t
 comes_still g law [] s m keeps may t some c = c
 comes_still g law (e ∷ es) s m keeps may t some c =
     comes_still g law es (after s e) (map_after g m e) (step_keeps g law s m keeps e may.0).1 may.1 t some
@@ -71,7 +78,8 @@ comes_still g law (e ∷ es) s m keeps may t some c =
 module _ {K V : Type 0} (g : Setting K (Stored K V)) (law : IsLawful g) where
   -- the number of a table that comes with an exchange
   came_now : (s : State (Stored K V)) (e : Step K V) (t : ℕ) (w : Where Sheet) → table_if (comes e) t ≡ Some w → Comes (after s (exchange_of e)) t
-  came_now s (steps.Open w') t w h = ⊎_elim (λ y. inl (eqb-true (number_of w') t y)) (λ n. let none = cond-false (number_of w' == t) (Some w') None n in absurd (cc (h, none))) (cases_Bool (number_of w' == t))
+  came_now s (steps.Open w') t w h = ⊎_elim (λ y. inl (eqb-true (number_of w') t y))
+      (λ n. let none = cond-false (number_of w' == t) (Some w') None n in absurd (cc (h, none))) (cases_Bool (number_of w' == t))
   came_now s (steps.Claim u x p) t w h = absurd (cc h)
   came_now s (steps.Replace u x p q) t w h = absurd (cc h)
   came_now s (steps.Delete u x p) t w h = absurd (cc h)
@@ -90,7 +98,9 @@ module _ {K V : Type 0} (g : Setting K (Stored K V)) (law : IsLawful g) where
   came_now s (steps.Take m) t w h = absurd (cc h)
 
   -- a table that has come is the first one or some table's next
-  came_comes : (es : List (Step K V)) (s : State (Stored K V)) (m : K → Option (Stored K V)) → IsKeeping g s m → AllAllowed g s (exchanges (map entry_of es)) → (t : ℕ) → 0 < t → (w : Where Sheet) → table_in es t ≡ Some w → Comes (run (exchanges (map entry_of es)) s) t
+  came_comes : (es : List (Step K V)) (s : State (Stored K V)) (m : K → Option (Stored K V)) → IsKeeping g s m
+      → AllAllowed g s (exchanges (map entry_of es)) → (t : ℕ) → 0 < t → (w : Where Sheet) → table_in es t ≡ Some w
+      → Comes (run (exchanges (map entry_of es)) s) t
   came_comes [] s m keeps may t some w h = absurd (cc h)
   came_comes (e ∷ es) s m keeps may t some w h =
       let s' = after s (exchange_of e) in let m' = map_after g m (exchange_of e) in
@@ -146,24 +156,30 @@ module _ {K V S : Type 0} (eq : K → K → Bool) (hash : S → K → ℕ) (b : 
         absurd (omega arith)
 
   -- a table that may be linked brings a number that is no other table's
-  pub can_link : ((log : List (Event K V S)) → IsLawfulLog eq hash b log → IsLawful (setting_of eq (hash b.hasher) b.mode b.limit log)) → (t : ℕ) (sheet : Sheet) (w : Where Sheet) (v : List (Event K V S)) → IsTable v t sheet
-      → CanExchange eq hash b (Next t) (Some kinds.Link) 0 (number_of w) None (names.Table w) v → CanBring eq hash b (Next t) (Some kinds.Link) 0 (number_of w) None w v
+  pub can_link : ((log : List (Event K V S)) → IsLawfulLog eq hash b log → IsLawful (setting_of eq (hash b.hasher) b.mode b.limit log))
+      → (t : ℕ) (sheet : Sheet) (w : Where Sheet) (v : List (Event K V S)) → IsTable v t sheet
+      → CanExchange eq hash b (Next t) (Some kinds.Link) 0 (number_of w) None (names.Table w) v
+      → CanBring eq hash b (Next t) (Some kinds.Link) 0 (number_of w) None w v
   can_link laws t sheet w v came can log pre l is =
       let m = can log pre l is in
-      let e : exchange_of m.step ≡ Link t (number_of w) = copy_wished (Next t) (number_of w) (state_of log) None (exchange_of m.step) (Some kinds.Link) tt m.meant.asked in
+      let e : exchange_of m.step ≡ Link t (number_of w) = copy_wished (Next t) (number_of w) (state_of log) None (exchange_of m.step)
+      (Some kinds.Link) tt m.meant.asked in
       let with_it = setting_with eq (hash b.hasher) b.mode b.limit (names.Table w) log in
       let may : Allows with_it (state_of log) (Link t (number_of w)) = subst (Allows with_it (state_of log)) e m.allowed in
       let here = table_since v log t sheet pre came in
       (m, last_came log (laws log l) l (table_in (steps_of log) (number_of w)) t (number_of w) refl may.on.0 (here.0, here.1) may.last may.rises)
 
 -- a table that was linked is there
-pub link_words : {K V S : Type 0} (before log : List (Event K V S)) (t : ℕ) (w : Where Sheet) → log ≡ before ++ Stepped (steps.Link t w) ∷ [] → table_in (steps_of before) (number_of w) ≡ None → table_in (steps_of log) (number_of w) ≡ Some w
+pub link_words : {K V S : Type 0} (before log : List (Event K V S)) (t : ℕ) (w : Where Sheet) → log ≡ before ++ Stepped (steps.Link t w) ∷ []
+    → table_in (steps_of before) (number_of w) ≡ None → table_in (steps_of log) (number_of w) ≡ Some w
 link_words before log t w is none =
     ap (λ (l : List (Event _ _ _)). table_in (steps_of l) (number_of w)) is
-    ∙ (ap (λ (es : List (Step _ _)). table_in es (number_of w)) (steps-append before (Stepped (steps.Link t w) ∷ [])) ∙ table_there (steps_of before) (steps.Link t w) w refl none)
+    ∙ (ap (λ (es : List (Step _ _)). table_in es (number_of w)) (steps-append before (Stepped (steps.Link t w) ∷ []))
+    ∙ table_there (steps_of before) (steps.Link t w) w refl none)
 
 -- the setting in which a table comes next, for the keys of a map
-module _ {K V S H : Type 0} (eq : K → K → Bool) (input : K → List (List ℕ)) (build : S → H) (write : H → List ℕ → H) (finish : H → ℕ) (classes : IsEquivalence eq) (respects : (x y : K) → eq x y ≡ true → input x ≡ input y) (b : Begun K V S) where
+module _ {K V S H : Type 0} (eq : K → K → Bool) (input : K → List (List ℕ)) (build : S → H) (write : H → List ℕ → H) (finish : H → ℕ)
+    (classes : IsEquivalence eq) (respects : (x y : K) → eq x y ≡ true → input x ≡ input y) (b : Begun K V S) where
   abbrev hash : S → K → ℕ
   hash = hash_of input build write finish
 
@@ -174,10 +190,13 @@ module _ {K V S H : Type 0} (eq : K → K → Bool) (input : K → List (List �
     pub with_hashed : IsHashed (setting_with eq (hash b.hasher) b.mode b.limit (names.Table w) log) (coding_of (hash b.hasher))
     with_hashed = joining.with_hashed eq hash b log hashed.lawful w hashed
 
-    pub with_agrees : table_in (steps_of log) (number_of w) ≡ None → Agrees (IsOn (state_of log).first (state_of log).next) (setting_of eq (hash b.hasher) b.mode b.limit log) (setting_with eq (hash b.hasher) b.mode b.limit (names.Table w) log)
+    pub with_agrees : table_in (steps_of log) (number_of w) ≡ None
+        → Agrees (IsOn (state_of log).first (state_of log).next) (setting_of eq (hash b.hasher) b.mode b.limit log)
+        (setting_with eq (hash b.hasher) b.mode b.limit (names.Table w) log)
     with_agrees none = joining.with_agrees eq hash b log hashed.lawful w l none
 
-    pub with_allowed : table_in (steps_of log) (number_of w) ≡ None → AllAllowed (setting_with eq (hash b.hasher) b.mode b.limit (names.Table w) log) start (exchanges_of log)
+    pub with_allowed : table_in (steps_of log) (number_of w) ≡ None
+        → AllAllowed (setting_with eq (hash b.hasher) b.mode b.limit (names.Table w) log) start (exchanges_of log)
     with_allowed none = joining.with_allowed eq hash b log hashed.lawful w l none
 
     pub with_chunks : (setting_with eq (hash b.hasher) b.mode b.limit (names.Table w) log).chunks (number_of w) ≡ length w.value.done

@@ -24,7 +24,9 @@ use Rattle.papaya_book.proofs.Found.{names_some, next_came, root_came}
 use Rattle.papaya_book.proofs.Logs.{came_entered, steps-append, table_came, table_later}
 use Rattle.papaya_book.proofs.Names.{pair_came}
 
-module _ {K V S : Type 0} (eq : K → K → Bool) (hash : S → K → ℕ) (b : Begun K V S) (log : List (Event K V S)) (hashed : IsHashed (setting_of eq (hash b.hasher) b.mode b.limit log) (coding_of (hash b.hasher))) (name : Book) (called : name_in log ≡ Some name) (found : ℕ) (state : Option (Named K V)) where
+module _ {K V S : Type 0} (eq : K → K → Bool) (hash : S → K → ℕ) (b : Begun K V S) (log : List (Event K V S))
+    (hashed : IsHashed (setting_of eq (hash b.hasher) b.mode b.limit log) (coding_of (hash b.hasher))) (name : Book)
+    (called : name_in log ≡ Some name) (found : ℕ) (state : Option (Named K V)) where
   -- the table of the number that was found
   pub record IsFoundTable : Type 0 where
     pub table : Where Sheet
@@ -70,30 +72,40 @@ module _ {K V S : Type 0} (eq : K → K → Bool) (hash : S → K → ℕ) (b : 
     pub number : pair_of found ≡ pair.index
     pub placed : IsPlaced b (Some name) (names.Pair pair)
 
-  pub slot_told : (t x : ℕ) → IsRead eq hash b (Slot t x) found log state → (kind_of found ≡ kinds.Empty → ⊥) → (kind_of found ≡ kinds.Closed → ⊥) → IsSlotPair t x
+  pub slot_told : (t x : ℕ) → IsRead eq hash b (Slot t x) found log state → (kind_of found ≡ kinds.Empty → ⊥) → (kind_of found ≡ kinds.Closed → ⊥)
+      → IsSlotPair t x
   slot_told t x r m n =
-      let c = names_some (setting_of eq (hash b.hasher) b.mode b.limit log) (coding_of (hash b.hasher)) hashed.coding ((state_of log).slot t x) found r.is m n in
+      let c = names_some (setting_of eq (hash b.hasher) b.mode b.limit log) (coding_of (hash b.hasher)) hashed.coding ((state_of log).slot t x) found
+      r.is m n in
       let p = c.0 in record {
         pair = p;
         gained = r.state_is ∙ ap (λ (o : Option (Stored K V)). Some (pair_named o)) c.1;
         stands = c.1;
         number = c.2;
-        placed = r.lawful.placed (names.Pair p) (came_entered (names.Pair p) log (pair_came (setting_of eq (hash b.hasher) b.mode b.limit log) (steps_of log) r.lawful.allowed p t x c.1));
+        placed = r.lawful.placed (names.Pair p) (came_entered (names.Pair p) log
+            (pair_came (setting_of eq (hash b.hasher) b.mode b.limit log) (steps_of log) r.lawful.allowed p t x c.1));
       }
 
 -- the key of a slot's word, in a table that has come
-pub slot_key : {K V S : Type 0} (log : List (Event K V S)) (t x k : ℕ) (sheet : Sheet) → IsTable log t sheet → slice_get sheet.slots x ≡ Some k → key_at (steps_of log) (Slot t x) ≡ Some k
+pub slot_key : {K V S : Type 0} (log : List (Event K V S)) (t x k : ℕ) (sheet : Sheet) → IsTable log t sheet → slice_get sheet.slots x ≡ Some k
+    → key_at (steps_of log) (Slot t x) ≡ Some k
 slot_key log t x k sheet h e = ap (in_table (λ s. slice_get s.slots x)) h.1 ∙ (ap (λ (s : Sheet). slice_get s.slots x) h.2 ∙ e)
 
 -- a table that has come has words of the book with its name
-pub table_book : {K V S : Type 0} (eq : K → K → Bool) (hash : S → K → ℕ) (b : Begun K V S) (log : List (Event K V S)) (name : Book) → IsLawfulLog eq hash b log → name_in log ≡ Some name → (t : ℕ) (sheet : Sheet) → IsTable log t sheet → sheet.book ≡ name
+pub table_book : {K V S : Type 0} (eq : K → K → Bool) (hash : S → K → ℕ) (b : Begun K V S) (log : List (Event K V S)) (name : Book)
+    → IsLawfulLog eq hash b log → name_in log ≡ Some name → (t : ℕ) (sheet : Sheet) → IsTable log t sheet → sheet.book ≡ name
 table_book eq hash b log name l called t sheet h =
     let placed = l.placed (names.Table h.0) (came_entered (names.Table h.0) log (table_came (steps_of log) t h.0 h.1).0) in
     let same : Some name ≡ Some h.0.value.book = sym called ∙ placed.2 in ap (λ (s : Sheet). s.book) (sym h.2) ∙ sym (cc same)
 
 -- a table that has come stays
 pub table_since : {K V S : Type 0} (v log : List (Event K V S)) (t : ℕ) (sheet : Sheet) → IsPrefix v log → IsTable v t sheet → IsTable log t sheet
-table_since v log t sheet pre h = (h.0, ap (λ (l : List (Event _ _ _)). table_in (steps_of l) t) (sym pre.1) ∙ (ap (λ (es : List (Step _ _)). table_in es t) (steps-append v pre.0) ∙ table_later (steps_of v) (steps_of pre.0) t h.0 h.1), h.2)
+table_since v log t sheet pre h = (
+  h.0,
+  ap (λ (l : List (Event _ _ _)). table_in (steps_of l) t) (sym pre.1)
+      ∙ (ap (λ (es : List (Step _ _)). table_in es t) (steps-append v pre.0) ∙ table_later (steps_of v) (steps_of pre.0) t h.0 h.1),
+  h.2,
+)
 
 -- the key of the word with the next table's number, in a table that has come
 pub next_key : {K V S : Type 0} (log : List (Event K V S)) (t : ℕ) (sheet : Sheet) → IsTable log t sheet → key_at (steps_of log) (Next t) ≡ Some sheet.next
@@ -103,17 +115,23 @@ one_told : {K V : Type 0} (o : Option (Stored K V)) (p : Stored K V) → pair_na
 one_told None p e = absurd (cc e)
 one_told (Some q) p e = ap (λ z. Some z) (cc e)
 
-module _ {K V S : Type 0} (eq : K → K → Bool) (hash : S → K → ℕ) (b : Begun K V S) (log : List (Event K V S)) (found : ℕ) (state : Option (Named K V)) (t x : ℕ) (r : IsRead eq hash b (Slot t x) found log state) where
+module _ {K V S : Type 0} (eq : K → K → Bool) (hash : S → K → ℕ) (b : Begun K V S) (log : List (Event K V S)) (found : ℕ) (state : Option (Named K V))
+    (t x : ℕ) (r : IsRead eq hash b (Slot t x) found log state) where
   kind_here : (w : Word (Stored K V)) → (state_of log).slot t x ≡ w → kind_of found ≡ kind w
-  kind_here w e = ap kind_of (sym r.is) ∙ (ap (λ (z : Word (Stored K V)). kind_of (code (setting_of eq (hash b.hasher) b.mode b.limit log) (coding_of (hash b.hasher)) z)) e ∙ code_kind (setting_of eq (hash b.hasher) b.mode b.limit log) (coding_of (hash b.hasher)) w)
+  kind_here w e = ap kind_of (sym r.is) ∙ (ap
+      (λ (z : Word (Stored K V)). kind_of (code (setting_of eq (hash b.hasher) b.mode b.limit log) (coding_of (hash b.hasher)) z)) e
+      ∙ code_kind (setting_of eq (hash b.hasher) b.mode b.limit log) (coding_of (hash b.hasher)) w)
 
-  no_pair : (o : Option (Stored K V)) → IsPairOf found state o → (w : Word (Stored K V)) → (state_of log).slot t x ≡ w → named w ≡ None → (kind w ≡ kinds.Empty) ⊎ (kind w ≡ kinds.Closed) → named ((state_of log).slot t x) ≡ o
+  no_pair : (o : Option (Stored K V)) → IsPairOf found state o → (w : Word (Stored K V)) → (state_of log).slot t x ≡ w → named w ≡ None
+      → (kind w ≡ kinds.Empty) ⊎ (kind w ≡ kinds.Closed) → named ((state_of log).slot t x) ≡ o
   no_pair o i w e none h = ap named e ∙ (none ∙ sym (i.none (⊎_elim (λ k. inl (kind_here w e ∙ k)) (λ k. inr (kind_here w e ∙ k)) h)))
 
-  a_pair : (o : Option (Stored K V)) → IsPairOf found state o → (w : Word (Stored K V)) → (state_of log).slot t x ≡ w → (p : Stored K V) → named w ≡ Some p → (kind w ≡ kinds.Empty → ⊥) → (kind w ≡ kinds.Closed → ⊥) → named ((state_of log).slot t x) ≡ o
+  a_pair : (o : Option (Stored K V)) → IsPairOf found state o → (w : Word (Stored K V)) → (state_of log).slot t x ≡ w → (p : Stored K V)
+      → named w ≡ Some p → (kind w ≡ kinds.Empty → ⊥) → (kind w ≡ kinds.Closed → ⊥) → named ((state_of log).slot t x) ≡ o
   a_pair o i w e p is m n =
       let stands : named ((state_of log).slot t x) ≡ Some p = ap named e ∙ is in
-      stands ∙ sym (i.some p (r.state_is ∙ ap (λ (z : Option (Stored K V)). Some (pair_named z)) stands) (λ k. m (sym (kind_here w e) ∙ k)) (λ k. n (sym (kind_here w e) ∙ k)))
+      stands ∙ sym (i.some p (r.state_is ∙ ap (λ (z : Option (Stored K V)). Some (pair_named z)) stands) (λ k. m (sym (kind_here w e) ∙ k))
+      (λ k. n (sym (kind_here w e) ∙ k)))
 
   found_by : (o : Option (Stored K V)) → IsPairOf found state o → (w : Word (Stored K V)) → (state_of log).slot t x ≡ w → named ((state_of log).slot t x) ≡ o
   found_by o i Empty e = no_pair o i Empty e refl (inl refl)
@@ -131,7 +149,9 @@ module _ {K V S : Type 0} (eq : K → K → Bool) (hash : S → K → ℕ) (b : 
   pub told_pair : (p : Stored K V) → state ≡ Some (names.Pair p) → named ((state_of log).slot t x) ≡ Some p
   told_pair p e = one_told (named ((state_of log).slot t x)) p (cc (sym r.state_is ∙ e))
 
-module _ {K V S : Type 0} (eq : K → K → Bool) (hash : S → K → ℕ) (b : Begun K V S) (log : List (Event K V S)) (hashed : IsHashed (setting_of eq (hash b.hasher) b.mode b.limit log) (coding_of (hash b.hasher))) (name : Book) (called : name_in log ≡ Some name) (found : ℕ) (state : Option (Named K V)) (t x : ℕ) (r : IsRead eq hash b (Slot t x) found log state) where
+module _ {K V S : Type 0} (eq : K → K → Bool) (hash : S → K → ℕ) (b : Begun K V S) (log : List (Event K V S))
+    (hashed : IsHashed (setting_of eq (hash b.hasher) b.mode b.limit log) (coding_of (hash b.hasher))) (name : Book)
+    (called : name_in log ≡ Some name) (found : ℕ) (state : Option (Named K V)) (t x : ℕ) (r : IsRead eq hash b (Slot t x) found log state) where
   -- the pair of a slot's word may be taken
   pub names_pair : NamesPair found state
   names_pair m n = let s = slot_told eq hash b log hashed name called found state t x r m n in (s.pair, s.gained, s.number)
@@ -139,4 +159,5 @@ module _ {K V S : Type 0} (eq : K → K → Bool) (hash : S → K → ℕ) (b : 
   -- which lies in the logs
   pub found_placed : (o : Option (Stored K V)) → named ((state_of log).slot t x) ≡ o → IsPlaced b (Some name) (pair_named o)
   found_placed None e = tt
-  found_placed (Some p) e = r.lawful.placed (names.Pair p) (came_entered (names.Pair p) log (pair_came (setting_of eq (hash b.hasher) b.mode b.limit log) (steps_of log) r.lawful.allowed p t x e))
+  found_placed (Some p) e = r.lawful.placed (names.Pair p)
+      (came_entered (names.Pair p) log (pair_came (setting_of eq (hash b.hasher) b.mode b.limit log) (steps_of log) r.lawful.allowed p t x e))

@@ -19,7 +19,8 @@ shows log = log
 
 -- writing the word that stands there changes nothing
 pub same_cells : (cs : List Cell) (k : ℕ) → (cell cs k).1 ≡ true → slice_set cs k ((cell cs k).0, true) ≡ cs
-same_cells cs k home = let c : ((cell cs k).0, true) ≡ cell cs k = λ i. ((cell cs k).0, sym home i) in ap (λ (z : Cell). slice_set cs k z) c ∙ set-get_or cs k (0, false)
+same_cells cs k home = let c : ((cell cs k).0, true) ≡ cell cs k = λ i. ((cell cs k).0, sym home i) in
+    ap (λ (z : Cell). slice_set cs k z) c ∙ set-get_or cs k (0, false)
 
 module _ {K V S : Type 0} where
   -- an update that has nothing to do with the row leaves it
@@ -61,6 +62,7 @@ module _ {K V S : Type 0} where
             tt,
             subst (λ (z : List Cell × List (Event K V S)). IsKept eq hash z.0 z.1) (λ i. (sym (same_cells cs k home) i, sym nil i)) h,
             inr (named, refl, refl, (inl nil, subst (λ (l : List (Event K V S)). Answered l named) (sym nil) told, row_still ask log leaves)),
-            subst (λ (l : List (Event K V S)). Looked eq hash at (cell cs k).0 l (Some named)) (sym nil) (record { begun = h.begun; lawful = h.lawful; is = sym (ap (λ (z : Cell). z.0) stands); state_is = refl }),
+            subst (λ (l : List (Event K V S)). Looked eq hash at (cell cs k).0 l (Some named)) (sym nil)
+                (record { begun = h.begun; lawful = h.lawful; is = sym (ap (λ (z : Cell). z.0) stands); state_is = refl }),
           ),
         )

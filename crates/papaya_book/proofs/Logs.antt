@@ -1,5 +1,7 @@
 -- Longer logs: what they say of exchanges, tables, keys and names.
-use Rattle.std.proofs.Common.{◌≡◌, ◌⊎◌, inl, inr, ⊎_elim, ℕ, zero, suc, ◌+◌, ◌-◌, ◌==◌, Bool, false, cond, Option, None, Some, List, [], ◌∷◌, ◌++◌, length, map, slice_get, refl, sym, ap, ◌∙◌, append_assoc, arith, eqb-true}
+use Rattle.std.proofs.Common.{◌≡◌, ◌⊎◌, inl, inr, ⊎_elim, ℕ, zero, suc, ◌+◌, ◌-◌, ◌==◌, Bool, false}
+use Rattle.std.proofs.Common.{cond, Option, None, Some, List, [], ◌∷◌, ◌++◌, length, map, slice_get}
+use Rattle.std.proofs.Common.{refl, sym, ap, ◌∙◌, append_assoc, arith, eqb-true}
 use Rattle.std.proofs.lemmas.Bool.{cases_Bool, cond-true, cond-false}
 use Rattle.std.proofs.lemmas.List.{append-nil, map-append}
 use mathlib.Core.Path.{fun_ext}
@@ -18,7 +20,11 @@ use Rattle.papaya_book.specs.declared.rule.entry.Step.{Step}
 use Rattle.papaya_book.specs.declared.rule.entry.Step.TheVariants as steps
 use Rattle.papaya_book.specs.declared.rule.entry.Event.{Event}
 use Rattle.papaya_book.specs.declared.rule.entry.Event.TheVariants.{Wish, Begin, Called, Draw, Dealt, Stepped}
-use Rattle.papaya_book.specs.Logs.{Stored, Entered, brought, comes, entries_of, entry_of, exchange_of, exchanges_of, in_table, key_at, name_in, name_of, number_of, or_else, owner, plan_of, seal_of, seals_of, setting_of, setting_with, state_of, step_of, steps_of, table_if, table_in}
+use Rattle.papaya_book.specs.Logs.{Stored, Entered, brought, comes, entries_of, entry_of}
+use Rattle.papaya_book.specs.Logs.{exchange_of, exchanges_of, in_table, key_at, name_in, name_of}
+use Rattle.papaya_book.specs.Logs.{number_of, or_else, owner, plan_of, seal_of, seals_of}
+use Rattle.papaya_book.specs.Logs.{setting_of, setting_with, state_of, step_of, steps_of, table_if}
+use Rattle.papaya_book.specs.Logs.{table_in}
 use Rattle.papaya_book.specs.Rule.{seal_at}
 use Rattle.papaya_book.specs.Offer.{Answered}
 
@@ -44,7 +50,8 @@ pub get_right : {X : Type 0} (xs ys : List X) (i : ℕ) → slice_get (xs ++ ys)
 get_right [] ys i = let e : 0 + i ≡ i = omega arith in ap (slice_get ys) e
 get_right (x ∷ xs) ys i = let e : length (x ∷ xs) + i ≡ suc (length xs + i) = omega arith in ap (slice_get (x ∷ (xs ++ ys))) e ∙ get_right xs ys i
 
-key_in_later : {X : Type 0} (f : Sheet → Option X) (o o' : Option (Where Sheet)) → ((w : Where Sheet) → o ≡ Some w → o' ≡ Some w) → (k : X) → in_table f o ≡ Some k → in_table f o' ≡ Some k
+key_in_later : {X : Type 0} (f : Sheet → Option X) (o o' : Option (Where Sheet)) → ((w : Where Sheet) → o ≡ Some w → o' ≡ Some w) → (k : X)
+    → in_table f o ≡ Some k → in_table f o' ≡ Some k
 key_in_later f None o' h k e = absurd (cc e)
 key_in_later f (Some w) o' h k e = ap (in_table f) (h w refl) ∙ e
 
@@ -79,7 +86,8 @@ module _ {K V : Type 0} where
 
   pub table_append : (es fs : List (Step K V)) (t : ℕ) → table_in (es ++ fs) t ≡ or_else (table_in es t) (table_in fs t)
   table_append [] fs t = refl
-  table_append (e ∷ es) fs t = ap (or_else (table_if (comes e) t)) (table_append es fs t) ∙ sym (or_else_more (table_if (comes e) t) (table_in es t) (table_in fs t))
+  table_append (e ∷ es) fs t = ap (or_else (table_if (comes e) t)) (table_append es fs t)
+      ∙ sym (or_else_more (table_if (comes e) t) (table_in es t) (table_in fs t))
 
   -- a table that has come stays
   pub table_later : (es fs : List (Step K V)) (t : ℕ) (w : Where Sheet) → table_in es t ≡ Some w → table_in (es ++ fs) t ≡ Some w
@@ -101,7 +109,8 @@ module _ {K V : Type 0} where
 
   -- an exchange with which no table comes leaves the tables
   pub same_table : (es : List (Step K V)) (e : Step K V) (t : ℕ) → IsQuiet (comes e) → table_in (es ++ e ∷ []) t ≡ table_in es t
-  same_table es e t q = table_append es (e ∷ []) t ∙ (ap (λ (o : Option (Where Sheet)). or_else (table_in es t) (or_else o None)) (no_table (comes e) t q) ∙ or_nothing (table_in es t))
+  same_table es e t q = table_append es (e ∷ []) t
+      ∙ (ap (λ (o : Option (Where Sheet)). or_else (table_in es t) (or_else o None)) (no_table (comes e) t q) ∙ or_nothing (table_in es t))
 
   pub same_key : (es : List (Step K V)) (e : Step K V) (at : At) → IsQuiet (comes e) → key_at (es ++ e ∷ []) at ≡ key_at es at
   same_key es e Root q = refl
@@ -153,7 +162,8 @@ module _ {K V : Type 0} where
   table_came_with (names.Pair p) t w e = absurd (cc e)
   table_came_with (names.Table v) t w e =
       ⊎_elim
-      (λ h. let c = cond-true (number_of v == t) (Some v) None h in let same : v ≡ w = cc (c, e) in (ap names.Table same, ap number_of (sym same) ∙ eqb-true (number_of v) t h))
+      (λ h. let c = cond-true (number_of v == t) (Some v) None h in let same : v ≡ w = cc (c, e) in
+      (ap names.Table same, ap number_of (sym same) ∙ eqb-true (number_of v) t h))
       (λ h. let c = cond-false (number_of v == t) (Some v) None h in absurd (cc (c, e)))
       (cases_Bool (number_of v == t))
 
@@ -225,16 +235,21 @@ module _ {K V S : Type 0} where
   steps_same log e h = steps-append log (e ∷ []) ∙ (ap (λ (l : List (Step K V)). steps_of log ++ (l ++ [])) h ∙ append-nil (steps_of log))
 
   -- an exchange with which no table comes leaves the setting
-  pub setting_same : (eq : K → K → Bool) (hash : K → ℕ) (mode : ResizeMode) (most : Option ℕ) (log : List (Event K V S)) (e : Step K V) → IsQuiet (comes e) → setting_of eq hash mode most (log ++ Stepped e ∷ []) ≡ setting_of eq hash mode most log
+  pub setting_same : (eq : K → K → Bool) (hash : K → ℕ) (mode : ResizeMode) (most : Option ℕ) (log : List (Event K V S)) (e : Step K V)
+      → IsQuiet (comes e) → setting_of eq hash mode most (log ++ Stepped e ∷ []) ≡ setting_of eq hash mode most log
   setting_same eq hash mode most log e q =
       ap (setting_in (plan_of eq hash mode most)) (entries-append log (Stepped e ∷ []))
-      ∙ (let sizes : size_in (entries_of log ++ entry_of e ∷ []) ≡ size_in (entries_of log) = fun_ext (λ t. size_same (entries_of log) (entry_of e) t (brings_none e t q)) in
-      let places : places_in (entries_of log ++ entry_of e ∷ []) ≡ places_in (entries_of log) = fun_ext (λ t. places_same (entries_of log) (entry_of e) t (brings_none e t q)) in
-      let chunks : chunks_in (entries_of log ++ entry_of e ∷ []) ≡ chunks_in (entries_of log) = fun_ext (λ t. chunks_same (entries_of log) (entry_of e) t (brings_none e t q)) in
+      ∙ (let sizes : size_in (entries_of log ++ entry_of e ∷ []) ≡ size_in (entries_of log) = fun_ext
+      (λ t. size_same (entries_of log) (entry_of e) t (brings_none e t q)) in
+      let places : places_in (entries_of log ++ entry_of e ∷ []) ≡ places_in (entries_of log) = fun_ext
+      (λ t. places_same (entries_of log) (entry_of e) t (brings_none e t q)) in
+      let chunks : chunks_in (entries_of log ++ entry_of e ∷ []) ≡ chunks_in (entries_of log) = fun_ext
+      (λ t. chunks_same (entries_of log) (entry_of e) t (brings_none e t q)) in
       λ i. Rattle.papaya_law.specs.Grows.planned (plan_of eq hash mode most) (sizes i) (places i) (chunks i))
 
   -- where what comes is no table, it is the setting of the log
-  pub with_quiet : (eq : K → K → Bool) (hash : K → ℕ) (mode : ResizeMode) (most : Option ℕ) (log : List (Event K V S)) (n : Named K V) → IsQuiet n → setting_with eq hash mode most n log ≡ setting_of eq hash mode most log
+  pub with_quiet : (eq : K → K → Bool) (hash : K → ℕ) (mode : ResizeMode) (most : Option ℕ) (log : List (Event K V S)) (n : Named K V) → IsQuiet n
+      → setting_with eq hash mode most n log ≡ setting_of eq hash mode most log
   with_quiet eq hash mode most log names.Nothing q = refl
   with_quiet eq hash mode most log (names.Pair p) q = refl
   with_quiet eq hash mode most log (names.Table w) q = absurd q
@@ -245,4 +260,5 @@ run-append (x ∷ xs) ys s = run-append xs ys (after s x)
 
 -- the state after one more exchange
 pub state_more : {K V S : Type 0} (log : List (Event K V S)) (e : Step K V) → state_of (log ++ Stepped e ∷ []) ≡ after (state_of log) (exchange_of e)
-state_more log e = ap (λ (l : List (Exchange (Stored _ _))). run l start) (exchanges_of-append log (Stepped e ∷ [])) ∙ run-append (exchanges_of log) (exchange_of e ∷ []) start
+state_more log e = ap (λ (l : List (Exchange (Stored _ _))). run l start) (exchanges_of-append log (Stepped e ∷ []))
+    ∙ run-append (exchanges_of log) (exchange_of e ∷ []) start

@@ -32,7 +32,8 @@ bytes i b s = vstruct (of_list (vint w64 i ∷ vint w64 b ∷ vint w64 s ∷ tok
 
 module _ {M : Type 1} {𝓤 : Ura M} (𝓛 : Logic 𝓤) (R : RattleType) where
   pub placed_made : (w : Where R.Denot) (x : Fields R w) (i b s : ℕ) → i ≡ x.0.index → b ≡ x.0.bucket → s ≡ x.0.slot → i < 2 ^ 64 → b < 2 ^ 64 → s < 2 ^ 64
-      → ent 𝓤 (sep 𝓤 (sem 𝓛 (written (bucket_row R) x.0.row.of x.0.row.value)) (sem 𝓛 (written R x.0.item.of x.0.item.value))) (sem 𝓛 ((token_row R).own_val w (bytes i b s ∷ [])))
+      → ent 𝓤 (sep 𝓤 (sem 𝓛 (written (bucket_row R) x.0.row.of x.0.row.value)) (sem 𝓛 (written R x.0.item.of x.0.item.value)))
+      (sem 𝓛 ((token_row R).own_val w (bytes i b s ∷ [])))
   placed_made w x i b s ei eb es fi fb fs =
       let vs : List Val = bytes i b s ∷ [] in
       let S = shape (Inside.the_type R Anything.the_row Global.the_row (AnythingKeeps.ghosts R) GlobalAllocator.ghosts) in
@@ -44,7 +45,8 @@ module _ {M : Type 1} {𝓤 : Ura M} (𝓛 : Logic 𝓤) (R : RattleType) where
       owned ! usize _ (uint_Makes 𝓛 w64) x.0.bucket (vint w64 b ∷ []) (ap (λ (n : ℕ). vint w64 n ∷ []) eb, subst (λ (n : ℕ). n < 2 ^ 64) eb fb) $ fjoin ! $
       owned ! usize _ (uint_Makes 𝓛 w64) x.0.index (vint w64 i ∷ []) (ap (λ (n : ℕ). vint w64 n ∷ []) ei, subst (λ (n : ℕ). n < 2 ^ 64) ei fi) $ fjoin ! $
       feq_i ! (List Val) vs vs refl $ fjoin ! $
-      fpack ! (Valss S.fields) (within S (x.0.index, (x.0.bucket, (x.0.slot, (x.0.row, (x.0.item, tt))))) vs) (vint w64 i ∷ [], (vint w64 b ∷ [], (vint w64 s ∷ [], (token ∷ [], (token ∷ [], tt))))) $
+      fpack ! (Valss S.fields) (within S (x.0.index, (x.0.bucket, (x.0.slot, (x.0.row, (x.0.item, tt))))) vs)
+      (vint w64 i ∷ [], (vint w64 b ∷ [], (vint w64 s ∷ [], (token ∷ [], (token ∷ [], tt))))) $
       nothing ! $ move ! (1 ∷ 0 ∷ []) $ fjoin ! $
       fpack ! (Fields R w) (λ (y : Fields R w). fsep ((fields_row R).own_val y.0 vs) ftrue) x $ done !
 

@@ -1,5 +1,8 @@
 -- Steps on the makers' word keep the rule: a seal is added and words are dealt for it, or the book is told its name.
-use Rattle.std.proofs.Common.{◌≡◌, ◌≢◌, ◌⊎◌, inl, inr, ⊎_elim, ℕ, ◌+◌, ◌-◌, ◌<◌, ◌≤◌, ◌==◌, Bool, true, false, Option, None, Some, List, [], ◌∷◌, ◌++◌, length, map, replicate, slice_set, slice_get, zero, suc, refl, sym, ap, ◌∙◌, subst, arith, length-append, length-set}
+use Rattle.std.proofs.Common.{◌≡◌, ◌≢◌, ◌⊎◌, inl, inr, ⊎_elim, ℕ, ◌+◌, ◌-◌, ◌<◌, ◌≤◌, ◌==◌, Bool}
+use Rattle.std.proofs.Common.{true, false, Option, None, Some, List, [], ◌∷◌, ◌++◌, length, map}
+use Rattle.std.proofs.Common.{replicate, slice_set, slice_get, zero, suc, refl, sym, ap, ◌∙◌, subst}
+use Rattle.std.proofs.Common.{arith, length-append, length-set}
 use Rattle.std.proofs.lemmas.List.{append-nil, length-replicate}
 use mathlib.Core.List.{IsPrefix}
 use Rattle.std.proofs.lemmas.Bool.Decides.{leb_tells, nat_tests}
@@ -18,7 +21,9 @@ use Rattle.papaya_book.specs.declared.rule.entry.Named.TheVariants as names
 use Rattle.papaya_book.specs.declared.rule.entry.Step.{Step}
 use Rattle.papaya_book.specs.declared.rule.entry.Event.{Event}
 use Rattle.papaya_book.specs.declared.rule.entry.Event.TheVariants.{Called, Dealt, Draw}
-use Rattle.papaya_book.specs.Logs.{Stored, Entered, brought, dealt, entry_of, in_table, key_at, name_in, name_of, or_else, owner, plan_of, seals_of, step_of, steps_of, table_in}
+use Rattle.papaya_book.specs.Logs.{Stored, Entered, brought, dealt, entry_of, in_table, key_at}
+use Rattle.papaya_book.specs.Logs.{name_in, name_of, or_else, owner, plan_of, seals_of, step_of}
+use Rattle.papaya_book.specs.Logs.{steps_of, table_in}
 use Rattle.papaya_book.specs.Makers.{AreDealt, Calls, Deals}
 use Rattle.papaya_book.specs.Rows.{row_len}
 use Rattle.papaya_book.specs.Rule.{IsBlank, IsKept, IsLawfulLog, IsOfMap, IsPlaced, IsSealOf, flag, seal_at, word_in}
@@ -51,7 +56,8 @@ map_key es (Done t c) k of e = absurd of
 map_key es (Slot t x) k of e = absurd of
 
 -- what is placed stays so where the book's name stays
-pub placed_named : {K V S : Type 0} (b : Begun K V S) (o o' : Option Book) → ((name : Book) → o ≡ Some name → o' ≡ Some name) → (n : Named K V) → IsPlaced b o n → IsPlaced b o' n
+pub placed_named : {K V S : Type 0} (b : Begun K V S) (o o' : Option Book) → ((name : Book) → o ≡ Some name → o' ≡ Some name) → (n : Named K V)
+    → IsPlaced b o n → IsPlaced b o' n
 placed_named b o o' h names.Nothing p = tt
 placed_named b o o' h (names.Pair q) p = p
 placed_named b o o' h (names.Table w) p = (p.0, p.1, h w.value.book p.2)
@@ -69,7 +75,8 @@ each_same (suc n) x (suc i) l = each_same n x i (omega arith)
 
 module _ {K V S : Type 0} (eq : K → K → Bool) (hash : S → K → ℕ) where
   -- an entry that is no exchange and brings nothing keeps the log lawful
-  pub lawful_still : (b : Begun K V S) (log : List (Event K V S)) (e : Event K V S) → step_of e ≡ [] → brought e ≡ names.Nothing → IsLawfulLog eq hash b log → IsLawfulLog eq hash b (log ++ e ∷ [])
+  pub lawful_still : (b : Begun K V S) (log : List (Event K V S)) (e : Event K V S) → step_of e ≡ [] → brought e ≡ names.Nothing
+      → IsLawfulLog eq hash b log → IsLawfulLog eq hash b (log ++ e ∷ [])
   lawful_still b log e no_step nothing l =
       let plan = plan_of {V = V} eq (hash b.hasher) b.mode b.limit in
       let same : steps_of log ≡ steps_of (log ++ e ∷ []) = sym (steps_same log e no_step) in record {
@@ -82,12 +89,15 @@ module _ {K V S : Type 0} (eq : K → K → Bool) (hash : S → K → ℕ) where
             (λ i. placed_named b (name_in log) (name_in (log ++ e ∷ [])) (name_later log (e ∷ [])) n (l.placed n i))
             (λ i. subst (IsPlaced b (name_in (log ++ e ∷ []))) (sym nothing ∙ i) tt)
             (entered_last n log e h);
-        blank = subst (λ (es : List (Step K V)). (t : ℕ) → table_in es t ≡ None → IsBlank (Rattle.papaya_law.specs.Exchange.run (exchanges (map entry_of es)) start) t) same l.blank;
-        unopened = subst (λ (es : List (Step K V)). (Rattle.papaya_law.specs.Exchange.run (exchanges (map entry_of es)) start).root ≡ 0 → (t : ℕ) → table_in es t ≡ None) same l.unopened;
+        blank = subst (λ (es : List (Step K V)). (t : ℕ) → table_in es t ≡ None
+            → IsBlank (Rattle.papaya_law.specs.Exchange.run (exchanges (map entry_of es)) start) t) same l.blank;
+        unopened = subst (λ (es : List (Step K V)). (Rattle.papaya_law.specs.Exchange.run (exchanges (map entry_of es)) start).root ≡ 0 → (t : ℕ)
+            → table_in es t ≡ None) same l.unopened;
         apart = subst (λ (es : List (Step K V)). (at at' : At) (k : ℕ) → key_at es at ≡ Some k → key_at es at' ≡ Some k → at ≡ at') same l.apart;
       }
 
-  module _ (cs cs' : List Cell) (log : List (Event K V S)) (h : IsKept eq hash cs log) (e : Event K V S) (no_step : step_of e ≡ []) (nothing : brought e ≡ names.Nothing) where
+  module _ (cs cs' : List Cell) (log : List (Event K V S)) (h : IsKept eq hash cs log) (e : Event K V S) (no_step : step_of e ≡ [])
+      (nothing : brought e ≡ names.Nothing) where
     abbrev log' : List (Event K V S)
     log' = log ++ e ∷ []
 
@@ -100,9 +110,12 @@ module _ {K V S : Type 0} (eq : K → K → Bool) (hash : S → K → ℕ) where
     same_word : (at : At) → word_in eq hash h.begun log' at ≡ word_in eq hash h.begun log at
     same_word at =
         let plan = plan_of {V = V} eq (hash h.begun.hasher) h.begun.mode h.begun.limit in
-        ap (λ (es : List (Step K V)). Rattle.papaya_call_law.specs.Told.word_of (setting_in plan (map entry_of es)) (Rattle.papaya_book.specs.Logs.coding_of (hash h.begun.hasher)) (Rattle.papaya_law.specs.Exchange.run (exchanges (map entry_of es)) start) at) same_steps
+        ap (λ (es : List (Step K V)). Rattle.papaya_call_law.specs.Told.word_of (setting_in plan (map entry_of es))
+        (Rattle.papaya_book.specs.Logs.coding_of (hash h.begun.hasher)) (Rattle.papaya_law.specs.Exchange.run (exchanges (map entry_of es)) start)
+        at) same_steps
 
-    owned_still : (at : At) (k : ℕ) → key_at (steps_of log) at ≡ Some k → IsOfMap at ⊎ (IsSealOf k (seal_at (steps_of log') at) ⊎ (owner k log' ≡ seal_at (steps_of log') at))
+    owned_still : (at : At) (k : ℕ) → key_at (steps_of log) at ≡ Some k → IsOfMap at
+        ⊎ (IsSealOf k (seal_at (steps_of log') at) ⊎ (owner k log' ≡ seal_at (steps_of log') at))
     owned_still at k x =
         ⊎_elim
         (λ i. inl i)
@@ -133,7 +146,8 @@ module _ {K V S : Type 0} (eq : K → K → Bool) (hash : S → K → ℕ) where
       owned = λ at k x. owned_still at k (old_key at k x);
       fresh = λ k two home out.
           ⊎_elim
-          (λ i. ap (λ (c : Cell). c.0) i ∙ h.fresh k two (sym (ap (λ (c : Cell). c.1) i) ∙ home) (λ at x. out at (ap (λ (es : List (Step K V)). key_at es at) same_steps ∙ x)))
+          (λ i. ap (λ (c : Cell). c.0) i ∙ h.fresh k two (sym (ap (λ (c : Cell). c.1) i) ∙ home)
+          (λ at x. out at (ap (λ (es : List (Step K V)). key_at es at) same_steps ∙ x)))
           (λ i. i)
           (fresh k two home);
     }
@@ -151,10 +165,13 @@ module _ {K V S : Type 0} (eq : K → K → Bool) (hash : S → K → ℕ) where
     dealt_more : (seal count : ℕ) → dealt (log ++ Dealt seal count ∷ []) ≡ dealt log + count
     dealt_more seal count =
         let one : replicate count seal ++ [] ≡ replicate count seal = append-nil (replicate count seal) in
-        ap (λ (l : List ℕ). length l) (seals-append log (Dealt seal count ∷ [])) ∙ (length-append (seals_of log) (replicate count seal ++ []) ∙ ap (λ (n : ℕ). dealt log + n) (ap (λ (l : List ℕ). length l) one ∙ length-replicate count seal))
+        ap (λ (l : List ℕ). length l) (seals-append log (Dealt seal count ∷ []))
+        ∙ (length-append (seals_of log) (replicate count seal ++ [])
+        ∙ ap (λ (n : ℕ). dealt log + n) (ap (λ (l : List ℕ). length l) one ∙ length-replicate count seal))
 
     -- a seal is added, and words are dealt for it
-    pub kept_dealt : (seal count new : ℕ) → new ≡ flag (name_in log) + (dealt log + count) → dealt log + count ≤ row_len → IsKept eq hash (slice_set cs 1 (new, true) ++ (0, false) ∷ []) (log ++ Dealt seal count ∷ [])
+    pub kept_dealt : (seal count new : ℕ) → new ≡ flag (name_in log) + (dealt log + count) → dealt log + count ≤ row_len
+        → IsKept eq hash (slice_set cs 1 (new, true) ++ (0, false) ∷ []) (log ++ Dealt seal count ∷ [])
     kept_dealt seal count new is room =
         let made = slice_set cs 1 (new, true) in let cs' = made ++ (0, false) ∷ [] in let log' = log ++ Dealt seal count ∷ [] in
         let within : 1 < length cs = let l = at_least_three in omega arith in
@@ -169,7 +186,8 @@ module _ {K V S : Type 0} (eq : K → K → Bool) (hash : S → K → ℕ) where
         (omega arith)
         (λ k at x. old k (not_maker cs log h at k x) (h.counted at k x).0)
         (λ k l. let m = h.many in ap (λ (c : Cell). c.1) (cell_left made k (omega arith)) ∙ home_still cs 1 k new within (h.homes k l))
-        (λ k three home. ⊎_elim (λ past. inr (ap (λ (c : Cell). c.0) (cell_past made k (omega arith)))) (λ l. inl (old k (λ i. absurd (omega arith)) l.1)) (leb_tells (length cs) k))
+        (λ k three home. ⊎_elim (λ past. inr (ap (λ (c : Cell). c.0) (cell_past made k (omega arith))))
+        (λ l. inl (old k (λ i. absurd (omega arith)) l.1)) (leb_tells (length cs) k))
 
     -- the words that were dealt are the next ones of the row
     pub words_dealt : (seal count : ℕ) → 3 + row_len ≤ seal → dealt log + count ≤ row_len → AreDealt (3 + dealt log) count seal (log ++ Dealt seal count ∷ [])
@@ -179,12 +197,14 @@ module _ {K V S : Type 0} (eq : K → K → Bool) (hash : S → K → ℕ) where
       sealed = sealed;
       owned = λ i l.
           let place : 3 + dealt log + i - 3 ≡ dealt log + i = omega arith in
-          let last : seals_of (log ++ Dealt seal count ∷ []) ≡ seals_of log ++ replicate count seal = seals-append log (Dealt seal count ∷ []) ∙ ap (λ (z : List ℕ). seals_of log ++ z) (append-nil (replicate count seal)) in
+          let last : seals_of (log ++ Dealt seal count ∷ []) ≡ seals_of log ++ replicate count seal = seals-append log (Dealt seal count ∷ [])
+          ∙ ap (λ (z : List ℕ). seals_of log ++ z) (append-nil (replicate count seal)) in
           (λ j. slice_get (last j) (place j)) ∙ (get_right (seals_of log) (replicate count seal) i ∙ each_same count seal i l);
     }
 
     -- the book is told its name
-    pub kept_called : (name : Book) → (cell cs 1).0 ≡ 0 → IsKept eq hash (slice_set cs 1 (1, true)) (log ++ Called name ∷ []) × (name_in (log ++ Called name ∷ []) ≡ Some name) × (dealt (log ++ Called name ∷ []) ≡ 0)
+    pub kept_called : (name : Book) → (cell cs 1).0 ≡ 0 → IsKept eq hash (slice_set cs 1 (1, true)) (log ++ Called name ∷ [])
+        × (name_in (log ++ Called name ∷ []) ≡ Some name) × (dealt (log ++ Called name ∷ []) ≡ 0)
     kept_called name none =
         let cs' = slice_set cs 1 (1, true) in let log' = log ++ Called name ∷ [] in
         let within : 1 < length cs = let l = at_least_three in omega arith in
@@ -209,7 +229,8 @@ module _ {K V S : Type 0} (eq : K → K → Bool) (hash : S → K → ℕ) where
 
   -- the book as it is where the makers' word is another
   left_so : (cs : List Cell) (log : List (Event K V S)) → IsKept eq hash cs log → IsKept eq hash (slice_set cs 1 ((cell cs 1).0, true)) (log ++ [])
-  left_so cs log h = subst (λ (z : List Cell × List (Event K V S)). IsKept eq hash z.0 z.1) (λ i. (sym (same_cells cs 1 (ap (λ (c : Cell). c.1) h.maker)) i, sym (append-nil log) i)) h
+  left_so cs log h = subst (λ (z : List Cell × List (Event K V S)). IsKept eq hash z.0 z.1)
+      (λ i. (sym (same_cells cs 1 (ap (λ (c : Cell). c.1) h.maker)) i, sym (append-nil log) i)) h
 
   -- what is asked for where words are drawn, and how the makers' word goes on
   module _ (v : List (Event K V S)) (name : Book) (named : name_in v ≡ Some name) (old count : ℕ) (room : old + count ≤ 1 + row_len) where
@@ -217,7 +238,8 @@ module _ {K V S : Type 0} (eq : K → K → Bool) (hash : S → K → ℕ) where
     ask = Draw name (old + 2) count
 
     deals_goes : (cs : List Cell) (log : List (Event K V S)) → IsKept eq hash cs log → IsPrefix v log → (t : Bool) → ((cell cs 1).0 == old) ≡ t
-        → Goes (IsKept eq hash) shows (Moved ask) 1 (v, (no_nib, None)) (λ n. either (n == old) (old + count) n) (Deals (step 1 old (old + count) ask) (v, (no_nib, None))) cs log
+        → Goes (IsKept eq hash) shows (Moved ask) 1 (v, (no_nib, None)) (λ n. either (n == old) (old + count) n)
+        (Deals (step 1 old (old + count) ask) (v, (no_nib, None))) cs log
     deals_goes cs log h pre true is =
         let seal = length cs in
         let found : (cell cs 1).0 ≡ old = grind (arith, nat_tests) in
@@ -225,7 +247,8 @@ module _ {K V S : Type 0} (eq : K → K → Bool) (hash : S → K → ℕ) where
         let word : old ≡ 1 + dealt log = sym found ∙ (ap (λ (c : Cell). c.0) h.maker ∙ ap (λ (o : Option Book). flag o + dealt log) called) in
         let first : old + 2 ≡ 3 + dealt log = omega arith in
         let fits : dealt log + count ≤ row_len = omega arith in
-        let new : old + count ≡ flag (name_in log) + (dealt log + count) = (let z : old + count ≡ 1 + (dealt log + count) = omega arith in z) ∙ ap (λ (o : Option Book). flag o + (dealt log + count)) (sym called) in
+        let new : old + count ≡ flag (name_in log) + (dealt log + count) = (let z : old + count ≡ 1 + (dealt log + count) = omega arith in z)
+        ∙ ap (λ (o : Option Book). flag o + (dealt log + count)) (sym called) in
         let called' : name_in (log ++ Dealt seal count ∷ []) ≡ Some name = name_later log (Dealt seal count ∷ []) name called in (
           adds,
           Dealt seal count ∷ [],
@@ -233,16 +256,25 @@ module _ {K V S : Type 0} (eq : K → K → Bool) (hash : S → K → ℕ) where
           tt,
           rw is (kept_dealt cs log h seal count (old + count) new fits),
           inr (names.Nothing, refl, refl, (inr (Dealt seal count, refl, refl), tt, (called, first, fits, called', dealt_more cs log h seal count))),
-          rw is (seal, refl, refl, subst (λ (n : ℕ). AreDealt n count seal (log ++ Dealt seal count ∷ [])) (sym first) (words_dealt cs log h seal count h.many fits)),
+          rw is (
+            seal,
+            refl,
+            refl,
+            subst (λ (n : ℕ). AreDealt n count seal (log ++ Dealt seal count ∷ [])) (sym first)
+                (words_dealt cs log h seal count h.many fits),
+          ),
         )
     deals_goes cs log h pre false is =
         (keeps, [], None, tt, rw is (left_so cs log h), inl (refl, append-nil log), rw is tt)
 
-    pub deals_moves : Moves (IsKept eq hash) shows (Moved ask) 1 (v, (no_nib, None)) (λ n. either (n == old) (old + count) n) (Deals (step 1 old (old + count) ask) (v, (no_nib, None)))
+    pub deals_moves : Moves (IsKept eq hash) shows (Moved ask) 1 (v, (no_nib, None)) (λ n. either (n == old) (old + count) n)
+        (Deals (step 1 old (old + count) ask) (v, (no_nib, None)))
     deals_moves cs log h pre away = let m = maker_home cs log h in (m.0, m.1, deals_goes cs log h pre ((cell cs 1).0 == old) refl)
 
-  calls_goes : (v : List (Event K V S)) (name : Book) (cs : List Cell) (log : List (Event K V S)) → IsKept eq hash cs log → (t : Bool) → ((cell cs 1).0 == 0) ≡ t
-      → Goes (IsKept eq hash) shows (Moved (Called name)) 1 (v, (no_nib, None)) (λ n. either (n == 0) 1 n) (Calls (step 1 0 1 (Called name)) (v, (no_nib, None))) cs log
+  calls_goes : (v : List (Event K V S)) (name : Book) (cs : List Cell) (log : List (Event K V S)) → IsKept eq hash cs log → (t : Bool)
+      → ((cell cs 1).0 == 0) ≡ t
+      → Goes (IsKept eq hash) shows (Moved (Called name)) 1 (v, (no_nib, None)) (λ n. either (n == 0) 1 n)
+      (Calls (step 1 0 1 (Called name)) (v, (no_nib, None))) cs log
   calls_goes v name cs log h true is =
       let none : (cell cs 1).0 ≡ 0 = grind (arith, nat_tests) in let called = kept_called cs log h name none in (
         keeps,
@@ -256,5 +288,6 @@ module _ {K V S : Type 0} (eq : K → K → Bool) (hash : S → K → ℕ) where
   calls_goes v name cs log h false is =
       (keeps, [], None, tt, rw is (left_so cs log h), inl (refl, append-nil log), rw is tt)
 
-  pub calls_moves : (v : List (Event K V S)) (name : Book) → Moves (IsKept eq hash) shows (Moved (Called name)) 1 (v, (no_nib, None)) (λ n. either (n == 0) 1 n) (Calls (step 1 0 1 (Called name)) (v, (no_nib, None)))
+  pub calls_moves : (v : List (Event K V S)) (name : Book)
+      → Moves (IsKept eq hash) shows (Moved (Called name)) 1 (v, (no_nib, None)) (λ n. either (n == 0) 1 n) (Calls (step 1 0 1 (Called name)) (v, (no_nib, None)))
   calls_moves v name cs log h pre away = let m = maker_home cs log h in (m.0, m.1, calls_goes v name cs log h ((cell cs 1).0 == 0) refl)

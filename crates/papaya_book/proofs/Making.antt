@@ -1,5 +1,7 @@
 -- A table that is made of words of the row, and opened.
-use Rattle.std.proofs.Common.{◌≡◌, ◌⊎◌, inl, inr, ℕ, zero, suc, ◌+◌, ◌-◌, ◌<◌, ◌≤◌, Bool, Option, Some, List, [], ◌∷◌, ◌++◌, length, slice_get, refl, sym, ap, ◌∙◌, subst, arith}
+use Rattle.std.proofs.Common.{◌≡◌, ◌⊎◌, inl, inr, ℕ, zero, suc, ◌+◌, ◌-◌, ◌<◌, ◌≤◌, Bool, Option}
+use Rattle.std.proofs.Common.{Some, List, [], ◌∷◌, ◌++◌, length, slice_get, refl, sym, ap, ◌∙◌}
+use Rattle.std.proofs.Common.{subst, arith}
 use mathlib.Core.List.{IsPrefix}
 use Rattle.boxcar.specs.Table.{Where}
 use Rattle.logbook.specs.Pages.{Book, Named}
@@ -19,7 +21,8 @@ use Rattle.papaya_book.proofs.Comes.{get_within}
 use Rattle.papaya_book.proofs.Logs.{get_left, get_right, owner_later}
 
 -- an opening changes the root alone
-others_stay : {K P : Type 0} (g : Setting K P) (c : Coding K P) (s : State P) (t : ℕ) (at : At) → (at ≡ Root → ⊥) → word_of g c (after s (Open t)) at ≡ word_of g c s at
+others_stay : {K P : Type 0} (g : Setting K P) (c : Coding K P) (s : State P) (t : ℕ) (at : At) → (at ≡ Root → ⊥)
+    → word_of g c (after s (Open t)) at ≡ word_of g c s at
 others_stay g c s t Root n = absurd (n refl)
 others_stay g c s t (Next u) n = refl
 others_stay g c s t (Aborted u) n = refl
@@ -28,13 +31,18 @@ others_stay g c s t (Slot u x) n = refl
 others_stay g c s t Made n = refl
 
 -- where there is no root, a table may be opened
-pub can_open : {K V S : Type 0} (eq : K → K → Bool) (hash : S → K → ℕ) (b : Begun K V S) (made : Option (Stored K V)) (w : Where Sheet) (v : List (Event K V S)) → CanBring eq hash b Root (Some kinds.Open) 0 (number_of w) made w v
+pub can_open : {K V S : Type 0} (eq : K → K → Bool) (hash : S → K → ℕ) (b : Begun K V S) (made : Option (Stored K V)) (w : Where Sheet)
+    (v : List (Event K V S)) → CanBring eq hash b Root (Some kinds.Open) 0 (number_of w) made w v
 can_open eq hash b made w v log pre l is = (
   record {
     step = steps.Open w;
     meant = record { asked = inl refl; with_it = refl };
     allowed = (is, omega arith);
-    written = record { here = refl; others = λ at n. others_stay (setting_of eq (hash b.hasher) b.mode b.limit log) (coding_of (hash b.hasher)) (state_of log) (number_of w) at n };
+    written = record {
+      here = refl;
+      others = λ at n.
+          others_stay (setting_of eq (hash b.hasher) b.mode b.limit log) (coding_of (hash b.hasher)) (state_of log) (number_of w) at n;
+    };
   },
   l.unopened is (number_of w),
 )
@@ -47,7 +55,8 @@ from_more (j ∷ ks) first k f e = (f.0, from_more ks (first + 1) k f.1 (omega a
 -- words after words
 pub from_append : (ks js : List ℕ) (first : ℕ) → AreFrom ks first → AreFrom js (first + length ks) → AreFrom (ks ++ js) first
 from_append [] js first f g = let e : first + 0 ≡ first = omega arith in subst (AreFrom js) e g
-from_append (k ∷ ks) js first f g = let e : first + length (k ∷ ks) ≡ first + 1 + length ks = omega arith in (f.0, from_append ks js (first + 1) f.1 (subst (AreFrom js) e g))
+from_append (k ∷ ks) js first f g = let e : first + length (k ∷ ks) ≡ first + 1 + length ks = omega arith in
+    (f.0, from_append ks js (first + 1) f.1 (subst (AreFrom js) e g))
 
 -- each of them
 from_at : (ks : List ℕ) (first x k : ℕ) → AreFrom ks first → slice_get ks x ≡ Some k → k ≡ first + x
@@ -62,7 +71,9 @@ module _ {K V S : Type 0} where
       subst (AreDealt first count seal) pre.1
       (record { past = d.past; within = d.within; sealed = d.sealed; owned = λ i l. owner_later v pre.0 (first + i) seal (d.owned i l) })
 
-  module _ (sheet : Sheet) (log : List (Event K V S)) (some : 0 < length sheet.slots) (from : AreFrom (sheet.next ∷ (sheet.done ++ sheet.slots)) sheet.next) (dealt : AreDealt sheet.next (length (sheet.next ∷ (sheet.done ++ sheet.slots))) sheet.seal log) where
+  module _ (sheet : Sheet) (log : List (Event K V S)) (some : 0 < length sheet.slots)
+      (from : AreFrom (sheet.next ∷ (sheet.done ++ sheet.slots)) sheet.next)
+      (dealt : AreDealt sheet.next (length (sheet.next ∷ (sheet.done ++ sheet.slots))) sheet.seal log) where
     abbrev row : List ℕ
     row = sheet.done ++ sheet.slots
 
@@ -80,7 +91,8 @@ module _ {K V S : Type 0} where
 
     -- a word of the row is for the table
     in_row : (i k : ℕ) → k ≡ sheet.next + i → i < length (sheet.next ∷ row) → (3 ≤ k) × (k < sheet.seal) × (owner k log ≡ Some sheet.seal)
-    in_row i k is l = let p = dealt.past in let w = dealt.within in let s = dealt.sealed in (omega arith, omega arith, ap (λ (n : ℕ). owner n log) is ∙ dealt.owned i l)
+    in_row i k is l = let p = dealt.past in let w = dealt.within in let s = dealt.sealed in
+        (omega arith, omega arith, ap (λ (n : ℕ). owner n log) is ∙ dealt.owned i l)
 
     of_next : (k : ℕ) → sheet.next ≡ k → (3 ≤ k) × (k < sheet.seal) × (owner k log ≡ Some sheet.seal)
     of_next k e = in_row 0 k (omega arith) (omega arith)

@@ -13,7 +13,9 @@ use Rattle.papaya_book.specs.declared.rule.entry.Named.TheVariants as names
 use Rattle.papaya_book.specs.declared.rule.entry.Step.{Step}
 use Rattle.papaya_book.specs.declared.rule.entry.Step.TheVariants as steps
 use Rattle.papaya_book.specs.declared.rule.entry.Event.{Event}
-use Rattle.papaya_book.specs.Logs.{Stored, Entered, comes, entry_of, exchange_of, exchanges_of, pair_named, state_of, steps_of, table_in, table_named, word_names}
+use Rattle.papaya_book.specs.Logs.{Stored, Entered, comes, entry_of, exchange_of, exchanges_of}
+use Rattle.papaya_book.specs.Logs.{pair_named, state_of, steps_of, table_in, table_named}
+use Rattle.papaya_book.specs.Logs.{word_names}
 use Rattle.papaya_book.specs.Offer.{Answered}
 use Rattle.papaya_book.proofs.Logs.{Came, came_entered, table_came}
 
@@ -27,11 +29,13 @@ module _ {K V : Type 0} (g : Setting K (Stored K V)) where
   put_stands s t x w p h = ⊎_elim (λ i. inl (h.0, h.1, ap named (sym i.0) ∙ h.2)) (λ i. inr (ap named (sym i.2) ∙ h.2)) (slot_cases s t x w h.0 h.1)
 
   -- the same where the word that was put names what stood there
-  put_same : (s : State (Stored K V)) (t x u y : ℕ) (w : Word (Stored K V)) (p : Stored K V) → named (s.slot u y) ≡ named w → Stands (slot_put s t x w) p → Stands s p
+  put_same : (s : State (Stored K V)) (t x u y : ℕ) (w : Word (Stored K V)) (p : Stored K V) → named (s.slot u y) ≡ named w
+      → Stands (slot_put s t x w) p → Stands s p
   put_same s t x u y w p e h = ⊎_elim (λ i. i) (λ i. (u, y, e ∙ i)) (put_stands s t x w p h)
 
   -- a pair that stands after an exchange stood before, or it comes with it
-  stands_after : (s : State (Stored K V)) (e : Step K V) → Allows g s (exchange_of e) → (p : Stored K V) → Stands (after s (exchange_of e)) p → Stands s p ⊎ (comes e ≡ names.Pair p)
+  stands_after : (s : State (Stored K V)) (e : Step K V) → Allows g s (exchange_of e) → (p : Stored K V) → Stands (after s (exchange_of e)) p
+      → Stands s p ⊎ (comes e ≡ names.Pair p)
   stands_after s (steps.Open w) a p h = inl h
   stands_after s (steps.Claim t x q) a p h = ⊎_elim (λ i. inl i) (λ i. inr (cc i)) (put_stands s t x (Live q) p h)
   stands_after s (steps.Replace t x q r) a p h = ⊎_elim (λ i. inl i) (λ i. inr (cc i)) (put_stands s t x (Live r) p h)
@@ -39,7 +43,8 @@ module _ {K V : Type 0} (g : Setting K (Stored K V)) where
   stands_after s (steps.Link t w) a p h = inl h
   stands_after s (steps.Mark t x q) a p h = inl (put_same s t x t x (Marked q) p (ap named a.live) h)
   stands_after s (steps.Close t x) a p h = inl (put_same s t x t x Closed p (ap named a.empty) h)
-  stands_after s (steps.Place t x q) a p h = inl (put_same s t x a.source.from a.source.slot (Live q) p (⊎_elim (λ i. ap named i) (λ i. ap named i) a.source.stood) h)
+  stands_after s (steps.Place t x q) a p h = inl
+      (put_same s t x a.source.from a.source.slot (Live q) p (⊎_elim (λ i. ap named i) (λ i. ap named i) a.source.stood) h)
   stands_after s (steps.Finish t x q) a p h = inl (put_same s t x t x (Copied q) p (ap named a.marked) h)
   stands_after s (steps.Advance t c) a p h = inl h
   stands_after s (steps.Promote t n) a p h = inl h
@@ -47,7 +52,8 @@ module _ {K V : Type 0} (g : Setting K (Stored K V)) where
   stands_after s (steps.Take m) a p h = inl h
 
   -- a pair that stands after a list stood before it, or came with it
-  stands_came : (es : List (Step K V)) (s : State (Stored K V)) → AllAllowed g s (exchanges (map entry_of es)) → (p : Stored K V) → Stands (run (exchanges (map entry_of es)) s) p → Stands s p ⊎ Came (names.Pair p) es
+  stands_came : (es : List (Step K V)) (s : State (Stored K V)) → AllAllowed g s (exchanges (map entry_of es)) → (p : Stored K V)
+      → Stands (run (exchanges (map entry_of es)) s) p → Stands s p ⊎ Came (names.Pair p) es
   stands_came [] s a p h = inl h
   stands_came (e ∷ es) s a p h =
       ⊎_elim
@@ -58,7 +64,8 @@ module _ {K V : Type 0} (g : Setting K (Stored K V)) where
   none_stands : (p : Stored K V) → Stands start p → ⊥
   none_stands p h = let e = h.2 in cc e
 
-  pub pair_came : (es : List (Step K V)) → AllAllowed g start (exchanges (map entry_of es)) → (p : Stored K V) (t x : ℕ) → named ((run (exchanges (map entry_of es)) start).slot t x) ≡ Some p → Came (names.Pair p) es
+  pub pair_came : (es : List (Step K V)) → AllAllowed g start (exchanges (map entry_of es)) → (p : Stored K V) (t x : ℕ)
+      → named ((run (exchanges (map entry_of es)) start).slot t x) ≡ Some p → Came (names.Pair p) es
   pair_came es a p t x e = ⊎_elim (λ i. absurd (none_stands p i)) (λ i. i) (stands_came es start a p (t, x, e))
 
 -- what a word names is a true answer

@@ -44,15 +44,18 @@ module _ {M : Type 1} {𝓤 : Ura M} (𝓛 : Logic 𝓤) {K V : Type 0} (pair : 
   has_shown [] n h = absurd h
   has_shown (e ∷ es) n (inl p) =
       subst (λ (m : Named K V). ent 𝓤 (Sm (fsep (Shown (brought e)) (Kept es))) (sep 𝓤 (Sm (fsep (Shown (brought e)) (Kept es))) (Sm (Shown m)))) p
-      (qed 𝓛 (‵ (fsep (Shown (brought e)) (Kept es)) ∷ []) ∵ fsplit ! $ use1 𝓛 (‵ (Shown (brought e)) ⊛ ‵ (Shown (brought e))) (shown_twice (brought e)) $ split ! $ move ! (0 ∷ 2 ∷ []) $ fjoin ! $ done !)
+      (qed 𝓛 (‵ (fsep (Shown (brought e)) (Kept es)) ∷ []) ∵ fsplit ! $ use1 𝓛 (‵ (Shown (brought e)) ⊛ ‵ (Shown (brought e)))
+      (shown_twice (brought e)) $ split ! $ move ! (0 ∷ 2 ∷ []) $ fjoin ! $ done !)
   has_shown (e ∷ es) n (inr h) =
-      qed 𝓛 (‵ (fsep (Shown (brought e)) (Kept es)) ∷ []) ∵ fsplit ! $ move ! (1 ∷ []) $ use1 𝓛 (‵ (Kept es) ⊛ ‵ (Shown n)) (has_shown es n h) $ split ! $ move ! (2 ∷ 0 ∷ []) $ fjoin ! $ done !
+      qed 𝓛 (‵ (fsep (Shown (brought e)) (Kept es)) ∷ []) ∵ fsplit ! $ move ! (1 ∷ []) $ use1 𝓛 (‵ (Kept es) ⊛ ‵ (Shown n)) (has_shown es n h) $ split
+      ! $ move ! (2 ∷ 0 ∷ []) $ fjoin ! $ done !
 
   -- one more entry, at the end
   one_more : (log : List (Event K V S)) (e : Event K V S) → ent 𝓤 (sep 𝓤 (Sm (Kept log)) (Sm (Shown (brought e)))) (Sm (Kept (log ++ e ∷ [])))
   one_more [] e = qed 𝓛 (‵ ftrue ∷ ‵ (Shown (brought e)) ∷ []) ∵ move ! (1 ∷ 0 ∷ []) $ fjoin ! $ done !
   one_more (d ∷ es) e =
-      qed 𝓛 (‵ (fsep (Shown (brought d)) (Kept es)) ∷ ‵ (Shown (brought e)) ∷ []) ∵ fsplit ! $ move ! (1 ∷ 2 ∷ []) $ use2 𝓛 (‵ (Kept (es ++ e ∷ []))) (one_more es e) $ move ! (1 ∷ 0 ∷ []) $ fjoin ! $ done !
+      qed 𝓛 (‵ (fsep (Shown (brought d)) (Kept es)) ∷ ‵ (Shown (brought e)) ∷ []) ∵ fsplit ! $ move ! (1 ∷ 2 ∷ []) $ use2 𝓛 (‵ (Kept (es ++ e ∷ [])))
+      (one_more es e) $ move ! (1 ∷ 0 ∷ []) $ fjoin ! $ done !
 
   answered : (log : List (Event K V S)) (n : Named K V) → Answered log n → ent 𝓤 (Sm (Kept log)) (sep 𝓤 (Sm (Kept log)) (Sm (Shown n)))
   answered log names.Nothing h = qed 𝓛 (‵ (Kept log) ∷ []) ∵ nothing ! $ move ! (1 ∷ 0 ∷ []) $ done !
@@ -99,7 +102,8 @@ module _ {M : Type 1} {𝓤 : Ura M} (𝓛 : Logic 𝓤) {K V : Type 0} (pair : 
 
   -- an offer with which nothing comes is made of nothing
   pub bare_offer : (ask : Event K V S) → brought ask ≡ names.Nothing → LeavesRow ask → ent 𝓤 (emp 𝓤) (Sm (offer Held (Moved ask) Shown))
-  bare_offer ask e leaves = via 𝓤 (Sm ftrue) (qed 𝓛 [] ∵ nothing ! $ done !) (subst (λ (n : Named K V). ent 𝓤 (Sm (Shown n)) (Sm (offer Held (Moved ask) Shown))) e (offers ask leaves))
+  bare_offer ask e leaves = via 𝓤 (Sm ftrue) (qed 𝓛 [] ∵ nothing ! $ done !)
+      (subst (λ (n : Named K V). ent 𝓤 (Sm (Shown n)) (Sm (offer Held (Moved ask) Shown))) e (offers ask leaves))
 
   -- what brings a pair or a table leaves the row
   leaves_with : (ask : Event K V S) → (brought ask ≡ names.Nothing → ⊥) → LeavesRow ask
@@ -131,7 +135,8 @@ module _ {M : Type 1} {𝓤 : Ura M} (𝓛 : Logic 𝓤) {K V : Type 0} (pair : 
       all_i 𝓤 (λ (_ : Moved ask z.0 z.1 z.2). Next Shown z) (λ m.
       let rest : row_len ≡ row_len - 0 = omega arith in
       let gives : ent 𝓤 (Sm (pens_own book.cells_name 3 row_len)) (Sm (Row z.1)) =
-      subst (λ (t : Option Book × ℕ). ent 𝓤 (Sm (pens_own book.cells_name 3 row_len)) (Sm (rest_of t.0 t.1))) (λ i. (sym m.2.0 i, sym m.2.1 i)) (subst (λ (n : ℕ). ent 𝓤 (Sm (pens_own book.cells_name 3 row_len)) (Sm (pens_own book.cells_name 3 n))) rest (id⊢ 𝓤 _)) in
+      subst (λ (t : Option Book × ℕ). ent 𝓤 (Sm (pens_own book.cells_name 3 row_len)) (Sm (rest_of t.0 t.1))) (λ i. (sym m.2.0 i, sym m.2.1 i))
+      (subst (λ (n : ℕ). ent 𝓤 (Sm (pens_own book.cells_name 3 row_len)) (Sm (pens_own book.cells_name 3 n))) rest (id⊢ 𝓤 _)) in
       qed 𝓛 (‵ (pens_own book.cells_name 3 row_len) ∷ []) ∵ use1 𝓛 (‵ (Row z.1)) gives $ assume ! (‵ (Held z.0)) $
       suffices ! _ (upd_i 𝓤 (sep 𝓤 (Sm (Held z.1)) (Sm (Shown z.2)))) $
       fsplit ! $ use1 𝓛 (‵ (Kept z.1)) (bare_added ask refl z.0 z.1 m.0) $
@@ -150,10 +155,12 @@ module _ {M : Type 1} {𝓤 : Ura M} (𝓛 : Logic 𝓤) {K V : Type 0} (pair : 
       use1 𝓛 (‵ (pens_own δ (suc k) m) ⊛ ‵ (pens_own δ (suc k + m) n)) (rights_split δ (suc k) m n) $ split ! $ move ! (2 ∷ 0 ∷ []) $ fjoin ! $ done !)
 
   -- what is drawn of the rest of a row
-  draws : (book : Book) (given first count : ℕ) → first ≡ 3 + given → given + count ≤ row_len → ent 𝓤 (Sm (rest_of (Some book) given)) (sep 𝓤 (Sm (pens_own book.cells_name first count)) (Sm (rest_of (Some book) (given + count))))
+  draws : (book : Book) (given first count : ℕ) → first ≡ 3 + given → given + count ≤ row_len
+      → ent 𝓤 (Sm (rest_of (Some book) given)) (sep 𝓤 (Sm (pens_own book.cells_name first count)) (Sm (rest_of (Some book) (given + count))))
   draws book given first count is fits =
       let all : count + (row_len - (given + count)) ≡ row_len - given = omega arith in let on : first + count ≡ 3 + (given + count) = omega arith in
-      subst (λ (t : ℕ × ℕ × ℕ). ent 𝓤 (Sm (pens_own book.cells_name t.0 t.1)) (sep 𝓤 (Sm (pens_own book.cells_name first count)) (Sm (pens_own book.cells_name t.2 (row_len - (given + count)))))) (λ i. (is i, all i, on i))
+      subst (λ (t : ℕ × ℕ × ℕ). ent 𝓤 (Sm (pens_own book.cells_name t.0 t.1))
+      (sep 𝓤 (Sm (pens_own book.cells_name first count)) (Sm (pens_own book.cells_name t.2 (row_len - (given + count)))))) (λ i. (is i, all i, on i))
       (rights_split book.cells_name first count (row_len - (given + count)))
 
   -- an offer that draws words
@@ -164,7 +171,9 @@ module _ {M : Type 1} {𝓤 : Ura M} (𝓛 : Logic 𝓤) {K V : Type 0} (pair : 
       all_i 𝓤 (λ (_ : Moved ask z.0 z.1 z.2). Next Gain z) (λ m.
       let row = m.2 in
       let takes : ent 𝓤 (Sm (Row z.0)) (sep 𝓤 (Sm (pens_own book.cells_name first count)) (Sm (Row z.1))) =
-      subst (λ (t : Option Book × Option Book × ℕ). ent 𝓤 (Sm (rest_of t.0 (dealt z.0))) (sep 𝓤 (Sm (pens_own book.cells_name first count)) (Sm (rest_of t.1 t.2)))) (λ i. (sym row.0 i, sym row.3 i, sym row.4 i))
+      subst (λ (t : Option Book × Option Book × ℕ).
+      ent 𝓤 (Sm (rest_of t.0 (dealt z.0))) (sep 𝓤 (Sm (pens_own book.cells_name first count)) (Sm (rest_of t.1 t.2))))
+      (λ i. (sym row.0 i, sym row.3 i, sym row.4 i))
       (draws book (dealt z.0) first count row.1 row.2) in
       qed 𝓛 [] ∵ assume ! (‵ (Held z.0)) $
       suffices ! _ (upd_i 𝓤 (sep 𝓤 (Sm (Held z.1)) (Sm (Gain z.2)))) $
@@ -172,7 +181,8 @@ module _ {M : Type 1} {𝓤 : Ura M} (𝓛 : Logic 𝓤) {K V : Type 0} (pair : 
       use1 𝓛 (‵ (Kept z.1)) (bare_added ask refl z.0 z.1 m.0) $ move ! (0 ∷ 2 ∷ []) $ fjoin ! $ done !))
 
 -- what is kept names no token of one thread
-module _ {K V : Type 0} (pair : Stored K V → Fml) (table : Where Sheet → Fml) (pair_keyless : (p : Stored K V) → Keyless (pair p)) (table_keyless : (w : Where Sheet) → Keyless (table w)) where
+module _ {K V : Type 0} (pair : Stored K V → Fml) (table : Where Sheet → Fml) (pair_keyless : (p : Stored K V) → Keyless (pair p))
+    (table_keyless : (w : Where Sheet) → Keyless (table w)) where
   shown_keyless : (n : Named K V) → Keyless (shown pair table n)
   shown_keyless names.Nothing = tt
   shown_keyless (names.Pair p) = pair_keyless p

@@ -1,5 +1,7 @@
 -- The first log and words of a book keep the rule.
-use Rattle.std.proofs.Common.{◌≡◌, ◌⊎◌, inl, inr, ℕ, ◌<◌, zero, suc, ◌≤◌, true, None, Some, List, [], ◌∷◌, length, replicate, refl, sym, ap, ◌∙◌, subst, ⊎_elim, Bool, false, ◌+◌, arith}
+use Rattle.std.proofs.Common.{◌≡◌, ◌⊎◌, inl, inr, ℕ, ◌<◌, zero, suc, ◌≤◌, true, None, Some, List}
+use Rattle.std.proofs.Common.{[], ◌∷◌, length, replicate, refl, sym, ap, ◌∙◌, subst, ⊎_elim, Bool}
+use Rattle.std.proofs.Common.{false, ◌+◌, arith}
 use Rattle.std.proofs.lemmas.List.{get_or-replicate, length-replicate}
 use Rattle.logbook.specs.Pages.{Cell, cell}
 use Rattle.papaya_ask.specs.declared.ask.At.{At}
@@ -61,9 +63,12 @@ module _ {K V S : Type 0} (eq : K → K → Bool) (hash : S → K → ℕ) (b : 
     apart = first_apart K V;
   }
 
-  first_coded : (n : ℕ) → 3 ≤ n → (at : At) (k : ℕ) → ((at ≡ Root) × (k ≡ 0)) ⊎ ((at ≡ Made) × (k ≡ 2)) → cell (replicate n (0, true)) k ≡ (word_in eq hash b (Begin b ∷ []) at, true)
-  first_coded n three at k (inl r) = ap (cell (replicate n (0, true))) r.1 ∙ (first_home n 0 (omega arith) ∙ ap (λ (a : At). (word_in eq hash b (Begin b ∷ []) a, true)) (sym r.0))
-  first_coded n three at k (inr r) = ap (cell (replicate n (0, true))) r.1 ∙ (first_home n 2 (omega arith) ∙ ap (λ (a : At). (word_in eq hash b (Begin b ∷ []) a, true)) (sym r.0))
+  first_coded : (n : ℕ) → 3 ≤ n → (at : At) (k : ℕ) → ((at ≡ Root) × (k ≡ 0)) ⊎ ((at ≡ Made) × (k ≡ 2))
+      → cell (replicate n (0, true)) k ≡ (word_in eq hash b (Begin b ∷ []) at, true)
+  first_coded n three at k (inl r) = ap (cell (replicate n (0, true))) r.1
+      ∙ (first_home n 0 (omega arith) ∙ ap (λ (a : At). (word_in eq hash b (Begin b ∷ []) a, true)) (sym r.0))
+  first_coded n three at k (inr r) = ap (cell (replicate n (0, true))) r.1
+      ∙ (first_home n 2 (omega arith) ∙ ap (λ (a : At). (word_in eq hash b (Begin b ∷ []) a, true)) (sym r.0))
 
   -- a book that is opened with the words of the map and a row keeps the rule
   pub opens_kept : (n : ℕ) → n ≡ 3 + row_len → IsKept eq hash (replicate n (0, true)) (Begin b ∷ [])

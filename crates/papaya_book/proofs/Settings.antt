@@ -19,14 +19,19 @@ use Rattle.papaya_book.specs.Rule.{IsLawfulLog}
 use Rattle.papaya_book.proofs.Logs.{entries-append}
 
 -- equal keys hash alike
-alike : {K S H : Type 0} (eq : K → K → Bool) (input : K → List (List ℕ)) (build : S → H) (write : H → List ℕ → H) (finish : H → ℕ) → ((x y : K) → eq x y ≡ true → input x ≡ input y) → (s : S) (x y : K) → eq x y ≡ true → hash_of input build write finish s x ≡ hash_of input build write finish s y
+alike : {K S H : Type 0} (eq : K → K → Bool) (input : K → List (List ℕ)) (build : S → H) (write : H → List ℕ → H) (finish : H → ℕ)
+    → ((x y : K) → eq x y ≡ true → input x ≡ input y) → (s : S) (x y : K) → eq x y ≡ true
+    → hash_of input build write finish s x ≡ hash_of input build write finish s y
 alike eq input build write finish respects s x y e = ap (λ z. finish (fold write (build s) z) % 2 ^ 64) (respects x y e)
 
-module _ {K V S H : Type 0} (eq : K → K → Bool) (input : K → List (List ℕ)) (build : S → H) (write : H → List ℕ → H) (finish : H → ℕ) (classes : IsEquivalence eq) (respects : (x y : K) → eq x y ≡ true → input x ≡ input y) where
+module _ {K V S H : Type 0} (eq : K → K → Bool) (input : K → List (List ℕ)) (build : S → H) (write : H → List ℕ → H) (finish : H → ℕ)
+    (classes : IsEquivalence eq) (respects : (x y : K) → eq x y ≡ true → input x ≡ input y) where
   -- lawful keys have a lawful plan
   pub plans : (mode : ResizeMode) (most : Option ℕ) (s : S) → IsLawfulPlan (plan_of {V = V} eq (hash_of input build write finish s) mode most)
   plans mode most s =
-      hashed_lawful (is_blocking mode) (chunk_of (chunk_len mode)) most (λ (p : Stored K V). p.value.key.value) eq (hash_of input build write finish s) classes.refl (λ k l e. classes.symm l k ∙ e) (λ k l m e f. classes.congr k l m e ∙ f) (alike eq input build write finish respects s)
+      hashed_lawful (is_blocking mode) (chunk_of (chunk_len mode)) most (λ (p : Stored K V). p.value.key.value) eq
+      (hash_of input build write finish s) classes.refl (λ k l e. classes.symm l k ∙ e) (λ k l m e f. classes.congr k l m e ∙ f)
+      (alike eq input build write finish respects s)
 
   module _ (b : Begun K V S) (log : List (Event K V S)) (l : IsLawfulLog eq (hash_of input build write finish) b log) where
     abbrev hash : K → ℕ
@@ -36,13 +41,20 @@ module _ {K V S H : Type 0} (eq : K → K → Bool) (input : K → List (List �
     pub is_hashed : IsHashed (setting_of eq hash b.mode b.limit log) (coding_of hash)
     is_hashed = record {
       lawful = lawful_in (plan_of eq hash b.mode b.limit) (plans b.mode b.limit b.hasher) (entries_of log) l.sized;
-      coding = record { respects = alike eq input build write finish respects b.hasher; hash_fits = λ k. mod-lt (finish (fold write (build b.hasher) (input k))) (omega arith) };
+      coding = record {
+        respects = alike eq input build write finish respects b.hasher;
+        hash_fits = λ k.
+            mod-lt (finish (fold write (build b.hasher) (input k))) (omega arith);
+      };
       places = λ k t j. refl;
     }
 
     -- and what a longer log says of the tables that came is the same
-    pub agrees_later : (log' : List (Event K V S)) → IsPrefix log log' → Agrees (IsOn (state_of log).first (state_of log).next) (setting_of eq hash b.mode b.limit log) (setting_of eq hash b.mode b.limit log')
+    pub agrees_later : (log' : List (Event K V S)) → IsPrefix log log'
+        → Agrees (IsOn (state_of log).first (state_of log).next) (setting_of eq hash b.mode b.limit log) (setting_of eq hash b.mode b.limit log')
     agrees_later log' pre =
         let plan = plan_of {V = V} eq hash b.mode b.limit in
         let entries : entries_of log ++ entries_of pre.0 ≡ entries_of log' = sym (entries-append log pre.0) ∙ ap entries_of pre.1 in
-        subst (λ (es : List (Entry (Stored K V))). Agrees (IsOn (state_of log).first (state_of log).next) (setting_in plan (entries_of log)) (setting_in plan es)) entries (log_agrees plan (entries_of log) (entries_of pre.0))
+        subst (λ (es : List (Entry (Stored K V))).
+        Agrees (IsOn (state_of log).first (state_of log).next) (setting_in plan (entries_of log)) (setting_in plan es)) entries
+        (log_agrees plan (entries_of log) (entries_of pre.0))

@@ -1,5 +1,7 @@
 -- The size of a table that came, as its sheet says it and as the setting of the log does.
-use Rattle.std.proofs.Common.{◌≡◌, ◌⊎◌, inl, inr, ⊎_elim, ℕ, ◌+◌, ◌<◌, ◌==◌, Bool, true, false, cond, Option, None, Some, List, [], ◌∷◌, length, map, refl, sym, ap, ◌∙◌, subst, arith}
+use Rattle.std.proofs.Common.{◌≡◌, ◌⊎◌, inl, inr, ⊎_elim, ℕ, ◌+◌, ◌<◌, ◌==◌, Bool, true, false}
+use Rattle.std.proofs.Common.{cond, Option, None, Some, List, [], ◌∷◌, length, map, refl, sym, ap}
+use Rattle.std.proofs.Common.{◌∙◌, subst, arith}
 use Rattle.std.proofs.lemmas.Bool.{cases_Bool, cond-true, cond-false}
 use Rattle.boxcar.specs.Table.{Where}
 use Rattle.papaya_ask.specs.Search.{IsSize}
@@ -48,7 +50,8 @@ module _ {K V : Type 0} where
   size_named (names.Pair p) t w e = absurd (cc e)
   size_named (names.Table v) t w e =
       ⊎_elim
-      (λ h. let c = cond-true (number_of v == t) (Some v) None h in let is : v ≡ w = cc (c, e) in (ap (λ (z : Where Sheet). length z.value.slots) is, ap (λ (z : Where Sheet). z.value.limit + 1) is))
+      (λ h. let c = cond-true (number_of v == t) (Some v) None h in let is : v ≡ w = cc (c, e) in
+      (ap (λ (z : Where Sheet). length z.value.slots) is, ap (λ (z : Where Sheet). z.value.limit + 1) is))
       (λ h. let c = cond-false (number_of v == t) (Some v) None h in absurd (cc (c, e)))
       (cases_Bool (number_of v == t))
 
@@ -69,20 +72,27 @@ module _ {K V : Type 0} where
   brings_if (steps.Take m) t = refl
 
   -- the setting's size of a table that came is its sheet's
-  pub sizes : (es : List (Step K V)) (t : ℕ) (w : Where Sheet) → table_in es t ≡ Some w → (size_in (map entry_of es) t ≡ length w.value.slots) × (places_in (map entry_of es) t ≡ w.value.limit + 1)
+  pub sizes : (es : List (Step K V)) (t : ℕ) (w : Where Sheet) → table_in es t ≡ Some w → (size_in (map entry_of es) t ≡ length w.value.slots)
+      × (places_in (map entry_of es) t ≡ w.value.limit + 1)
   sizes [] t w e = absurd (cc e)
   sizes (s ∷ es) t w e =
       ⊎_elim
       (λ h.
       let is : h.0 ≡ w = let o = ap (λ (z : Option (Where Sheet)). or_else z (table_in es t)) h.1 in cc (o, e) in
       let size = size_named (comes s) t w (h.1 ∙ ap (λ z. Some z) is) in
-      let b : brings (exchange_of s) t ≡ true = brings_if s t ∙ ap some h.1 in
-      (cond-true (brings (exchange_of s) t) (slots_of (comes s)) (size_in (map entry_of es) t) b ∙ size.0, cond-true (brings (exchange_of s) t) (places_of (comes s)) (places_in (map entry_of es) t) b ∙ size.1))
+      let b : brings (exchange_of s) t ≡ true = brings_if s t ∙ ap some h.1 in (
+        cond-true (brings (exchange_of s) t) (slots_of (comes s)) (size_in (map entry_of es) t) b
+            ∙ size.0,
+        cond-true (brings (exchange_of s) t) (places_of (comes s)) (places_in (map entry_of es) t) b ∙ size.1,
+      ))
       (λ h.
       let b : brings (exchange_of s) t ≡ false = brings_if s t ∙ ap some h in
       let o : table_in es t ≡ Some w = sym (ap (λ (z : Option (Where Sheet)). or_else z (table_in es t)) h) ∙ e in
-      let rest = sizes es t w o in
-      (cond-false (brings (exchange_of s) t) (slots_of (comes s)) (size_in (map entry_of es) t) b ∙ rest.0, cond-false (brings (exchange_of s) t) (places_of (comes s)) (places_in (map entry_of es) t) b ∙ rest.1))
+      let rest = sizes es t w o in (
+        cond-false (brings (exchange_of s) t) (slots_of (comes s)) (size_in (map entry_of es) t) b
+            ∙ rest.0,
+        cond-false (brings (exchange_of s) t) (places_of (comes s)) (places_in (map entry_of es) t) b ∙ rest.1,
+      ))
       (there (table_if (comes s) t))
 
   -- so is its number of words for chunks

@@ -17,14 +17,17 @@ use Rattle.papaya_book.proofs.Loaded.{next_key, slot_key, table_book, table_sinc
 use Rattle.papaya_book.proofs.Logs.{name_since, prefix_trans}
 use Rattle.papaya_book.proofs.Tellings.{first_prefix, opened_with}
 
-module _ {K V S : Type 0} (eq : K → K → Bool) (hash : S → K → ℕ) (b : Begun K V S) (first v : List (Event K V S)) (begins : first_in first ≡ Some (Begin b)) (learned : IsPrefix first v) (name : Book) (named : name_in first ≡ Some name)
-    (b' : Begun K V S) (held : IsLawfulLog eq hash b' v) (seen : List (Event K V S)) (since : IsPrefix seen v) (t : ℕ) (sheet : Sheet) (is : IsTable seen t sheet) where
+module _ {K V S : Type 0} (eq : K → K → Bool) (hash : S → K → ℕ) (b : Begun K V S) (first v : List (Event K V S))
+    (begins : first_in first ≡ Some (Begin b)) (learned : IsPrefix first v) (name : Book) (named : name_in first ≡ Some name)
+    (b' : Begun K V S) (held : IsLawfulLog eq hash b' v) (seen : List (Event K V S)) (since : IsPrefix seen v) (t : ℕ) (sheet : Sheet)
+    (is : IsTable seen t sheet) where
   -- the table has come by now
   pub came : IsTable v t sheet
   came = table_since seen v t sheet since is
 
   lawful : IsLawfulLog eq hash b v
-  lawful = subst (λ (z : Begun K V S). IsLawfulLog eq hash z v) (opened_with eq hash b b' v (prefix_trans (Begin b ∷ []) first v (first_prefix (Begin b) first begins) learned) held) held
+  lawful = subst (λ (z : Begun K V S). IsLawfulLog eq hash z v)
+      (opened_with eq hash b b' v (prefix_trans (Begin b ∷ []) first v (first_prefix (Begin b) first begins) learned) held) held
 
   book : sheet.book ≡ name
   book = table_book eq hash b v name lawful (name_since first v name learned named) t sheet came
@@ -50,7 +53,16 @@ module _ {K V S : Type 0} (eq : K → K → Bool) (hash : S → K → ℕ) (b : 
   slot_there w x k get at = slot_key v t x k sheet came get ∙ key_there w k at
 
 -- what was tried after more was seen was tried after less
-pub tried_since : {K V S : Type 0} (eq : K → K → Bool) (hash : S → K → ℕ) (b : Begun K V S) (at : At) (kind : Option StepKind) (old new : ℕ) (made : Option (Stored K V)) (brings : Named K V) (seen v : List (Event K V S)) (found : ℕ) (log : List (Event K V S)) (state : Option (Named K V))
+pub tried_since : {K V S : Type 0} (eq : K → K → Bool) (hash : S → K → ℕ) (b : Begun K V S) (at : At) (kind : Option StepKind) (old new : ℕ)
+    (made : Option (Stored K V)) (brings : Named K V) (seen v : List (Event K V S)) (found : ℕ) (log : List (Event K V S)) (state : Option (Named K V))
     → IsPrefix seen v → IsTried eq hash b at kind old new made brings v found log state → IsTried eq hash b at kind old new made brings seen found log state
 tried_since eq hash b at kind old new made brings seen v found log state pre t =
-    record { before = t.before; since = prefix_trans seen v t.before pre t.since; lawful = t.lawful; now = t.now; is = t.is; state_is = t.state_is; after = t.after }
+    record {
+      before = t.before;
+      since = prefix_trans seen v t.before pre t.since;
+      lawful = t.lawful;
+      now = t.now;
+      is = t.is;
+      state_is = t.state_is;
+      after = t.after;
+    }

@@ -37,8 +37,8 @@ tables_of log = tables_by (steps_of log)
 abbrev pub HasTableFrom : (least : ℕ) → (tables : List ℕ) → Type 0
 HasTableFrom least tables = (len : ℕ) × (least ≤ len) × Member len tables
 
--- A next table would be longer than a table may be: it would follow one of these, by this sum of the
--- count and the map's initial capacity.
+-- A next table would be longer than a table may be: it would follow one of these, by this sum of
+-- the count and the map's initial capacity.
 pub record IsTooLong (initial : ℕ) (tables : List ℕ) (given : List CapacityCause) : Type 0 where
   pub count : ℕ
   pub given_is : given ≡ Sum count ∷ []

@@ -199,8 +199,8 @@ module _ {K V S : Type 0} where
       → List (Event K V S) → Setting K (Stored K V)
   setting_of eq hash mode most log = setting_in (plan_of eq hash mode most) (entries_of log)
 
-  -- The setting in which an exchange is asked for with which this comes. Of a table that comes it says
-  -- besides how many words for chunks it has, which no entry of the log says yet.
+  -- The setting in which an exchange is asked for with which this comes. Of a table that comes it
+  -- says besides how many words for chunks it has, which no entry of the log says yet.
   abbrev pub setting_with : (K → K → Bool) → (K → ℕ) → ResizeMode → (most : Option ℕ) → Named K V
       → List (Event K V S) → Setting K (Stored K V)
   setting_with eq hash mode most names.Nothing log = setting_of eq hash mode most log

@@ -1,5 +1,5 @@
--- What the steps of makers of tables tell: a seal is added and words are dealt for it; the table comes;
--- the book is told its name.
+-- What the steps of makers of tables tell: a seal is added and words are dealt for it; the table
+-- comes; the book is told its name.
 use Rattle.std.specs.Prelude.{◌≡◌, ◌⊎◌, ℕ, ◌+◌, ◌<◌, ◌≤◌, ◌==◌, Bool, MatchBool, Option, None, Some, List, [], ◌∷◌, length, slice_get}
 use mathlib.Core.List.{IsPrefix}
 use Rattle.logbook.specs.Pages.{View, Step as Book_step, nib, no_nib, may_make}
@@ -19,8 +19,8 @@ use Rattle.papaya_book.specs.Plays.{MayStep, Tried}
 use Rattle.papaya_book.specs.Rule.{IsLawfulLog, word_in}
 
 module _ {K V S : Type 0} where
-  -- The words of the row from `first` on, so many, are for the table with this seal, which lies behind
-  -- the row.
+  -- The words of the row from `first` on, so many, are for the table with this seal, which lies
+  -- behind the row.
   pub record AreDealt (first count seal : ℕ) (log : List (Event K V S)) : Type 0 where
     pub past : 3 ≤ first
     pub within : first + count ≤ 3 + row_len

@@ -1,5 +1,5 @@
--- What the book keeps beside the log: of each entry, what shows what came with it, and the rights to
--- make the words of the row that were not dealt. And how a client's update moves the log.
+-- What the book keeps beside the log: of each entry, what shows what came with it, and the rights
+-- to make the words of the row that were not dealt. And how a client's update moves the log.
 use Rattle.std.specs.Prelude.{◌≡◌, ◌⊎◌, ℕ, ◌+◌, ◌-◌, ◌≤◌, Option, None, Some, List, [], ◌∷◌, ◌++◌}
 use base.Fml.{Fml, ftrue, fsep}
 use Rattle.boxcar.specs.Table.{Where}

@@ -16,7 +16,9 @@ use Rattle.papaya_book.specs.declared.rule.entry.Begun.{Begun}
 use Rattle.papaya_book.specs.declared.rule.entry.Step.{Step}
 use Rattle.papaya_book.specs.declared.rule.entry.Event.{Event}
 use Rattle.papaya_book.specs.declared.rule.entry.Event.TheVariants.{Stepped}
-use Rattle.papaya_book.specs.Logs.{Stored, brought, coding_of, comes, exchange_of, kind_of, made_of, place_of, setting_of, setting_with, state_of, steps_of, word_names}
+use Rattle.papaya_book.specs.Logs.{Stored, brought, coding_of, comes, exchange_of, kind_of, made_of}
+use Rattle.papaya_book.specs.Logs.{place_of, setting_of, setting_with, state_of, steps_of}
+use Rattle.papaya_book.specs.Logs.{word_names}
 use Rattle.papaya_book.specs.Rule.{IsLawfulLog, word_in}
 
 -- the pair that a call made, where it made one
@@ -36,8 +38,8 @@ IsPutting kind = (kind ≡ Some kinds.Claim) ⊎ (kind ≡ Some kinds.Replace)
 abbrev pub Numbered : {K V : Type 0} → Coding K (Stored K V)
 Numbered = coding_of (λ k. 0)
 
--- The exchange of the law that a call asks for, whatever the call's key: a pair that comes is one that
--- the call made, and has the key of the one that it replaces.
+-- The exchange of the law that a call asks for, whatever the call's key: a pair that comes is one
+-- that the call made, and has the key of the one that it replaces.
 abbrev pub IsCallAsked : {K V : Type 0} → Option StepKind → At → ℕ → State (Stored K V)
     → LoadedPairs (Stored K V) → Exchange (Stored K V) → Type 0
 IsCallAsked (Some kinds.Open) places.Root new s loaded e = e ≡ Open new
@@ -51,8 +53,8 @@ IsCallAsked {K} {V} (Some kinds.Delete) (places.Slot t x) new s loaded e = (p : 
 IsCallAsked (Some kinds.Take) places.Made new s loaded e = e ≡ Take s.made
 IsCallAsked _ _ new s loaded e = ⊥
 
--- The exchange of the law that is asked for: by a call, with a pair that it made, or for a copy, with
--- the pair that is carried.
+-- The exchange of the law that is asked for: by a call, with a pair that it made, or for a copy,
+-- with the pair that is carried.
 abbrev pub IsWished : {K V : Type 0} → Option StepKind → At → ℕ → State (Stored K V)
     → Option (Stored K V) → Exchange (Stored K V) → Type 0
 IsWished kind at new s made e = IsCallAsked kind at new s (loaded_of made) e
@@ -71,8 +73,8 @@ module _ {K V S : Type 0} (eq : K → K → Bool) (hash : S → K → ℕ) where
       → View (Event K V S) (Named K V) → Type 0
   Looks s v found w = Looked (place_of s.ask) found w.0 w.1.1
 
-  -- the exchange is of the kind that was asked for, with the pair that the call made or carries, and
-  -- what comes with it was handed over
+  -- the exchange is of the kind that was asked for, with the pair that the call made or carries,
+  -- and what comes with it was handed over
   pub record IsMeant (at : At) (kind : Option StepKind) (new : ℕ) (made : Option (Stored K V))
       (brings : Named K V) (before : List (Event K V S)) (e : Step K V) : Type 0 where
     pub asked : IsWished kind at new (state_of before) made (exchange_of e)

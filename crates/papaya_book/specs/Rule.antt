@@ -15,7 +15,8 @@ use Rattle.papaya_book.specs.declared.rule.entry.Step.{Step}
 use Rattle.papaya_book.specs.declared.rule.entry.Event.{Event}
 use Rattle.papaya_book.specs.declared.rule.entry.Event.TheVariants.{Begin}
 use Rattle.papaya_book.specs.Pairs.{IsKeyIn, IsValueIn}
-use Rattle.papaya_book.specs.Logs.{Entered, coding_of, dealt, entries_of, exchanges_of, in_table, key_at, name_in, owner, setting_of, state_of, steps_of, table_in}
+use Rattle.papaya_book.specs.Logs.{Entered, coding_of, dealt, entries_of, exchanges_of, in_table}
+use Rattle.papaya_book.specs.Logs.{key_at, name_in, owner, setting_of, state_of, steps_of, table_in}
 use Rattle.papaya_book.specs.Rows.{row_len}
 
 -- the words of a table of which nothing is said yet

@@ -37,9 +37,9 @@ use papaya_ask::ask::At;
 use papaya_log::token::tell;
 use std::hash::{BuildHasher, Hash};
 
-/// What all callers of a map share: what its book was opened with, the root, the word that only makers
-/// of tables use and the one that counts numbers for pairs. `origin` has seen the first entry of the
-/// log alone, and `begun` also the book's name.
+/// What all callers of a map share: what its book was opened with, the root, the word that only
+/// makers of tables use and the one that counts numbers for pairs. `origin` has seen the first
+/// entry of the log alone, and `begun` also the book's name.
 #[derive(Drop)]
 pub struct Book<K: Hash + Eq, V, S: BuildHasher> {
     pub parts: Parts<K, V, S>,
@@ -137,8 +137,8 @@ impl<K: Hash + Eq, V, S: BuildHasher> Book<K, V, S> {
         (found, offer)
     }
 
-    /// One atomic load of a table's slot: the word, and what gains the token of the pair that it
-    /// names.
+    /// One atomic load of a table's slot: the word, and what gains the token of the pair that
+    /// it names.
     #[inline(always)]
     pub fn slot_word(
         &self,

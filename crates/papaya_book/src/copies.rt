@@ -91,8 +91,8 @@ impl<'a, K: Hash + Eq, V, S: BuildHasher> Window<'a, K, V, S> {
         self.book.copy_root(kind, kept, words, &mut self.sight)
     }
 
-    /// One atomic exchange of the word that says whether a table was given up: the word found
-    /// there.
+    /// One atomic exchange of the word that says whether a table was given up: the word
+    /// found there.
     pub fn copy_aborted(
         &mut self,
         table: &Table<K, V, S>,

@@ -1,5 +1,5 @@
-//! The count of a map's pairs, in shards, so that callers seldom meet at one word; and where the next
-//! copy by a shard's callers begins, so that they seldom meet at one chunk.
+//! The count of a map's pairs, in shards, so that callers seldom meet at one word; and where the
+//! next copy by a shard's callers begins, so that they seldom meet at one chunk.
 ghost use Rattle.std.specs.Prelude.{◌≡◌, ◌<◌, ◌≤◌, [], ◌∷◌, Err, IfErr, IfOk, IfSome, length};
 ghost use Rattle.std.specs.Int.{IsNextPowerOfTwo};
 ghost use Rattle.papaya_book.specs.declared.rule.own.CapacityCause.TheVariants as numbers;
@@ -12,16 +12,17 @@ use std::alloc::Global;
 use std::marker::Model;
 use std::sync::atomic::{AtomicI64, AtomicU64, Ordering};
 
-/// What the callers of one shard added, and the number that says at which chunk their next copy
-/// begins.
+/// What the callers of one shard added, and the number that says at which chunk their next
+/// copy begins.
 #[derive(Drop)]
 struct Part {
     sum: AtomicI64,
     start: AtomicU64,
 }
 
-/// A signed number in shards. Contracts see how many shards there are. Its additions are steps apart
-/// from the changes that they count, so a sum may lag behind them, and no contract says what it is.
+/// A signed number in shards. Contracts see how many shards there are. Its additions are steps
+/// apart from the changes that they count, so a sum may lag behind them, and no contract says what
+/// it is.
 ///
 /// As in 0.2.5 each shard has cache lines of its own. There their number is taken from the
 /// machine's processors.
@@ -96,9 +97,9 @@ impl Count {
     }
 }
 
-/// Where the first copy by a shard's callers begins. The number of shards is a power of two. In a table
-/// of as many chunks, or of twice, four times or more times as many, the shards' starts lie evenly
-/// apart, and so do those of the first two, four and more of them.
+/// Where the first copy by a shard's callers begins. The number of shards is a power of two. In a
+/// table of as many chunks, or of twice, four times or more times as many, the shards' starts lie
+/// evenly apart, and so do those of the first two, four and more of them.
 fn first_start(index: u64, shards: u64) -> u64 {
     // Its binary digits the other way round.
     let mut digits: u64 = 0;
@@ -154,8 +155,9 @@ impl Shard<'_> {
         }
     }
 
-    /// The number that says at which chunk the next copy by the shard's callers begins: one more each
-    /// time, so that a copy goes on where the one before it ended. It is an advice: any number will do.
+    /// The number that says at which chunk the next copy by the shard's callers begins: one more
+    /// each time, so that a copy goes on where the one before it ended. It is an advice: any number
+    /// will do.
     #[inline(always)]
     pub fn start(&self) -> u64 {
         let count: &Count = self.count;

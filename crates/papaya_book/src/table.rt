@@ -8,9 +8,9 @@ use std::hash::{BuildHasher, Hash};
 use std::marker::Model;
 use std::sync::{Mutex, MutexGuard, Wait};
 
-/// A table: its slots, how far a search of it goes, and which chunks of the table before were copied
-/// to it. Contracts see it as the keys of its words. Who makes its next table holds `making`, so that
-/// not each thread that needs one pays for it.
+/// A table: its slots, how far a search of it goes, and which chunks of the table before were
+/// copied to it. Contracts see it as the keys of its words. Who makes its next table holds
+/// `making`, so that not each thread that needs one pays for it.
 #[derive(Drop)]
 pub struct Table<K: Hash + Eq, V, S: BuildHasher> {
     pub limit: usize,
@@ -91,8 +91,8 @@ impl<K: Hash + Eq, V, S: BuildHasher> Table<K, V, S> {
         &self.next
     }
 
-    /// Waits until no other thread makes the next table, and keeps the others waiting until the guard
-    /// goes. No lookup takes it, and no contract relies on it.
+    /// Waits until no other thread makes the next table, and keeps the others waiting until the
+    /// guard goes. No lookup takes it, and no contract relies on it.
     pub fn lock_next<R: Wait>(&self, rt: &R) -> MutexGuard<'_, ()> {
         self.making.lock(rt)
     }

@@ -112,7 +112,8 @@ impl<'a, K: Hash + Eq, V, S: BuildHasher> Window<'a, K, V, S> {
         self.book.take(kind, words, &mut self.sight)
     }
 
-    /// One atomic load of the hint of a table's slot: 0, which says nothing, where none was written.
+    /// One atomic load of the hint of a table's slot: 0, which says nothing, where none
+    /// was written.
     #[inline(always)]
     pub fn hint(&mut self, table: &Table<K, V, S>, number: u64, place: usize) -> u64
         requires table { IsTable self.old number table.now }
@@ -124,8 +125,8 @@ impl<'a, K: Hash + Eq, V, S: BuildHasher> Window<'a, K, V, S> {
         self.book.hint(table, number, place, &mut self.sight)
     }
 
-    /// One atomic exchange: a slot without a hint has this one from then on. Nothing tells whether it
-    /// was written, and nothing further is seen.
+    /// One atomic exchange: a slot without a hint has this one from then on. Nothing tells whether
+    /// it was written, and nothing further is seen.
     #[inline(always)]
     pub fn write_hint(&self, table: &Table<K, V, S>, number: u64, place: usize, hint: u8)
         requires table { IsTable self.now number table.now }
@@ -136,8 +137,8 @@ impl<'a, K: Hash + Eq, V, S: BuildHasher> Window<'a, K, V, S> {
             .write_hint(table, number, place, hint, &self.sight)
     }
 
-    /// One atomic load of a table's slot: the word, and what gains the token of the pair that it
-    /// names.
+    /// One atomic load of a table's slot: the word, and what gains the token of the pair that
+    /// it names.
     #[inline(always)]
     pub fn slot_word(
         &mut self,
@@ -172,8 +173,7 @@ impl<'a, K: Hash + Eq, V, S: BuildHasher> Window<'a, K, V, S> {
     }
 
     /// One atomic exchange of a slot, with which nothing comes: the word found there, and the token
-    /// of
-    /// the pair that it names.
+    /// of the pair that it names.
     pub fn exchange_slot(
         &mut self,
         table: &Table<K, V, S>,
@@ -197,8 +197,7 @@ impl<'a, K: Hash + Eq, V, S: BuildHasher> Window<'a, K, V, S> {
     }
 
     /// One atomic exchange of a slot, with which the pair comes that the call has made: the word
-    /// found
-    /// there, and the token of the pair that it names.
+    /// found there, and the token of the pair that it names.
     pub fn put_slot(
         &mut self,
         table: &Table<K, V, S>,
@@ -235,8 +234,8 @@ impl<'a, K: Hash + Eq, V, S: BuildHasher> Window<'a, K, V, S> {
         }
     }
 
-    /// A table of so many slots, all Empty, to which a table of so many chunks is copied, in the log
-    /// of tables, with the pen of its seal.
+    /// A table of so many slots, all Empty, to which a table of so many chunks is copied, in the
+    /// log of tables, with the pen of its seal.
     pub fn make_table<R: Wait>(
         &mut self,
         rt: &R,

@@ -79,8 +79,8 @@ recalls (Some (To_remove old)) at word n = if old == n
     then Deleting (record { place = at; word = word })
     else Showing (record { place = at; word = word })
 
--- a Live word names a pair with the key: the closure is shown it, unless what it answered to it is
--- remembered
+-- a Live word names a pair with the key: the closure is shown it, unless what it answered to it
+-- is remembered
 abbrev pub meets : Option Choice → Place → ℕ → State
 meets choice at word = recalls choice at word (pair_of word)
 

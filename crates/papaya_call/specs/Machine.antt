@@ -13,7 +13,10 @@ use Rattle.papaya_ask.specs.declared.ask.At.TheVariants.{Root, Next}
 use Rattle.papaya_ask.specs.declared.ask.Ask.{Ask}
 use Rattle.papaya_ask.specs.declared.ask.Ask.TheVariants.{Load, Exchange, LoadHint, SameKey, ShowNone, SizeOf, MakeTable, AddToShard, Done}
 use Rattle.papaya_ask.specs.declared.ask.Answer.{Answer}
-use Rattle.papaya_ask.specs.declared.ask.Answer.TheVariants.{Word as Word_read, Exchanged, Found as Found_instead, Yes, Op, Size, Made as Made_number, Ok as Ok_done, Refused as Was_refused}
+use Rattle.papaya_ask.specs.declared.ask.Answer.TheVariants.{Word as Word_read, Exchanged}
+use Rattle.papaya_ask.specs.declared.ask.Answer.TheVariants.{Found as Found_instead, Yes, Op, Size}
+use Rattle.papaya_ask.specs.declared.ask.Answer.TheVariants.{Made as Made_number, Ok as Ok_done}
+use Rattle.papaya_ask.specs.declared.ask.Answer.TheVariants.{Refused as Was_refused}
 use Rattle.papaya_ask.specs.declared.ask.OpKind.{OpKind}
 use Rattle.papaya_ask.specs.declared.ask.StepKind.{StepKind}
 use Rattle.papaya_ask.specs.declared.ask.StepKind.TheVariants.{Open, Delete}
@@ -36,11 +39,17 @@ use Rattle.papaya_call.specs.declared.made.Grown.TheVariants.{On as More, Pair}
 use Rattle.papaya_call.specs.declared.made.Made.{Made}
 use Rattle.papaya_call.specs.declared.write.Write.{Write}
 use Rattle.papaya_call.specs.declared.machine.State.{State}
-use Rattle.papaya_call.specs.declared.machine.State.TheVariants.{AtRoot, Making, Opening, Searching, Writing, Offering, Showing, Pairing, Putting, Deleting, Counting, Noting, Uncounting, Leaving, Growing, Ended}
+use Rattle.papaya_call.specs.declared.machine.State.TheVariants.{AtRoot, Making, Opening, Searching}
+use Rattle.papaya_call.specs.declared.machine.State.TheVariants.{Writing, Offering, Showing}
+use Rattle.papaya_call.specs.declared.machine.State.TheVariants.{Pairing, Putting, Deleting}
+use Rattle.papaya_call.specs.declared.machine.State.TheVariants.{Counting, Noting, Uncounting}
+use Rattle.papaya_call.specs.declared.machine.State.TheVariants.{Leaving, Growing, Ended}
 use Rattle.papaya_call.specs.declared.machine.Machine.{Machine}
 use Rattle.papaya_ask.specs.Search.{IsSize, IsWithin, IsSearching, look}
 use Rattle.papaya_ask.specs.Search.{ask_of as search_ask, at_size as search_sized, at_word as search_loaded, at_yes as search_compared}
-use Rattle.papaya_call.specs.Compute.{IsGap, IsPurpose, IsPut, IsRemembered, chosen, in_place_of, lacks, meets, nothing, offered, provides, with_choice, with_pair}
+use Rattle.papaya_call.specs.Compute.{IsGap, IsPurpose, IsPut, IsRemembered, chosen, in_place_of}
+use Rattle.papaya_call.specs.Compute.{lacks, meets, nothing, offered, provides, with_choice}
+use Rattle.papaya_call.specs.Compute.{with_pair}
 use Rattle.papaya_call.specs.Remove.{removal_ask, show_ask}
 use Rattle.papaya_call.specs.Made.{IsMade, answered, grown, nothing_made, number_kind, pair_ask, taken, told}
 use Rattle.papaya_call.specs.Write.{claimed_by, note_ask, put_ask, serves, write_ask, write_grown, write_kind}

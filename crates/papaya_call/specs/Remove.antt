@@ -1,5 +1,5 @@
--- The removal of the pair that a word names: it is shown to the closure, and its word becomes
--- Tombstone.
+-- The removal of the pair that a word names: it is shown to the closure, and its word
+-- becomes Tombstone.
 use Rattle.std.specs.Prelude.{ℕ}
 use Rattle.papaya_words.specs.Word.{pair_of, tombstone_word}
 use Rattle.papaya_ask.specs.declared.ask.At.TheVariants.{Slot}

@@ -22,8 +22,8 @@ pub trait Answers<K, V> {
 
     ghost yes_gives: { Self → K → V → Bool → Self → Type 0 };
 
-    /// The answer of a closure that may insert, remove or abort. `None` is shown where the key is
-    /// absent.
+    /// The answer of a closure that may insert, remove or abort. `None` is shown where the key
+    /// is absent.
     fn op(&mut self, shown: Option<(&K, &V)>) -> Operation<V, u64>
         ensures { op_gives self.old (option_map (λ p. (p.0.now, p.1.now)) shown.entry) result
             self.new };

@@ -2,7 +2,9 @@
 ghost use Rattle.std.specs.Prelude.{◌≡◌, ◌<◌, ◌^◌};
 ghost use Rattle.papaya_ask.specs.declared.call.Task.{Task};
 ghost use Rattle.papaya_ask.specs.declared.call.Task.TheVariants.{Compute};
-ghost use Rattle.papaya_call.specs.Compute.{IsGap, IsPurpose, IsRemembered, chosen, fills, in_place_of, meets, nothing, offered, provides, recalled, with_choice, with_pair};
+ghost use Rattle.papaya_call.specs.Compute.{IsGap, IsPurpose, IsRemembered, chosen, fills};
+ghost use Rattle.papaya_call.specs.Compute.{in_place_of, meets, nothing, offered, provides};
+ghost use Rattle.papaya_call.specs.Compute.{recalled, with_choice, with_pair};
 ghost use Rattle.papaya_call.specs.Machine.{IsStandingState};
 ghost use Rattle.papaya_ask.specs.Search.{IsWithin};
 

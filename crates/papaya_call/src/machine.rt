@@ -74,8 +74,8 @@ pub struct Machine {
 }
 
 impl Machine {
-    /// A call that begins. It logs no pair where so many were logged as the limit says, if there is
-    /// one.
+    /// A call that begins. It logs no pair where so many were logged as the limit says, if there
+    /// is one.
     ///
     /// It stands for the whole of a call of 0.2.5, whose steps run one after another there.
     #[inline(always)]

@@ -37,17 +37,28 @@ use Rattle.papaya_call_law.proofs.Makings.{IsMakeAsk, make_asks, numbered_leads,
 use Rattle.papaya_call.specs.declared.write.Write.{Write}
 use Rattle.papaya_call.specs.declared.machine.Machine.{Machine}
 use Rattle.papaya_call.specs.declared.machine.State.{State}
-use Rattle.papaya_call.specs.declared.machine.State.TheVariants.{AtRoot, Making, Opening, Searching, Writing, Offering, Showing, Pairing, Putting, Deleting, Counting, Noting, Uncounting, Leaving, Growing, Ended}
+use Rattle.papaya_call.specs.declared.machine.State.TheVariants.{AtRoot, Making, Opening, Searching}
+use Rattle.papaya_call.specs.declared.machine.State.TheVariants.{Writing, Offering, Showing}
+use Rattle.papaya_call.specs.declared.machine.State.TheVariants.{Pairing, Putting, Deleting}
+use Rattle.papaya_call.specs.declared.machine.State.TheVariants.{Counting, Noting, Uncounting}
+use Rattle.papaya_call.specs.declared.machine.State.TheVariants.{Leaving, Growing, Ended}
 use Rattle.papaya_ask.specs.Search.{next_place, go_on, look_at, match_at, look, at_yes as search_compared, hinted}
 use Rattle.papaya_call.specs.Remove.{grave_word}
 use Rattle.papaya_call.specs.declared.made.Grown.{Grown}
 use Rattle.papaya_call.specs.declared.made.Grown.TheVariants.{On, Pair}
 use Rattle.papaya_call.specs.declared.made.Number.{Number}
 use Rattle.papaya_call.specs.declared.made.Number.TheVariants.{Wanted, Free, Taken}
-use Rattle.papaya_call.specs.Made.{answered, grown, grown_as, make_ask, number_ask, of_grown, own_grown, pair_ask, serves_at, taken, taken_as, told as told_count, told_as, told_limit, wanted}
+use Rattle.papaya_call.specs.Made.{answered, grown, grown_as, make_ask, number_ask, of_grown}
+use Rattle.papaya_call.specs.Made.{own_grown, pair_ask, serves_at, taken, taken_as}
+use Rattle.papaya_call.specs.Made.{told as told_count, told_as, told_limit, wanted}
 use Rattle.papaya_call.specs.Compute.{fills, in_place_of, lacks, offered, chosen, provides, recalled, recalls}
-use Rattle.papaya_call.specs.Machine.{after, ask_of, asks, absent, at_root, exchanged, left as next_or_end, made_to_pair, number_told, passes, refuses, replaces, removes, computes, goes_as, write_made, write_taken, write_told, written, agreed}
-use Rattle.papaya_call_law.specs.Alone.{IsSame, IsPut, IsMaking, IsSaying, IsPrompt, IsBare, IsRead, IsGapRead, IsPurposeRead, IsCurrent, IsNumberRead, word_of_place}
+use Rattle.papaya_call.specs.Machine.{after, ask_of, asks, absent, at_root, exchanged}
+use Rattle.papaya_call.specs.Machine.{left as next_or_end, made_to_pair, number_told, passes}
+use Rattle.papaya_call.specs.Machine.{refuses, replaces, removes, computes, goes_as, write_made}
+use Rattle.papaya_call.specs.Machine.{write_taken, write_told, written, agreed}
+use Rattle.papaya_call_law.specs.Alone.{IsSame, IsPut, IsMaking, IsSaying, IsPrompt, IsBare, IsRead}
+use Rattle.papaya_call_law.specs.Alone.{IsGapRead, IsPurposeRead, IsCurrent, IsNumberRead}
+use Rattle.papaya_call_law.specs.Alone.{word_of_place}
 use Rattle.papaya_call_law.proofs.AloneSteps.{exchange_done, by_saying}
 use Rattle.papaya_call_law.proofs.Leads.{occupies_leads}
 use Rattle.papaya_call.specs.Write.{claimed_by, made_of, made_to_write, served_ask, serves, write_grown}
@@ -145,7 +156,8 @@ module _ (words : At → ℕ) where
   recalls_read (Some (choices.Replace old new)) at word n read =
       let write : Write = record { place = at; old = word } in
       cond_both (old == n) (recalled new at word) (Showing (record { place = at; word = word })) (IsRead words)
-      (λ _. cond_both (serves_at new at.table at.probe.i) (Putting (record { write = write; pair = new.pair })) (Pairing (purposes.Again write)) (IsRead words) (λ _. read) (λ _. read))
+      (λ _. cond_both (serves_at new at.table at.probe.i) (Putting (record { write = write; pair = new.pair })) (Pairing (purposes.Again write))
+      (IsRead words) (λ _. read) (λ _. read))
       (λ _. read)
   recalls_read (Some (choices.Remove old)) at word n read =
       let removal : Removal = record { place = at; word = word } in
@@ -198,12 +210,15 @@ module _ (words : At → ℕ) where
 
   root_read : (task : Task) (fill : Option ℕ) (word : ℕ) → words Root ≡ word → IsRead words (at_root task fill word)
   root_read Get fill word read = cond_both (word == 0) (Ended Absent) (Searching (Sizing word)) (IsRead words) (λ _. tt) (λ _. tt)
-  root_read (Insert replace) fill word read = cond_both (word == 0) Making (Searching (Sizing word)) (IsRead words) (λ none. read ∙ eqb-true word 0 none) (λ _. tt)
+  root_read (Insert replace) fill word read = cond_both (word == 0) Making (Searching (Sizing word)) (IsRead words)
+      (λ none. read ∙ eqb-true word 0 none) (λ _. tt)
   root_read RemoveIf fill word read = cond_both (word == 0) (Ended Absent) (Searching (Sizing word)) (IsRead words) (λ _. tt) (λ _. tt)
-  root_read Compute fill word read = cond_both (word == 0) (lacks fill gaps.NoRoot) (Searching (Sizing word)) (IsRead words) (λ none. lacks_read fill gaps.NoRoot (read ∙ eqb-true word 0 none)) (λ _. tt)
+  root_read Compute fill word read = cond_both (word == 0) (lacks fill gaps.NoRoot) (Searching (Sizing word)) (IsRead words)
+      (λ none. lacks_read fill gaps.NoRoot (read ∙ eqb-true word 0 none)) (λ _. tt)
 
   next_read : (task : Task) (fill : Option ℕ) (t word : ℕ) → IsRead words (next_or_end task fill t word)
-  next_read task fill t word = cond_both (word == 0) (absent task fill (gaps.After t)) (Searching (Sizing word)) (IsRead words) (λ _. absent_read task fill (gaps.After t) tt) (λ _. tt)
+  next_read task fill t word = cond_both (word == 0) (absent task fill (gaps.After t)) (Searching (Sizing word)) (IsRead words)
+      (λ _. absent_read task fill (gaps.After t) tt) (λ _. tt)
 
   agreed_read : (removal : Removal) (agrees : Bool) → word_of_place words removal.place ≡ removal.word → IsRead words (agreed removal agrees)
   agreed_read removal true read = read
@@ -240,7 +255,9 @@ module _ (words words' : At → ℕ) (m : Machine) (bare : IsBare words) where
   number_there Taken same read = read
 
   -- where no word is changed
-  quiet : (made : Made) (s : State) (answer told : Answer) → answer ≡ told → IsSame words words' → IsNumberRead words' (after (record m { made = made; state = s }) told).made.number → IsRead words' (after (record m { made = made; state = s }) told).state → Stable made s answer
+  quiet : (made : Made) (s : State) (answer told : Answer) → answer ≡ told → IsSame words words'
+      → IsNumberRead words' (after (record m { made = made; state = s }) told).made.number
+      → IsRead words' (after (record m { made = made; state = s }) told).state → Stable made s answer
   quiet made s answer told e same number read = subst (Stable made s) (sym e) (record { bare = same_bare words words' bare same; number = number; read = read })
 
   -- the word of a place that was not changed
@@ -270,26 +287,33 @@ module _ (words words' : At → ℕ) (m : Machine) (bare : IsBare words) where
         (λ (h : (refused : Refused) × (answer ≡ Was_refused refused)). quiet made Making answer (Was_refused h.0) h.1 told.1 (known told.1) tt)
         told.0
 
-    size_stable : (t : ℕ) (answer : Answer) → IsPrompt m.task words (asks made m.hash (Searching (Sizing t))) answer words' → Stable made (Searching (Sizing t)) answer
+    size_stable : (t : ℕ) (answer : Answer) → IsPrompt m.task words (asks made m.hash (Searching (Sizing t))) answer words'
+        → Stable made (Searching (Sizing t)) answer
     size_stable t answer ((slots, limit, size, e), same) = quiet made (Searching (Sizing t)) answer _ e same (known same) tt
 
     -- a slot was exchanged
-    slot_put : (s : State) (at : Place) (new : ℕ) → (kind_of new ≡ word_kinds.Empty → ⊥) → IsPut words (Slot at.table at.probe.i) new words' → (next : Made) → next.number ≡ made.number → IsRead words' s → IsCurrent words' (record m { made = next; state = s })
+    slot_put : (s : State) (at : Place) (new : ℕ) → (kind_of new ≡ word_kinds.Empty → ⊥) → IsPut words (Slot at.table at.probe.i) new words'
+        → (next : Made) → next.number ≡ made.number → IsRead words' s → IsCurrent words' (record m { made = next; state = s })
     slot_put s at new filled put next same read = record {
       bare = slot_put_bare words words' bare at.table at.probe.i new filled put;
-      number = subst (IsNumberRead words') (sym same) (number_there made.number (put.others Made_word (λ (h : Made_word ≡ Slot at.table at.probe.i). cc)) number);
+      number = subst (IsNumberRead words') (sym same)
+          (number_there made.number (put.others Made_word (λ (h : Made_word ≡ Slot at.table at.probe.i). cc)) number);
       read = read;
     }
 
     -- the pair that a compute made is written
-    putting_stable : (put : Put) (answer : Answer) → IsRead words (Putting put) → IsPrompt m.task words (asks made m.hash (Putting put)) answer words' → Stable made (Putting put) answer
+    putting_stable : (put : Put) (answer : Answer) → IsRead words (Putting put) → IsPrompt m.task words (asks made m.hash (Putting put)) answer words'
+        → Stable made (Putting put) answer
     putting_stable put answer read told =
         let at : At = Slot put.write.place.table put.write.place.probe.i in
         let done : (answer ≡ Exchanged) × IsPut words at (live_word put.pair) words' = exchange_done _ _ (words at) put.write.old read told in
-        subst (Stable made (Putting put)) (sym done.0) (slot_put (written put.write put.pair) put.write.place (live_word put.pair) (new_filled put.pair) done.1 made refl (written_read words' put.write put.pair))
+        subst (Stable made (Putting put)) (sym done.0)
+        (slot_put (written put.write put.pair) put.write.place (live_word put.pair) (new_filled put.pair) done.1 made refl
+        (written_read words' put.write put.pair))
 
     -- a closure was shown a pair
-    showing_stable : (removal : Removal) (answer : Answer) → IsSame words words' → word_of_place words' removal.place ≡ removal.word → IsSaying m.task answer → Stable made (Showing removal) answer
+    showing_stable : (removal : Removal) (answer : Answer) → IsSame words words' → word_of_place words' removal.place ≡ removal.word
+        → IsSaying m.task answer → Stable made (Showing removal) answer
     showing_stable removal answer same read told =
         by_saying (λ task said. IsCurrent words' (after (record m { task = task; made = made; state = Showing removal }) said))
         (λ agrees. record { bare = same_bare words words' bare same; number = known same; read = agreed_read words' removal agrees read })
@@ -302,44 +326,58 @@ module _ (words words' : At → ℕ) (m : Machine) (bare : IsBare words) where
         answered_known (op_kinds.Abort t) same' = known same'
 
     -- or that there is none
-    offering_stable : (gap : Gap) (kind : OpKind) (answer : Answer) → answer ≡ Op kind → IsSame words words' → IsGapRead words gap → Stable made (Offering gap) answer
-    offering_stable gap op_kinds.Insert answer e same read = quiet made (Offering gap) answer (Op op_kinds.Insert) e same (known same) (offered_read words' gap op_kinds.Insert (gap_there gap same read))
-    offering_stable gap op_kinds.Remove answer e same read = quiet made (Offering gap) answer (Op op_kinds.Remove) e same (known same) (offered_read words' gap op_kinds.Remove (gap_there gap same read))
-    offering_stable gap (op_kinds.Abort t) answer e same read = quiet made (Offering gap) answer (Op (op_kinds.Abort t)) e same (known same) (offered_read words' gap (op_kinds.Abort t) (gap_there gap same read))
+    offering_stable : (gap : Gap) (kind : OpKind) (answer : Answer) → answer ≡ Op kind → IsSame words words' → IsGapRead words gap
+        → Stable made (Offering gap) answer
+    offering_stable gap op_kinds.Insert answer e same read = quiet made (Offering gap) answer (Op op_kinds.Insert) e same (known same)
+        (offered_read words' gap op_kinds.Insert (gap_there gap same read))
+    offering_stable gap op_kinds.Remove answer e same read = quiet made (Offering gap) answer (Op op_kinds.Remove) e same (known same)
+        (offered_read words' gap op_kinds.Remove (gap_there gap same read))
+    offering_stable gap (op_kinds.Abort t) answer e same read = quiet made (Offering gap) answer (Op (op_kinds.Abort t)) e same (known same)
+        (offered_read words' gap (op_kinds.Abort t) (gap_there gap same read))
 
     -- a removed pair is deleted
-    deleting_stable : (removal : Removal) (answer : Answer) → IsRead words (Deleting removal) → IsPrompt m.task words (asks made m.hash (Deleting removal)) answer words' → Stable made (Deleting removal) answer
+    deleting_stable : (removal : Removal) (answer : Answer) → IsRead words (Deleting removal)
+        → IsPrompt m.task words (asks made m.hash (Deleting removal)) answer words' → Stable made (Deleting removal) answer
     deleting_stable removal answer read told =
         let at : At = Slot removal.place.table removal.place.probe.i in
         let done : (answer ≡ Exchanged) × IsPut words at (grave_word removal.word) words' = exchange_done _ _ (words at) removal.word read told in
-        subst (Stable made (Deleting removal)) (sym done.0) (slot_put (Uncounting (pair_of removal.word)) removal.place (grave_word removal.word) (grave_filled removal.word) done.1 made refl tt)
+        subst (Stable made (Deleting removal)) (sym done.0)
+        (slot_put (Uncounting (pair_of removal.word)) removal.place (grave_word removal.word) (grave_filled removal.word) done.1 made refl tt)
 
     -- the hint of a place was loaded
-    looking_stable : (at : Place) (answer : Answer) → IsPrompt m.task words (asks made m.hash (Searching (Looking at))) answer words' → Stable made (Searching (Looking at)) answer
+    looking_stable : (at : Place) (answer : Answer) → IsPrompt m.task words (asks made m.hash (Searching (Looking at))) answer words'
+        → Stable made (Searching (Looking at)) answer
     looking_stable at answer told =
         let hint : ℕ = told.0.0 in
-        quiet made (Searching (Looking at)) answer (Word_read hint) told.0.1 told.1 (known told.1) (goes_read words' m.task m.mode m.remembered (hinted at m.hash hint) (hinted_there words' at m.hash hint))
+        quiet made (Searching (Looking at)) answer (Word_read hint) told.0.1 told.1 (known told.1)
+        (goes_read words' m.task m.mode m.remembered (hinted at m.hash hint) (hinted_there words' at m.hash hint))
 
     -- its word was loaded
-    reading_stable : (at : Place) (answer : Answer) → IsPrompt m.task words (asks made m.hash (Searching (Reading at))) answer words' → Stable made (Searching (Reading at)) answer
+    reading_stable : (at : Place) (answer : Answer) → IsPrompt m.task words (asks made m.hash (Searching (Reading at))) answer words'
+        → Stable made (Searching (Reading at)) answer
     reading_stable at answer told =
         let word : ℕ = word_of_place words at in
         quiet made (Searching (Reading at)) answer (Word_read word) told.0 told.1 (known told.1)
-        (goes_read words' m.task m.mode m.remembered (look at word) (look_there words' (kind_of word) at word (there at word told.1 refl) (bare at.table at.probe.i)))
+        (goes_read words' m.task m.mode m.remembered (look at word)
+        (look_there words' (kind_of word) at word (there at word told.1 refl) (bare at.table at.probe.i)))
 
     -- what is told of the numbers
-    limit_known : (count : ℕ) → words' Made_word ≡ count → IsNumberRead words' made.number → (limit : Option ℕ) → IsNumberRead words' (number_told (told_limit made limit count) made).number
+    limit_known : (count : ℕ) → words' Made_word ≡ count → IsNumberRead words' made.number → (limit : Option ℕ)
+        → IsNumberRead words' (number_told (told_limit made limit count) made).number
     limit_known count is here None = tt
-    limit_known count is here (Some most) = cond_both (nat_lt count most) (Some (record made { number = Free count })) None (λ o. IsNumberRead words' (number_told o made).number) (λ _. is) (λ _. here)
+    limit_known count is here (Some most) = cond_both (nat_lt count most) (Some (record made { number = Free count })) None
+        (λ o. IsNumberRead words' (number_told o made).number) (λ _. is) (λ _. here)
 
-    told_known : (number : Number) (count : ℕ) → words' Made_word ≡ count → IsNumberRead words' made.number → IsNumberRead words' (number_told (told_as made number count) made).number
+    told_known : (number : Number) (count : ℕ) → words' Made_word ≡ count → IsNumberRead words' made.number
+        → IsNumberRead words' (number_told (told_as made number count) made).number
     told_known Wanted count is here = limit_known count is here made.limit
     told_known (Free n) count is here = limit_known count is here made.limit
     told_known Taken count is here = here
 
     -- a call that makes a pair: s is its stage, which stays as it is or ends
     module _ (s : State) (old : ℕ) (answer : Answer)
-        (as_loaded : (count : ℕ) → IsSame words words' → IsNumberRead words' (number_told (told_count made count) made).number → Stable made s (Word_read count))
+        (as_loaded : (count : ℕ) → IsSame words words' → IsNumberRead words' (number_told (told_count made count) made).number
+        → Stable made s (Word_read count))
         (took : IsBare words' → IsNumberRead words' (taken made).number → IsPut words Made_word (words' Made_word) words' → Stable made s Exchanged)
         (logged : (n : ℕ) → IsSame words words' → Stable made s (Made_number n))
         (refused : (refused : Refused) → IsSame words words' → Stable made s (Was_refused refused)) where
@@ -368,11 +406,13 @@ module _ (words words' : At → ℕ) (m : Machine) (bare : IsBare words) where
       make_stable (ask_kinds.Done reply) h told_so = absurd h
 
       number_stable : (n : Number) → made.number ≡ n → IsNumberRead words n → IsPrompt m.task words (number_ask n made old) answer words' → Stable made s answer
-      number_stable Wanted is read told_so = subst (Stable made s) (sym told_so.0) (as_loaded (words Made_word) told_so.1 (told_known made.number (words Made_word) (told_so.1 Made_word) (known told_so.1)))
+      number_stable Wanted is read told_so = subst (Stable made s) (sym told_so.0)
+          (as_loaded (words Made_word) told_so.1 (told_known made.number (words Made_word) (told_so.1 Made_word) (known told_so.1)))
       number_stable (Free count) is read told_so =
           let done : (answer ≡ Exchanged) × IsPut words Made_word (count + 1) words' = exchange_done _ _ (words Made_word) count read told_so in
           subst (Stable made s) (sym done.0)
-          (took (number_put_bare words words' bare (count + 1) done.1) (subst (λ y. IsNumberRead words' (taken_as made y).number) (sym is) tt) (record { here = refl; others = done.1.others }))
+          (took (number_put_bare words words' bare (count + 1) done.1) (subst (λ y. IsNumberRead words' (taken_as made y).number) (sym is) tt)
+          (record { here = refl; others = done.1.others }))
       number_stable Taken is read told_so = make_stable (make_ask made old) (make_asks made old) told_so
 
       pair_stable : IsPrompt m.task words (pair_ask made old) answer words' → Stable made s answer
@@ -399,15 +439,27 @@ module _ (words words' : At → ℕ) (m : Machine) (bare : IsBare words) where
     grown_known : (n : Number) (old : ℕ) → IsNumberRead words' made.number → IsNumberRead words' (made_to_pair (grown_as n made old)).number
     grown_known Wanted old here = here
     grown_known (Free count) old here = here
-    grown_known Taken old here = cond_both (old == 0) (own_grown made.keyed made.valued made) (of_grown made.valued made) (λ G. IsNumberRead words' (made_to_pair G).number) (λ _. own_known made.keyed made.valued here) (λ _. of_known made.valued here)
+    grown_known Taken old here = cond_both (old == 0) (own_grown made.keyed made.valued made) (of_grown made.valued made)
+        (λ G. IsNumberRead words' (made_to_pair G).number) (λ _. own_known made.keyed made.valued here) (λ _. of_known made.valued here)
 
     -- a compute that makes a pair
-    pairing_stable : (purpose : Purpose) (answer : Answer) → IsRead words (Pairing purpose) → IsPrompt m.task words (asks made m.hash (Pairing purpose)) answer words' → Stable made (Pairing purpose) answer
+    pairing_stable : (purpose : Purpose) (answer : Answer) → IsRead words (Pairing purpose)
+        → IsPrompt m.task words (asks made m.hash (Pairing purpose)) answer words' → Stable made (Pairing purpose) answer
     pairing_stable purpose answer read told_so =
         pair_stable (Pairing purpose) (in_place_of purpose) answer
-        (λ count same n. record { bare = same_bare words words' bare same; number = n; read = numbered_leads (IsRead words') tt (Pairing purpose) (purpose_there purpose same read) (told_count made count) })
+        (λ count same n. record {
+          bare = same_bare words words' bare same;
+          number = n;
+          read = numbered_leads (IsRead words') tt (Pairing purpose)
+              (purpose_there purpose same read) (told_count made count);
+        })
         (λ still n put. record { bare = still; number = n; read = purpose_put purpose put read })
-        (λ n same. record { bare = same_bare words words' bare same; number = grown_known made.number (in_place_of purpose) (known same); read = paired_leads (IsRead words') purpose n (purpose_there purpose same read) (provides_read words' purpose n (purpose_there purpose same read)) (grown made (in_place_of purpose)) })
+        (λ n same. record {
+          bare = same_bare words words' bare same;
+          number = grown_known made.number (in_place_of purpose) (known same);
+          read = paired_leads (IsRead words') purpose n (purpose_there purpose same read)
+              (provides_read words' purpose n (purpose_there purpose same read)) (grown made (in_place_of purpose));
+        })
         (λ refused same. record { bare = same_bare words words' bare same; number = known same; read = tt })
         told_so
       where
@@ -418,44 +470,73 @@ module _ (words words' : At → ℕ) (m : Machine) (bare : IsBare words) where
 
         purpose_put : (purpose : Purpose) → IsPut words Made_word (words' Made_word) words' → IsPurposeRead words purpose → IsPurposeRead words' purpose
         purpose_put (purposes.Fill gap) put there_so = gap_put gap put there_so
-        purpose_put (purposes.Replace write) put there_so = put.others (Slot write.place.table write.place.probe.i) (λ (h : Slot write.place.table write.place.probe.i ≡ Made_word). cc) ∙ there_so
-        purpose_put (purposes.Again write) put there_so = put.others (Slot write.place.table write.place.probe.i) (λ (h : Slot write.place.table write.place.probe.i ≡ Made_word). cc) ∙ there_so
+        purpose_put (purposes.Replace write) put there_so = put.others (Slot write.place.table write.place.probe.i)
+            (λ (h : Slot write.place.table write.place.probe.i ≡ Made_word). cc) ∙ there_so
+        purpose_put (purposes.Again write) put there_so = put.others (Slot write.place.table write.place.probe.i)
+            (λ (h : Slot write.place.table write.place.probe.i ≡ Made_word). cc) ∙ there_so
 
     -- an insertion that makes its pair and writes it
-    writing_stable : (write : Write) (served : Option ℕ) → serves made write ≡ served → (answer : Answer) → IsRead words (Writing write) → IsPrompt m.task words (served_ask served write made) answer words' → Stable made (Writing write) answer
+    writing_stable : (write : Write) (served : Option ℕ) → serves made write ≡ served → (answer : Answer) → IsRead words (Writing write)
+        → IsPrompt m.task words (served_ask served write made) answer words' → Stable made (Writing write) answer
     writing_stable write None is answer read told_so =
         pair_stable (Writing write) write.old answer
         (λ count same n. subst (λ o. IsCurrent words' (record m { made = write_made o made count; state = write_told o made write count })) (sym is)
-        (record { bare = same_bare words words' bare same; number = n; read = numbered_leads (IsRead words') tt (Writing write) (there write.place write.old same read) (told_count made count) }))
+        (record {
+          bare = same_bare words words' bare same;
+          number = n;
+          read = numbered_leads (IsRead words') tt (Writing write)
+              (there write.place write.old same read) (told_count made count);
+        }))
         (λ still n put. subst (λ o. IsCurrent words' (record m { made = write_taken o made; state = exchanged o write })) (sym is)
-        (record { bare = still; number = n; read = put.others (Slot write.place.table write.place.probe.i) (λ (h : Slot write.place.table write.place.probe.i ≡ Made_word). cc) ∙ read }))
+        (record {
+          bare = still;
+          number = n;
+          read = put.others (Slot write.place.table write.place.probe.i)
+              (λ (h : Slot write.place.table write.place.probe.i ≡ Made_word). cc) ∙ read;
+        }))
         (λ n same. subst (λ o. IsCurrent words' (record m { made = write_grown o made write n; state = Writing write })) (sym is)
-        (record { bare = same_bare words words' bare same; number = write_known write n (grown made write.old) (grown_known made.number write.old (known same)); read = there write.place write.old same read }))
-        (λ refused same. subst (λ o. IsCurrent words' (record m { made = made; state = refuses o refused write })) (sym is) (record { bare = same_bare words words' bare same; number = known same; read = tt }))
+        (record {
+          bare = same_bare words words' bare same;
+          number = write_known write n (grown made write.old)
+              (grown_known made.number write.old (known same));
+          read = there write.place write.old same read;
+        }))
+        (λ refused same. subst (λ o. IsCurrent words' (record m { made = made; state = refuses o refused write })) (sym is)
+        (record { bare = same_bare words words' bare same; number = known same; read = tt }))
         told_so
       where
         write_known : (write : Write) (n : ℕ) (G : Grown) → IsNumberRead words' (made_to_pair G).number → IsNumberRead words' (made_to_write G write n).number
         write_known write n (On next) here = here
-        write_known write n (Pair next) here = cond_both (write.old == 0) (record next { own = Some n }) (record next { of = Some (made_of write n) }) (λ (y : Made). IsNumberRead words' y.number) (λ _. here) (λ _. here)
+        write_known write n (Pair next) here = cond_both (write.old == 0) (record next { own = Some n }) (record next { of = Some (made_of write n) })
+            (λ (y : Made). IsNumberRead words' y.number) (λ _. here) (λ _. here)
     writing_stable write (Some n) is answer read told_so =
         let at : At = Slot write.place.table write.place.probe.i in
         let done : (answer ≡ Exchanged) × IsPut words at (live_word n) words' = exchange_done _ _ (words at) write.old read told_so in
         subst (Stable made (Writing write)) (sym done.0)
-        (subst (λ o. IsCurrent words' (record m { made = write_taken o made; state = exchanged o write })) (sym is) (slot_put (written write n) write.place (live_word n) (new_filled n) done.1 made refl (written_read words' write n)))
+        (subst (λ o. IsCurrent words' (record m { made = write_taken o made; state = exchanged o write })) (sym is)
+        (slot_put (written write n) write.place (live_word n) (new_filled n) done.1 made refl (written_read words' write n)))
 
     -- in each state
     stable_in : (s : State) (answer : Answer) → IsRead words s → IsPrompt m.task words (asks made m.hash s) answer words' → Stable made s answer
-    stable_in AtRoot answer read told = quiet made AtRoot answer _ told.0 told.1 (known told.1) (root_read words' m.task m.remembered.fill (words Root) (told.1 Root))
+    stable_in AtRoot answer read told = quiet made AtRoot answer _ told.0 told.1 (known told.1)
+        (root_read words' m.task m.remembered.fill (words Root) (told.1 Root))
     stable_in Making answer read told = making_stable answer told read
     stable_in (Opening t) answer read told =
         let done : (answer ≡ Exchanged) × IsPut words Root t words' = exchange_done _ _ (words Root) 0 read told in
-        subst (Stable made (Opening t)) (sym done.0) (record { bare = root_put_bare words words' bare t done.1; number = number_there made.number (done.1.others Made_word (λ (h : Made_word ≡ Root). cc)) number; read = tt })
+        subst (Stable made (Opening t)) (sym done.0)
+        (record {
+          bare = root_put_bare words words' bare t done.1;
+          number = number_there made.number
+              (done.1.others Made_word (λ (h : Made_word ≡ Root). cc)) number;
+          read = tt;
+        })
     stable_in (Searching (Sizing t)) answer read told = size_stable t answer told
     stable_in (Searching (Looking at)) answer read told = looking_stable at answer told
     stable_in (Searching (Reading at)) answer read told = reading_stable at answer told
     stable_in (Searching (Comparing at word)) answer read told =
         quiet made (Searching (Comparing at word)) answer (Yes told.0.0) told.0.1 told.1 (known told.1)
-        (goes_read words' m.task m.mode m.remembered (search_compared (Comparing at word) told.0.0) (compared_there words' at word told.0.0 (there at word told.1 read)))
+        (goes_read words' m.task m.mode m.remembered (search_compared (Comparing at word) told.0.0)
+        (compared_there words' at word told.0.0 (there at word told.1 read)))
     stable_in (Writing write) answer read told = writing_stable write (serves made write) refl answer read told
     stable_in (Offering gap) answer read told = offering_stable gap told.0.0 answer told.0.1 told.1 read
     stable_in (Showing removal) answer read told = showing_stable removal answer told.1 (there removal.place removal.word told.1 read) told.0
@@ -465,10 +546,12 @@ module _ (words words' : At → ℕ) (m : Machine) (bare : IsBare words) where
     stable_in (Counting n) answer read told = quiet made (Counting n) answer _ told.0 told.1 (known told.1) tt
     stable_in (Noting n) answer read told = quiet made (Noting n) answer _ told.0 told.1 (known told.1) tt
     stable_in (Uncounting n) answer read told = quiet made (Uncounting n) answer _ told.0 told.1 (known told.1) tt
-    stable_in (Leaving t) answer read told = quiet made (Leaving t) answer _ told.0 told.1 (known told.1) (next_read words' m.task m.remembered.fill t (words (Next t)))
+    stable_in (Leaving t) answer read told = quiet made (Leaving t) answer _ told.0 told.1 (known told.1)
+        (next_read words' m.task m.remembered.fill t (words (Next t)))
     stable_in (Growing t) answer read told = quiet made (Growing t) answer _ told.0 told.1 (known told.1) tt
     stable_in (Ended reply) answer read told = absurd told
 
   -- of the machine
-  pub machine_stable : (answer : Answer) → IsNumberRead words m.made.number → IsRead words m.state → IsPrompt m.task words (ask_of m) answer words' → IsCurrent words' (after m answer)
+  pub machine_stable : (answer : Answer) → IsNumberRead words m.made.number → IsRead words m.state → IsPrompt m.task words (ask_of m) answer words'
+      → IsCurrent words' (after m answer)
   machine_stable answer number read told = stable_in m.made number m.state answer read told

@@ -1,5 +1,6 @@
 -- Each answer brings a call nearer its end, while no table has a next one.
-use Rattle.std.proofs.Common.{◌≡◌, ⊎_elim, ℕ, ◌+◌, ◌*◌, ◌-◌, ◌^◌, ◌<◌, ◌≤◌, ◌==◌, nat_lt, Bool, true, false, cond, Option, Some, None, refl, sym, ap, subst, arith}
+use Rattle.std.proofs.Common.{◌≡◌, ⊎_elim, ℕ, ◌+◌, ◌*◌, ◌-◌, ◌^◌, ◌<◌, ◌≤◌, ◌==◌, nat_lt, Bool}
+use Rattle.std.proofs.Common.{true, false, cond, Option, Some, None, refl, sym, ap, subst, arith}
 use Rattle.std.specs.Prelude.{MatchBool, if◌then◌else◌}
 use Rattle.std.proofs.lemmas.Bool.{and_from, cond_both, cond-true, eq-eqb, ltb-true}
 use Rattle.std.proofs.lemmas.Bool.Decides.{when_true}
@@ -38,16 +39,28 @@ use Rattle.papaya_call_law.proofs.Makings.{IsMakeAsk, make_asks}
 use Rattle.papaya_call.specs.declared.write.Write.{Write}
 use Rattle.papaya_call.specs.declared.machine.Machine.{Machine}
 use Rattle.papaya_call.specs.declared.machine.State.{State}
-use Rattle.papaya_call.specs.declared.machine.State.TheVariants.{AtRoot, Making, Opening, Searching, Writing, Offering, Showing, Pairing, Putting, Deleting, Counting, Noting, Uncounting, Leaving, Growing, Ended}
+use Rattle.papaya_call.specs.declared.machine.State.TheVariants.{AtRoot, Making, Opening, Searching}
+use Rattle.papaya_call.specs.declared.machine.State.TheVariants.{Writing, Offering, Showing}
+use Rattle.papaya_call.specs.declared.machine.State.TheVariants.{Pairing, Putting, Deleting}
+use Rattle.papaya_call.specs.declared.machine.State.TheVariants.{Counting, Noting, Uncounting}
+use Rattle.papaya_call.specs.declared.machine.State.TheVariants.{Leaving, Growing, Ended}
 use Rattle.papaya_ask.specs.Search.{IsSize, next_place, go_on, look_at, match_at, look, at_yes as search_compared, hinted}
 use Rattle.papaya_call.specs.declared.made.Grown.{Grown}
 use Rattle.papaya_call.specs.declared.made.Grown.TheVariants.{On, Pair}
 use Rattle.papaya_call.specs.declared.made.Number.{Number}
 use Rattle.papaya_call.specs.declared.made.Number.TheVariants.{Wanted, Free, Taken}
-use Rattle.papaya_call.specs.Made.{answered, grown, grown_as, make_ask, number_ask, of_grown, own_grown, pair_ask, serves_at, taken, taken_as, told, told_as, told_limit}
+use Rattle.papaya_call.specs.Made.{answered, grown, grown_as, make_ask, number_ask, of_grown}
+use Rattle.papaya_call.specs.Made.{own_grown, pair_ask, serves_at, taken, taken_as, told, told_as}
+use Rattle.papaya_call.specs.Made.{told_limit}
 use Rattle.papaya_call.specs.Compute.{fills, in_place_of, lacks, offered, chosen, provides, recalled, recalls}
-use Rattle.papaya_call.specs.Machine.{after, ask_of, asks, absent, at_root, exchanged, left as next_or_end, made_to_pair, number_told, numbered, paired, passes, refuses, replaces, removes, computes, goes_as, write_made, write_taken, write_told, written, agreed}
-use Rattle.papaya_call_law.specs.Alone.{IsPut, IsMaking, IsNumberRead, IsSaying, IsPrompt, IsRead, left, left_in, left_to_log, left_to_number, left_to_search, left_to_serve_with, left_to_write, left_to_pair, left_to_fill, left_to_serve}
+use Rattle.papaya_call.specs.Machine.{after, ask_of, asks, absent, at_root, exchanged}
+use Rattle.papaya_call.specs.Machine.{left as next_or_end, made_to_pair, number_told, numbered}
+use Rattle.papaya_call.specs.Machine.{paired, passes, refuses, replaces, removes, computes, goes_as}
+use Rattle.papaya_call.specs.Machine.{write_made, write_taken, write_told, written, agreed}
+use Rattle.papaya_call_law.specs.Alone.{IsPut, IsMaking, IsNumberRead, IsSaying, IsPrompt, IsRead}
+use Rattle.papaya_call_law.specs.Alone.{left, left_in, left_to_log, left_to_number, left_to_search}
+use Rattle.papaya_call_law.specs.Alone.{left_to_serve_with, left_to_write, left_to_pair}
+use Rattle.papaya_call_law.specs.Alone.{left_to_fill, left_to_serve}
 use Rattle.papaya_call_law.proofs.Leads.{occupies_leads}
 use Rattle.papaya_call.specs.Write.{claimed_by, made_of, made_to_write, served_ask, served_of, serves, with_pair_at, write_grown}
 
@@ -56,7 +69,8 @@ pub exchange_done : (P Q : Type 0) (word old : ℕ) → word ≡ old → MatchBo
 exchange_done P Q word old same told = when_true P Q (eq-eqb word old same) told
 
 -- what holds of each answer of the closure of a removal, and of that of a compute, holds of what a closure says
-pub by_saying : (P : Task → Answer → Type 0) → ((agrees : Bool) → P RemoveIf (Yes agrees)) → ((kind : OpKind) → P Compute (Op kind)) → (task : Task) (answer : Answer) → IsSaying task answer → P task answer
+pub by_saying : (P : Task → Answer → Type 0) → ((agrees : Bool) → P RemoveIf (Yes agrees)) → ((kind : OpKind) → P Compute (Op kind))
+    → (task : Task) (answer : Answer) → IsSaying task answer → P task answer
 by_saying P by_yes by_op Get answer told = absurd told
 by_saying P by_yes by_op (Insert replace) answer told = absurd told
 by_saying P by_yes by_op RemoveIf answer (agrees, e) = subst (P RemoveIf) (sym e) (by_yes agrees)
@@ -151,7 +165,8 @@ module _ (made : Made) where
   recalls_left (Some (choices.Replace old new)) at word n =
       let write : Write = record { place = at; old = word } in
       cond_both (old == n) (recalled new at word) (Showing (record { place = at; word = word })) (λ s. left_in made s ≤ 10)
-      (λ _. cond_both (serves_at new at.table at.probe.i) (Putting (record { write = write; pair = new.pair })) (Pairing (purposes.Again write)) (λ s. left_in made s ≤ 10) (λ _. omega arith) (λ _. omega (arith, pair_left made word)))
+      (λ _. cond_both (serves_at new at.table at.probe.i) (Putting (record { write = write; pair = new.pair })) (Pairing (purposes.Again write))
+      (λ s. left_in made s ≤ 10) (λ _. omega arith) (λ _. omega (arith, pair_left made word)))
       (λ _. omega arith)
   recalls_left (Some (choices.Remove old)) at word n =
       let removal : Removal = record { place = at; word = word } in
@@ -203,17 +218,22 @@ module _ (made : Made) where
   goes_left Compute mode held (seen.Over t) = passes_left Compute mode held.fill t
 
   root_left : (task : Task) (fill : Option ℕ) (word : ℕ) → left_in made (at_root task fill word) < left_in made AtRoot
-  root_left Get fill word = cond_both (word == 0) (Ended Absent) (Searching (Sizing word)) (λ s. left_in made s < left_in made AtRoot) (λ _. omega arith) (λ _. omega arith)
-  root_left (Insert replace) fill word = cond_both (word == 0) Making (Searching (Sizing word)) (λ s. left_in made s < left_in made AtRoot) (λ _. omega arith) (λ _. omega arith)
-  root_left RemoveIf fill word = cond_both (word == 0) (Ended Absent) (Searching (Sizing word)) (λ s. left_in made s < left_in made AtRoot) (λ _. omega arith) (λ _. omega arith)
-  root_left Compute fill word = cond_both (word == 0) (lacks fill gaps.NoRoot) (Searching (Sizing word)) (λ s. left_in made s < left_in made AtRoot) (λ _. omega (arith, lacks_left fill gaps.NoRoot)) (λ _. omega arith)
+  root_left Get fill word = cond_both (word == 0) (Ended Absent) (Searching (Sizing word)) (λ s. left_in made s < left_in made AtRoot)
+      (λ _. omega arith) (λ _. omega arith)
+  root_left (Insert replace) fill word = cond_both (word == 0) Making (Searching (Sizing word)) (λ s. left_in made s < left_in made AtRoot)
+      (λ _. omega arith) (λ _. omega arith)
+  root_left RemoveIf fill word = cond_both (word == 0) (Ended Absent) (Searching (Sizing word)) (λ s. left_in made s < left_in made AtRoot)
+      (λ _. omega arith) (λ _. omega arith)
+  root_left Compute fill word = cond_both (word == 0) (lacks fill gaps.NoRoot) (Searching (Sizing word)) (λ s. left_in made s < left_in made AtRoot)
+      (λ _. omega (arith, lacks_left fill gaps.NoRoot)) (λ _. omega arith)
 
   agreed_left : (removal : Removal) (agrees : Bool) → left_in made (agreed removal agrees) < 10
   agreed_left removal true = omega arith
   agreed_left removal false = omega arith
 
   written_left : (write : Write) (n : ℕ) → left_in made (written write n) < 3
-  written_left write n = cond_both (write.old == 0) (Counting (claimed_by write n)) (Ended (Replaced (pair_of write.old) n)) (λ s. left_in made s < 3) (λ _. omega arith) (λ _. omega arith)
+  written_left write n = cond_both (write.old == 0) (Counting (claimed_by write n)) (Ended (Replaced (pair_of write.old) n)) (λ s. left_in made s < 3)
+      (λ _. omega arith) (λ _. omega arith)
 
   -- what its closure answered leads on
   offered_left : (gap : Gap) (kind : OpKind) → left_in (answered kind made) (offered gap kind) < 6 + left_to_fill gap
@@ -237,14 +257,17 @@ serves_own : (made : Made) (write : Write) (n : ℕ) → serves (with_pair_at ma
 serves_own made write n = by_old (write.old == 0)
   where
     itself : serves_at (made_of write n) write.place.table write.place.probe.i ≡ true
-    itself = and_from (write.place.table == write.place.table) (write.place.probe.i == write.place.probe.i) (eq-eqb write.place.table write.place.table refl) (eq-eqb write.place.probe.i write.place.probe.i refl)
+    itself = and_from (write.place.table == write.place.table) (write.place.probe.i == write.place.probe.i)
+        (eq-eqb write.place.table write.place.table refl) (eq-eqb write.place.probe.i write.place.probe.i refl)
 
-    by_old : (b : Bool) → cond b (cond b (record made { own = Some n }) (record made { of = Some (made_of write n) })).own (served_of (cond b (record made { own = Some n }) (record made { of = Some (made_of write n) })).of write.place) ≡ Some n
+    by_old : (b : Bool) → cond b (cond b (record made { own = Some n }) (record made { of = Some (made_of write n) })).own
+        (served_of (cond b (record made { own = Some n }) (record made { of = Some (made_of write n) })).of write.place) ≡ Some n
     by_old true = refl
     by_old false = cond-true (serves_at (made_of write n) write.place.table write.place.probe.i) (Some n) None itself
 
 -- what is left to an insertion once less is left to its pair
-unserved_left : (made : Made) (write : Write) (next : Made) (served : Option ℕ) → left_to_write made write ≡ 3 + left_to_pair made write.old → left_to_pair next write.old + 3 < left_to_pair made write.old + 3 → left_to_serve_with served next write.old < left_to_write made write
+unserved_left : (made : Made) (write : Write) (next : Made) (served : Option ℕ) → left_to_write made write ≡ 3 + left_to_pair made write.old
+    → left_to_pair next write.old + 3 < left_to_pair made write.old + 3 → left_to_serve_with served next write.old < left_to_write made write
 unserved_left made write next None leaves nearer = omega (arith, leaves, nearer)
 unserved_left made write next (Some n) leaves nearer = omega (arith, leaves, nearer)
 
@@ -253,14 +276,16 @@ module _ (words words' : At → ℕ) (m : Machine) where
   abbrev Nears : Made → State → Answer → Type 0
   Nears made s answer = left (after (record m { made = made; state = s }) answer) < left_in made s
 
-  making_nears : (made : Made) (s : State) (answer : Answer) → IsMaking answer → ((n : ℕ) → Nears made s (Made_number n)) → ((refused : Refused) → Nears made s (Was_refused refused)) → Nears made s answer
+  making_nears : (made : Made) (s : State) (answer : Answer) → IsMaking answer → ((n : ℕ) → Nears made s (Made_number n))
+      → ((refused : Refused) → Nears made s (Was_refused refused)) → Nears made s answer
   making_nears made s answer told by_made by_refused =
       ⊎_elim
       (λ (h : (n : ℕ) × (answer ≡ Made_number n)). subst (Nears made s) (sym h.1) (by_made h.0))
       (λ (h : (refused : Refused) × (answer ≡ Was_refused refused)). subst (Nears made s) (sym h.1) (by_refused h.0))
       told
 
-  size_nears : (made : Made) (t : ℕ) (answer : Answer) → (slots : ℕ) × (limit : ℕ) × IsSize slots limit × (answer ≡ Size slots limit) → Nears made (Searching (Sizing t)) answer
+  size_nears : (made : Made) (t : ℕ) (answer : Answer) → (slots : ℕ) × (limit : ℕ) × IsSize slots limit × (answer ≡ Size slots limit)
+      → Nears made (Searching (Sizing t)) answer
   size_nears made t answer (slots, limit, size, e) = let few : limit < 2 ^ 32 = size.few in subst (Nears made (Searching (Sizing t))) (sym e) (omega arith)
 
   -- where a call makes a pair, each step brings it nearer: s is left to do then
@@ -284,7 +309,8 @@ module _ (words words' : At → ℕ) (m : Machine) where
     told_nears wants count = subst (λ n. IsNearerTold (told_as made n count)) (sym wants) (limit_nears wants made.limit count)
 
     taken_nears : (count : ℕ) → made.number ≡ Free count → IsNearer (taken made)
-    taken_nears count free = let w : left_to_number made.number ≡ 1 = ap left_to_number free in subst (λ n. IsNearer (taken_as made n)) (sym free) (omega (arith, w))
+    taken_nears count free = let w : left_to_number made.number ≡ 1 = ap left_to_number free in
+        subst (λ n. IsNearer (taken_as made n)) (sym free) (omega (arith, w))
 
     -- the key or the value was logged, or the pair
     abbrev IsNearerGrown : Grown → Type 0
@@ -292,7 +318,9 @@ module _ (words words' : At → ℕ) (m : Machine) where
     IsNearerGrown (Pair next) = Unit {0}
 
     own_nears : (old == 0) ≡ true → (keyed valued : Bool) → made.keyed ≡ keyed → made.valued ≡ valued → IsNearerGrown (own_grown keyed valued made)
-    own_nears empty false valued k v = let a : left_to_log made.keyed ≡ 1 = ap left_to_log k in subst (λ b. left_to_number made.number + left_to_log made.valued + cond b 0 0 + 1 + s < left_to_number made.number + left_to_log made.valued + cond b (left_to_log made.keyed) 0 + 1 + s) (sym empty) (omega (arith, a))
+    own_nears empty false valued k v = let a : left_to_log made.keyed ≡ 1 = ap left_to_log k in
+        subst (λ b. left_to_number made.number + left_to_log made.valued + cond b 0 0 + 1 + s < left_to_number made.number + left_to_log made.valued +
+        cond b (left_to_log made.keyed) 0 + 1 + s) (sym empty) (omega (arith, a))
     own_nears empty true false k v = let a : left_to_log made.valued ≡ 1 = ap left_to_log v in omega (arith, a)
     own_nears empty true true k v = tt
 
@@ -301,23 +329,30 @@ module _ (words words' : At → ℕ) (m : Machine) where
     of_nears true v = tt
 
     grown_nears : made.number ≡ Taken → IsNearerGrown (grown made old)
-    grown_nears taken_is = subst (λ n. IsNearerGrown (grown_as n made old)) (sym taken_is) (cond_both (old == 0) (own_grown made.keyed made.valued made) (of_grown made.valued made) IsNearerGrown (λ empty. own_nears empty made.keyed made.valued refl refl) (λ _. of_nears made.valued refl))
+    grown_nears taken_is = subst (λ n. IsNearerGrown (grown_as n made old)) (sym taken_is)
+        (cond_both (old == 0) (own_grown made.keyed made.valued made) (of_grown made.valued made) IsNearerGrown
+        (λ empty. own_nears empty made.keyed made.valued refl refl) (λ _. of_nears made.valued refl))
 
   -- an insertion was told how many numbers were taken, or has logged something
-  told_write : (made : Made) (write : Write) → left_to_write made write ≡ 3 + left_to_pair made write.old → (o : Option Made) → IsNearerTold made write.old 3 o → left_in (number_told o made) (numbered o (Writing write)) < left_to_write made write
+  told_write : (made : Made) (write : Write) → left_to_write made write ≡ 3 + left_to_pair made write.old → (o : Option Made)
+      → IsNearerTold made write.old 3 o → left_in (number_told o made) (numbered o (Writing write)) < left_to_write made write
   told_write made write leaves None nearer = omega (arith, leaves)
   told_write made write leaves (Some next) nearer = unserved_left made write next (serves next write) leaves nearer
 
-  grown_write : (made : Made) (write : Write) (n : ℕ) → left_to_write made write ≡ 3 + left_to_pair made write.old → (G : Grown) → IsNearerGrown made write.old 3 G → left_to_write (made_to_write G write n) write < left_to_write made write
+  grown_write : (made : Made) (write : Write) (n : ℕ) → left_to_write made write ≡ 3 + left_to_pair made write.old → (G : Grown)
+      → IsNearerGrown made write.old 3 G → left_to_write (made_to_write G write n) write < left_to_write made write
   grown_write made write n leaves (On next) nearer = unserved_left made write next (serves next write) leaves nearer
-  grown_write made write n leaves (Pair next) nearer = let a : left_to_write (with_pair_at next write n) write ≡ 3 = ap (λ o. left_to_serve_with o (with_pair_at next write n) write.old) (serves_own next write n) in omega (arith, leaves, a)
+  grown_write made write n leaves (Pair next) nearer = let a : left_to_write (with_pair_at next write n) write ≡ 3 = ap
+      (λ o. left_to_serve_with o (with_pair_at next write n) write.old) (serves_own next write n) in omega (arith, leaves, a)
 
   -- so has a compute
-  told_pairing : (made : Made) (purpose : Purpose) (o : Option Made) → IsNearerTold made (in_place_of purpose) (left_to_serve purpose) o → left_in (number_told o made) (numbered o (Pairing purpose)) < left_in made (Pairing purpose)
+  told_pairing : (made : Made) (purpose : Purpose) (o : Option Made) → IsNearerTold made (in_place_of purpose) (left_to_serve purpose) o
+      → left_in (number_told o made) (numbered o (Pairing purpose)) < left_in made (Pairing purpose)
   told_pairing made purpose None nearer = omega arith
   told_pairing made purpose (Some next) nearer = nearer
 
-  grown_pairing : (made : Made) (purpose : Purpose) (n : ℕ) (G : Grown) → IsNearerGrown made (in_place_of purpose) (left_to_serve purpose) G → left_in (made_to_pair G) (paired G purpose n) < left_in made (Pairing purpose)
+  grown_pairing : (made : Made) (purpose : Purpose) (n : ℕ) (G : Grown) → IsNearerGrown made (in_place_of purpose) (left_to_serve purpose) G
+      → left_in (made_to_pair G) (paired G purpose n) < left_in made (Pairing purpose)
   grown_pairing made purpose n (On next) nearer = nearer
   grown_pairing made purpose n (Pair next) nearer = omega (arith, provides_left next purpose n)
 
@@ -344,7 +379,8 @@ module _ (words words' : At → ℕ) (m : Machine) where
     make_nears is (ask_kinds.AddToShard by) h told = absurd h
     make_nears is (ask_kinds.Done reply) h told = absurd h
 
-    number_nears : (number : Number) → made.number ≡ number → IsNumberRead words number → IsPrompt m.task words (number_ask number made old) answer words' → Nears made s answer
+    number_nears : (number : Number) → made.number ≡ number → IsNumberRead words number
+        → IsPrompt m.task words (number_ask number made old) answer words' → Nears made s answer
     number_nears Wanted is read told = subst (Nears made s) (sym told.0) (as_loaded (words Made_word) (told_nears made old behind is (words Made_word)))
     number_nears (Free count) is read told =
         let done : (answer ≡ Exchanged) × IsPut words Made_word (count + 1) words' = exchange_done _ _ (words Made_word) count read told in
@@ -355,23 +391,30 @@ module _ (words words' : At → ℕ) (m : Machine) where
     pair_nears read told = number_nears made.number refl read told
 
   -- an insertion makes its pair and writes it
-  writing_nears : (made : Made) (write : Write) (served : Option ℕ) → serves made write ≡ served → (answer : Answer) → IsNumberRead words made.number → IsRead words (Writing write) → IsPrompt m.task words (served_ask served write made) answer words' → Nears made (Writing write) answer
+  writing_nears : (made : Made) (write : Write) (served : Option ℕ) → serves made write ≡ served → (answer : Answer) → IsNumberRead words made.number
+      → IsRead words (Writing write) → IsPrompt m.task words (served_ask served write made) answer words' → Nears made (Writing write) answer
   writing_nears made write None is answer number read told_so =
       let leaves : left_to_write made write ≡ 3 + left_to_pair made write.old = ap (λ o. left_to_serve_with o made write.old) is in
       pair_nears made (Writing write) write.old 3 answer
-      (λ count nearer. subst (λ o. left_in (write_made o made count) (write_told o made write count) < left_to_write made write) (sym is) (told_write made write leaves (told made count) nearer))
-      (λ nearer. subst (λ o. left_in (write_taken o made) (exchanged o write) < left_to_write made write) (sym is) (let a = serve_left made (serves (taken made) write) (taken made) write.old in unserved_left made write (taken made) (serves (taken made) write) leaves nearer))
-      (λ n nearer. subst (λ o. left_to_write (write_grown o made write n) write < left_to_write made write) (sym is) (grown_write made write n leaves (grown made write.old) nearer))
+      (λ count nearer. subst (λ o. left_in (write_made o made count) (write_told o made write count) < left_to_write made write) (sym is)
+      (told_write made write leaves (told made count) nearer))
+      (λ nearer. subst (λ o. left_in (write_taken o made) (exchanged o write) < left_to_write made write) (sym is)
+      (let a = serve_left made (serves (taken made) write) (taken made) write.old in
+      unserved_left made write (taken made) (serves (taken made) write) leaves nearer))
+      (λ n nearer. subst (λ o. left_to_write (write_grown o made write n) write < left_to_write made write) (sym is)
+      (grown_write made write n leaves (grown made write.old) nearer))
       (λ refused. subst (λ o. left_in made (refuses o refused write) < left_to_write made write) (sym is) (omega (arith, leaves)))
       number told_so
   writing_nears made write (Some n) is answer number read told_so =
       let at : At = Slot write.place.table write.place.probe.i in
       let leaves : left_to_write made write ≡ 3 = ap (λ o. left_to_serve_with o made write.old) is in
       let done : (answer ≡ Exchanged) × IsPut words at _ words' = exchange_done _ _ (words at) write.old read told_so in
-      subst (Nears made (Writing write)) (sym done.0) (subst (λ o. left_in (write_taken o made) (exchanged o write) < left_to_write made write) (sym is) (omega (arith, written_left made write n, leaves)))
+      subst (Nears made (Writing write)) (sym done.0)
+      (subst (λ o. left_in (write_taken o made) (exchanged o write) < left_to_write made write) (sym is) (omega (arith, written_left made write n, leaves)))
 
   -- a compute makes its pair
-  pairing_nears : (made : Made) (purpose : Purpose) (answer : Answer) → IsNumberRead words made.number → IsPrompt m.task words (asks made m.hash (Pairing purpose)) answer words' → Nears made (Pairing purpose) answer
+  pairing_nears : (made : Made) (purpose : Purpose) (answer : Answer) → IsNumberRead words made.number
+      → IsPrompt m.task words (asks made m.hash (Pairing purpose)) answer words' → Nears made (Pairing purpose) answer
   pairing_nears made purpose answer number told_so =
       pair_nears made (Pairing purpose) (in_place_of purpose) (left_to_serve purpose) answer
       (λ count nearer. told_pairing made purpose (told made count) nearer)
@@ -387,7 +430,8 @@ module _ (words words' : At → ℕ) (m : Machine) where
       (agreed_left made removal) (chosen_left made removal) m.task answer told
 
   -- in each state
-  nears_in : ((t : ℕ) → words (Next t) ≡ 0) → (made : Made) (s : State) (answer : Answer) → IsNumberRead words made.number → IsRead words s → IsPrompt m.task words (asks made m.hash s) answer words' → Nears made s answer
+  nears_in : ((t : ℕ) → words (Next t) ≡ 0) → (made : Made) (s : State) (answer : Answer) → IsNumberRead words made.number → IsRead words s
+      → IsPrompt m.task words (asks made m.hash s) answer words' → Nears made s answer
   nears_in last made AtRoot answer number read told = subst (Nears made AtRoot) (sym told.0) (root_left made m.task m.remembered.fill (words Root))
   nears_in last made Making answer number read told = making_nears made Making answer told.0 (λ n. omega arith) (λ refused. omega arith)
   nears_in last made (Opening t) answer number read told =
@@ -426,10 +470,12 @@ module _ (words words' : At → ℕ) (m : Machine) where
   nears_in last made (Uncounting n) answer number read told = subst (Nears made (Uncounting n)) (sym told.0) (omega arith)
   nears_in last made (Leaving t) answer number read told =
       subst (Nears made (Leaving t)) (sym told.0)
-      (subst (λ word. left_in made (next_or_end m.task m.remembered.fill t word) < 8) (sym (last t)) (omega (arith, absent_left made m.task m.remembered.fill (gaps.After t))))
+      (subst (λ word. left_in made (next_or_end m.task m.remembered.fill t word) < 8) (sym (last t))
+      (omega (arith, absent_left made m.task m.remembered.fill (gaps.After t))))
   nears_in last made (Growing t) answer number read told = subst (Nears made (Growing t)) (sym told.0) (omega arith)
   nears_in last made (Ended reply) answer number read told = absurd told
 
   -- of the machine
-  pub machine_nears : (answer : Answer) → IsNumberRead words m.made.number → IsRead words m.state → ((t : ℕ) → words (Next t) ≡ 0) → IsPrompt m.task words (ask_of m) answer words' → left (after m answer) < left m
+  pub machine_nears : (answer : Answer) → IsNumberRead words m.made.number → IsRead words m.state → ((t : ℕ) → words (Next t) ≡ 0)
+      → IsPrompt m.task words (ask_of m) answer words' → left (after m answer) < left m
   machine_nears answer number read last told = nears_in last m.made m.state answer number read told

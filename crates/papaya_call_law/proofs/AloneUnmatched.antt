@@ -7,7 +7,10 @@ use Rattle.papaya_words.specs.declared.probe.ResizeMode.TheVariants.{Incremental
 use Rattle.papaya_words.specs.declared.word.Kind.{Kind}
 use Rattle.papaya_words.specs.declared.word.Kind.TheVariants as word_kinds
 use Rattle.papaya_ask.specs.declared.ask.Answer.{Answer}
-use Rattle.papaya_ask.specs.declared.ask.Answer.TheVariants.{Word as Word_read, Exchanged, Found as Found_instead, Yes, Op, Size, Made as Made_number, Ok as Ok_done, Refused as Was_refused}
+use Rattle.papaya_ask.specs.declared.ask.Answer.TheVariants.{Word as Word_read, Exchanged}
+use Rattle.papaya_ask.specs.declared.ask.Answer.TheVariants.{Found as Found_instead, Yes, Op, Size}
+use Rattle.papaya_ask.specs.declared.ask.Answer.TheVariants.{Made as Made_number, Ok as Ok_done}
+use Rattle.papaya_ask.specs.declared.ask.Answer.TheVariants.{Refused as Was_refused}
 use Rattle.papaya_ask.specs.declared.call.Reply.{Reply}
 use Rattle.papaya_ask.specs.declared.call.Reply.TheVariants.{Absent}
 use Rattle.papaya_ask.specs.declared.call.Task.{Task}
@@ -20,7 +23,11 @@ use Rattle.papaya_ask.specs.declared.search.Probed.{Probed}
 use Rattle.papaya_ask.specs.declared.search.Probed.TheVariants as seen
 use Rattle.papaya_call.specs.declared.machine.Machine.{Machine}
 use Rattle.papaya_call.specs.declared.machine.State.{State}
-use Rattle.papaya_call.specs.declared.machine.State.TheVariants.{AtRoot, Making, Opening, Searching, Writing, Offering, Showing, Pairing, Putting, Deleting, Counting, Noting, Uncounting, Leaving, Growing, Ended}
+use Rattle.papaya_call.specs.declared.machine.State.TheVariants.{AtRoot, Making, Opening, Searching}
+use Rattle.papaya_call.specs.declared.machine.State.TheVariants.{Writing, Offering, Showing}
+use Rattle.papaya_call.specs.declared.machine.State.TheVariants.{Pairing, Putting, Deleting}
+use Rattle.papaya_call.specs.declared.machine.State.TheVariants.{Counting, Noting, Uncounting}
+use Rattle.papaya_call.specs.declared.machine.State.TheVariants.{Leaving, Growing, Ended}
 use Rattle.papaya_ask.specs.Search.{next_place, go_on, look_at, look, hinted}
 use Rattle.papaya_call.specs.Machine.{after, ask_of, asks, absent, at_root, left as next_or_end, passes, goes_as}
 use Rattle.papaya_call_law.specs.Alone.{HasMetNone, IsSeeker, IsUnmatched}
@@ -72,7 +79,8 @@ goes_none RemoveIf mode held (seen.Over t) seeker none = passes_none RemoveIf mo
 goes_none Compute mode held (seen.Over t) seeker none = absurd seeker
 
 next_none : (task : Task) (fill : Option ℕ) (t word : ℕ) → IsSeeker task → HasMetNone (next_or_end task fill t word)
-next_none task fill t word seeker = cond_both (word == 0) (absent task fill (After t)) (Searching (Sizing word)) HasMetNone (λ _. absent_none task fill t seeker) (λ _. tt)
+next_none task fill t word seeker = cond_both (word == 0) (absent task fill (After t)) (Searching (Sizing word)) HasMetNone
+    (λ _. absent_none task fill t seeker) (λ _. tt)
 
 root_none : (task : Task) (fill : Option ℕ) (word : ℕ) → IsSeeker task → HasMetNone (at_root task fill word)
 root_none Get fill word seeker = cond_both (word == 0) (Ended Absent) (Searching (Sizing word)) HasMetNone (λ _. refl) (λ _. tt)
@@ -101,8 +109,10 @@ module _ (m : Machine) (seeker : IsSeeker m.task) (answer : Answer) where
   meets_none_in : (s : State) → HasMetNone s → IsUnmatched (asks m.made m.hash s) answer → MeetsNone s answer
   meets_none_in AtRoot none told = subst (MeetsNone AtRoot) (sym told.1) (root_none m.task m.remembered.fill told.0 seeker)
   meets_none_in (Searching (Sizing t)) none (slots, limit, e) = subst (MeetsNone (Searching (Sizing t))) (sym e) tt
-  meets_none_in (Searching (Looking at)) none (hint, e) = subst (MeetsNone (Searching (Looking at))) (sym e) (goes_none m.task m.mode m.remembered (hinted at m.hash hint) seeker (hinted_none at m.hash hint))
-  meets_none_in (Searching (Reading at)) none (word, e) = subst (MeetsNone (Searching (Reading at))) (sym e) (goes_none m.task m.mode m.remembered (look at word) seeker (look_none (kind_of word) at word))
+  meets_none_in (Searching (Looking at)) none (hint, e) = subst (MeetsNone (Searching (Looking at))) (sym e)
+      (goes_none m.task m.mode m.remembered (hinted at m.hash hint) seeker (hinted_none at m.hash hint))
+  meets_none_in (Searching (Reading at)) none (word, e) = subst (MeetsNone (Searching (Reading at))) (sym e)
+      (goes_none m.task m.mode m.remembered (look at word) seeker (look_none (kind_of word) at word))
   meets_none_in (Searching (Comparing at word)) none told =
       subst (MeetsNone (Searching (Comparing at word))) (sym told) (goes_none m.task m.mode m.remembered (go_on at) seeker (go_on_none at))
   meets_none_in (Leaving t) none told = subst (MeetsNone (Leaving t)) (sym told.1) (next_none m.task m.remembered.fill t told.0 seeker)

@@ -1,5 +1,7 @@
 -- What a copier relies on while it loads the words of a table's chunks one after another.
-use Rattle.std.proofs.Common.{◌≡◌, ◌⊎◌, inl, inr, ⊎_elim, ℕ, ◌+◌, ◌-◌, ◌*◌, ◌%◌, ◌<◌, ◌≤◌, ◌&&◌, nat_lt, nat_le, not, ltb-true, ltb-false, leb-true, Bool, true, false, cond, Option, refl, sym, ap, ◌∙◌, subst, arith}
+use Rattle.std.proofs.Common.{◌≡◌, ◌⊎◌, inl, inr, ⊎_elim, ℕ, ◌+◌, ◌-◌, ◌*◌, ◌%◌, ◌<◌, ◌≤◌, ◌&&◌}
+use Rattle.std.proofs.Common.{nat_lt, nat_le, not, ltb-true, ltb-false, leb-true, Bool, true, false}
+use Rattle.std.proofs.Common.{cond, Option, refl, sym, ap, ◌∙◌, subst, arith}
 use Rattle.std.specs.Prelude.{MatchBool}
 use Rattle.std.proofs.Math.Nat.{mod-lt}
 use Rattle.std.proofs.lemmas.Bool.{and_parts, cases_lt, cases_order, cond_both}
@@ -41,28 +43,34 @@ passed_next false start at chunk (low, h) = ⊎_elim (λ (lt : chunk < at). inl 
 
 -- one that was passed by, where the cursor did not come round, or did
 passed_straight : (cursor : Cursor) (chunk : ℕ) → cursor.wrapped ≡ false → cursor.start ≤ chunk → chunk < cursor.at → IsPassedBy cursor chunk
-passed_straight cursor chunk is low lt = subst (λ w. MatchBool w ((cursor.start ≤ chunk) ⊎ (chunk < cursor.at)) ((cursor.start ≤ chunk) × (chunk < cursor.at))) (sym is) (low, lt)
+passed_straight cursor chunk is low lt =
+    subst (λ w. MatchBool w ((cursor.start ≤ chunk) ⊎ (chunk < cursor.at)) ((cursor.start ≤ chunk) × (chunk < cursor.at))) (sym is) (low, lt)
 
 passed_round : (cursor : Cursor) (chunk : ℕ) → cursor.wrapped ≡ true → (cursor.start ≤ chunk) ⊎ (chunk < cursor.at) → IsPassedBy cursor chunk
-passed_round cursor chunk is h = subst (λ w. MatchBool w ((cursor.start ≤ chunk) ⊎ (chunk < cursor.at)) ((cursor.start ≤ chunk) × (chunk < cursor.at))) (sym is) h
+passed_round cursor chunk is h = subst (λ w.
+    MatchBool w ((cursor.start ≤ chunk) ⊎ (chunk < cursor.at)) ((cursor.start ≤ chunk) × (chunk < cursor.at))) (sym is) h
 
 module _ {K P : Type 0} (g : Setting K P) (c : Coding K P) (s : State P) where
   -- the chunk at which the cursor stands
   pub chunk_begins : (cursor : Cursor) → IsCursor g c s cursor → IsChunk g c s (chunk_at cursor)
   chunk_begins cursor r = record {
     cursor = r;
-    at = cond_both (nat_lt cursor.slots (cursor.len - cursor.begun)) (cursor.begun + cursor.slots) cursor.len (λ y. cursor.begun < y) (λ e. let some = r.some in omega (arith, some)) (λ e. r.within);
+    at = cond_both (nat_lt cursor.slots (cursor.len - cursor.begun)) (cursor.begun + cursor.slots) cursor.len (λ y. cursor.begun < y)
+        (λ e. let some = r.some in omega (arith, some)) (λ e. r.within);
     within = cond_both (nat_lt cursor.slots (cursor.len - cursor.begun)) (cursor.begun + cursor.slots) cursor.len (λ y. y ≤ cursor.len)
         (λ e. let lt : cursor.slots < cursor.len - cursor.begun = ltb-true cursor.slots (cursor.len - cursor.begun) e in omega (arith, lt))
         (λ e. omega arith);
     whole = λ x lt is. cond_both (nat_lt cursor.slots (cursor.len - cursor.begun)) (cursor.begun + cursor.slots) cursor.len (λ y. x < y)
-        (λ e. let up : x < cursor.at * cursor.slots + cursor.slots = chunk_to cursor.slots r.some x cursor.at (sym (r.cut x) ∙ is) in let b = r.begun in omega (arith, up, b))
+        (λ e. let up : x < cursor.at * cursor.slots + cursor.slots = chunk_to cursor.slots r.some x cursor.at (sym (r.cut x) ∙ is) in
+        let b = r.begun in omega (arith, up, b))
         (λ e. lt);
-    settled = λ x lt is. absurd (let low : cursor.at * cursor.slots ≤ x = chunk_from cursor.slots x cursor.at (sym (r.cut x) ∙ is) in let b = r.begun in omega (arith, lt, low, b));
+    settled = λ x lt is. absurd (let low : cursor.at * cursor.slots ≤ x = chunk_from cursor.slots x cursor.at (sym (r.cut x) ∙ is) in
+        let b = r.begun in omega (arith, lt, low, b));
   }
 
   -- where no chunk comes after this one
-  last_chunk : (cursor : Cursor) → IsCursor g c s cursor → nat_lt cursor.slots (cursor.len - cursor.begun) ≡ false → (x : ℕ) → x < g.size cursor.from → g.chunk_of x ≤ cursor.at
+  last_chunk : (cursor : Cursor) → IsCursor g c s cursor → nat_lt cursor.slots (cursor.len - cursor.begun) ≡ false → (x : ℕ) → x < g.size cursor.from
+      → g.chunk_of x ≤ cursor.at
   last_chunk cursor r e x lt =
       let le : cursor.len - cursor.begun ≤ cursor.slots = ltb-false cursor.slots (cursor.len - cursor.begun) e in
       let b = r.begun in
@@ -72,7 +80,8 @@ module _ {K P : Type 0} (g : Setting K P) (c : Coding K P) (s : State P) where
 
   module _ (last kept : Option P) where
     -- a cursor begins at a chunk that the table has
-    pub first_relies : IsLawful g → (mode : ResizeMode) → IsCutAs mode g.chunk_of → (number from to : ℕ) → IsSource g c s from to → ReliesStep g c s last kept (steps.AtChunk (first_cursor from to (g.size from) mode number))
+    pub first_relies : IsLawful g → (mode : ResizeMode) → IsCutAs mode g.chunk_of → (number from to : ℕ) → IsSource g c s from to
+        → ReliesStep g c s last kept (steps.AtChunk (first_cursor from to (g.size from) mode number))
     first_relies law mode cut number from to source =
         let slots : ℕ = chunk_len mode in
         let count : ℕ = chunk_count (g.size from) slots in
@@ -92,13 +101,16 @@ module _ {K P : Type 0} (g : Setting K P) (c : Coding K P) (s : State P) where
       done_at x is = subst (λ y. s.done cursor.to y ≡ true) (sym is) this
 
       -- up to this one, of those that are up to it
-      done_below : (x : ℕ) → x < g.size cursor.from → (g.chunk_of x < cursor.at → IsPassedBy cursor (g.chunk_of x)) → g.chunk_of x ≤ cursor.at → s.done cursor.to (g.chunk_of x) ≡ true
-      done_below x lt passed le = ⊎_elim (λ (less : g.chunk_of x < cursor.at). r.done x lt (passed less)) (λ (more : cursor.at ≤ g.chunk_of x). done_at x (omega (arith, le, more))) (cases_lt (g.chunk_of x) cursor.at)
+      done_below : (x : ℕ) → x < g.size cursor.from → (g.chunk_of x < cursor.at → IsPassedBy cursor (g.chunk_of x)) → g.chunk_of x ≤ cursor.at
+          → s.done cursor.to (g.chunk_of x) ≡ true
+      done_below x lt passed le = ⊎_elim (λ (less : g.chunk_of x < cursor.at). r.done x lt (passed less))
+          (λ (more : cursor.at ≤ g.chunk_of x). done_at x (omega (arith, le, more))) (cases_lt (g.chunk_of x) cursor.at)
 
       -- the next chunk
       relies_next : is_further cursor ≡ true → IsCursor g c s (next_chunk cursor)
       relies_next e =
-          let lt : cursor.slots < cursor.len - cursor.begun = ltb-true cursor.slots (cursor.len - cursor.begun) (and_parts (nat_lt cursor.slots (cursor.len - cursor.begun)) (not (cursor.wrapped && nat_le cursor.start (cursor.at + 1))) e).0 in
+          let lt : cursor.slots < cursor.len - cursor.begun = ltb-true cursor.slots (cursor.len - cursor.begun)
+          (and_parts (nat_lt cursor.slots (cursor.len - cursor.begun)) (not (cursor.wrapped && nat_le cursor.start (cursor.at + 1))) e).0 in
           record {
             source = r.source;
             len = r.len;
@@ -119,13 +131,15 @@ module _ {K P : Type 0} (g : Setting K P) (c : Coding K P) (s : State P) where
         begun = let none : 0 ≡ 0 * cursor.slots = omega arith in none;
         within = let w = r.within in omega (arith, w);
         done = λ x less passed. ⊎_elim
-            (λ (low : cursor.start ≤ g.chunk_of x). done_below x less (λ lt. passed_straight cursor (g.chunk_of x) straight low lt) (last_chunk cursor r (none_after e) x less))
+            (λ (low : cursor.start ≤ g.chunk_of x). done_below x less (λ lt. passed_straight cursor (g.chunk_of x) straight low lt)
+            (last_chunk cursor r (none_after e) x less))
             (λ (none : g.chunk_of x < 0). absurd (omega (arith, none)))
             passed;
       }
         where
           none_after : is_further cursor ≡ false → nat_lt cursor.slots (cursor.len - cursor.begun) ≡ false
-          none_after e = ⊎_elim (λ f. f) (λ h. absurd (let a = h.0 in cc (a, straight))) (not_further (nat_lt cursor.slots (cursor.len - cursor.begun)) cursor.wrapped (nat_le cursor.start (cursor.at + 1)) e)
+          none_after e = ⊎_elim (λ f. f) (λ h. absurd (let a = h.0 in cc (a, straight)))
+              (not_further (nat_lt cursor.slots (cursor.len - cursor.begun)) cursor.wrapped (nat_le cursor.start (cursor.at + 1)) e)
 
       -- no chunk is left
       relies_over : is_further cursor ≡ false → (not cursor.wrapped && nat_lt 0 cursor.start) ≡ false → IsAllDone g c s cursor.from cursor.to
@@ -143,16 +157,21 @@ module _ {K P : Type 0} (g : Setting K P) (c : Coding K P) (s : State P) where
           (not_further (nat_lt cursor.slots (cursor.len - cursor.begun)) cursor.wrapped (nat_le cursor.start (cursor.at + 1)) e))
           (λ h.
           let low : cursor.start ≤ 0 = ltb-false 0 cursor.start h.1 in
-          let none : nat_lt cursor.slots (cursor.len - cursor.begun) ≡ false = ⊎_elim (λ n. n) (λ w. absurd (let a = w.0 in let b = h.0 in cc (a, b))) (not_further (nat_lt cursor.slots (cursor.len - cursor.begun)) cursor.wrapped (nat_le cursor.start (cursor.at + 1)) e) in
+          let none : nat_lt cursor.slots (cursor.len - cursor.begun) ≡ false =
+          ⊎_elim (λ n. n) (λ w. absurd (let a = w.0 in let b = h.0 in cc (a, b)))
+          (not_further (nat_lt cursor.slots (cursor.len - cursor.begun)) cursor.wrapped (nat_le cursor.start (cursor.at + 1)) e) in
           done_below x lt (λ less. passed_straight cursor (g.chunk_of x) h.0 (omega (arith, low)) less) (last_chunk cursor r none x lt))
           (not_round cursor.wrapped (nat_lt 0 cursor.start) f)
 
       -- the cursor goes on, or all chunks are copied
       pub next_relies : ReliesStep g c s last kept (next_cursor cursor)
       next_relies =
-          cond_both (is_further cursor) (steps.AtChunk (next_chunk cursor)) (cond (not cursor.wrapped && nat_lt 0 cursor.start) (steps.AtChunk (first_chunk cursor)) (steps.Promoting cursor.from cursor.to)) (ReliesStep g c s last kept)
+          cond_both (is_further cursor) (steps.AtChunk (next_chunk cursor))
+          (cond (not cursor.wrapped && nat_lt 0 cursor.start) (steps.AtChunk (first_chunk cursor)) (steps.Promoting cursor.from cursor.to))
+          (ReliesStep g c s last kept)
           relies_next
           (λ e.
-          cond_both (not cursor.wrapped && nat_lt 0 cursor.start) (steps.AtChunk (first_chunk cursor)) (steps.Promoting cursor.from cursor.to) (ReliesStep g c s last kept)
+          cond_both (not cursor.wrapped && nat_lt 0 cursor.start) (steps.AtChunk (first_chunk cursor)) (steps.Promoting cursor.from cursor.to)
+          (ReliesStep g c s last kept)
           (λ f. relies_first e (round_first cursor.wrapped (nat_lt 0 cursor.start) f))
           (λ f. (r.source, relies_over e f)))

@@ -1,5 +1,7 @@
 -- The exchange that a copier asks for: where its old word stands there it may be made, and it writes just its word.
-use Rattle.std.proofs.Common.{◌≡◌, ◌⊎◌, inl, inr, ⊎_elim, ℕ, ◌<◌, ◌==◌, ◌&&◌, eqb-true, eq-eqb, Bool, true, false, cond, Option, Some, refl, sym, ap, ◌∙◌, subst, arith}
+use Rattle.std.proofs.Common.{◌≡◌, ◌⊎◌, inl, inr, ⊎_elim, ℕ, ◌<◌, ◌==◌, ◌&&◌, eqb-true, eq-eqb}
+use Rattle.std.proofs.Common.{Bool, true, false, cond, Option, Some, refl, sym, ap, ◌∙◌, subst}
+use Rattle.std.proofs.Common.{arith}
 use Rattle.std.proofs.lemmas.Bool.{and_parts, cases_Bool, cond-true, cond-false}
 use Rattle.papaya_words.specs.Word.{kind_of, pair_of, live_word, marked_word, copied_word}
 use Rattle.papaya_words.specs.declared.word.Kind.TheVariants as word_kinds
@@ -28,14 +30,19 @@ use Rattle.papaya_law.specs.Allows.{Allows}
 use Rattle.papaya_law.specs.Class.{IsOn}
 use Rattle.papaya_law.specs.Code.{Coding, IsHashed, IsOfKind, code}
 use Rattle.papaya_law.specs.Copying.{IsTarget}
-use Rattle.papaya_law.specs.Exchange.{Word, Empty, Closed, Live, Marked, Copied, Setting, State, Exchange, Link as Link_to, Mark, Close, Place, Finish, Advance, Promote, Abort, after, at_put, done_put, slot_put}
+use Rattle.papaya_law.specs.Exchange.{Word, Empty, Closed, Live, Marked, Copied, Setting, State}
+use Rattle.papaya_law.specs.Exchange.{Exchange, Link as Link_to, Mark, Close, Place, Finish}
+use Rattle.papaya_law.specs.Exchange.{Advance, Promote, Abort, after, at_put, done_put, slot_put}
 use Rattle.papaya_law.specs.Invariant.{IsKeeping}
 use Rattle.papaya_law.proofs.Codes.{code_empty, code_kind, code_pair}
 use Rattle.papaya_law.proofs.CodeViews.{word_of_kind}
 use Rattle.papaya_law.proofs.CopierFacts.{target_further}
 use Rattle.papaya_law.proofs.OneMap.{keeping_sound}
 use Rattle.papaya_law.proofs.Slots.{put_there, put_elsewhere}
-use Rattle.papaya_call_law.specs.Copier.{HasWords, IsCopyAsked, IsMoving, IsSource, ReliesCarry, ReliesCopying, ReliesLink, ReliesSettle, ReliesStep, link_in_carry, link_in_copying, link_in_settle, link_in_step}
+use Rattle.papaya_call_law.specs.Copier.{HasWords, IsCopyAsked, IsMoving, IsSource, ReliesCarry}
+use Rattle.papaya_call_law.specs.Copier.{ReliesCopying, ReliesLink, ReliesSettle, ReliesStep}
+use Rattle.papaya_call_law.specs.Copier.{link_in_carry, link_in_copying, link_in_settle}
+use Rattle.papaya_call_law.specs.Copier.{link_in_step}
 use Rattle.papaya_call_law.specs.Told.{IsWritten, word_of}
 use Rattle.papaya_call_law.proofs.CopierGuarantee.{advances, aborts, finishes, links_on, places, promotes, root_on}
 
@@ -79,7 +86,8 @@ module _ {K P : Type 0} (g : Setting K P) (c : Coding K P) (s : State P) where
       others (Aborted u) different = refl
       others (Done u b) different = refl
       others Made_word different = refl
-      others (Slot_word u y) different = ap (code g c) (put_elsewhere s t x w u y (λ e. different (ap (λ a. Slot_word a y) (sym e.0) ∙ ap (Slot_word t) (sym e.1))))
+      others (Slot_word u y) different = ap (code g c)
+          (put_elsewhere s t x w u y (λ e. different (ap (λ a. Slot_word a y) (sym e.0) ∙ ap (Slot_word t) (sym e.1))))
 
   next_written : (t n : ℕ) → IsWritten g c s (Next t) n (after s (Link_to t n))
   next_written t n = record { here = put_here s.next t n; others = others }
@@ -166,7 +174,8 @@ module _ {K P : Type 0} (g : Setting K P) (c : Coding K P) (hashed : IsHashed g 
       MayDo kind at old new = word_of g c s at ≡ old → (e : Exchange P) × IsCopyAsked c kind at new s kept e × Allows g s e × IsWritten g c s at new (after s e)
 
       -- what an ask says is one thing
-      same_ask : (kind : Option StepKind) (at at' : At) (old old' new new' : ℕ) → Ask_exchange at old new ≡ Ask_exchange at' old' new' → MayDo kind at old new → MayDo kind at' old' new'
+      same_ask : (kind : Option StepKind) (at at' : At) (old old' new new' : ℕ) → Ask_exchange at old new ≡ Ask_exchange at' old' new'
+          → MayDo kind at old new → MayDo kind at' old' new'
       same_ask kind at at' old old' new new' e h =
           let a : at ≡ at' = cc e in
           let b : old ≡ old' = cc e in
@@ -174,15 +183,18 @@ module _ {K P : Type 0} (g : Setting K P) (c : Coding K P) (hashed : IsHashed g 
           subst (λ y. MayDo kind y old' new') a (subst (λ y. MayDo kind at y new') b (subst (λ y. MayDo kind at old y) d h))
 
       -- a table is linked
-      pub link_may : (link : Link) → ReliesLink g c s link → HasWords g (Some link) → (at : At) (old new : ℕ) → link_ask link ≡ Ask_exchange at old new → MayDo (link_kind link) at old new
+      pub link_may : (link : Link) → ReliesLink g c s link → HasWords g (Some link) → (at : At) (old new : ℕ)
+          → link_ask link ≡ Ask_exchange at old new → MayDo (link_kind link) at old new
       link_may (links.Sizing behind copied unfit) r words at old new e = absurd cc
       link_may (links.Measuring behind copied unfit len) r words at old new e = absurd cc
       link_may (links.Counting behind unfit len copied) r words at old new e = absurd cc
       link_may (links.Making behind len limit chunks) r words at old new e = absurd cc
-      link_may (links.Linking behind table chunks) r words at old new e = same_ask (Some kinds.Link) (Next behind) at 0 old table new e (λ none. (Link_to behind table, refl, links_on g c s m keeps behind table chunks r words none, next_written g c s behind table))
+      link_may (links.Linking behind table chunks) r words at old new e = same_ask (Some kinds.Link) (Next behind) at 0 old table new e
+          (λ none. (Link_to behind table, refl, links_on g c s m keeps behind table chunks r words none, next_written g c s behind table))
 
       -- a pair is put into a table, or the table is given up
-      carry_may : (slot : Slot) (word : ℕ) (p : P) → word ≡ code g c (Marked p) → (carry : Carry) → ReliesCarry g c s last kept slot p carry → HasWords g (link_in_carry carry) → (at : At) (old new : ℕ) → carry_ask carry word ≡ Ask_exchange at old new → MayDo (carry_kind carry) at old new
+      carry_may : (slot : Slot) (word : ℕ) (p : P) → word ≡ code g c (Marked p) → (carry : Carry) → ReliesCarry g c s last kept slot p carry
+          → HasWords g (link_in_carry carry) → (at : At) (old new : ℕ) → carry_ask carry word ≡ Ask_exchange at old new → MayDo (carry_kind carry) at old new
       carry_may slot word p is (carries.Hashing table) r words at old new e = absurd cc
       carry_may slot word p is (carries.Sizing hash table) r words at old new e = absurd cc
       carry_may slot word p is (carries.Looking hash place) r words at old new e = absurd cc
@@ -200,14 +212,23 @@ module _ {K P : Type 0} (g : Setting K P) (c : Coding K P) (hashed : IsHashed g 
       carry_may slot word p is (carries.Placed hash place) r words at old new e = absurd cc
       carry_may slot word p is (carries.Passing hash table) r words at old new e = absurd cc
       carry_may slot word p is (carries.Linking hash link) r words at old new e = link_may link r.4 words at old new e
-      carry_may slot word p is (carries.Aborting table) r words at old new e = same_ask (Some kinds.Abort) (Aborted table) at 0 old 1 new e (λ none. (Abort table, refl, aborts g c s m keeps last kept slot p table r r.0 (aborted_none (s.aborted table) (word_of g c s (Aborted table)) refl none), aborted_written g c s table))
+      carry_may slot word p is (carries.Aborting table) r words at old new e = same_ask (Some kinds.Abort) (Aborted table) at 0 old 1 new e
+          (λ none. (
+            Abort table,
+            refl,
+            aborts g c s m keeps last kept slot p table r r.0
+                (aborted_none (s.aborted table) (word_of g c s (Aborted table)) refl none),
+            aborted_written g c s table,
+          ))
 
       -- a slot that is known is shut where it is Empty or Live
-      shut_was : (slot : Slot) → IsKnown slot → ((p : P) → (s.slot slot.from slot.index ≡ Marked p) ⊎ (s.slot slot.from slot.index ≡ Copied p) → ⊥) → s.was_root slot.from ≡ true
+      shut_was : (slot : Slot) → IsKnown slot → ((p : P) → (s.slot slot.from slot.index ≡ Marked p) ⊎ (s.slot slot.from slot.index ≡ Copied p) → ⊥)
+          → s.was_root slot.from ≡ true
       shut_was slot known other = ⊎_elim (λ w. w) (λ h. absurd (other h.0 h.1)) known.shut
 
       -- it is shut, marked or finished
-      settle_may : (slot : Slot) → IsKnown slot → (settle : Settle) → ReliesSettle g c s last kept slot settle → HasWords g (link_in_settle settle) → (at : At) (old new : ℕ) → settle_ask settle slot ≡ Ask_exchange at old new → MayDo (settle_kind settle) at old new
+      settle_may : (slot : Slot) → IsKnown slot → (settle : Settle) → ReliesSettle g c s last kept slot settle → HasWords g (link_in_settle settle)
+          → (at : At) (old new : ℕ) → settle_ask settle slot ≡ Ask_exchange at old new → MayDo (settle_kind settle) at old new
       settle_may slot known settles.Looking r words at old new e = absurd cc
       settle_may slot known settles.Closing r words at old new e =
           let t : ℕ = slot.from in
@@ -216,7 +237,12 @@ module _ {K P : Type 0} (g : Setting K P) (c : Coding K P) (hashed : IsHashed g 
           let empty : s.slot t x ≡ Empty = code_empty g c (s.slot t x) none in (
             Close t x,
             refl,
-            record { empty = empty; was = shut_was slot known (λ p h. ⊎_elim (λ a. cc (a, empty)) (λ b. cc (b, empty)) h); further = target_further g s (keeping_sound g s m keeps).rises t slot.to known.target },
+            record {
+              empty = empty;
+              was = shut_was slot known (λ p h. ⊎_elim (λ a. cc (a, empty)) (λ b. cc (b, empty)) h);
+              further = target_further g
+                  s (keeping_sound g s m keeps).rises t slot.to known.target;
+            },
             slot_written g c s t x Closed,
           ))
       settle_may slot known settles.Shutting r words at old new e = absurd cc
@@ -229,8 +255,14 @@ module _ {K P : Type 0} (g : Setting K P) (c : Coding K P) (hashed : IsHashed g 
           let there : s.slot t x ≡ Live p = live.1 in (
             Mark t x p,
             (p, there, refl),
-            record { live = there; was = shut_was slot known (λ q h. ⊎_elim (λ a. cc (a, there)) (λ b. cc (b, there)) h); further = target_further g s (keeping_sound g s m keeps).rises t slot.to known.target },
-            subst (λ y. IsWritten g c s (Slot_word t x) y (slot_put s t x (Marked p))) (marked_of p word (ap (code g c) (sym there) ∙ stands)) (slot_written g c s t x (Marked p)),
+            record {
+              live = there;
+              was = shut_was slot known (λ q h. ⊎_elim (λ a. cc (a, there)) (λ b. cc (b, there)) h);
+              further = target_further g s
+                  (keeping_sound g s m keeps).rises t slot.to known.target;
+            },
+            subst (λ y. IsWritten g c s (Slot_word t x) y (slot_put s t x (Marked p))) (marked_of p word (ap (code g c) (sym there) ∙ stands))
+                (slot_written g c s t x (Marked p)),
           ))
       settle_may slot known (settles.Carrying word carry) r words at old new e = carry_may slot word r.pair r.marked carry r.relies words at old new e
       settle_may slot known (settles.Finishing word) (mode, r) words at old new e =
@@ -238,7 +270,8 @@ module _ {K P : Type 0} (g : Setting K P) (c : Coding K P) (hashed : IsHashed g 
           let x : ℕ = slot.index in
           let p : P = r.pair in
           same_ask (Some kinds.Finish) (Slot_word t x) at word old (copied_as word) new e (λ stands.
-          let of_kind : IsOfKind (kind_of (code g c (Marked p))) (s.slot t x) = subst (λ y. IsOfKind (kind_of y) (s.slot t x)) (stands ∙ r.marked) (word_of_kind g c (s.slot t x)) in
+          let of_kind : IsOfKind (kind_of (code g c (Marked p))) (s.slot t x) = subst (λ y. IsOfKind (kind_of y) (s.slot t x)) (stands ∙ r.marked)
+          (word_of_kind g c (s.slot t x)) in
           let marked : IsOfKind word_kinds.Marked (s.slot t x) = subst (λ y. IsOfKind y (s.slot t x)) (code_kind g c (Marked p)) of_kind in
           let there : s.slot t x ≡ Marked p = ⊎_elim (λ a. a) (λ b. let q = marked.1 in absurd (cc (b, q))) r.stood in (
             Finish t x p,
@@ -248,7 +281,8 @@ module _ {K P : Type 0} (g : Setting K P) (c : Coding K P) (hashed : IsHashed g 
           ))
 
       -- slots are counted as copied, or the table of the copies becomes the root
-      step_may : (step : Step) → ReliesStep g c s last kept step → HasWords g (link_in_step step) → (at : At) (old new : ℕ) → step_ask step ≡ Ask_exchange at old new → MayDo (step_kind step) at old new
+      step_may : (step : Step) → ReliesStep g c s last kept step → HasWords g (link_in_step step) → (at : At) (old new : ℕ)
+          → step_ask step ≡ Ask_exchange at old new → MayDo (step_kind step) at old new
       step_may steps.AtRoot r words at old new e = absurd cc
       step_may (steps.Aiming from behind) r words at old new e = absurd cc
       step_may (steps.Linking from link) r words at old new e = link_may link r.2 words at old new e
@@ -256,7 +290,8 @@ module _ {K P : Type 0} (g : Setting K P) (c : Coding K P) (hashed : IsHashed g 
       step_may (steps.Sizing from to) r words at old new e = absurd cc
       step_may (steps.AtChunk cursor) r words at old new e = absurd cc
       step_may (steps.Settling chunk settle) r words at old new e =
-          settle_may (slot_of chunk) (chunk_known (slot_of chunk) r.0.cursor.source (let a = r.0.at in let b = r.0.within in let d = r.0.cursor.len in omega (arith, a, b, d))) settle r.1 words at old new e
+          settle_may (slot_of chunk) (chunk_known (slot_of chunk) r.0.cursor.source
+          (let a = r.0.at in let b = r.0.within in let d = r.0.cursor.len in omega (arith, a, b, d))) settle r.1 words at old new e
       step_may (steps.Advancing cursor) r words at old new e =
           same_ask (Some kinds.Advance) (Done cursor.to cursor.at) at 0 old 1 new e (λ none. (
             Advance cursor.to cursor.at,
@@ -273,24 +308,32 @@ module _ {K P : Type 0} (g : Setting K P) (c : Coding K P) (hashed : IsHashed g 
           ))
 
       -- whatever a call copies for
-      pub copying_may : (copying : Copying) → ReliesCopying g c s last kept copying → HasWords g (link_in_copying copying) → (at : At) (old new : ℕ) → copying_ask copying ≡ Ask_exchange at old new → MayDo (copying_kind copying) at old new
+      pub copying_may : (copying : Copying) → ReliesCopying g c s last kept copying → HasWords g (link_in_copying copying) → (at : At) (old new : ℕ)
+          → copying_ask copying ≡ Ask_exchange at old new → MayDo (copying_kind copying) at old new
       copying_may (copyings.Stepping aim step) r words at old new e = step_may step r.1 words at old new e
       copying_may (copyings.Lone slot settle) r words at old new e = settle_may slot (moving_known slot r.0) settle r.1 words at old new e
 
 -- there is one exchange that is asked for
-pub one_asked : {K P : Type 0} → (c : Coding K P) (kind : Option StepKind) (at : At) (new : ℕ) (s : State P) (kept : Option P) (e e' : Exchange P) → IsCopyAsked c kind at new s kept e → IsCopyAsked c kind at new s kept e' → e ≡ e'
+pub one_asked : {K P : Type 0} → (c : Coding K P) (kind : Option StepKind) (at : At) (new : ℕ) (s : State P) (kept : Option P) (e e' : Exchange P)
+    → IsCopyAsked c kind at new s kept e → IsCopyAsked c kind at new s kept e' → e ≡ e'
 one_asked c (Some kinds.Link) (Next t) new s kept e e' a b = a ∙ sym b
-one_asked c (Some kinds.Mark) (Slot_word t x) new s kept e e' a b = let same : a.0 ≡ b.0 = let h = a.1 in let i = b.1 in cc (h, i) in a.2 ∙ ap (Mark t x) same ∙ sym b.2
+one_asked c (Some kinds.Mark) (Slot_word t x) new s kept e e' a b = let same : a.0 ≡ b.0 = let h = a.1 in let i = b.1 in cc (h, i) in
+    a.2 ∙ ap (Mark t x) same ∙ sym b.2
 one_asked c (Some kinds.Close) (Slot_word t x) new s kept e e' a b = a ∙ sym b
-one_asked c (Some kinds.Place) (Slot_word t x) new s kept e e' a b = let same : a.0 ≡ b.0 = let h = a.1 in let i = b.1 in cc (h, i) in a.3 ∙ ap (Place t x) same ∙ sym b.3
-one_asked c (Some kinds.Finish) (Slot_word t x) new s kept e e' a b = let same : a.0 ≡ b.0 = let h = a.1 in let i = b.1 in cc (h, i) in a.2 ∙ ap (Finish t x) same ∙ sym b.2
+one_asked c (Some kinds.Place) (Slot_word t x) new s kept e e' a b = let same : a.0 ≡ b.0 = let h = a.1 in let i = b.1 in cc (h, i) in
+    a.3 ∙ ap (Place t x) same ∙ sym b.3
+one_asked c (Some kinds.Finish) (Slot_word t x) new s kept e e' a b = let same : a.0 ≡ b.0 = let h = a.1 in let i = b.1 in cc (h, i) in
+    a.2 ∙ ap (Finish t x) same ∙ sym b.2
 one_asked c (Some kinds.Advance) (Done n chunk) new s kept e e' a b = a ∙ sym b
 one_asked c (Some kinds.Promote) Root new s kept e e' a b = a ∙ sym b
 one_asked c (Some kinds.Abort) (Aborted n) new s kept e e' a b = a ∙ sym b
 one_asked c _ _ new s kept e e' a b = absurd a
 
 -- so what is asked for is allowed
-pub asked_allowed : {K P : Type 0} → (g : Setting K P) (c : Coding K P) (hashed : IsHashed g c) (s : State P) (m : K → Option P) (keeps : IsKeeping g s m) (last kept : Option P) (copying : Copying) → ReliesCopying g c s last kept copying → HasWords g (link_in_copying copying) → (at : At) (old new : ℕ) → copying_ask copying ≡ Ask_exchange at old new → word_of g c s at ≡ old → (e : Exchange P) → IsCopyAsked c (copying_kind copying) at new s kept e → Allows g s e
+pub asked_allowed : {K P : Type 0} → (g : Setting K P) (c : Coding K P) (hashed : IsHashed g c) (s : State P) (m : K → Option P)
+    (keeps : IsKeeping g s m) (last kept : Option P) (copying : Copying) → ReliesCopying g c s last kept copying
+    → HasWords g (link_in_copying copying) → (at : At) (old new : ℕ) → copying_ask copying ≡ Ask_exchange at old new → word_of g c s at ≡ old
+    → (e : Exchange P) → IsCopyAsked c (copying_kind copying) at new s kept e → Allows g s e
 asked_allowed g c hashed s m keeps last kept copying r words at old new q stands e asked =
     let h = copying_may g c hashed s m keeps last kept copying r words at old new q stands in
     subst (Allows g s) (one_asked c (copying_kind copying) at new s kept h.0 e h.1 asked) h.2

@@ -36,7 +36,8 @@ module _ {K P : Type 0} (g : Setting K P) (c : Coding K P) (s : State P) (m : K 
   pub marks : (from n x : ℕ) (p : P) → IsSource g c s from n → s.slot from x ≡ Live p → Allows g s (Mark from x p)
   marks from n x p r e = record { live = e; was = r.was; further = further from n r }
 
-  pub links_on : (behind table chunks : ℕ) → ReliesLink g c s (links.Linking behind table chunks) → chunks ≤ g.chunks table → s.next behind ≡ 0 → Allows g s (Link behind table)
+  pub links_on : (behind table chunks : ℕ) → ReliesLink g c s (links.Linking behind table chunks) → chunks ≤ g.chunks table → s.next behind ≡ 0
+      → Allows g s (Link behind table)
   links_on behind table chunks r words e = record {
     last = e;
     on = r.on;
@@ -55,7 +56,8 @@ module _ {K P : Type 0} (g : Setting K P) (c : Coding K P) (s : State P) (m : K 
 
   -- so its table has a word for it
   pub cursor_word : (cursor : Cursor) → IsCursor g c s cursor → cursor.at < g.chunks cursor.to
-  cursor_word cursor r = let slot = cursor_slot cursor r in subst (λ y. y < g.chunks cursor.to) slot.1 (covered g s m keeps cursor.from cursor.to r.source.was r.source.target cursor.begun slot.0)
+  cursor_word cursor r = let slot = cursor_slot cursor r in
+      subst (λ y. y < g.chunks cursor.to) slot.1 (covered g s m keeps cursor.from cursor.to r.source.was r.source.target cursor.begun slot.0)
 
   pub advances : (cursor : Cursor) → IsSettledChunk g c s cursor → s.done cursor.to cursor.at ≡ false → Allows g s (Advance cursor.to cursor.at)
   advances cursor r e =
@@ -66,18 +68,23 @@ module _ {K P : Type 0} (g : Setting K P) (c : Coding K P) (s : State P) (m : K 
   promotes from to r whole e = record { root = e; made = (root_on from r.was).0; target = r.target; whole = whole }
 
   -- the word that stands is the marked one of the pair that was carried
-  pub finishes : (slot : Slot) (word : ℕ) (q : P) → HasCarried g c s slot word → g.blocking ≡ false → s.slot slot.from slot.index ≡ Marked q → Allows g s (Finish slot.from slot.index q)
+  pub finishes : (slot : Slot) (word : ℕ) (q : P) → HasCarried g c s slot word → g.blocking ≡ false → s.slot slot.from slot.index ≡ Marked q
+      → Allows g s (Finish slot.from slot.index q)
   finishes slot word q r inc e =
       let is : q ≡ r.pair = ⊎_elim (λ h. cc (h, e)) (λ h. absurd (cc (h, e))) r.stood in
-      subst (λ p. Allows g s (Finish slot.from slot.index p)) (sym is) (record { marked = e ∙ ap Marked is; mode = inc; to = r.table; taker = r.taker; has = r.has })
+      subst (λ p. Allows g s (Finish slot.from slot.index p)) (sym is)
+      (record { marked = e ∙ ap Marked is; mode = inc; to = r.table; taker = r.taker; has = r.has })
 
   module _ (last kept : Option P) (slot : Slot) (p : P) where
-    pub places : (hash : ℕ) (at : Place) → ReliesCarry g c s last kept slot p (carries.Placing hash at) → s.slot at.table at.probe.i ≡ Empty → Allows g s (Place_pair at.table at.probe.i p)
+    pub places : (hash : ℕ) (at : Place) → ReliesCarry g c s last kept slot p (carries.Placing hash at) → s.slot at.table at.probe.i ≡ Empty
+        → Allows g s (Place_pair at.table at.probe.i p)
     places hash at r e =
         let f = r.1 in
-        subst (λ x. Allows g s (Place_pair at.table x p)) (sym f.slot) (may_place g s slot.from slot.index p at.table at.probe.len r.2 f.within (subst (λ x. s.slot at.table x ≡ Empty) f.slot e))
+        subst (λ x. Allows g s (Place_pair at.table x p)) (sym f.slot)
+        (may_place g s slot.from slot.index p at.table at.probe.len r.2 f.within (subst (λ x. s.slot at.table x ≡ Empty) f.slot e))
 
-    pub aborts : (table : ℕ) → ReliesCarry g c s last kept slot p (carries.Aborting table) → g.blocking ≡ true → s.aborted table ≡ false → Allows g s (Abort table)
+    pub aborts : (table : ℕ) → ReliesCarry g c s last kept slot p (carries.Aborting table) → g.blocking ≡ true → s.aborted table ≡ false
+        → Allows g s (Abort table)
     aborts table r blocks e = may_abort g s slot.from slot.index p table r.2 blocks e
 
   -- a carry begins where the mark stands
@@ -99,17 +106,25 @@ module _ {K P : Type 0} (g : Setting K P) (c : Coding K P) (s : State P) (m : K 
         (cases_lt i j);
   }
 
-  module _ (law : IsLawful g) (last kept : Option P) (p : P) (hash : ℕ) (at : Place) (word : ℕ) (f : IsFor g c s p hash at) (h : HasCompared g c s last kept at word) where
+  module _ (law : IsLawful g) (last kept : Option P) (p : P) (hash : ℕ) (at : Place) (word : ℕ) (f : IsFor g c s p hash at)
+      (h : HasCompared g c s last kept at word) where
     -- the pair that was compared has another key
     pub compared_no : g.same (g.key p) (g.key h.pair) ≡ false → foreign (look g s (g.key p) at.table at.probe.len) ≡ true
-    compared_no other = subst (λ x. foreign (view g (g.key p) (s.slot at.table x)) ≡ true) f.slot (compared_foreign g law (g.key p) h.was (s.slot at.table at.probe.i) h.pair h.became h.names other)
+    compared_no other = subst (λ x. foreign (view g (g.key p) (s.slot at.table x)) ≡ true) f.slot
+        (compared_foreign g law (g.key p) h.was (s.slot at.table at.probe.i) h.pair h.became h.names other)
 
     -- or the key of the one that is carried
     pub compared_yes : g.same (g.key p) (g.key h.pair) ≡ true → HasWord g.places (look g s (g.key p)) at.table
-    compared_yes same = (at.probe.len, f.within, subst (λ x. own (view g (g.key p) (s.slot at.table x)) ≡ true) f.slot (compared_own g law (g.key p) h.was (s.slot at.table at.probe.i) h.pair h.became h.names same))
+    compared_yes same = (
+      at.probe.len,
+      f.within,
+      subst (λ x. own (view g (g.key p) (s.slot at.table x)) ≡ true) f.slot
+          (compared_own g law (g.key p) h.was (s.slot at.table at.probe.i) h.pair h.became h.names same),
+    )
 
   -- with blocking a slot whose pair came to the target is settled
-  pub settled_blocking : (slot : Slot) (word : ℕ) (r : HasCarried g c s slot word) → r.table ≡ slot.to → g.blocking ≡ true → IsSettled g s slot.to (s.slot slot.from slot.index)
+  pub settled_blocking : (slot : Slot) (word : ℕ) (r : HasCarried g c s slot word) → r.table ≡ slot.to → g.blocking ≡ true
+      → IsSettled g s slot.to (s.slot slot.from slot.index)
   settled_blocking slot word r is blocks =
       ⊎_elim
       (λ e. subst (IsSettled g s slot.to) (sym e) (blocks, subst (HasWord g.places (look g s (g.key r.pair))) is r.has))
@@ -117,5 +132,6 @@ module _ {K P : Type 0} (g : Setting K P) (c : Coding K P) (s : State P) (m : K 
       r.stood
 
   -- without it, once the word isn't the marked one
-  pub settled_incremental : (slot : Slot) (word : ℕ) (r : HasCarried g c s slot word) → (s.slot slot.from slot.index ≡ Marked r.pair → ⊥) → IsSettled g s slot.to (s.slot slot.from slot.index)
+  pub settled_incremental : (slot : Slot) (word : ℕ) (r : HasCarried g c s slot word) → (s.slot slot.from slot.index ≡ Marked r.pair → ⊥)
+      → IsSettled g s slot.to (s.slot slot.from slot.index)
   settled_incremental slot word r other = ⊎_elim (λ e. absurd (other e)) (λ e. subst (IsSettled g s slot.to) (sym e) tt) r.stood

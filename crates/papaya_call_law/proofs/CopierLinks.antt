@@ -23,15 +23,24 @@ use Rattle.papaya_call_law.specs.Told.{word_of}
 use Rattle.papaya_call_law.proofs.CopierExchange.{put_here}
 
 -- a table of this length has each slot in one of its chunks
-pub cut_into : {K P : Type 0} (g : Setting K P) (mode : ResizeMode) → IsCutAs mode g.chunk_of → (len from : ℕ) → len ≡ g.size from → IsCutInto g from (chunk_count len (chunk_len mode))
-cut_into g mode cut len from is x lt = subst (λ y. y < chunk_count len (chunk_len mode)) (sym (cut x)) (chunk_counted (chunk_len mode) (chunk_some mode) len x (subst (λ y. x < y) (sym is) lt))
+pub cut_into : {K P : Type 0} (g : Setting K P) (mode : ResizeMode) → IsCutAs mode g.chunk_of → (len from : ℕ) → len ≡ g.size from
+    → IsCutInto g from (chunk_count len (chunk_len mode))
+cut_into g mode cut len from is x lt = subst (λ y. y < chunk_count len (chunk_len mode)) (sym (cut x))
+    (chunk_counted (chunk_len mode) (chunk_some mode) len x (subst (λ y. x < y) (sym is) lt))
 
 module _ {K P : Type 0} (g : Setting K P) (c : Coding K P) (s : State P) (last kept : Option P) where
   pub link_sized : (link : Link) → ReliesLink g c s link → (t : ℕ) → link_ask link ≡ SizeOf t → ReliesLink g c s (at_size link (g.size t))
   link_sized (links.Sizing behind copied unfit) r t e =
       let is : behind ≡ t = cc e in
       cond_both (copied == behind) (links.Counting behind unfit (g.size t) (g.size t)) (links.Measuring behind copied unfit (g.size t)) (ReliesLink g c s)
-      (λ same. record { on = r.on; rises = tt; from = r.from; linking = r.linking; measures = ap g.size (sym is ∙ (sym (eqb-true copied behind same) ∙ r.measures)) })
+      (λ same. record {
+        on = r.on;
+        rises = tt;
+        from = r.from;
+        linking = r.linking;
+        measures = ap g.size
+            (sym is ∙ (sym (eqb-true copied behind same) ∙ r.measures));
+      })
       (λ other. record { on = r.on; rises = tt; from = r.from; linking = r.linking; measures = r.measures })
   link_sized (links.Measuring behind copied unfit len) r t e =
       let is : copied ≡ t = cc e in
@@ -43,7 +52,8 @@ module _ {K P : Type 0} (g : Setting K P) (c : Coding K P) (s : State P) (last k
   -- it follows the same table
   pub sized_follows : (link : Link) (slots : ℕ) → follows (at_size link slots) ≡ follows link
   sized_follows (links.Sizing behind copied unfit) slots =
-      cond_both (copied == behind) (links.Counting behind unfit slots slots) (links.Measuring behind copied unfit slots) (λ y. follows y ≡ behind) (λ same. refl) (λ other. refl)
+      cond_both (copied == behind) (links.Counting behind unfit slots slots) (links.Measuring behind copied unfit slots) (λ y. follows y ≡ behind)
+      (λ same. refl) (λ other. refl)
   sized_follows (links.Measuring behind copied unfit len) slots = refl
   sized_follows (links.Counting behind unfit len copied) slots = refl
   sized_follows (links.Making behind len limit chunks) slots = refl
@@ -56,7 +66,8 @@ module _ {K P : Type 0} (g : Setting K P) (c : Coding K P) (s : State P) (last k
   made_follows (links.Making behind len limit chunks) n = refl
   made_follows (links.Linking behind table chunks) n = refl
 
-  pub link_counted : (mode : ResizeMode) → IsCutAs mode g.chunk_of → (link : Link) → ReliesLink g c s link → (count initial : ℕ) → ReliesLinked g c s last kept (follows link) (at_count link mode count initial)
+  pub link_counted : (mode : ResizeMode) → IsCutAs mode g.chunk_of → (link : Link) → ReliesLink g c s link → (count initial : ℕ)
+      → ReliesLinked g c s last kept (follows link) (at_count link mode count initial)
   link_counted mode cut (links.Sizing behind copied unfit) r count initial = (refl, r)
   link_counted mode cut (links.Measuring behind copied unfit len) r count initial = (refl, r)
   link_counted mode cut (links.Counting behind unfit len copied) r count initial =
@@ -92,7 +103,8 @@ module _ {K P : Type 0} (g : Setting K P) (c : Coding K P) (s : State P) (last k
   link_refused (links.Linking behind table chunks) r refused = (refl, r)
 
   -- another caller linked a table before
-  pub link_found : (link : Link) → ReliesLink g c s link → (at : At) (old new : ℕ) → link_ask link ≡ Ask_exchange at old new → (word_of g c s at ≡ old → ⊥) → ReliesLinked g c s last kept (follows link) (at_found link (word_of g c s at))
+  pub link_found : (link : Link) → ReliesLink g c s link → (at : At) (old new : ℕ) → link_ask link ≡ Ask_exchange at old new
+      → (word_of g c s at ≡ old → ⊥) → ReliesLinked g c s last kept (follows link) (at_found link (word_of g c s at))
   link_found (links.Sizing behind copied unfit) r at old new e other = absurd cc
   link_found (links.Measuring behind copied unfit len) r at old new e other = absurd cc
   link_found (links.Counting behind unfit len copied) r at old new e other = absurd cc
@@ -109,7 +121,8 @@ module _ {K P : Type 0} (g : Setting K P) (c : Coding K P) (s : State P) (last k
 
 module _ {K P : Type 0} (g : Setting K P) (c : Coding K P) (s : State P) (last kept : Option P) where
   -- the table was linked
-  pub link_exchanged : (link : Link) → ReliesLink g c s link → (at : At) (old new : ℕ) → link_ask link ≡ Ask_exchange at old new → (e : Exchange P) → IsCopyAsked c (link_kind link) at new s kept e
+  pub link_exchanged : (link : Link) → ReliesLink g c s link → (at : At) (old new : ℕ) → link_ask link ≡ Ask_exchange at old new → (e : Exchange P)
+      → IsCopyAsked c (link_kind link) at new s kept e
       → ReliesLinked g c (after s e) last kept (follows link) (at_exchanged link)
   link_exchanged (links.Sizing behind copied unfit) r at old new q e asked = absurd cc
   link_exchanged (links.Measuring behind copied unfit len) r at old new q e asked = absurd cc
@@ -118,6 +131,7 @@ module _ {K P : Type 0} (g : Setting K P) (c : Coding K P) (s : State P) (last k
   link_exchanged (links.Linking behind table chunks) r at old new q e asked =
       let is : Next behind ≡ at = cc q in
       let same : table ≡ new = cc q in
-      let by : IsCopyAsked c (Some kinds.Link) (Next behind) table s kept e = subst (λ a. IsCopyAsked c (Some kinds.Link) a table s kept e) (sym is) (subst (λ n. IsCopyAsked c (Some kinds.Link) at n s kept e) (sym same) asked) in
+      let by : IsCopyAsked c (Some kinds.Link) (Next behind) table s kept e = subst (λ a. IsCopyAsked c (Some kinds.Link) a table s kept e) (sym is)
+      (subst (λ n. IsCopyAsked c (Some kinds.Link) at n s kept e) (sym same) asked) in
       let more : behind < table = r.rises in
       (subst (λ y. (after s y).next behind ≡ table) (sym by) (put_here s.next behind table), omega (arith, more))

@@ -24,8 +24,11 @@ use Rattle.papaya_call_law.specs.Told.{word_of}
 use Rattle.papaya_call_law.proofs.CopierExchange.{IsKnown, marked_of}
 use Rattle.papaya_call_law.proofs.CopierSettles.{by_carried, carry_exchanged, keeps', later, to_carry, zero_next}
 
-module _ {K P : Type 0} (g : Setting K P) (c : Coding K P) (hashed : IsHashed g c) (s : State P) (m : K → Option P) (keeps : IsKeeping g s m) (mode : ResizeMode) (moded : IsModeOf mode g.blocking) (e : Exchange P) (may : Allows g s e) (slot : Slot) (known : IsKnown g c hashed s m keeps slot) (last kept : Option P) where
-  pub settle_exchanged : (settle : Settle) → ReliesSettle g c s last kept slot settle → (at : At) (old new : ℕ) → settle_ask settle slot ≡ Ask_exchange at old new → word_of g c s at ≡ old → IsCopyAsked c (settle_kind settle) at new s kept e
+module _ {K P : Type 0} (g : Setting K P) (c : Coding K P) (hashed : IsHashed g c) (s : State P) (m : K → Option P) (keeps : IsKeeping g s m)
+    (mode : ResizeMode) (moded : IsModeOf mode g.blocking) (e : Exchange P) (may : Allows g s e) (slot : Slot)
+    (known : IsKnown g c hashed s m keeps slot) (last kept : Option P) where
+  pub settle_exchanged : (settle : Settle) → ReliesSettle g c s last kept slot settle → (at : At) (old new : ℕ)
+      → settle_ask settle slot ≡ Ask_exchange at old new → word_of g c s at ≡ old → IsCopyAsked c (settle_kind settle) at new s kept e
       → ReliesSettled g c (after s e) (last_after e last) kept slot (at_exchanged settle slot mode)
   settle_exchanged settles.Looking r at old new q stands asked = absurd cc
   settle_exchanged settles.Closing r at old new q stands asked =
@@ -46,15 +49,18 @@ module _ {K P : Type 0} (g : Setting K P) (c : Coding K P) (hashed : IsHashed g 
       let there : (after s e).slot t x ≡ Marked p = subst (λ y. (after s y).slot t x ≡ Marked p) (sym by.2) (put_there s t x (Marked p) t x (refl, refl)).0 in
       let was : code g c (s.slot t x) ≡ word = ap (word_of g c s) is ∙ stands ∙ sym same in
       to_carry g c hashed (after s e) (map_after g m e) (keeps' g c hashed s m keeps mode moded e may) mode moded slot
-      ((lasts g hashed.lawful s (after s e) (zero_next g c hashed s m keeps mode moded e may) (later g c hashed s m keeps mode moded e may)).target slot.from slot.to known.target)
+      ((lasts g hashed.lawful s (after s e) (zero_next g c hashed s m keeps mode moded e may) (later g c hashed s m keeps mode moded e may)).target
+      slot.from slot.to known.target)
       (last_after e last) kept p there (ap (λ y. last_after y last) by.2) (marked_as word) (sym (marked_of g c hashed p word (ap (code g c) (sym by.1) ∙ was)))
   settle_exchanged (settles.Carrying word carry) r at old new q stands asked =
-      by_carried g c hashed (after s e) (map_after g m e) (keeps' g c hashed s m keeps mode moded e may) mode moded mode moded (last_after e last) kept slot word (carry_at_exchanged carry)
+      by_carried g c hashed (after s e) (map_after g m e) (keeps' g c hashed s m keeps mode moded e may) mode moded mode moded (last_after e last)
+      kept slot word (carry_at_exchanged carry)
       (carry_exchanged g c hashed s m keeps mode moded e may last kept slot word r.pair r.marked known.on carry r.here r.relies at old new q asked)
   settle_exchanged (settles.Finishing word) r at old new q stands asked =
       let t : ℕ = slot.from in
       let x : ℕ = slot.index in
       let is : Slot_word t x ≡ at = cc q in
       let by : IsCopyAsked c (Some kinds.Finish) (Slot_word t x) new s kept e = subst (λ a. IsCopyAsked c (Some kinds.Finish) a new s kept e) (sym is) asked in
-      let there : (after s e).slot t x ≡ Copied by.0 = subst (λ y. (after s y).slot t x ≡ Copied by.0) (sym by.2) (put_there s t x (Copied by.0) t x (refl, refl)).0 in
+      let there : (after s e).slot t x ≡ Copied by.0 = subst (λ y. (after s y).slot t x ≡ Copied by.0) (sym by.2)
+      (put_there s t x (Copied by.0) t x (refl, refl)).0 in
       subst (IsSettled g (after s e) slot.to) (sym there) tt

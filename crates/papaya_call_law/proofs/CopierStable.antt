@@ -12,7 +12,9 @@ use Rattle.papaya_copy.specs.declared.copying.Copying.{Copying}
 use Rattle.papaya_copy.specs.declared.copying.Copying.TheVariants as copyings
 use Rattle.papaya_copy.specs.Link.{follows}
 use Rattle.papaya_copy.specs.Step.{slot_of}
-use Rattle.papaya_call_law.specs.Copier.{HasCompared, HasPlaced, IsAimed, IsChunk, IsCursor, IsFor, IsMoving, IsSettledChunk, IsSource, ReliesAim, ReliesCarry, ReliesCopying, ReliesLink, ReliesSettle, ReliesStep}
+use Rattle.papaya_call_law.specs.Copier.{HasCompared, HasPlaced, IsAimed, IsChunk, IsCursor, IsFor}
+use Rattle.papaya_call_law.specs.Copier.{IsMoving, IsSettledChunk, IsSource, ReliesAim, ReliesCarry}
+use Rattle.papaya_call_law.specs.Copier.{ReliesCopying, ReliesLink, ReliesSettle, ReliesStep}
 use Rattle.papaya_copy.specs.declared.carry.Carry.{Carry}
 use Rattle.papaya_copy.specs.declared.carry.Carry.TheVariants as carries
 use Rattle.papaya_copy.specs.declared.step.Chunk.{Chunk}
@@ -28,7 +30,8 @@ use Rattle.papaya_law.proofs.CopierFacts.{putting_lasts}
 use Rattle.papaya_law.proofs.Hints.{hint_lasts}
 use Rattle.papaya_law.proofs.Later.{lasts, becomes_through}
 
-module _ {K P : Type 0} (g : Setting K P) (c : Coding K P) (hashed : IsHashed g c) (s s' : State P) (zero_next : s.next 0 ≡ 0) (later : IsLater g s s') (on : (t : ℕ) → IsOn s.first s.next t → IsOn s'.first s'.next t) (last kept : Option P) where
+module _ {K P : Type 0} (g : Setting K P) (c : Coding K P) (hashed : IsHashed g c) (s s' : State P) (zero_next : s.next 0 ≡ 0)
+    (later : IsLater g s s') (on : (t : ℕ) → IsOn s.first s.next t → IsOn s'.first s'.next t) (last kept : Option P) where
   -- each fact lasts
   all : IsLasting g s s'
   all = lasts g hashed.lawful s s' zero_next later
@@ -45,7 +48,13 @@ module _ {K P : Type 0} (g : Setting K P) (c : Coding K P) (hashed : IsHashed g 
   linking_stable from t (inr h) = inr (h.0, later.was from h.1, all.target from t h.2, later.aborted t h.3)
 
   pub link_stable : (link : Link) → ReliesLink g c s link → ReliesLink g c s' link
-  link_stable link r = record { on = on (follows link) r.on; rises = r.rises; from = r.from; linking = linking_stable r.from (follows link) r.linking; measures = r.measures }
+  link_stable link r = record {
+    on = on (follows link) r.on;
+    rises = r.rises;
+    from = r.from;
+    linking = linking_stable r.from (follows link) r.linking;
+    measures = r.measures;
+  }
 
   pub source_stable : (from n : ℕ) → IsSource g c s from n → IsSource g c s' from n
   source_stable from n r = record { was = later.was from r.was; target = all.target from n r.target }
@@ -77,7 +86,11 @@ module _ {K P : Type 0} (g : Setting K P) (c : Coding K P) (hashed : IsHashed g 
   }
 
   pub settled_stable : (cursor : Cursor) → IsSettledChunk g c s cursor → IsSettledChunk g c s' cursor
-  settled_stable cursor r = record { chunk_read = cursor_stable cursor r.chunk_read; settled = λ x lt is. all.settled cursor.to cursor.from x (r.settled x lt is) }
+  settled_stable cursor r = record {
+    chunk_read = cursor_stable cursor r.chunk_read;
+    settled = λ x lt is.
+        all.settled cursor.to cursor.from x (r.settled x lt is);
+  }
 
   compared_stable : (at : Place) (word : ℕ) → HasCompared g c s last kept at word → HasCompared g c s' last kept at word
   compared_stable at word r = record {
@@ -107,11 +120,13 @@ module _ {K P : Type 0} (g : Setting K P) (c : Coding K P) (hashed : IsHashed g 
   carry_stable slot p (carries.Sizing hash table) r = (r.0, r.1, putting slot.from slot.index p table 0 r.2)
   carry_stable slot p (carries.Looking hash at) r = (r.0, for_stable p hash at r.1, putting slot.from slot.index p at.table at.probe.len r.2)
   carry_stable slot p (carries.Reading hash at) r = (r.0, for_stable p hash at r.1, putting slot.from slot.index p at.table at.probe.len r.2)
-  carry_stable slot p (carries.Comparing hash at word) r = (r.0, for_stable p hash at r.1, putting slot.from slot.index p at.table at.probe.len r.2, compared_stable at word r.3)
+  carry_stable slot p (carries.Comparing hash at word)
+      r = (r.0, for_stable p hash at r.1, putting slot.from slot.index p at.table at.probe.len r.2, compared_stable at word r.3)
   carry_stable slot p (carries.Placing hash at) r = (r.0, for_stable p hash at r.1, putting slot.from slot.index p at.table at.probe.len r.2)
   carry_stable slot p (carries.Placed hash at) r = (r.0, placed_stable slot p hash at r.1)
   carry_stable slot p (carries.Passing hash table) r = (r.0, r.1, r.2, putting slot.from slot.index p table (g.places table) r.3)
-  carry_stable slot p (carries.Linking hash link) r = (r.0, r.1, r.2, putting slot.from slot.index p (follows link) (g.places (follows link)) r.3, link_stable link r.4)
+  carry_stable slot p (carries.Linking hash link)
+      r = (r.0, r.1, r.2, putting slot.from slot.index p (follows link) (g.places (follows link)) r.3, link_stable link r.4)
   carry_stable slot p (carries.Aborting table) r = (r.0, r.1, putting slot.from slot.index p table (g.places table) r.2)
 
   pub settle_stable : (slot : Slot) (settle : Settle) → ReliesSettle g c s last kept slot settle → ReliesSettle g c s' last kept slot settle
@@ -119,7 +134,8 @@ module _ {K P : Type 0} (g : Setting K P) (c : Coding K P) (hashed : IsHashed g 
   settle_stable slot settles.Closing r = tt
   settle_stable slot settles.Shutting r = subst (λ w. Becomes g w (s'.slot slot.from slot.index)) r (later.words slot.from slot.index)
   settle_stable slot (settles.Marking word) r = r
-  settle_stable slot (settles.Carrying word carry) r = record { pair = r.pair; marked = r.marked; here = r.here; relies = carry_stable slot r.pair carry r.relies }
+  settle_stable slot (settles.Carrying word carry)
+      r = record { pair = r.pair; marked = r.marked; here = r.here; relies = carry_stable slot r.pair carry r.relies }
   settle_stable slot (settles.Finishing word) (mode, r) = (
     mode,
     record {

@@ -15,7 +15,10 @@ use Rattle.papaya_copy.specs.declared.copying.Copying.{Copying}
 use Rattle.papaya_copy.specs.declared.copying.Copying.TheVariants as copyings
 use Rattle.papaya_copy.specs.Link.{follows}
 use Rattle.papaya_copy.specs.Step.{slot_of}
-use Rattle.papaya_call_law.specs.Copier.{HasCompared, HasPlaced, IsAimed, IsChunk, IsCursor, IsCutInto, IsFor, IsMoving, IsPassedBy, IsSettledChunk, IsSource, Measures, ReliesAim, ReliesCarry, ReliesCopying, ReliesLink, ReliesSettle, ReliesStep}
+use Rattle.papaya_call_law.specs.Copier.{HasCompared, HasPlaced, IsAimed, IsChunk, IsCursor}
+use Rattle.papaya_call_law.specs.Copier.{IsCutInto, IsFor, IsMoving, IsPassedBy, IsSettledChunk}
+use Rattle.papaya_call_law.specs.Copier.{IsSource, Measures, ReliesAim, ReliesCarry, ReliesCopying}
+use Rattle.papaya_call_law.specs.Copier.{ReliesLink, ReliesSettle, ReliesStep}
 use Rattle.papaya_copy.specs.declared.carry.Carry.{Carry}
 use Rattle.papaya_copy.specs.declared.carry.Carry.TheVariants as carries
 use Rattle.papaya_copy.specs.declared.step.Chunk.{Chunk}
@@ -34,7 +37,8 @@ use Rattle.papaya_law.proofs.CopierFacts.{taker_on, target_on}
 use Rattle.papaya_law.proofs.Hints.{hint_agrees}
 use Rattle.papaya_law.proofs.Grows.{becomes_carries, linking_carries, taker_carries, target_carries}
 
-module _ {K P : Type 0} (g g' : Setting K P) (c : Coding K P) (s : State P) (sound : IsSound g s) (agrees : Agrees (IsOn s.first s.next) g g') (last kept : Option P) where
+module _ {K P : Type 0} (g g' : Setting K P) (c : Coding K P) (s : State P) (sound : IsSound g s) (agrees : Agrees (IsOn s.first s.next) g g')
+    (last kept : Option P) where
   -- the number of a word
   code_same : (w : Word P) → code g' c w ≡ code g c w
   code_same Empty = refl
@@ -91,11 +95,14 @@ module _ {K P : Type 0} (g g' : Setting K P) (c : Coding K P) (s : State P) (sou
         cut = λ x. agrees.chunk_of x ∙ r.cut x;
         begun = r.begun;
         within = r.within;
-        done = λ x lt passed. subst (λ y. s.done cursor.to y ≡ true) (sym (agrees.chunk_of x)) (r.done x (subst (λ y. x < y) size lt) (subst (IsPassedBy cursor) (agrees.chunk_of x) passed));
+        done = λ x lt passed. subst (λ y. s.done cursor.to y ≡ true) (sym (agrees.chunk_of x))
+            (r.done x (subst (λ y. x < y) size lt) (subst (IsPassedBy cursor) (agrees.chunk_of x) passed));
       }
 
-  settled_on : (cursor : Cursor) (x : ℕ) → IsSource g c s cursor.from cursor.to → IsSettled g s cursor.to (s.slot cursor.from x) → IsSettled g' s cursor.to (s.slot cursor.from x)
-  settled_on cursor x source h = settled_carries g g' s sound agrees cursor.to (target_on g s sound.rises cursor.from cursor.to (root_on cursor.from source.was) source.target) (s.slot cursor.from x) h
+  settled_on : (cursor : Cursor) (x : ℕ) → IsSource g c s cursor.from cursor.to → IsSettled g s cursor.to (s.slot cursor.from x)
+      → IsSettled g' s cursor.to (s.slot cursor.from x)
+  settled_on cursor x source h = settled_carries g g' s sound agrees cursor.to
+      (target_on g s sound.rises cursor.from cursor.to (root_on cursor.from source.was) source.target) (s.slot cursor.from x) h
 
   chunk_carries : (chunk : Chunk) → IsChunk g c s chunk → IsChunk g' c s chunk
   chunk_carries chunk r = record {
@@ -109,7 +116,8 @@ module _ {K P : Type 0} (g g' : Setting K P) (c : Coding K P) (s : State P) (sou
   settled_chunk_carries : (cursor : Cursor) → IsSettledChunk g c s cursor → IsSettledChunk g' c s cursor
   settled_chunk_carries cursor r = record {
     chunk_read = cursor_carries cursor r.chunk_read;
-    settled = λ x lt is. settled_on cursor x r.chunk_read.source (r.settled x (subst (λ y. x < y) (agrees.size cursor.from (root_on cursor.from r.chunk_read.source.was)) lt) (sym (agrees.chunk_of x) ∙ is));
+    settled = λ x lt is. settled_on cursor x r.chunk_read.source
+        (r.settled x (subst (λ y. x < y) (agrees.size cursor.from (root_on cursor.from r.chunk_read.source.was)) lt) (sym (agrees.chunk_of x) ∙ is));
   }
 
   compared_carries : (at : Place) (word : ℕ) → HasCompared g c s last kept at word → HasCompared g' c s last kept at word
@@ -137,7 +145,8 @@ module _ {K P : Type 0} (g g' : Setting K P) (c : Coding K P) (s : State P) (sou
 
     -- up to the last place
     whole_carries : (p : P) (n : ℕ) → IsPutting g s slot.from slot.index p n (g.places n) → IsPutting g' s slot.from slot.index p n (g'.places n)
-    whole_carries p n r = subst (λ y. IsPutting g' s slot.from slot.index p n y) (sym (agrees.places n (put_on p n (g.places n) r))) (putting_carries p n (g.places n) r)
+    whole_carries p n r = subst (λ y. IsPutting g' s slot.from slot.index p n y) (sym (agrees.places n (put_on p n (g.places n) r)))
+        (putting_carries p n (g.places n) r)
 
     for_carries : (p : P) (hash : ℕ) (at : Place) → IsOn s.first s.next at.table → IsFor g c s p hash at → IsFor g' c s p hash at
     for_carries p hash at there f = record {
@@ -157,19 +166,25 @@ module _ {K P : Type 0} (g g' : Setting K P) (c : Coding K P) (s : State P) (sou
           stood = r.stood;
           taker = taker_carries g g' s sound agrees p slot.from at.table on r.taker;
           has = has_carries g g' s sound agrees (look g s (g.key p)) (look g' s (g'.key p)) (look_pair g g' s sound agrees p) at.table there r.has;
-          hint = subst (λ l. IsHint g' c s at.table at.probe.i (hint_of (c.hash l))) (sym (agrees.key p)) (hint_agrees g g' c agrees.key (s.slot at.table at.probe.i) (hint_of (c.hash (g.key p))) r.hint);
+          hint = subst (λ l. IsHint g' c s at.table at.probe.i (hint_of (c.hash l))) (sym (agrees.key p))
+              (hint_agrees g g' c agrees.key (s.slot at.table at.probe.i) (hint_of (c.hash (g.key p))) r.hint);
         }
 
     carry_carries : (p : P) (carry : Carry) → ReliesCarry g c s last kept slot p carry → ReliesCarry g' c s last kept slot p carry
     carry_carries p (carries.Hashing table) r = (r.0, putting_carries p table 0 r.1)
     carry_carries p (carries.Sizing hash table) r = (r.0, hash_same p hash r.1, putting_carries p table 0 r.2)
-    carry_carries p (carries.Looking hash at) r = (r.0, for_carries p hash at (put_on p at.table at.probe.len r.2) r.1, putting_carries p at.table at.probe.len r.2)
-    carry_carries p (carries.Reading hash at) r = (r.0, for_carries p hash at (put_on p at.table at.probe.len r.2) r.1, putting_carries p at.table at.probe.len r.2)
-    carry_carries p (carries.Comparing hash at word) r = (r.0, for_carries p hash at (put_on p at.table at.probe.len r.2) r.1, putting_carries p at.table at.probe.len r.2, compared_carries at word r.3)
-    carry_carries p (carries.Placing hash at) r = (r.0, for_carries p hash at (put_on p at.table at.probe.len r.2) r.1, putting_carries p at.table at.probe.len r.2)
+    carry_carries p (carries.Looking hash at)
+        r = (r.0, for_carries p hash at (put_on p at.table at.probe.len r.2) r.1, putting_carries p at.table at.probe.len r.2)
+    carry_carries p (carries.Reading hash at)
+        r = (r.0, for_carries p hash at (put_on p at.table at.probe.len r.2) r.1, putting_carries p at.table at.probe.len r.2)
+    carry_carries p (carries.Comparing hash at word)
+        r = (r.0, for_carries p hash at (put_on p at.table at.probe.len r.2) r.1, putting_carries p at.table at.probe.len r.2, compared_carries at word r.3)
+    carry_carries p (carries.Placing hash at)
+        r = (r.0, for_carries p hash at (put_on p at.table at.probe.len r.2) r.1, putting_carries p at.table at.probe.len r.2)
     carry_carries p (carries.Placed hash at) r = (r.0, placed_carries p hash at r.1)
     carry_carries p (carries.Passing hash table) r = (agrees.blocking ∙ r.0, r.1, hash_same p hash r.2, whole_carries p table r.3)
-    carry_carries p (carries.Linking hash link) r = (agrees.blocking ∙ r.0, r.1, hash_same p hash r.2, whole_carries p (follows link) r.3, link_carries link r.4)
+    carry_carries p (carries.Linking hash link)
+        r = (agrees.blocking ∙ r.0, r.1, hash_same p hash r.2, whole_carries p (follows link) r.3, link_carries link r.4)
     carry_carries p (carries.Aborting table) r = (agrees.blocking ∙ r.0, r.1, whole_carries p table r.2)
 
     settle_carries : (settle : Settle) → ReliesSettle g c s last kept slot settle → ReliesSettle g' c s last kept slot settle
@@ -177,7 +192,14 @@ module _ {K P : Type 0} (g g' : Setting K P) (c : Coding K P) (s : State P) (sou
     settle_carries settles.Closing r = tt
     settle_carries settles.Shutting r = r
     settle_carries (settles.Marking word) r = r
-    settle_carries (settles.Carrying word carry) r = record { pair = r.pair; marked = r.marked ∙ sym (code_same (Marked r.pair)); here = λ b. r.here (sym agrees.blocking ∙ b); relies = carry_carries r.pair carry r.relies }
+    settle_carries (settles.Carrying word carry)
+        r = record {
+          pair = r.pair;
+          marked = r.marked
+              ∙ sym (code_same (Marked r.pair));
+          here = λ b. r.here (sym agrees.blocking ∙ b);
+          relies = carry_carries r.pair carry r.relies;
+        }
     settle_carries (settles.Finishing word) (mode, r) = (
       agrees.blocking ∙ mode,
       record {
@@ -186,7 +208,8 @@ module _ {K P : Type 0} (g g' : Setting K P) (c : Coding K P) (s : State P) (sou
         marked = r.marked ∙ sym (code_same (Marked r.pair));
         stood = r.stood;
         taker = taker_carries g g' s sound agrees r.pair slot.from r.table on r.taker;
-        has = has_carries g g' s sound agrees (look g s (g.key r.pair)) (look g' s (g'.key r.pair)) (look_pair g g' s sound agrees r.pair) r.table (taker_on g s sound.rises (g.key r.pair) slot.from r.table on r.taker) r.has;
+        has = has_carries g g' s sound agrees (look g s (g.key r.pair)) (look g' s (g'.key r.pair)) (look_pair g g' s sound agrees r.pair) r.table
+            (taker_on g s sound.rises (g.key r.pair) slot.from r.table on r.taker) r.has;
         here = λ b. r.here (sym agrees.blocking ∙ b);
       },
     )
@@ -209,7 +232,8 @@ module _ {K P : Type 0} (g g' : Setting K P) (c : Coding K P) (s : State P) (sou
   step_carries (steps.Judging from to) r = (agrees.blocking ∙ r.0, source_carries from to r.1)
   step_carries (steps.Sizing from to) r = source_carries from to r
   step_carries (steps.AtChunk cursor) r = cursor_carries cursor r
-  step_carries (steps.Settling chunk settle) r = (chunk_carries chunk r.0, settle_carries (slot_of chunk) (root_on chunk.cursor.from r.0.cursor.source.was) settle r.1)
+  step_carries (steps.Settling chunk settle)
+      r = (chunk_carries chunk r.0, settle_carries (slot_of chunk) (root_on chunk.cursor.from r.0.cursor.source.was) settle r.1)
   step_carries (steps.Advancing cursor) r = settled_chunk_carries cursor r
   step_carries (steps.Promoting from to) r = (
     source_carries from to r.0,

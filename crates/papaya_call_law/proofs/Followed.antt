@@ -9,7 +9,10 @@ use Rattle.papaya_words.specs.declared.word.Kind.TheVariants as word_kinds
 use Rattle.papaya_ask.specs.declared.ask.At.TheVariants.{Root}
 use Rattle.papaya_ask.specs.declared.ask.Ask.TheVariants.{Exchange, SizeOf}
 use Rattle.papaya_ask.specs.declared.ask.Answer.{Answer}
-use Rattle.papaya_ask.specs.declared.ask.Answer.TheVariants.{Word as Word_read, Exchanged, Found as Found_instead, Yes, Op, Size, Made as Made_number, Ok as Ok_done, Refused as Was_refused}
+use Rattle.papaya_ask.specs.declared.ask.Answer.TheVariants.{Word as Word_read, Exchanged}
+use Rattle.papaya_ask.specs.declared.ask.Answer.TheVariants.{Found as Found_instead, Yes, Op, Size}
+use Rattle.papaya_ask.specs.declared.ask.Answer.TheVariants.{Made as Made_number, Ok as Ok_done}
+use Rattle.papaya_ask.specs.declared.ask.Answer.TheVariants.{Refused as Was_refused}
 use Rattle.papaya_ask.specs.declared.ask.OpKind.{OpKind}
 use Rattle.papaya_ask.specs.declared.ask.OpKind.TheVariants as ops
 use Rattle.papaya_ask.specs.declared.ask.StepKind.TheVariants as kinds
@@ -30,17 +33,27 @@ use Rattle.papaya_ask.specs.declared.search.Search.TheVariants.{Sizing, Looking,
 use Rattle.papaya_ask.specs.declared.search.Probed.{Probed}
 use Rattle.papaya_ask.specs.declared.search.Probed.TheVariants as seen
 use Rattle.papaya_call.specs.declared.made.Made.{Made}
-use Rattle.papaya_call_law.proofs.Makings.{HoldsOfPairAsks, IsPairAsk, IsWriteAsk, exchanged_leads, lost_leads, numbered_leads, pair_holds, paired_leads, pairing_asks, refuses_leads, told_leads, write_asks, write_holds}
+use Rattle.papaya_call_law.proofs.Makings.{HoldsOfPairAsks, IsPairAsk, IsWriteAsk, exchanged_leads}
+use Rattle.papaya_call_law.proofs.Makings.{lost_leads, numbered_leads, pair_holds, paired_leads}
+use Rattle.papaya_call_law.proofs.Makings.{pairing_asks, refuses_leads, told_leads, write_asks}
+use Rattle.papaya_call_law.proofs.Makings.{write_holds}
 use Rattle.papaya_call.specs.declared.write.Write.{Write}
 use Rattle.papaya_call.specs.declared.machine.Machine.{Machine}
 use Rattle.papaya_call.specs.declared.machine.State.{State}
-use Rattle.papaya_call.specs.declared.machine.State.TheVariants.{AtRoot, Making, Opening, Searching, Writing, Offering, Showing, Pairing, Putting, Deleting, Counting, Noting, Uncounting, Leaving, Growing, Ended}
+use Rattle.papaya_call.specs.declared.machine.State.TheVariants.{AtRoot, Making, Opening, Searching}
+use Rattle.papaya_call.specs.declared.machine.State.TheVariants.{Writing, Offering, Showing}
+use Rattle.papaya_call.specs.declared.machine.State.TheVariants.{Pairing, Putting, Deleting}
+use Rattle.papaya_call.specs.declared.machine.State.TheVariants.{Counting, Noting, Uncounting}
+use Rattle.papaya_call.specs.declared.machine.State.TheVariants.{Leaving, Growing, Ended}
 use Rattle.papaya_call.specs.declared.made.Number.{Number}
 use Rattle.papaya_call.specs.declared.made.Number.TheVariants.{Wanted, Free, Taken}
 use Rattle.papaya_call.specs.Made.{grown, number_ask, number_kind, of_ask, own_ask, serves_at, told}
 use Rattle.papaya_call.specs.Compute.{chosen, fills, in_place_of, lacks, offered, provides, recalled, recalls}
 use Rattle.papaya_call_law.specs.Followed.{IsAtTable, IsCounting, IsGapAt, IsPurposeAt, MayAsk, table_asked, table_of, told_table}
-use Rattle.papaya_call.specs.Machine.{HasClosure, IsChanger, IsStanding, IsStandingState, MayInsert, after, absent, ask_of, asks, at_root, beaten_as, beaten_by, computes, decided, goes_as, judged, kind_asked, kind_of_ask, left, needed, passes, removes, served_kind, replaces, written}
+use Rattle.papaya_call.specs.Machine.{HasClosure, IsChanger, IsStanding, IsStandingState, MayInsert}
+use Rattle.papaya_call.specs.Machine.{after, absent, ask_of, asks, at_root, beaten_as, beaten_by}
+use Rattle.papaya_call.specs.Machine.{computes, decided, goes_as, judged, kind_asked, kind_of_ask}
+use Rattle.papaya_call.specs.Machine.{left, needed, passes, removes, served_kind, replaces, written}
 use Rattle.papaya_call.specs.Write.{claimed_by, served_ask, serves}
 use Rattle.papaya_call_law.specs.Relies.{change_in}
 use Rattle.papaya_ask.specs.Search.{at_size, at_word, at_yes, go_on, hinted, look, look_at, match_at, next_place}
@@ -114,9 +127,11 @@ recalls_at : (n : ℕ) (choice : Option Choice) (at : Place) → at.table ≡ n 
 recalls_at n None at is word i = is
 recalls_at n (Some (To_replace old new)) at is word i =
     cond_both (old == i) (recalled new at word) (Showing (record { place = at; word = word })) (IsAtTable n)
-    (λ _. cond_both (serves_at new at.table at.probe.i) (Putting (record { write = record { place = at; old = word }; pair = new.pair })) (Pairing (Again (record { place = at; old = word }))) (IsAtTable n) (λ _. is) (λ _. is))
+    (λ _. cond_both (serves_at new at.table at.probe.i) (Putting (record { write = record { place = at; old = word }; pair = new.pair }))
+    (Pairing (Again (record { place = at; old = word }))) (IsAtTable n) (λ _. is) (λ _. is))
     (λ _. is)
-recalls_at n (Some (To_remove old)) at is word i = cond_both (old == i) (Deleting (record { place = at; word = word })) (Showing (record { place = at; word = word })) (IsAtTable n) (λ _. is) (λ _. is)
+recalls_at n (Some (To_remove old)) at is word i = cond_both (old == i) (Deleting (record { place = at; word = word }))
+    (Showing (record { place = at; word = word })) (IsAtTable n) (λ _. is) (λ _. is)
 
 computes_at : (n : ℕ) (kind : Kind) (held : Remembered) (at : Place) → at.table ≡ n → (word : ℕ) → IsAtTable n (computes kind held at word)
 computes_at n word_kinds.Empty held at is word = is
@@ -237,7 +252,8 @@ module _ (m : Machine) (n : ℕ) where
   Leads made s answer = IsAtTable n s → IsAtTable (told_table (asks made m.hash s) answer n) (after (record m { made = made; state = s }) answer).state
 
   -- a search
-  searching_at : (made : Made) (search : Search) (answer : Answer) → table_of search ≡ n → IsAtTable n (after (record m { made = made; state = Searching search }) answer).state
+  searching_at : (made : Made) (search : Search) (answer : Answer) → table_of search ≡ n
+      → IsAtTable n (after (record m { made = made; state = Searching search }) answer).state
   searching_at made search (Word_read word) is = goes_at n m.task m.mode m.remembered (at_word search m.hash word) (word_at n search is m.hash word)
   searching_at made search Exchanged is = is
   searching_at made search (Found_instead word) is = is
@@ -249,12 +265,14 @@ module _ (m : Machine) (n : ℕ) where
   searching_at made search (Was_refused refused) is = is
 
   -- a write
-  writing_at : (made : Made) (write : Write) (answer : Answer) → write.place.table ≡ n → IsAtTable n (after (record m { made = made; state = Writing write }) answer).state
+  writing_at : (made : Made) (write : Write) (answer : Answer) → write.place.table ≡ n
+      → IsAtTable n (after (record m { made = made; state = Writing write }) answer).state
   writing_at made write (Word_read word) is = told_leads (IsAtTable n) tt write is (serves made write) made word
   writing_at made write Exchanged is = exchanged_leads (IsAtTable n) write is (λ i. written_at n write i is) (serves made write)
   writing_at made write (Found_instead word) is =
       let machine : Machine = record m { made = made; state = Writing write } in
-      lost_leads (IsAtTable n) tt write is machine word (goes_at n m.task m.mode m.remembered (look write.place word) (look_kind n write.place is (kind_of word) word)) (serves made write)
+      lost_leads (IsAtTable n) tt write is machine word
+      (goes_at n m.task m.mode m.remembered (look write.place word) (look_kind n write.place is (kind_of word) word)) (serves made write)
   writing_at made write (Yes same) is = is
   writing_at made write (Op kind) is = is
   writing_at made write (Size slots limit) is = is
@@ -273,7 +291,8 @@ module _ (m : Machine) (n : ℕ) where
   pairing_untold made purpose answer = pair_holds (λ ask. told_table ask answer n ≡ n) (untold answer) made (in_place_of purpose)
 
   -- a compute that makes a pair
-  pairing_at : (made : Made) (purpose : Purpose) (answer : Answer) → IsPurposeAt n purpose → IsAtTable n (after (record m { made = made; state = Pairing purpose }) answer).state
+  pairing_at : (made : Made) (purpose : Purpose) (answer : Answer) → IsPurposeAt n purpose
+      → IsAtTable n (after (record m { made = made; state = Pairing purpose }) answer).state
   pairing_at made purpose (Word_read word) is = numbered_leads (IsAtTable n) tt (Pairing purpose) is (told made word)
   pairing_at made purpose Exchanged is = is
   pairing_at made purpose (Found_instead word) is = numbered_leads (IsAtTable n) tt (Pairing purpose) is (told made word)
@@ -316,7 +335,8 @@ module _ (m : Machine) (n : ℕ) where
   leads made (Searching (Looking at)) answer is = searching_at made (Looking at) answer is
   leads made (Searching (Reading at)) answer is = searching_at made (Reading at) answer is
   leads made (Searching (Comparing at word)) answer is = searching_at made (Comparing at word) answer is
-  leads made (Writing write) answer is = subst (λ t. IsAtTable t (after (record m { made = made; state = Writing write }) answer).state) (sym (write_untold made write answer)) (writing_at made write answer is)
+  leads made (Writing write) answer is = subst (λ t. IsAtTable t (after (record m { made = made; state = Writing write }) answer).state)
+      (sym (write_untold made write answer)) (writing_at made write answer is)
   leads made (Offering gap) (Word_read word) is = is
   leads made (Offering gap) Exchanged is = is
   leads made (Offering gap) (Found_instead word) is = is
@@ -326,10 +346,12 @@ module _ (m : Machine) (n : ℕ) where
   leads made (Offering gap) (Made_number i) is = is
   leads made (Offering gap) Ok_done is = is
   leads made (Offering gap) (Was_refused refused) is = is
-  leads made (Pairing purpose) answer is = subst (λ t. IsAtTable t (after (record m { made = made; state = Pairing purpose }) answer).state) (sym (pairing_untold made purpose answer)) (pairing_at made purpose answer is)
+  leads made (Pairing purpose) answer is = subst (λ t. IsAtTable t (after (record m { made = made; state = Pairing purpose }) answer).state)
+      (sym (pairing_untold made purpose answer)) (pairing_at made purpose answer is)
   leads made (Putting put) (Word_read word) is = is
   leads made (Putting put) Exchanged is = written_at n put.write put.pair is
-  leads made (Putting put) (Found_instead word) is = goes_at n m.task m.mode m.remembered (look put.write.place word) (look_kind n put.write.place is (kind_of word) word)
+  leads made (Putting put) (Found_instead word) is = goes_at n m.task m.mode m.remembered (look put.write.place word)
+      (look_kind n put.write.place is (kind_of word) word)
   leads made (Putting put) (Yes same) is = is
   leads made (Putting put) (Op kind) is = is
   leads made (Putting put) (Size slots limit) is = is
@@ -421,10 +443,28 @@ named_in made hash (Searching (Sizing u)) n t is e = let j : u ≡ t = cc e in s
 named_in made hash (Searching (Looking at)) n t is e = let j : at.table ≡ t = cc e in sym j ∙ is
 named_in made hash (Searching (Reading at)) n t is e = let j : at.table ≡ t = cc e in sym j ∙ is
 named_in made hash (Searching (Comparing at word)) n t is e = absurd cc
-named_in made hash (Writing write) n t is e = write_holds (λ ask. table_asked ask ≡ Some t → t ≡ n) (record { loads = λ f. absurd cc; takes = λ count f. absurd cc; key = λ f. absurd cc; value = λ f. absurd cc; pair = λ f. absurd cc; pair_of = λ i f. absurd cc }) write (λ i f. let j : write.place.table ≡ t = cc f in sym j ∙ is) made e
+named_in made hash (Writing write) n t is e = write_holds (λ ask. table_asked ask ≡ Some t → t ≡ n)
+    (record {
+      loads = λ f. absurd cc;
+      takes = λ count f. absurd cc;
+      key = λ f. absurd cc;
+      value = λ f. absurd cc;
+      pair = λ f.
+          absurd cc;
+      pair_of = λ i f. absurd cc;
+    }) write (λ i f. let j : write.place.table ≡ t = cc f in sym j ∙ is) made e
 named_in made hash (Offering gap) n t is e = absurd cc
 named_in made hash (Showing removal) n t is e = absurd cc
-named_in made hash (Pairing purpose) n t is e = pair_holds (λ ask. table_asked ask ≡ Some t → t ≡ n) (record { loads = λ f. absurd cc; takes = λ count f. absurd cc; key = λ f. absurd cc; value = λ f. absurd cc; pair = λ f. absurd cc; pair_of = λ i f. absurd cc }) made (in_place_of purpose) e
+named_in made hash (Pairing purpose) n t is e = pair_holds (λ ask. table_asked ask ≡ Some t → t ≡ n)
+    (record {
+      loads = λ f. absurd cc;
+      takes = λ count f. absurd cc;
+      key = λ f. absurd cc;
+      value = λ f. absurd cc;
+      pair = λ f.
+          absurd cc;
+      pair_of = λ i f. absurd cc;
+    }) made (in_place_of purpose) e
 named_in made hash (Putting put) n t is e = let j : put.write.place.table ≡ t = cc e in sym j ∙ is
 named_in made hash (Deleting removal) n t is e = let j : removal.place.table ≡ t = cc e in sym j ∙ is
 named_in made hash (Counting i) n t is e = absurd cc
@@ -437,8 +477,10 @@ named_in made hash (Ended reply) n t is e = absurd cc
 pub table_named : (m : Machine) (n t : ℕ) → IsAtTable n m.state → table_asked (ask_of m) ≡ Some t → t ≡ n
 table_named m n t is e = named_in m.made m.hash m.state n t is e
 
-write_kinds : (write : Write) → (Some (cond (write.old == 0) kinds.Claim kinds.Replace) ≡ Some kinds.Claim) ⊎ (Some (cond (write.old == 0) kinds.Claim kinds.Replace) ≡ Some kinds.Replace)
-write_kinds write = cond_both (write.old == 0) kinds.Claim kinds.Replace (λ k. (Some k ≡ Some kinds.Claim) ⊎ (Some k ≡ Some kinds.Replace)) (λ _. inl refl) (λ _. inr refl)
+write_kinds : (write : Write) → (Some (cond (write.old == 0) kinds.Claim kinds.Replace) ≡ Some kinds.Claim)
+    ⊎ (Some (cond (write.old == 0) kinds.Claim kinds.Replace) ≡ Some kinds.Replace)
+write_kinds write = cond_both (write.old == 0) kinds.Claim kinds.Replace (λ k. (Some k ≡ Some kinds.Claim) ⊎ (Some k ≡ Some kinds.Replace))
+    (λ _. inl refl) (λ _. inr refl)
 
 inserter_changes : (task : Task) → MayInsert task → IsChanger task
 inserter_changes Get may = may
@@ -465,9 +507,11 @@ of_may task may true old = may
 number_may : (task : Task) (number : Number) (made : Made) (old : ℕ) → MayInsert task → MayAsk task (number_kind number) (number_ask number made old)
 number_may task Wanted made old may = may
 number_may task (Free count) made old may = (may, refl, refl)
-number_may task Taken made old may = cond_both (old == 0) (own_ask made.keyed made.valued) (of_ask made.valued old) (MayAsk task None) (λ _. own_may task may made.keyed made.valued) (λ _. of_may task may made.valued old)
+number_may task Taken made old may = cond_both (old == 0) (own_ask made.keyed made.valued) (of_ask made.valued old) (MayAsk task None)
+    (λ _. own_may task may made.keyed made.valued) (λ _. of_may task may made.valued old)
 
-write_may : (task : Task) (made : Made) (write : Write) → MayInsert task → (served : Option ℕ) → MayAsk task (served_kind served made write) (served_ask served write made)
+write_may : (task : Task) (made : Made) (write : Write) → MayInsert task → (served : Option ℕ)
+    → MayAsk task (served_kind served made write) (served_ask served write made)
 write_may task made write may None = number_may task made.number made write.old may
 write_may task made write may (Some i) = inl (may, write_kinds write)
 
@@ -497,11 +541,14 @@ pub asked_of_task : (m : Machine) → IsStanding m → MayAsk m.task (kind_of_as
 asked_of_task m stands = asks_in m.task m.made m.hash m.state stands.state
 
 -- it opens a table once
-opens_in : (m : Machine) (made : Made) (s : State) (answer : Answer) (t n : ℕ) → asks made m.hash s ≡ Exchange Root 0 t → (answer ≡ Exchanged) ⊎ ((word : ℕ) × (answer ≡ Found_instead word)) → ask_of (after (record m { made = made; state = s }) answer) ≡ Exchange Root 0 n → ⊥
+opens_in : (m : Machine) (made : Made) (s : State) (answer : Answer) (t n : ℕ) → asks made m.hash s ≡ Exchange Root 0 t → (answer ≡ Exchanged)
+    ⊎ ((word : ℕ) × (answer ≡ Found_instead word)) → ask_of (after (record m { made = made; state = s }) answer) ≡ Exchange Root 0 n → ⊥
 opens_in m made AtRoot answer t n e a f = cc e
 opens_in m made Making answer t n e a f = cc e
-opens_in m made (Opening u) answer t n e (inl a) f = let g : SizeOf u ≡ Exchange Root 0 n = sym (ap (λ z. ask_of (after (record m { made = made; state = Opening u }) z)) a) ∙ f in cc g
-opens_in m made (Opening u) answer t n e (inr (word, a)) f = let g : SizeOf word ≡ Exchange Root 0 n = sym (ap (λ z. ask_of (after (record m { made = made; state = Opening u }) z)) a) ∙ f in cc g
+opens_in m made (Opening u) answer t n e (inl a) f = let g : SizeOf u ≡ Exchange Root 0 n = sym
+    (ap (λ z. ask_of (after (record m { made = made; state = Opening u }) z)) a) ∙ f in cc g
+opens_in m made (Opening u) answer t n e (inr (word, a)) f = let g : SizeOf word ≡ Exchange Root 0 n = sym
+    (ap (λ z. ask_of (after (record m { made = made; state = Opening u }) z)) a) ∙ f in cc g
 opens_in m made (Searching (Sizing u)) answer t n e a f = cc e
 opens_in m made (Searching (Looking at)) answer t n e a f = cc e
 opens_in m made (Searching (Reading at)) answer t n e a f = cc e
@@ -519,7 +566,8 @@ opens_in m made (Leaving u) answer t n e a f = cc e
 opens_in m made (Growing u) answer t n e a f = cc e
 opens_in m made (Ended reply) answer t n e a f = cc e
 
-pub opens_once : (m : Machine) (answer : Answer) (t n : ℕ) → ask_of m ≡ Exchange Root 0 t → (answer ≡ Exchanged) ⊎ ((word : ℕ) × (answer ≡ Found_instead word)) → ask_of (after m answer) ≡ Exchange Root 0 n → ⊥
+pub opens_once : (m : Machine) (answer : Answer) (t n : ℕ) → ask_of m ≡ Exchange Root 0 t → (answer ≡ Exchanged)
+    ⊎ ((word : ℕ) × (answer ≡ Found_instead word)) → ask_of (after m answer) ≡ Exchange Root 0 n → ⊥
 opens_once m answer t n e a f = opens_in m m.made m.state answer t n e a f
 
 -- once it changed the map it counts

@@ -26,11 +26,16 @@ use Rattle.papaya_ask.specs.declared.search.Probed.TheVariants as seen
 use Rattle.papaya_call.specs.declared.write.Write.{Write}
 use Rattle.papaya_call.specs.declared.machine.Machine.{Machine}
 use Rattle.papaya_call.specs.declared.machine.State.{State}
-use Rattle.papaya_call.specs.declared.machine.State.TheVariants.{Making, Searching, Writing, Offering, Showing, Pairing, Putting, Deleting, Leaving, Growing, Ended}
+use Rattle.papaya_call.specs.declared.machine.State.TheVariants.{Making, Searching, Writing}
+use Rattle.papaya_call.specs.declared.machine.State.TheVariants.{Offering, Showing, Pairing}
+use Rattle.papaya_call.specs.declared.machine.State.TheVariants.{Putting, Deleting, Leaving}
+use Rattle.papaya_call.specs.declared.machine.State.TheVariants.{Growing, Ended}
 use Rattle.papaya_call.specs.declared.made.Of.{Of}
 use Rattle.papaya_call.specs.Made.{serves_at}
 use Rattle.papaya_call.specs.Compute.{fills, lacks, provides, recalled, recalls}
-use Rattle.papaya_call.specs.Machine.{absent, at_root, beaten, beaten_as, beaten_by, computes, found, copied_from, goes_as, left, occupies, passes, removes, replaces}
+use Rattle.papaya_call.specs.Machine.{absent, at_root, beaten, beaten_as, beaten_by, computes}
+use Rattle.papaya_call.specs.Machine.{found, copied_from, goes_as, left, occupies, passes, removes}
+use Rattle.papaya_call.specs.Machine.{replaces}
 use Rattle.papaya_ask.specs.Search.{look as look_seen}
 use Rattle.papaya_call.specs.declared.need.Need.{Need}
 use Rattle.papaya_call.specs.declared.need.Need.TheVariants.{Room, Pair as Pair_at}
@@ -53,7 +58,8 @@ pub record HoldsOfLeads (Holds : State → Type 0) : Type 0 where
 
 -- what holds of the answer and of the table that is needed next holds where an insertion that replaces
 -- nothing met its key's pair
-pub occupies_leads : (Holds : State → Type 0) (kd : Kind) (at : Place) (word : ℕ) → Holds (Ended (Occupied (pair_of word))) → Holds (copied_from at) → Holds (occupies kd at word)
+pub occupies_leads : (Holds : State → Type 0) (kd : Kind) (at : Place) (word : ℕ) → Holds (Ended (Occupied (pair_of word))) → Holds (copied_from at)
+    → Holds (occupies kd at word)
 occupies_leads Holds word_kinds.Empty at word answered needed = needed
 occupies_leads Holds word_kinds.Live at word answered needed = answered
 occupies_leads Holds word_kinds.Marked at word answered needed = needed
@@ -88,14 +94,18 @@ module _ (Holds : State → Type 0) (each : HoldsOfLeads Holds) where
 
   -- the number of a root
   pub root_leads : (task : Task) (fill : Option ℕ) (word : ℕ) → Holds (at_root task fill word)
-  root_leads Get fill word = cond_both (word == 0) (absent Get fill NoRoot) (Searching (Sizing word)) Holds (λ _. absent_leads Get fill NoRoot) (λ _. each.searching (Sizing word))
-  root_leads RemoveIf fill word = cond_both (word == 0) (absent RemoveIf fill NoRoot) (Searching (Sizing word)) Holds (λ _. absent_leads RemoveIf fill NoRoot) (λ _. each.searching (Sizing word))
-  root_leads Compute fill word = cond_both (word == 0) (absent Compute fill NoRoot) (Searching (Sizing word)) Holds (λ _. absent_leads Compute fill NoRoot) (λ _. each.searching (Sizing word))
+  root_leads Get fill word = cond_both (word == 0) (absent Get fill NoRoot) (Searching (Sizing word)) Holds (λ _. absent_leads Get fill NoRoot)
+      (λ _. each.searching (Sizing word))
+  root_leads RemoveIf fill word = cond_both (word == 0) (absent RemoveIf fill NoRoot) (Searching (Sizing word)) Holds
+      (λ _. absent_leads RemoveIf fill NoRoot) (λ _. each.searching (Sizing word))
+  root_leads Compute fill word = cond_both (word == 0) (absent Compute fill NoRoot) (Searching (Sizing word)) Holds
+      (λ _. absent_leads Compute fill NoRoot) (λ _. each.searching (Sizing word))
   root_leads (Insert replace) fill word = cond_both (word == 0) Making (Searching (Sizing word)) Holds (λ _. each.making) (λ _. each.searching (Sizing word))
 
   -- the number of a next table
   pub left_leads : (task : Task) (fill : Option ℕ) (t word : ℕ) → Holds (left task fill t word)
-  left_leads task fill t word = cond_both (word == 0) (absent task fill (After t)) (Searching (Sizing word)) Holds (λ _. absent_leads task fill (After t)) (λ _. each.searching (Sizing word))
+  left_leads task fill t word = cond_both (word == 0) (absent task fill (After t)) (Searching (Sizing word)) Holds
+      (λ _. absent_leads task fill (After t)) (λ _. each.searching (Sizing word))
 
   -- a table that was passed
   passes_leads : (task : Task) (mode : ResizeMode) (fill : Option ℕ) (t : ℕ) → Holds (passes task mode fill t)
@@ -123,7 +133,8 @@ module _ (Holds : State → Type 0) (each : HoldsOfLeads Holds) where
   -- a pair of which one was made before
   recalled_leads : (new : Of) (at : Place) (word : ℕ) → Holds (recalled new at word)
   recalled_leads new at word =
-      cond_both (serves_at new at.table at.probe.i) (Putting (record { write = record { place = at; old = word }; pair = new.pair })) (Pairing (Again (record { place = at; old = word }))) Holds
+      cond_both (serves_at new at.table at.probe.i) (Putting (record { write = record { place = at; old = word }; pair = new.pair }))
+      (Pairing (Again (record { place = at; old = word }))) Holds
       (λ _. each.putting (record { write = record { place = at; old = word }; pair = new.pair }))
       (λ _. each.pairing (Again (record { place = at; old = word })))
 
@@ -151,7 +162,8 @@ module _ (Holds : State → Type 0) (each : HoldsOfLeads Holds) where
   -- a pair with a matching key
   found_leads : (task : Task) (held : Remembered) (at : Place) (word : ℕ) → Holds (found task held at word)
   found_leads Get held at word = each.ended_found (pair_of word)
-  found_leads (Insert false) held at word = occupies_leads Holds (kind_of word) at word (each.ended_occupied (pair_of word)) (each.growing (Pair_at at.table at.probe.i))
+  found_leads (Insert false) held at word = occupies_leads Holds (kind_of word) at word (each.ended_occupied (pair_of word))
+      (each.growing (Pair_at at.table at.probe.i))
   found_leads (Insert true) held at word = replaces_leads (kind_of word) at word
   found_leads RemoveIf held at word = removes_leads (kind_of word) at word
   found_leads Compute held at word = computes_leads (kind_of word) held at word

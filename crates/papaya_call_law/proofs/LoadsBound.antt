@@ -12,7 +12,11 @@ use Rattle.papaya_ask.specs.declared.search.Search.TheVariants.{Sizing, Looking,
 use Rattle.papaya_call.specs.declared.made.Made.{Made}
 use Rattle.papaya_call.specs.Made.{nothing_made}
 use Rattle.papaya_call.specs.declared.machine.State.{State}
-use Rattle.papaya_call.specs.declared.machine.State.TheVariants.{AtRoot, Making, Opening, Searching, Writing, Offering, Showing, Pairing, Putting, Deleting, Counting, Noting, Uncounting, Leaving, Growing, Ended}
+use Rattle.papaya_call.specs.declared.machine.State.TheVariants.{AtRoot, Making, Opening, Searching}
+use Rattle.papaya_call.specs.declared.machine.State.TheVariants.{Writing, Offering, Showing}
+use Rattle.papaya_call.specs.declared.machine.State.TheVariants.{Pairing, Putting, Deleting}
+use Rattle.papaya_call.specs.declared.machine.State.TheVariants.{Counting, Noting, Uncounting}
+use Rattle.papaya_call.specs.declared.machine.State.TheVariants.{Leaving, Growing, Ended}
 use Rattle.papaya_call.specs.declared.machine.Machine.{Machine}
 use Rattle.papaya_call.specs.Compute.{nothing}
 use Rattle.papaya_call.specs.Machine.{IsLookup, ask_of, after, started, at_root, left as state_left, goes_as}
@@ -22,7 +26,10 @@ use Rattle.papaya_ask.specs.declared.ask.Ask.TheVariants.{LoadHint}
 use Rattle.papaya_ask.specs.declared.search.Probed.TheVariants.{On}
 use Rattle.papaya_call_law.proofs.LoadsLeft.{chosen}
 use Rattle.papaya_call_law.proofs.LoadsLists.{count, IsFrom, from_nil}
-use Rattle.papaya_call_law.proofs.LoadsSteps.{lookup, IsReader, IsBelow, left, AreKnown, IsStep, leads_look, leads_on, leads_compared, step_root, step_next, step_size, step_hint, step_read, step_load, step_compare, step_ended}
+use Rattle.papaya_call_law.proofs.LoadsSteps.{lookup, IsReader, IsBelow, left, AreKnown, IsStep}
+use Rattle.papaya_call_law.proofs.LoadsSteps.{leads_look, leads_on, leads_compared, step_root}
+use Rattle.papaya_call_law.proofs.LoadsSteps.{step_next, step_size, step_hint, step_read, step_load}
+use Rattle.papaya_call_law.proofs.LoadsSteps.{step_compare, step_ended}
 use Rattle.papaya_ask.specs.declared.search.Place.{Place}
 
 module _ (limit : ℕ → ℕ) (hash initial : ℕ) (mode : ResizeMode) where
@@ -31,9 +38,11 @@ module _ (limit : ℕ → ℕ) (hash initial : ℕ) (mode : ResizeMode) where
   standing made s = lookup hash initial mode made s
 
   -- a hint leads to its word, or past it
-  hint_step : (at : Place) (hint : ℕ) → at.probe.len ≤ at.limit → IsStep limit (Searching (Looking at)) (goes_as Get mode nothing (hinted at hash hint)) (LoadHint at.table at.probe.i)
+  hint_step : (at : Place) (hint : ℕ) → at.probe.len ≤ at.limit
+      → IsStep limit (Searching (Looking at)) (goes_as Get mode nothing (hinted at hash hint)) (LoadHint at.table at.probe.i)
   hint_step at hint le =
-      chosen (λ seen. IsStep limit (Searching (Looking at)) (goes_as Get mode nothing seen) (LoadHint at.table at.probe.i)) (may_hold hint hash) (On (Reading at)) (go_on at)
+      chosen (λ seen. IsStep limit (Searching (Looking at)) (goes_as Get mode nothing seen) (LoadHint at.table at.probe.i)) (may_hold hint hash)
+      (On (Reading at)) (go_on at)
       (λ _. step_read limit at le)
       (λ _. step_hint limit at (goes_as Get mode nothing (go_on at)) le (leads_on limit mode at le))
 
@@ -48,15 +57,29 @@ module _ (limit : ℕ → ℕ) (hash initial : ℕ) (mode : ResizeMode) where
   step_by made AtRoot answer reader (word, e, _) =
       subst (IsStepBy made AtRoot) (sym e) (record { then_made = made; to = at_root Get None word; is = refl; step = step_root limit word })
   step_by made (Searching (Sizing u)) answer reader (slots, e) =
-      subst (IsStepBy made (Searching (Sizing u))) (sym e) (record { then_made = made; to = Searching (Looking (first_place hash u slots (limit u))); is = refl; step = step_size limit hash u slots })
+      subst (IsStepBy made (Searching (Sizing u))) (sym e)
+      (record { then_made = made; to = Searching (Looking (first_place hash u slots (limit u))); is = refl; step = step_size limit hash u slots })
   step_by made (Searching (Looking at)) answer reader (hint, e) =
-      subst (IsStepBy made (Searching (Looking at))) (sym e) (record { then_made = made; to = goes_as Get mode nothing (hinted at hash hint); is = refl; step = hint_step at hint reader })
+      subst (IsStepBy made (Searching (Looking at))) (sym e)
+      (record { then_made = made; to = goes_as Get mode nothing (hinted at hash hint); is = refl; step = hint_step at hint reader })
   step_by made (Searching (Reading at)) answer reader (word, e, _) =
       subst (IsStepBy made (Searching (Reading at))) (sym e)
-      (record { then_made = made; to = goes_as Get mode nothing (look_at (kind_of word) at word); is = refl; step = step_load limit at (goes_as Get mode nothing (look_at (kind_of word) at word)) reader (leads_look limit mode at reader (kind_of word) word) })
+      (record {
+        then_made = made;
+        to = goes_as Get mode nothing (look_at (kind_of word) at word);
+        is = refl;
+        step = step_load limit at
+            (goes_as Get mode nothing (look_at (kind_of word) at word)) reader (leads_look limit mode at reader (kind_of word) word);
+      })
   step_by made (Searching (Comparing at found)) answer reader (same, e) =
       subst (IsStepBy made (Searching (Comparing at found))) (sym e)
-      (record { then_made = made; to = goes_as Get mode nothing (search_compared (Comparing at found) same); is = refl; step = step_compare limit at found (goes_as Get mode nothing (search_compared (Comparing at found) same)) (leads_compared limit mode at reader found same) })
+      (record {
+        then_made = made;
+        to = goes_as Get mode nothing (search_compared (Comparing at found) same);
+        is = refl;
+        step = step_compare limit at
+            found (goes_as Get mode nothing (search_compared (Comparing at found) same)) (leads_compared limit mode at reader found same);
+      })
   step_by made (Leaving u) answer reader (word, e, rises) =
       subst (IsStepBy made (Leaving u)) (sym e) (record { then_made = made; to = state_left Get None u word; is = refl; step = step_next limit u word rises })
   step_by made (Ended reply) answer reader fits = record { then_made = made; to = Ended reply; is = stable answer; step = step_ended limit reply }
@@ -114,11 +137,14 @@ module _ (limit : ℕ → ℕ) (hash initial : ℕ) (mode : ResizeMode) where
   }
   runs (answer ∷ given) made s reader (fits, fit) =
       let by = step_by made s answer reader fits in
-      let further : IsRun by.to (asked (standing by.then_made by.to) given) = runs given by.then_made by.to by.step.reader (subst (λ m. AreAnswers limit m given) by.is fit) in
-      run_more s by.to (ask_of (standing made s)) (asked (after (standing made s) answer) given) by.step (subst (λ m. IsRun by.to (asked m given)) (sym by.is) further)
+      let further : IsRun by.to (asked (standing by.then_made by.to) given) = runs given by.then_made by.to by.step.reader
+      (subst (λ m. AreAnswers limit m given) by.is fit) in
+      run_more s by.to (ask_of (standing made s)) (asked (after (standing made s) answer) given) by.step
+      (subst (λ m. IsRun by.to (asked m given)) (sym by.is) further)
 
   -- a lookup from its start
-  pub lookup_bounded : (most : Option ℕ) (given : List Answer) → AreAnswers limit (started Get hash mode initial most) given → IsBounded limit (asked (started Get hash mode initial most) given)
+  pub lookup_bounded : (most : Option ℕ) (given : List Answer) → AreAnswers limit (started Get hash mode initial most) given
+      → IsBounded limit (asked (started Get hash mode initial most) given)
   lookup_bounded most given fit =
       let run : IsRun AtRoot (asked (standing (nothing_made most) AtRoot) given) = runs given (nothing_made most) AtRoot tt fit in
       record {

@@ -21,7 +21,8 @@ module _ (limit : ℕ → ℕ) where
     equal e = eq-eqb u t e
 
     other : (u < t) ⊎ (t < u) → (u == t) ≡ false
-    other lt = ⊎_elim (λ (b : (u == t) ≡ true). absurd (let e = eqb-true u t b in ⊎_elim (λ l. omega arith) (λ l. omega arith) lt)) (λ b. b) (cases_Bool (u == t))
+    other lt = ⊎_elim (λ (b : (u == t) ≡ true). absurd (let e = eqb-true u t b in ⊎_elim (λ l. omega arith) (λ l. omega arith) lt)) (λ b. b)
+        (cases_Bool (u == t))
 
     -- a load of u counts for t where they are one
     one : u ≡ t → once t u ≡ 1
@@ -42,7 +43,8 @@ module _ (limit : ℕ → ℕ) where
     left_after : (x : ℕ) → t < u → left_in t u x ≡ 0
     left_after x lt =
         cond-false (u == t) x (cond (nat_lt u t) (limit t + 1) 0) (other (inr lt))
-        ∙ cond-false (nat_lt u t) (limit t + 1) 0 (⊎_elim (λ (b : nat_lt u t ≡ true). absurd (let l = ltb-true u t b in omega arith)) (λ b. b) (cases_Bool (nat_lt u t)))
+        ∙ cond-false (nat_lt u t) (limit t + 1) 0
+        (⊎_elim (λ (b : nat_lt u t ≡ true). absurd (let l = ltb-true u t b in omega arith)) (λ b. b) (cases_Bool (nat_lt u t)))
 
     -- never more than a whole search
     pub left_most : (x : ℕ) → (u ≡ t → x ≤ limit t + 1) → left_in t u x ≤ limit t + 1

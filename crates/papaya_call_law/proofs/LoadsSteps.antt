@@ -1,5 +1,6 @@
 -- What one answer leaves a lookup to load.
-use Rattle.std.proofs.Common.{◌≡◌, ◌⊎◌, inl, inr, ⊎_elim, ℕ, ◌+◌, ◌-◌, ◌<◌, ◌≤◌, ◌==◌, nat_lt, Bool, true, false, None, List, ◌∷◌, refl, sym, subst, arith, Option}
+use Rattle.std.proofs.Common.{◌≡◌, ◌⊎◌, inl, inr, ⊎_elim, ℕ, ◌+◌, ◌-◌, ◌<◌, ◌≤◌, ◌==◌, nat_lt, Bool}
+use Rattle.std.proofs.Common.{true, false, None, List, ◌∷◌, refl, sym, subst, arith, Option}
 use Rattle.std.specs.List.{All, Contains, cons_option}
 use Rattle.std.proofs.lemmas.Bool.{ltb-true, eq-eqb}
 use Rattle.std.proofs.lemmas.List.Elements.{All-cons}
@@ -20,7 +21,11 @@ use Rattle.papaya_ask.specs.declared.search.Probed.{Probed}
 use Rattle.papaya_ask.specs.declared.search.Probed.TheVariants.{On, Over}
 use Rattle.papaya_call.specs.declared.made.Made.{Made}
 use Rattle.papaya_call.specs.declared.machine.State.{State}
-use Rattle.papaya_call.specs.declared.machine.State.TheVariants.{AtRoot, Making, Opening, Searching, Writing, Offering, Showing, Pairing, Putting, Deleting, Counting, Noting, Uncounting, Leaving, Growing, Ended}
+use Rattle.papaya_call.specs.declared.machine.State.TheVariants.{AtRoot, Making, Opening, Searching}
+use Rattle.papaya_call.specs.declared.machine.State.TheVariants.{Writing, Offering, Showing}
+use Rattle.papaya_call.specs.declared.machine.State.TheVariants.{Pairing, Putting, Deleting}
+use Rattle.papaya_call.specs.declared.machine.State.TheVariants.{Counting, Noting, Uncounting}
+use Rattle.papaya_call.specs.declared.machine.State.TheVariants.{Leaving, Growing, Ended}
 use Rattle.papaya_call.specs.declared.machine.Machine.{Machine}
 use Rattle.papaya_ask.specs.Search.{first_place, next_place, go_on, look_at, match_at, at_yes as search_compared}
 use Rattle.papaya_call.specs.Compute.{nothing}
@@ -115,7 +120,13 @@ module _ (limit : ℕ → ℕ) where
   }
 
   follows_comparing : (at : Place) (word : ℕ) → at.probe.len ≤ at.limit → Follows at.table (at.limit - at.probe.len) (Searching (Comparing at word))
-  follows_comparing at word le = record { reader = le; fewer = λ words t. left_less limit t at.table (at.limit - at.probe.len) (at.limit - at.probe.len) (λ e. omega arith); above = omega arith; same = λ v h. h }
+  follows_comparing at word le = record {
+    reader = le;
+    fewer = λ words t.
+        left_less limit t at.table (at.limit - at.probe.len) (at.limit - at.probe.len) (λ e. omega arith);
+    above = omega arith;
+    same = λ v h. h;
+  }
 
   follows_passes : (mode : ResizeMode) (u more : ℕ) → Follows u more (passes Get mode None u)
   follows_passes (Incremental chunk) u more = follows_leaving u more
@@ -161,11 +172,14 @@ module _ (limit : ℕ → ℕ) where
     pub reader : IsReader s'
     pub loads : (words : Bool) (t : ℕ) (rest : List ℕ) → count t rest ≤ left words t s' → count t (cons_option (loaded_by words ask) rest) ≤ left words t s
     pub enters : (n : ℕ) → IsBelow n s → (rest : List ℕ) → ((m : ℕ) → IsBelow m s' → IsFrom m rest) → IsFrom n (cons_option (table_entered ask) rest)
-    pub known : (words : Bool) (entered as_loaded : List ℕ) → AreKnown s' entered as_loaded → AreKnown s (cons_option (table_entered ask) entered) (cons_option (loaded_by words ask) as_loaded)
+    pub known : (words : Bool) (entered as_loaded : List ℕ) → AreKnown s' entered as_loaded
+        → AreKnown s (cons_option (table_entered ask) entered) (cons_option (loaded_by words ask) as_loaded)
     pub quiet : IsLookup ask
 
   -- nothing is entered, and neither a word of a slot nor a hint loaded
-  step_aside : (s s' : State) (ask : Ask) → ((words : Bool) → loaded_by words ask ≡ None) → table_entered ask ≡ None → IsLookup ask → IsReader s' → ((words : Bool) (t : ℕ) → left words t s' ≤ left words t s) → ((n : ℕ) → IsBelow n s → (m : ℕ) × (n ≤ m) × IsBelow m s') → ((u : ℕ) → IsIn s' u → IsIn s u) → IsStep s s' ask
+  step_aside : (s s' : State) (ask : Ask) → ((words : Bool) → loaded_by words ask ≡ None) → table_entered ask ≡ None → IsLookup ask → IsReader s'
+      → ((words : Bool) (t : ℕ) → left words t s' ≤ left words t s) → ((n : ℕ) → IsBelow n s → (m : ℕ) × (n ≤ m) × IsBelow m s')
+      → ((u : ℕ) → IsIn s' u → IsIn s u) → IsStep s s' ask
   step_aside s s' ask no_load no_entry quiet reader less below in_it = record {
     reader = reader;
     loads = λ words t rest h. subst (λ o. count t (cons_option o rest) ≤ left words t s) (sym (no_load words)) (let l = less words t in omega (arith, h, l));
@@ -201,22 +215,26 @@ module _ (limit : ℕ → ℕ) where
   step_root word =
       chosen (λ s. IsStep AtRoot s (Load Root)) (word == 0) (Ended Absent) (Searching (Sizing word))
       (λ e. step_aside AtRoot (Ended Absent) (Load Root) of_root refl tt tt (λ words t. omega arith) (λ n b. (n, omega arith, tt)) (λ u i. absurd i))
-      (λ e. step_aside AtRoot (Searching (Sizing word)) (Load Root) of_root refl tt tt (λ words t. left_most limit t word (limit t + 1) (λ q. omega arith)) (λ n b. (n, omega arith, omega (arith, b))) (λ u i. absurd i))
+      (λ e. step_aside AtRoot (Searching (Sizing word)) (Load Root) of_root refl tt tt
+      (λ words t. left_most limit t word (limit t + 1) (λ q. omega arith)) (λ n b. (n, omega arith, omega (arith, b))) (λ u i. absurd i))
 
   -- a next table's number was loaded
   pub step_next : (u word : ℕ) → (word ≡ 0) ⊎ (u < word) → IsStep (Leaving u) (state_left Get None u word) (Load (Next u))
   step_next u word rises =
       chosen (λ s. IsStep (Leaving u) s (Load (Next u))) (word == 0) (Ended Absent) (Searching (Sizing word))
-      (λ e. step_aside (Leaving u) (Ended Absent) (Load (Next u)) (of_next u) refl tt tt (λ words t. omega arith) (λ n b. (n, omega arith, tt)) (λ v i. absurd i))
+      (λ e. step_aside (Leaving u) (Ended Absent) (Load (Next u)) (of_next u) refl tt tt (λ words t. omega arith) (λ n b. (n, omega arith, tt))
+      (λ v i. absurd i))
       (λ e. let up : u < word = ⊎_elim (λ (z : word ≡ 0). absurd (let q : (word == 0) ≡ true = eq-eqb word 0 z in cc (q, e))) (λ l. l) rises in
-      step_aside (Leaving u) (Searching (Sizing word)) (Load (Next u)) (of_next u) refl tt tt (λ words t. left_later limit t u word up) (λ n b. (n, omega arith, omega (arith, b, up))) (λ v i. absurd i))
+      step_aside (Leaving u) (Searching (Sizing word)) (Load (Next u)) (of_next u) refl tt tt (λ words t. left_later limit t u word up)
+      (λ n b. (n, omega arith, omega (arith, b, up))) (λ v i. absurd i))
 
   -- a table is entered
   pub step_size : (hash u slots : ℕ) → IsStep (Searching (Sizing u)) (Searching (Looking (first_place hash u slots (limit u)))) (SizeOf u)
   step_size hash u slots = record {
     reader = omega arith;
     loads = λ words t rest h. subst (λ o. count t (cons_option o rest) ≤ left words t (Searching (Sizing u))) (sym (of_size u words))
-        (let l : left_in limit t u (limit u + 1 - 0) ≤ left_in limit t u (limit t + 1) = left_less limit t u (limit u + 1 - 0) (limit t + 1) (λ e. same t e) in omega (arith, h, l));
+        (let l : left_in limit t u (limit u + 1 - 0) ≤ left_in limit t u (limit t + 1) = left_less limit t u (limit u + 1 - 0) (limit t + 1)
+        (λ e. same t e) in omega (arith, h, l));
     enters = λ n b rest h. from_cons n u rest b (h (u + 1) (omega arith));
     known = λ words entered as_loaded h. subst (λ o. AreKnown (Searching (Sizing u)) (u ∷ entered) (cons_option o as_loaded)) (sym (of_size u words))
         (λ k d lt. ⊎_elim (λ c. inl (contains_more u _ entered c)) (λ i. inl (subst (Contains (u ∷ entered)) i (contains_first u entered))) (h k d lt));
@@ -227,22 +245,26 @@ module _ (limit : ℕ → ℕ) where
       same t e = subst (λ v. limit u + 1 - 0 ≤ limit v + 1) e (omega arith)
 
   -- one more was loaded at this place
-  one_loaded : (at : Place) (t : ℕ) (rest : List ℕ) → at.probe.len ≤ at.limit → count t rest ≤ left_in limit t at.table (at.limit - at.probe.len) → count t (at.table ∷ rest) ≤ left_in limit t at.table (at.limit + 1 - at.probe.len)
+  one_loaded : (at : Place) (t : ℕ) (rest : List ℕ) → at.probe.len ≤ at.limit → count t rest ≤ left_in limit t at.table (at.limit - at.probe.len)
+      → count t (at.table ∷ rest) ≤ left_in limit t at.table (at.limit + 1 - at.probe.len)
   one_loaded at t rest le h =
       let c = count-cons t at.table rest in
       let one = left_loaded limit t at.table (at.limit - at.probe.len) (at.limit + 1 - at.probe.len) (omega (arith, le)) in
       omega (arith, h, c, one)
 
   -- or not
-  none_loaded : (at : Place) (t : ℕ) (rest : List ℕ) (more : ℕ) → at.limit - at.probe.len ≤ more → count t rest ≤ left_in limit t at.table (at.limit - at.probe.len) → count t rest ≤ left_in limit t at.table more
+  none_loaded : (at : Place) (t : ℕ) (rest : List ℕ) (more : ℕ) → at.limit - at.probe.len ≤ more
+      → count t rest ≤ left_in limit t at.table (at.limit - at.probe.len) → count t rest ≤ left_in limit t at.table more
   none_loaded at t rest more le h = let l = left_less limit t at.table (at.limit - at.probe.len) more (λ e. le) in omega (arith, h, l)
 
   -- what is known of the tables after one was loaded at this place, or none
-  known_here : (at : Place) (s s' : State) → ((u : ℕ) → IsIn s' u → at.table ≡ u) → ((u : ℕ) → at.table ≡ u → IsIn s u) → (entered as_loaded : List ℕ) → AreKnown s' entered as_loaded → AreKnown s entered as_loaded
+  known_here : (at : Place) (s s' : State) → ((u : ℕ) → IsIn s' u → at.table ≡ u) → ((u : ℕ) → at.table ≡ u → IsIn s u) → (entered as_loaded : List ℕ)
+      → AreKnown s' entered as_loaded → AreKnown s entered as_loaded
   known_here at s s' same back entered as_loaded h k d lt = ⊎_elim (λ c. inl c) (λ i. inr (back _ (same _ i))) (h k d lt)
 
   -- a hint was loaded, and the place is passed
-  pub step_hint : (at : Place) (s' : State) → at.probe.len ≤ at.limit → Follows at.table (at.limit - at.probe.len) s' → IsStep (Searching (Looking at)) s' (LoadHint at.table at.probe.i)
+  pub step_hint : (at : Place) (s' : State) → at.probe.len ≤ at.limit → Follows at.table (at.limit - at.probe.len) s'
+      → IsStep (Searching (Looking at)) s' (LoadHint at.table at.probe.i)
   step_hint at s' le f = record {
     reader = f.reader;
     loads = loads;
@@ -251,13 +273,16 @@ module _ (limit : ℕ → ℕ) where
     quiet = tt;
   }
     where
-      loads : (words : Bool) (t : ℕ) (rest : List ℕ) → count t rest ≤ left words t s' → count t (cons_option (loaded_by words (LoadHint at.table at.probe.i)) rest) ≤ left words t (Searching (Looking at))
+      loads : (words : Bool) (t : ℕ) (rest : List ℕ) → count t rest ≤ left words t s'
+          → count t (cons_option (loaded_by words (LoadHint at.table at.probe.i)) rest) ≤ left words t (Searching (Looking at))
       loads true t rest h = let l = f.fewer true t in none_loaded at t rest (at.limit + 1 - at.probe.len) (omega arith) (omega (arith, h, l))
       loads false t rest h = let l = f.fewer false t in one_loaded at t rest le (omega (arith, h, l))
 
-      known : (words : Bool) (entered as_loaded : List ℕ) → AreKnown s' entered as_loaded → AreKnown (Searching (Looking at)) entered (cons_option (loaded_by words (LoadHint at.table at.probe.i)) as_loaded)
+      known : (words : Bool) (entered as_loaded : List ℕ) → AreKnown s' entered as_loaded
+          → AreKnown (Searching (Looking at)) entered (cons_option (loaded_by words (LoadHint at.table at.probe.i)) as_loaded)
       known true entered as_loaded h = known_here at (Searching (Looking at)) s' f.same (λ u e. e) entered as_loaded h
-      known false entered as_loaded h = All-cons (λ u. Contains entered u ⊎ IsIn (Searching (Looking at)) u) at.table as_loaded (inr refl) (known_here at (Searching (Looking at)) s' f.same (λ u e. e) entered as_loaded h)
+      known false entered as_loaded h = All-cons (λ u. Contains entered u ⊎ IsIn (Searching (Looking at)) u) at.table as_loaded (inr refl)
+          (known_here at (Searching (Looking at)) s' f.same (λ u e. e) entered as_loaded h)
 
   -- a hint was loaded, and the word is to be
   pub step_read : (at : Place) → at.probe.len ≤ at.limit → IsStep (Searching (Looking at)) (Searching (Reading at)) (LoadHint at.table at.probe.i)
@@ -269,16 +294,19 @@ module _ (limit : ℕ → ℕ) where
     quiet = tt;
   }
     where
-      loads : (words : Bool) (t : ℕ) (rest : List ℕ) → count t rest ≤ left words t (Searching (Reading at)) → count t (cons_option (loaded_by words (LoadHint at.table at.probe.i)) rest) ≤ left words t (Searching (Looking at))
+      loads : (words : Bool) (t : ℕ) (rest : List ℕ) → count t rest ≤ left words t (Searching (Reading at))
+          → count t (cons_option (loaded_by words (LoadHint at.table at.probe.i)) rest) ≤ left words t (Searching (Looking at))
       loads true t rest h = h
       loads false t rest h = one_loaded at t rest le h
 
-      known : (words : Bool) (entered as_loaded : List ℕ) → AreKnown (Searching (Reading at)) entered as_loaded → AreKnown (Searching (Looking at)) entered (cons_option (loaded_by words (LoadHint at.table at.probe.i)) as_loaded)
+      known : (words : Bool) (entered as_loaded : List ℕ) → AreKnown (Searching (Reading at)) entered as_loaded
+          → AreKnown (Searching (Looking at)) entered (cons_option (loaded_by words (LoadHint at.table at.probe.i)) as_loaded)
       known true entered as_loaded h = h
       known false entered as_loaded h = All-cons (λ u. Contains entered u ⊎ IsIn (Searching (Looking at)) u) at.table as_loaded (inr refl) h
 
   -- a slot was loaded
-  pub step_load : (at : Place) (s' : State) → at.probe.len ≤ at.limit → Follows at.table (at.limit - at.probe.len) s' → IsStep (Searching (Reading at)) s' (Load (Slot at.table at.probe.i))
+  pub step_load : (at : Place) (s' : State) → at.probe.len ≤ at.limit → Follows at.table (at.limit - at.probe.len) s'
+      → IsStep (Searching (Reading at)) s' (Load (Slot at.table at.probe.i))
   step_load at s' le f = record {
     reader = f.reader;
     loads = loads;
@@ -287,18 +315,24 @@ module _ (limit : ℕ → ℕ) where
     quiet = tt;
   }
     where
-      loads : (words : Bool) (t : ℕ) (rest : List ℕ) → count t rest ≤ left words t s' → count t (cons_option (loaded_by words (Load (Slot at.table at.probe.i))) rest) ≤ left words t (Searching (Reading at))
+      loads : (words : Bool) (t : ℕ) (rest : List ℕ) → count t rest ≤ left words t s'
+          → count t (cons_option (loaded_by words (Load (Slot at.table at.probe.i))) rest) ≤ left words t (Searching (Reading at))
       loads true t rest h = let l = f.fewer true t in one_loaded at t rest le (omega (arith, h, l))
       loads false t rest h = let l = f.fewer false t in omega (arith, h, l)
 
-      known : (words : Bool) (entered as_loaded : List ℕ) → AreKnown s' entered as_loaded → AreKnown (Searching (Reading at)) entered (cons_option (loaded_by words (Load (Slot at.table at.probe.i))) as_loaded)
-      known true entered as_loaded h = All-cons (λ u. Contains entered u ⊎ IsIn (Searching (Reading at)) u) at.table as_loaded (inr refl) (known_here at (Searching (Reading at)) s' f.same (λ u e. e) entered as_loaded h)
+      known : (words : Bool) (entered as_loaded : List ℕ) → AreKnown s' entered as_loaded
+          → AreKnown (Searching (Reading at)) entered (cons_option (loaded_by words (Load (Slot at.table at.probe.i))) as_loaded)
+      known true entered as_loaded h = All-cons (λ u. Contains entered u ⊎ IsIn (Searching (Reading at)) u) at.table as_loaded (inr refl)
+          (known_here at (Searching (Reading at)) s' f.same (λ u e. e) entered as_loaded h)
       known false entered as_loaded h = known_here at (Searching (Reading at)) s' f.same (λ u e. e) entered as_loaded h
 
   -- a key was compared
-  pub step_compare : (at : Place) (word : ℕ) (s' : State) → Follows at.table (at.limit - at.probe.len) s' → IsStep (Searching (Comparing at word)) s' (SameKey (pair_of word))
-  step_compare at word s' f = step_aside (Searching (Comparing at word)) s' (SameKey (pair_of word)) (of_pair (pair_of word)) refl tt f.reader f.fewer (λ n b. (at.table + 1, b, f.above)) f.same
+  pub step_compare : (at : Place) (word : ℕ) (s' : State) → Follows at.table (at.limit - at.probe.len) s'
+      → IsStep (Searching (Comparing at word)) s' (SameKey (pair_of word))
+  step_compare at word s' f = step_aside (Searching (Comparing at word)) s' (SameKey (pair_of word)) (of_pair (pair_of word)) refl tt f.reader f.fewer
+      (λ n b. (at.table + 1, b, f.above)) f.same
 
   -- it has replied
   pub step_ended : (reply : Reply) → IsStep (Ended reply) (Ended reply) (Done reply)
-  step_ended reply = step_aside (Ended reply) (Ended reply) (Done reply) (of_reply reply) refl tt tt (λ words t. omega arith) (λ n b. (n, omega arith, tt)) (λ u i. i)
+  step_ended reply = step_aside (Ended reply) (Ended reply) (Done reply) (of_reply reply) refl tt tt (λ words t. omega arith)
+      (λ n b. (n, omega arith, tt)) (λ u i. i)

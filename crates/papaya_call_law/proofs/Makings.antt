@@ -8,7 +8,10 @@ use Rattle.papaya_ask.specs.declared.ask.At.TheVariants.{Slot, Made as Made_word
 use Rattle.papaya_ask.specs.declared.ask.Ask.{Ask}
 use Rattle.papaya_ask.specs.declared.ask.Ask.TheVariants.{Load, Exchange, MakeKey, MakeValue, MakePair, MakePairOf}
 use Rattle.papaya_ask.specs.declared.ask.Answer.{Answer}
-use Rattle.papaya_ask.specs.declared.ask.Answer.TheVariants.{Word as Word_read, Exchanged, Found as Found_instead, Yes, Op, Size, Made as Made_number, Ok as Ok_done, Refused as Was_refused}
+use Rattle.papaya_ask.specs.declared.ask.Answer.TheVariants.{Word as Word_read, Exchanged}
+use Rattle.papaya_ask.specs.declared.ask.Answer.TheVariants.{Found as Found_instead, Yes, Op, Size}
+use Rattle.papaya_ask.specs.declared.ask.Answer.TheVariants.{Made as Made_number, Ok as Ok_done}
+use Rattle.papaya_ask.specs.declared.ask.Answer.TheVariants.{Refused as Was_refused}
 use Rattle.papaya_ask.specs.declared.call.Reply.TheVariants.{Refused as Reply_refused}
 use Rattle.papaya_call.specs.declared.compute.Purpose.{Purpose}
 use Rattle.papaya_call.specs.declared.made.Grown.{Grown}
@@ -56,7 +59,8 @@ of_makes false old = tt
 of_makes true old = tt
 
 pub make_asks : (made : Made) (old : ℕ) → IsMakeAsk (make_ask made old)
-make_asks made old = cond_both (old == 0) (own_ask made.keyed made.valued) (of_ask made.valued old) IsMakeAsk (λ _. own_makes made.keyed made.valued) (λ _. of_makes made.valued old)
+make_asks made old = cond_both (old == 0) (own_ask made.keyed made.valued) (of_ask made.valued old) IsMakeAsk (λ _. own_makes made.keyed made.valued)
+    (λ _. of_makes made.valued old)
 
 -- an insertion that writes does so too, or exchanges a slot
 abbrev pub IsWriteAsk : Ask → Type 0
@@ -91,7 +95,8 @@ module _ (Holds : Ask → Type 0) (each : HoldsOfPairAsks Holds) where
   number_holds : (number : Number) (made : Made) (old : ℕ) → Holds (number_ask number made old)
   number_holds Wanted made old = each.loads
   number_holds (Free count) made old = each.takes count
-  number_holds Taken made old = cond_both (old == 0) (own_ask made.keyed made.valued) (of_ask made.valued old) Holds (λ _. own_holds made.keyed made.valued) (λ _. of_holds made.valued old)
+  number_holds Taken made old = cond_both (old == 0) (own_ask made.keyed made.valued) (of_ask made.valued old) Holds
+      (λ _. own_holds made.keyed made.valued) (λ _. of_holds made.valued old)
 
   -- holds of what is asked for a pair
   pub pair_holds : (made : Made) (old : ℕ) → Holds (pair_ask made old)
@@ -115,10 +120,12 @@ pairing_asks made purpose = pair_asks made (in_place_of purpose)
 
 -- and by an insertion
 pub write_asks : (made : Made) (write : Write) → IsWriteAsk (write_ask write made)
-write_asks made write = write_holds IsWriteAsk (record { loads = tt; takes = λ count. tt; key = tt; value = tt; pair = tt; pair_of = λ n. tt }) write (λ n. tt) made
+write_asks made write = write_holds IsWriteAsk (record { loads = tt; takes = λ count. tt; key = tt; value = tt; pair = tt; pair_of = λ n. tt }) write
+    (λ n. tt) made
 
 -- where no number is left the call ends, and else it stays
-pub numbered_leads : (Holds : State → Type 0) → Holds (Ended (Reply_refused Limit)) → (state : State) → Holds state → (o : Option Made) → Holds (numbered o state)
+pub numbered_leads : (Holds : State → Type 0) → Holds (Ended (Reply_refused Limit)) → (state : State) → Holds state → (o : Option Made)
+    → Holds (numbered o state)
 numbered_leads Holds over state stable None = over
 numbered_leads Holds over state stable (Some made) = stable
 
@@ -134,17 +141,20 @@ module _ (Holds : State → Type 0) (over : Holds (Ended (Reply_refused Limit)))
   lost_leads m word goes_on (Some n) = goes_on
 
 -- its exchange was made
-pub exchanged_leads : (Holds : State → Type 0) (write : Write) → Holds (Writing write) → ((n : ℕ) → Holds (written write n)) → (served : Option ℕ) → Holds (exchanged served write)
+pub exchanged_leads : (Holds : State → Type 0) (write : Write) → Holds (Writing write) → ((n : ℕ) → Holds (written write n)) → (served : Option ℕ)
+    → Holds (exchanged served write)
 exchanged_leads Holds write stable done None = stable
 exchanged_leads Holds write stable done (Some n) = done n
 
 -- what was to be made was refused
-pub refuses_leads : (Holds : State → Type 0) (write : Write) (refused : Refused) → Holds (Writing write) → Holds (Ended (Reply_refused refused)) → (served : Option ℕ) → Holds (refuses served refused write)
+pub refuses_leads : (Holds : State → Type 0) (write : Write) (refused : Refused) → Holds (Writing write) → Holds (Ended (Reply_refused refused))
+    → (served : Option ℕ) → Holds (refuses served refused write)
 refuses_leads Holds write refused stable over None = over
 refuses_leads Holds write refused stable over (Some n) = stable
 
 -- something was made for a compute
-pub paired_leads : (Holds : State → Type 0) (purpose : Purpose) (n : ℕ) → Holds (Pairing purpose) → Holds (provides purpose n) → (g : Grown) → Holds (paired g purpose n)
+pub paired_leads : (Holds : State → Type 0) (purpose : Purpose) (n : ℕ) → Holds (Pairing purpose) → Holds (provides purpose n) → (g : Grown)
+    → Holds (paired g purpose n)
 paired_leads Holds purpose n stable goes_on (On made) = stable
 paired_leads Holds purpose n stable goes_on (Pair made) = goes_on
 
@@ -163,7 +173,8 @@ makes_pair_by Wanted made old next e = absurd cc
 makes_pair_by (Free n) made old next e = absurd cc
 makes_pair_by Taken made old next e = by_old (old == 0) e
   where
-    by_old : (b : Bool) → cond b (own_grown made.keyed made.valued made) (of_grown made.valued made) ≡ Pair next → MakesPair (cond b (own_ask made.keyed made.valued) (of_ask made.valued old))
+    by_old : (b : Bool) → cond b (own_grown made.keyed made.valued made) (of_grown made.valued made) ≡ Pair next
+        → MakesPair (cond b (own_ask made.keyed made.valued) (of_ask made.valued old))
     by_old true is = own_makes_pair made.keyed made.valued made next is
     by_old false is = of_makes_pair made.valued old made next is
 
@@ -184,7 +195,8 @@ pair_made_by Wanted made old m = absurd m
 pair_made_by (Free n) made old m = absurd m
 pair_made_by Taken made old m = by_old (old == 0) m
   where
-    by_old : (b : Bool) → MakesPair (cond b (own_ask made.keyed made.valued) (of_ask made.valued old)) → cond b (own_grown made.keyed made.valued made) (of_grown made.valued made) ≡ Pair (pair_done made)
+    by_old : (b : Bool) → MakesPair (cond b (own_ask made.keyed made.valued) (of_ask made.valued old))
+        → cond b (own_grown made.keyed made.valued made) (of_grown made.valued made) ≡ Pair (pair_done made)
     by_old true is = own_pair_made made.keyed made.valued made is
     by_old false is = of_pair_made made.valued old made is
 
@@ -200,7 +212,8 @@ module _ (m : Machine) where
   write_then served made write (Was_refused refused) = refuses served refused write
   write_then served made write _ = Writing write
 
-  pub write_then_is : (made : Made) (write : Write) (answer : Answer) → (after (record m { made = made; state = Writing write }) answer).state ≡ write_then (serves made write) made write answer
+  pub write_then_is : (made : Made) (write : Write) (answer : Answer)
+      → (after (record m { made = made; state = Writing write }) answer).state ≡ write_then (serves made write) made write answer
   write_then_is made write (Word_read word) = refl
   write_then_is made write Exchanged = refl
   write_then_is made write (Found_instead word) = refl
@@ -225,7 +238,8 @@ module _ (m : Machine) where
     unserved_leads made write stable (Was_refused refused) = over refused
 
     -- so does a compute that makes a pair, until that is made
-    pub pairing_leads : (made : Made) (purpose : Purpose) → Holds (Pairing purpose) → ((n : ℕ) → Holds (provides purpose n)) → (answer : Answer) → Holds (after (record m { made = made; state = Pairing purpose }) answer).state
+    pub pairing_leads : (made : Made) (purpose : Purpose) → Holds (Pairing purpose) → ((n : ℕ) → Holds (provides purpose n)) → (answer : Answer)
+        → Holds (after (record m { made = made; state = Pairing purpose }) answer).state
     pairing_leads made purpose stable goes_on (Word_read word) = numbered_leads Holds (over Limit) (Pairing purpose) stable (told made word)
     pairing_leads made purpose stable goes_on Exchanged = stable
     pairing_leads made purpose stable goes_on (Found_instead word) = numbered_leads Holds (over Limit) (Pairing purpose) stable (told made word)

@@ -1,7 +1,10 @@
 -- What a machine relies on, by its parts: where each part is carried over, all of it is.
 use Rattle.std.proofs.Common.{◌≡◌, inl, inr, ⊎_elim, ℕ, ◌<◌, ◌==◌, MatchBool, MatchOption, Bool, true, false, Option, None, Some, List, sym, ap, ◌∙◌, subst}
 use Rattle.papaya_ask.specs.declared.call.Reply.{Reply}
-use Rattle.papaya_ask.specs.declared.call.Reply.TheVariants.{Absent, Found, Inserted, Replaced, Occupied, Removed, Kept, Aborted, Done as Reply_done, Refused as Reply_refused}
+use Rattle.papaya_ask.specs.declared.call.Reply.TheVariants.{Absent, Found, Inserted, Replaced}
+use Rattle.papaya_ask.specs.declared.call.Reply.TheVariants.{Occupied, Removed, Kept, Aborted}
+use Rattle.papaya_ask.specs.declared.call.Reply.TheVariants.{Done as Reply_done}
+use Rattle.papaya_ask.specs.declared.call.Reply.TheVariants.{Refused as Reply_refused}
 use Rattle.papaya_ask.specs.declared.call.Task.{Task}
 use Rattle.papaya_ask.specs.declared.call.Task.TheVariants.{Get, Insert, RemoveIf, Compute}
 use Rattle.papaya_call.specs.declared.compute.Choice.{Choice}
@@ -21,19 +24,29 @@ use Rattle.papaya_call.specs.declared.made.Number.TheVariants.{Wanted, Free, Tak
 use Rattle.papaya_call.specs.declared.made.Of.{Of}
 use Rattle.papaya_call.specs.declared.write.Write.{Write}
 use Rattle.papaya_call.specs.declared.machine.State.{State as Stage}
-use Rattle.papaya_call.specs.declared.machine.State.TheVariants.{AtRoot, Making, Opening, Searching, Writing, Offering, Showing, Pairing, Putting, Deleting, Counting, Noting, Uncounting, Leaving, Growing, Ended}
+use Rattle.papaya_call.specs.declared.machine.State.TheVariants.{AtRoot, Making, Opening, Searching}
+use Rattle.papaya_call.specs.declared.machine.State.TheVariants.{Writing, Offering, Showing}
+use Rattle.papaya_call.specs.declared.machine.State.TheVariants.{Pairing, Putting, Deleting}
+use Rattle.papaya_call.specs.declared.machine.State.TheVariants.{Counting, Noting, Uncounting}
+use Rattle.papaya_call.specs.declared.machine.State.TheVariants.{Leaving, Growing, Ended}
 use Rattle.papaya_call.specs.declared.machine.Machine.{Machine}
 use Rattle.papaya_law.specs.Exchange.{Setting, Exchange}
 use Rattle.papaya_law.specs.View.{look, IsPassed}
 use Rattle.papaya_law.specs.Code.{Coding}
 use Rattle.papaya_law.specs.Later.{IsOfKey}
 use Rattle.papaya_call_law.specs.Told.{LoadedPairs}
-use Rattle.papaya_call_law.specs.Relies.{now, IsModeOf, HasComeTo, IsAt, HasMet, MayRemove, MayWrite, WasAtMoment, IsOwnPair, IsPairAt, IsPairFor, ReliesWriting, ReliesNumber, ReliesFill, ReliesOf, ReliesChoice, ReliesLoaded, ReliesGap, ReliesPurpose, ReliesSearch, ReliesLeaving, ReliesNeed, HadPair, IsReply, ReliesStage, Relies, HasClaimed}
+use Rattle.papaya_call_law.specs.Relies.{now, IsModeOf, HasComeTo, IsAt, HasMet, MayRemove}
+use Rattle.papaya_call_law.specs.Relies.{MayWrite, WasAtMoment, IsOwnPair, IsPairAt, IsPairFor}
+use Rattle.papaya_call_law.specs.Relies.{ReliesWriting, ReliesNumber, ReliesFill, ReliesOf}
+use Rattle.papaya_call_law.specs.Relies.{ReliesChoice, ReliesLoaded, ReliesGap, ReliesPurpose}
+use Rattle.papaya_call_law.specs.Relies.{ReliesSearch, ReliesLeaving, ReliesNeed, HadPair, IsReply}
+use Rattle.papaya_call_law.specs.Relies.{ReliesStage, Relies, HasClaimed}
 use Rattle.papaya_call.specs.declared.need.Need.{Need}
 use Rattle.papaya_call.specs.declared.write.Claimed.{Claimed}
 
 -- each part is carried from one setting, and the exchanges of a call so far, to another setting and more of them
-pub record AreCarried {K P : Type 0} (g g' : Setting K P) (c : Coding K P) (begun since since' : List (Exchange P)) (k : K) (loaded : LoadedPairs P) : Type 0 where
+pub record AreCarried {K P : Type 0} (g g' : Setting K P) (c : Coding K P) (begun since since' : List (Exchange P)) (k : K) (loaded : LoadedPairs P) :
+    Type 0 where
   pub mode : g'.blocking ≡ g.blocking
   pub most : g'.most ≡ g.most
   pub key : (p : P) → g'.key p ≡ g.key p
@@ -43,12 +56,14 @@ pub record AreCarried {K P : Type 0} (g g' : Setting K P) (c : Coding K P) (begu
   pub stands : (at : Place) → IsAt g c begun since k at → IsAt g' c begun since' k at
   pub met : (at : Place) (word : ℕ) (p : P) → HasMet g c begun since k at word p → HasMet g' c begun since' k at word p
   pub of_key : (t x : ℕ) (key : K) → IsOfKey g ((now g c begun since k).slot t x) key → IsOfKey g' ((now g' c begun since' k).slot t x) key
-  pub passed : (t : ℕ) → HasComeTo g c begun since k t → IsPassed g.places (look g (now g c begun since k) k) t → IsPassed g'.places (look g' (now g' c begun since' k) k) t
+  pub passed : (t : ℕ) → HasComeTo g c begun since k t → IsPassed g.places (look g (now g c begun since k) k) t
+      → IsPassed g'.places (look g' (now g' c begun since' k) k) t
   pub leaving : (task : Task) (t : ℕ) → ReliesLeaving g c begun since k task t → ReliesLeaving g' c begun since' k task t
   pub need : (need : Need) → ReliesNeed g c begun since k need → ReliesNeed g' c begun since' k need
   pub claimed : (claimed : Claimed) → HasClaimed g c begun since k loaded claimed → HasClaimed g' c begun since' k loaded claimed
 
-module _ {K P : Type 0} (g g' : Setting K P) (c : Coding K P) (begun since since' : List (Exchange P)) (k : K) (loaded : LoadedPairs P) (carried : AreCarried g g' c begun since since' k loaded) where
+module _ {K P : Type 0} (g g' : Setting K P) (c : Coding K P) (begun since since' : List (Exchange P)) (k : K) (loaded : LoadedPairs P)
+    (carried : AreCarried g g' c begun since since' k loaded) where
   -- the search
   search_carried : (search : Search) → ReliesSearch g c begun since k loaded search → ReliesSearch g' c begun since' k loaded search
   search_carried (Sizing t) r = carried.come t r
@@ -64,7 +79,13 @@ module _ {K P : Type 0} (g g' : Setting K P) (c : Coding K P) (begun since since
 
   -- the removal of a pair
   removal_carried : (removal : Removal) → MayRemove g c begun since k loaded removal → MayRemove g' c begun since' k loaded removal
-  removal_carried removal r = record { pair = r.pair; last = r.last; met = carried.met removal.place removal.word r.pair r.met; live = r.live; same = same_carried r.pair ∙ r.same }
+  removal_carried removal r = record {
+    pair = r.pair;
+    last = r.last;
+    met = carried.met removal.place removal.word r.pair r.met;
+    live = r.live;
+    same = same_carried r.pair ∙ r.same;
+  }
     where
       same_carried : (p : P) → g'.same k (g'.key p) ≡ g.same k (g.key p)
       same_carried p = carried.same k (g'.key p) ∙ ap (λ key. g.same k key) (carried.key p)
@@ -210,4 +231,10 @@ module _ {K P : Type 0} (g g' : Setting K P) (c : Coding K P) (begun since since
 
   -- all of it
   pub relies_carried : (m : Machine) → Relies g c begun since k m loaded → Relies g' c begun since' k m loaded
-  relies_carried m r = record { hash = r.hash; mode = subst (IsModeOf m.mode) (sym carried.mode) r.mode; made = loaded_carried m.made m.remembered r.made; stage = stage_carried m.task m.state r.stage }
+  relies_carried m r = record {
+    hash = r.hash;
+    mode = subst (IsModeOf m.mode) (sym carried.mode) r.mode;
+    made = loaded_carried m.made m.remembered
+        r.made;
+    stage = stage_carried m.task m.state r.stage;
+  }

@@ -14,7 +14,11 @@ use Rattle.papaya_call.specs.declared.remove.Removal.{Removal}
 use Rattle.papaya_call.specs.declared.write.Write.{Write}
 use Rattle.papaya_call.specs.declared.machine.Machine.{Machine}
 use Rattle.papaya_call.specs.declared.machine.State.{State as Stage}
-use Rattle.papaya_call.specs.declared.machine.State.TheVariants.{AtRoot, Making, Opening, Searching, Writing, Offering, Showing, Pairing, Putting, Deleting, Counting, Noting, Uncounting, Leaving, Growing, Ended}
+use Rattle.papaya_call.specs.declared.machine.State.TheVariants.{AtRoot, Making, Opening, Searching}
+use Rattle.papaya_call.specs.declared.machine.State.TheVariants.{Writing, Offering, Showing}
+use Rattle.papaya_call.specs.declared.machine.State.TheVariants.{Pairing, Putting, Deleting}
+use Rattle.papaya_call.specs.declared.machine.State.TheVariants.{Counting, Noting, Uncounting}
+use Rattle.papaya_call.specs.declared.machine.State.TheVariants.{Leaving, Growing, Ended}
 use Rattle.papaya_call.specs.Compute.{in_place_of}
 use Rattle.papaya_call.specs.Made.{number_ask, of_ask, own_ask, pair_ask}
 use Rattle.papaya_call.specs.Machine.{asks, ask_of}
@@ -40,7 +44,8 @@ copies_by Wanted made old n e = absurd cc
 copies_by (Free count) made old n e = absurd cc
 copies_by Taken made old n e = by_old (old == 0) refl e
   where
-    by_old : (b : Bool) → (old == 0) ≡ b → cond b (own_ask made.keyed made.valued) (of_ask made.valued old) ≡ MakePairOf n → ((old == 0) ≡ false) × (pair_of old ≡ n)
+    by_old : (b : Bool) → (old == 0) ≡ b → cond b (own_ask made.keyed made.valued) (of_ask made.valued old) ≡ MakePairOf n → ((old == 0) ≡ false)
+        × (pair_of old ≡ n)
     by_old true is asked = absurd (own_copies made.keyed made.valued n asked)
     by_old false is asked = (is, of_copies made.valued old n asked)
 
@@ -56,7 +61,8 @@ module _ {K P : Type 0} (g : Setting K P) (c : Coding K P) (hashed : IsHashed g 
   shown_copies removal r n is = (r.pair, r.last, removal_number g c hashed begun since k loaded removal r ∙ is, r.same)
 
   -- by a write
-  write_copies : (task : Task) (write : Write) → ReliesWriting g c begun since k loaded task write → (n : ℕ) → ((write.old == 0) ≡ false) × (pair_of write.old ≡ n) → IsCopying n
+  write_copies : (task : Task) (write : Write) → ReliesWriting g c begun since k loaded task write → (n : ℕ) → ((write.old == 0) ≡ false)
+      × (pair_of write.old ≡ n) → IsCopying n
   write_copies Get write r n is = absurd r
   write_copies (Insert replace) write r n is =
       ⊎_elim
@@ -66,17 +72,20 @@ module _ {K P : Type 0} (g : Setting K P) (c : Coding K P) (hashed : IsHashed g 
   write_copies RemoveIf write r n is = absurd r
   write_copies Compute write r n is = absurd r
 
-  served_copies : (task : Task) (made : Made) (write : Write) → ReliesWriting g c begun since k loaded task write → (served : Option ℕ) (n : ℕ) → served_ask served write made ≡ MakePairOf n → IsCopying n
+  served_copies : (task : Task) (made : Made) (write : Write) → ReliesWriting g c begun since k loaded task write → (served : Option ℕ) (n : ℕ)
+      → served_ask served write made ≡ MakePairOf n → IsCopying n
   served_copies task made write r None n e = write_copies task write r n (copies made write.old n e)
   served_copies task made write r (Some i) n e = absurd cc
 
   -- by a compute
-  purpose_copies : (purpose : Purpose) → ReliesPurpose g c begun since k loaded purpose → (n : ℕ) → ((in_place_of purpose == 0) ≡ false) × (pair_of (in_place_of purpose) ≡ n) → IsCopying n
+  purpose_copies : (purpose : Purpose) → ReliesPurpose g c begun since k loaded purpose → (n : ℕ) → ((in_place_of purpose == 0) ≡ false)
+      × (pair_of (in_place_of purpose) ≡ n) → IsCopying n
   purpose_copies (Fill gap) r n is = absurd (let no = is.0 in cc no)
   purpose_copies (Replace write) r n is = shown_copies (record { place = write.place; word = write.old }) r n is.1
   purpose_copies (Again write) r n is = shown_copies (record { place = write.place; word = write.old }) r n is.1
 
-  copied_in : (task : Task) (hash : ℕ) (made : Made) (stage : Stage) → ReliesStage g c begun since k loaded task stage → (n : ℕ) → asks made hash stage ≡ MakePairOf n → IsCopying n
+  copied_in : (task : Task) (hash : ℕ) (made : Made) (stage : Stage) → ReliesStage g c begun since k loaded task stage → (n : ℕ)
+      → asks made hash stage ≡ MakePairOf n → IsCopying n
   copied_in task hash made AtRoot s n e = absurd cc
   copied_in task hash made Making s n e = absurd cc
   copied_in task hash made (Opening u) s n e = absurd cc

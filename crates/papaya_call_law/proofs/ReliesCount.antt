@@ -22,7 +22,11 @@ use Rattle.papaya_call.specs.declared.made.Made.{Made}
 use Rattle.papaya_call_law.proofs.Makings.{HoldsOfPairAsks, pair_holds, pairing_leads, unserved_leads, write_holds, write_then, write_then_is}
 use Rattle.papaya_call.specs.declared.machine.Machine.{Machine}
 use Rattle.papaya_call.specs.declared.machine.State.{State as Stage}
-use Rattle.papaya_call.specs.declared.machine.State.TheVariants.{AtRoot, Making, Opening, Searching, Writing, Offering, Showing, Pairing, Putting, Deleting, Counting, Noting, Uncounting, Leaving, Growing, Ended}
+use Rattle.papaya_call.specs.declared.machine.State.TheVariants.{AtRoot, Making, Opening, Searching}
+use Rattle.papaya_call.specs.declared.machine.State.TheVariants.{Writing, Offering, Showing}
+use Rattle.papaya_call.specs.declared.machine.State.TheVariants.{Pairing, Putting, Deleting}
+use Rattle.papaya_call.specs.declared.machine.State.TheVariants.{Counting, Noting, Uncounting}
+use Rattle.papaya_call.specs.declared.machine.State.TheVariants.{Leaving, Growing, Ended}
 use Rattle.papaya_law.specs.Exchange.{Setting, State, Exchange}
 use Rattle.papaya_law.specs.Code.{Coding, code}
 use Rattle.papaya_call.specs.declared.made.Number.{Number}
@@ -141,17 +145,21 @@ offered_owes gap ops.Remove = refl
 offered_owes gap (ops.Abort t) = refl
 
 -- one is owed for a pair that was claimed, and nothing for one that took the place of another
-written_owes : (b : Bool) (write : Write) (n : ℕ) → owed_in (cond b (Counting (claimed_by write n)) (Ended (Replaced (pair_of write.old) n))) ≡ grows_of (Some (cond b kinds.Claim kinds.Replace))
+written_owes : (b : Bool) (write : Write) (n : ℕ)
+    → owed_in (cond b (Counting (claimed_by write n)) (Ended (Replaced (pair_of write.old) n))) ≡ grows_of (Some (cond b kinds.Claim kinds.Replace))
 written_owes true write n = refl
 written_owes false write n = refl
 
-module _ {K P : Type 0} (g : Setting K P) (c : Coding K P) (k : K) (s : State P) (m : Machine) (loaded : LoadedPairs P) (es : List (Exchange P)) (loaded' : LoadedPairs P) where
+module _ {K P : Type 0} (g : Setting K P) (c : Coding K P) (k : K) (s : State P) (m : Machine) (loaded : LoadedPairs P) (es : List (Exchange P))
+    (loaded' : LoadedPairs P) where
   -- what an answer leads to owes what the map grew by
   abbrev Owes : Made → Stage → Answer → Type 0
-  Owes made stage answer = owed_in (after (record m { made = made; state = stage }) answer).state ≡ grows_by (kind_asked made stage) (asks made m.hash stage) answer
+  Owes made stage answer = owed_in (after (record m { made = made; state = stage }) answer).state ≡ grows_by (kind_asked made stage)
+      (asks made m.hash stage) answer
 
   -- where there is nothing to make
-  unmade_owes : (made : Made) (stage : Stage) (answer : Answer) → IsUnmade g c k answer → ((refused : Refused) → Owes made stage (Was_refused refused)) → Owes made stage Ok_done → Owes made stage answer
+  unmade_owes : (made : Made) (stage : Stage) (answer : Answer) → IsUnmade g c k answer
+      → ((refused : Refused) → Owes made stage (Was_refused refused)) → Owes made stage Ok_done → Owes made stage answer
   unmade_owes made stage answer h refused ok =
       ⊎_elim
       (λ (n : (refused : Refused) × (answer ≡ Was_refused refused)). subst (Owes made stage) (sym n.1) (refused n.0))
@@ -159,11 +167,13 @@ module _ {K P : Type 0} (g : Setting K P) (c : Coding K P) (k : K) (s : State P)
       h
 
   -- where a closure was asked
-  said_owes : (made : Made) (stage : Stage) (answer : Answer) → IsSaying g c k answer → ((agrees : Bool) → Owes made stage (Yes agrees)) → ((kind : OpKind) → Owes made stage (Op kind)) → Owes made stage Ok_done → Owes made stage answer
+  said_owes : (made : Made) (stage : Stage) (answer : Answer) → IsSaying g c k answer → ((agrees : Bool) → Owes made stage (Yes agrees))
+      → ((kind : OpKind) → Owes made stage (Op kind)) → Owes made stage Ok_done → Owes made stage answer
   said_owes made stage answer h judged decided ok =
       ⊎_elim
       (λ (y : (agrees : Bool) × (answer ≡ Yes agrees)). subst (Owes made stage) (sym y.1) (judged y.0))
-      (λ z. ⊎_elim (λ (y : (kind : OpKind) × (answer ≡ Op kind)). subst (Owes made stage) (sym y.1) (decided y.0)) (λ (y : answer ≡ Ok_done). subst (Owes made stage) (sym y) ok) z)
+      (λ z. ⊎_elim (λ (y : (kind : OpKind) × (answer ≡ Op kind)). subst (Owes made stage) (sym y.1) (decided y.0))
+      (λ (y : answer ≡ Ok_done). subst (Owes made stage) (sym y) ok) z)
       h
 
   -- after a comparison
@@ -189,30 +199,36 @@ module _ {K P : Type 0} (g : Setting K P) (c : Coding K P) (k : K) (s : State P)
   number_grows Wanted made old answer = refl
   number_grows (Free count) made old answer = taken_grows count answer
   number_grows Taken made old answer =
-      cond_both (old == 0) (own_ask made.keyed made.valued) (of_ask made.valued old) (λ ask. grows_by None ask answer ≡ pos 0) (λ _. own_grows made.keyed made.valued answer) (λ _. of_grows made.valued old answer)
+      cond_both (old == 0) (own_ask made.keyed made.valued) (of_ask made.valued old) (λ ask. grows_by None ask answer ≡ pos 0)
+      (λ _. own_grows made.keyed made.valued answer) (λ _. of_grows made.valued old answer)
 
   -- nothing is owed by a stage
   abbrev OwesNone : Stage → Type 0
   OwesNone stage = owed_in stage ≡ pos 0
 
   -- a write owes what its exchange lets the map grow by
-  write_owes : (made : Made) (write : Write) (served : Option ℕ) (answer : Answer) → IsTold g c k s (served_kind served made write) loaded (served_ask served write made) answer es loaded'
+  write_owes : (made : Made) (write : Write) (served : Option ℕ) (answer : Answer)
+      → IsTold g c k s (served_kind served made write) loaded (served_ask served write made) answer es loaded'
       → owed_in (write_then m served made write answer) ≡ grows_by (served_kind served made write) (served_ask served write made) answer
-  write_owes made write None answer h = unserved_leads m OwesNone (λ refused. refl) made write refl answer ∙ sym (number_grows made.number made write.old answer)
+  write_owes made write None answer h = unserved_leads m OwesNone (λ refused. refl) made write refl answer
+      ∙ sym (number_grows made.number made write.old answer)
   write_owes made write (Some i) answer h =
       let t : ℕ = write.place.table in
       let x : ℕ = write.place.probe.i in
       let word : ℕ = code g c (s.slot t x) in
-      let Is : Answer → Type 0 = λ a. owed_in (write_then m (Some i) made write a) ≡ grows_by (Some (cond (write.old == 0) kinds.Claim kinds.Replace)) (Ask_exchange (Slot t x) write.old (live_word i)) a in
+      let Is : Answer → Type 0 = λ a. owed_in (write_then m (Some i) made write a) ≡ grows_by (Some (cond (write.old == 0) kinds.Claim kinds.Replace))
+      (Ask_exchange (Slot t x) write.old (live_word i)) a in
       by_test (word == write.old)
-      ((answer ≡ Exchanged) × ((e : Exchange P) × IsAsked g c k (Some (cond (write.old == 0) kinds.Claim kinds.Replace)) (Slot t x) (live_word i) s loaded e × (es ≡ e ∷ [])) × (loaded' ≡ loaded))
+      ((answer ≡ Exchanged) × ((e : Exchange P)
+      × IsAsked g c k (Some (cond (write.old == 0) kinds.Claim kinds.Replace)) (Slot t x) (live_word i) s loaded e × (es ≡ e ∷ [])) × (loaded' ≡ loaded))
       ((answer ≡ Found_instead word) × (es ≡ []) × (loaded' ≡ told_of s (Slot t x) loaded))
       (Is answer) h
       (λ _ h'. subst Is (sym h'.0) (written_owes (write.old == 0) write i))
       (λ _ h'. subst Is (sym h'.0) (goes_owes m.task m.mode m.remembered (look_seen write.place word)))
 
   -- in each stage
-  owes_in : (made : Made) (stage : Stage) (answer : Answer) → IsTold g c k s (kind_asked made stage) loaded (asks made m.hash stage) answer es loaded' → Owes made stage answer
+  owes_in : (made : Made) (stage : Stage) (answer : Answer) → IsTold g c k s (kind_asked made stage) loaded (asks made m.hash stage) answer es loaded'
+      → Owes made stage answer
   owes_in made AtRoot answer h = subst (Owes made AtRoot) (sym h.0) (root_leads (λ stage. owed_in stage ≡ pos 0) leads_owe m.task m.remembered.fill s.root)
   owes_in made Making answer h = ⊎_elim (λ u. unmade_owes made Making answer u (λ refused. refl) refl) (λ t. subst (Owes made Making) (sym t.2) refl) h.0
   owes_in made (Opening t) answer h =
@@ -223,21 +239,26 @@ module _ {K P : Type 0} (g : Setting K P) (c : Coding K P) (k : K) (s : State P)
       (λ _ h'. subst (Owes made (Opening t)) (sym h'.0) refl)
       (λ _ h'. subst (Owes made (Opening t)) (sym h'.0) refl)
   owes_in made (Searching (Sizing t)) answer h = let size = h.0 in subst (Owes made (Searching (Sizing t))) (sym size.2) refl
-  owes_in made (Searching (Looking at)) answer h = let hint : ℕ = h.0.0 in subst (Owes made (Searching (Looking at))) (sym h.0.2) (goes_owes m.task m.mode m.remembered (hinted at m.hash hint))
+  owes_in made (Searching (Looking at)) answer h = let hint : ℕ = h.0.0 in
+      subst (Owes made (Searching (Looking at))) (sym h.0.2) (goes_owes m.task m.mode m.remembered (hinted at m.hash hint))
   owes_in made (Searching (Reading at)) answer h =
       let word : ℕ = code g c (s.slot at.table at.probe.i) in
       subst (Owes made (Searching (Reading at))) (sym h.0) (goes_owes m.task m.mode m.remembered (look_seen at word))
   owes_in made (Searching (Comparing at word)) answer h = compared_owes made at word answer
   owes_in made (Writing write) answer h = ap owed_in (write_then_is m made write answer) ∙ write_owes made write (serves made write) answer h
   owes_in made (Offering gap) answer h = said_owes made (Offering gap) answer h.0 (λ _. refl) (λ kind. offered_owes gap kind) refl
-  owes_in made (Showing removal) answer h = said_owes made (Showing removal) answer h.0 (λ agrees. judged_owes m.task removal agrees) (λ kind. decided_owes m.task removal kind) refl
-  owes_in made (Pairing purpose) answer h = pairing_leads m OwesNone (λ refused. refl) made purpose refl (λ n. provides_leads OwesNone leads_owe purpose n) answer ∙ sym (number_grows made.number made (in_place_of purpose) answer)
+  owes_in made (Showing removal) answer h = said_owes made (Showing removal) answer h.0 (λ agrees. judged_owes m.task removal agrees)
+      (λ kind. decided_owes m.task removal kind) refl
+  owes_in made (Pairing purpose) answer h = pairing_leads m OwesNone (λ refused. refl) made purpose refl
+      (λ n. provides_leads OwesNone leads_owe purpose n) answer ∙ sym (number_grows made.number made (in_place_of purpose) answer)
   owes_in made (Putting put) answer h =
       let t : ℕ = put.write.place.table in
       let x : ℕ = put.write.place.probe.i in
       let word : ℕ = code g c (s.slot t x) in
       by_test (word == put.write.old)
-      ((answer ≡ Exchanged) × ((e : Exchange P) × IsAsked g c k (Some (cond (put.write.old == 0) kinds.Claim kinds.Replace)) (Slot t x) (live_word put.pair) s loaded e × (es ≡ e ∷ [])) × (loaded' ≡ loaded))
+      ((answer ≡ Exchanged) × ((e : Exchange P)
+      × IsAsked g c k (Some (cond (put.write.old == 0) kinds.Claim kinds.Replace)) (Slot t x) (live_word put.pair) s loaded e × (es ≡ e ∷ []))
+      × (loaded' ≡ loaded))
       ((answer ≡ Found_instead word) × (es ≡ []) × (loaded' ≡ told_of s (Slot t x) loaded))
       (Owes made (Putting put) answer) h
       (λ _ h'. subst (Owes made (Putting put)) (sym h'.0) (written_owes (put.write.old == 0) put.write put.pair))
@@ -247,18 +268,22 @@ module _ {K P : Type 0} (g : Setting K P) (c : Coding K P) (k : K) (s : State P)
       let x : ℕ = removal.place.probe.i in
       let word : ℕ = code g c (s.slot t x) in
       by_test (word == removal.word)
-      ((answer ≡ Exchanged) × ((e : Exchange P) × IsAsked g c k (Some kinds.Delete) (Slot t x) (grave_word removal.word) s loaded e × (es ≡ e ∷ [])) × (loaded' ≡ loaded))
+      ((answer ≡ Exchanged) × ((e : Exchange P) × IsAsked g c k (Some kinds.Delete) (Slot t x) (grave_word removal.word) s loaded e × (es ≡ e ∷ []))
+      × (loaded' ≡ loaded))
       ((answer ≡ Found_instead word) × (es ≡ []) × (loaded' ≡ told_of s (Slot t x) loaded))
       (Owes made (Deleting removal) answer) h
       (λ _ h'. subst (Owes made (Deleting removal)) (sym h'.0) refl)
-      (λ _ h'. subst (Owes made (Deleting removal)) (sym h'.0) (beaten_leads (λ stage. owed_in stage ≡ pos 0) leads_owe (record m { made = made; state = Deleting removal }) removal word))
+      (λ _ h'. subst (Owes made (Deleting removal)) (sym h'.0)
+      (beaten_leads (λ stage. owed_in stage ≡ pos 0) leads_owe (record m { made = made; state = Deleting removal }) removal word))
   owes_in made (Counting i) answer h = subst (Owes made (Counting i)) (sym h.0) refl
   owes_in made (Noting i) answer h = subst (Owes made (Noting i)) (sym h.0) refl
   owes_in made (Uncounting i) answer h = subst (Owes made (Uncounting i)) (sym h.0) refl
   owes_in made (Growing t) answer h = subst (Owes made (Growing t)) (sym h.0) refl
-  owes_in made (Leaving t) answer h = subst (Owes made (Leaving t)) (sym h.0) (left_leads (λ stage. owed_in stage ≡ pos 0) leads_owe m.task m.remembered.fill t (s.next t))
+  owes_in made (Leaving t) answer h = subst (Owes made (Leaving t)) (sym h.0)
+      (left_leads (λ stage. owed_in stage ≡ pos 0) leads_owe m.task m.remembered.fill t (s.next t))
   owes_in made (Ended reply) answer h = subst (Owes made (Ended reply)) (sym h.0) refl
 
   -- of the machine
-  pub machine_owes : (answer : Answer) → IsTold g c k s (kind_of_ask m) loaded (ask_of m) answer es loaded' → owed_by (ask_of (after m answer)) ≡ grows_by (kind_of_ask m) (ask_of m) answer
+  pub machine_owes : (answer : Answer) → IsTold g c k s (kind_of_ask m) loaded (ask_of m) answer es loaded'
+      → owed_by (ask_of (after m answer)) ≡ grows_by (kind_of_ask m) (ask_of m) answer
   machine_owes answer h = asked_in (after m answer).made (after m answer).hash (after m answer).state ∙ owes_in m.made m.state answer h

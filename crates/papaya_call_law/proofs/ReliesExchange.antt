@@ -1,5 +1,7 @@
 -- The exchange that a machine asks for: where its old word stands there it may be made, and it writes just its word.
-use Rattle.std.proofs.Common.{◌≡◌, ⊎_elim, ℕ, ◌+◌, ◌<◌, ◌==◌, eqb-true, eq-eqb, Bool, true, false, cond, MatchBool, Option, None, Some, MatchOption, List, ◌++◌, refl, sym, ap, ◌∙◌, subst}
+use Rattle.std.proofs.Common.{◌≡◌, ⊎_elim, ℕ, ◌+◌, ◌<◌, ◌==◌, eqb-true, eq-eqb, Bool, true, false}
+use Rattle.std.proofs.Common.{cond, MatchBool, Option, None, Some, MatchOption, List, ◌++◌, refl}
+use Rattle.std.proofs.Common.{sym, ap, ◌∙◌, subst}
 use Rattle.papaya_words.specs.Word.{kind_of, live_word, tombstone_word}
 use Rattle.papaya_words.specs.declared.word.Kind.TheVariants as word_kinds
 use Rattle.papaya_ask.specs.declared.ask.Ask.TheVariants.{Exchange as Ask_exchange}
@@ -19,7 +21,11 @@ use Rattle.papaya_call_law.proofs.ReliesServed.{served_pair}
 use Rattle.papaya_call.specs.declared.write.Write.{Write}
 use Rattle.papaya_call.specs.declared.machine.Machine.{Machine}
 use Rattle.papaya_call.specs.declared.machine.State.{State as Stage}
-use Rattle.papaya_call.specs.declared.machine.State.TheVariants.{AtRoot, Making, Opening, Searching, Writing, Offering, Showing, Pairing, Putting, Deleting, Counting, Noting, Uncounting, Leaving, Growing, Ended}
+use Rattle.papaya_call.specs.declared.machine.State.TheVariants.{AtRoot, Making, Opening, Searching}
+use Rattle.papaya_call.specs.declared.machine.State.TheVariants.{Writing, Offering, Showing}
+use Rattle.papaya_call.specs.declared.machine.State.TheVariants.{Pairing, Putting, Deleting}
+use Rattle.papaya_call.specs.declared.machine.State.TheVariants.{Counting, Noting, Uncounting}
+use Rattle.papaya_call.specs.declared.machine.State.TheVariants.{Leaving, Growing, Ended}
 use Rattle.papaya_law.specs.Exchange.{Word, Live, Tombstone, Setting, State, Exchange, Open, Claim, Replace, Delete, Take, after, run, slot_put, start, walk}
 use Rattle.papaya_law.specs.View.{look, beyond, IsPassed, IsReached}
 use Rattle.papaya_law.specs.Allows.{AllAllowed, Allows, MayClaim, MayReplace, MayDelete}
@@ -36,14 +42,17 @@ use Rattle.papaya_call.specs.Write.{served_ask, serves}
 use Rattle.papaya_call_law.specs.Told.{IsAsked, IsWritten, LoadedPairs, word_of}
 use Rattle.papaya_law.specs.Code.{IsHashed}
 use Rattle.papaya_call.specs.Remove.{grave_word}
-use Rattle.papaya_call_law.specs.Relies.{IsAt, IsOwnPair, IsPairAt, IsPairFor, MayRemove, MayWrite, Relies, ReliesLoaded, ReliesNumber, ReliesStage, ReliesWriting}
+use Rattle.papaya_call_law.specs.Relies.{IsAt, IsOwnPair, IsPairAt, IsPairFor, MayRemove, MayWrite}
+use Rattle.papaya_call_law.specs.Relies.{Relies, ReliesLoaded, ReliesNumber, ReliesStage}
+use Rattle.papaya_call_law.specs.Relies.{ReliesWriting}
 use Rattle.papaya_law.proofs.Codes.{code_empty, code_pair}
 use Rattle.papaya_law.proofs.CodeViews.{word_of_kind}
 use Rattle.papaya_law.proofs.Slots.{look_same, put_there, put_elsewhere}
 use Rattle.papaya_call_law.proofs.NewWords.{pair_of-live_word}
 use Rattle.papaya_call_law.proofs.ReliesLearnMoments.{come_reached}
 
-module _ {K P : Type 0} (g : Setting K P) (c : Coding K P) (hashed : IsHashed g c) (begun since : List (Exchange P)) (may : AllAllowed g start (begun ++ since)) (k : K) where
+module _ {K P : Type 0} (g : Setting K P) (c : Coding K P) (hashed : IsHashed g c) (begun since : List (Exchange P))
+    (may : AllAllowed g start (begun ++ since)) (k : K) where
   -- the state after all exchanges
   abbrev now : State P
   now = run (begun ++ since) start
@@ -83,7 +92,8 @@ module _ {K P : Type 0} (g : Setting K P) (c : Coding K P) (hashed : IsHashed g 
     }
 
     -- one of the call's class that is Live may be replaced by one of its own key
-    pub may_replace : (p q : P) → now.slot at.table at.probe.i ≡ Live p → g.same k (g.key p) ≡ true → g.key q ≡ g.key p → MayReplace g now at.table at.probe.i p q
+    pub may_replace : (p q : P) → now.slot at.table at.probe.i ≡ Live p → g.same k (g.key p) ≡ true → g.key q ≡ g.key p
+        → MayReplace g now at.table at.probe.i p q
     may_replace p q live same kept = record {
       live = live;
       reached = reached_pair p same;
@@ -93,10 +103,12 @@ module _ {K P : Type 0} (g : Setting K P) (c : Coding K P) (hashed : IsHashed g 
 
   -- the exchange of this kind at this place may be made, and writes just the new word
   abbrev pub MayDo : Option StepKind → LoadedPairs P → At → (old new : ℕ) → Type 0
-  MayDo kind loaded at old new = word_of g c now at ≡ old → (e : Exchange P) × IsAsked g c k kind at new now loaded e × Allows g now e × IsWritten g c now at new (after now e)
+  MayDo kind loaded at old new = word_of g c now at ≡ old → (e : Exchange P) × IsAsked g c k kind at new now loaded e × Allows g now e
+      × IsWritten g c now at new (after now e)
 
   -- what an ask says is one thing
-  same_ask : (kind : Option StepKind) (loaded : LoadedPairs P) (at at' : At) (old old' new new' : ℕ) → Ask_exchange at old new ≡ Ask_exchange at' old' new' → MayDo kind loaded at old new → MayDo kind loaded at' old' new'
+  same_ask : (kind : Option StepKind) (loaded : LoadedPairs P) (at at' : At) (old old' new new' : ℕ)
+      → Ask_exchange at old new ≡ Ask_exchange at' old' new' → MayDo kind loaded at old new → MayDo kind loaded at' old' new'
   same_ask kind loaded at at' old old' new new' e h =
       let a : at ≡ at' = cc e in
       let b : old ≡ old' = cc e in
@@ -116,8 +128,14 @@ module _ {K P : Type 0} (g : Setting K P) (c : Coding K P) (hashed : IsHashed g 
       others Made_word different = refl
 
   -- a number is taken
-  takes : (loaded : LoadedPairs P) (count : ℕ) → MatchOption g.most (Unit {0}) (λ most. count < most) → MayDo (Some kinds.Take) loaded Made_word count (count + 1)
-  takes loaded count free is = (Take now.made, refl, (refl, subst (λ n. MatchOption g.most (Unit {0}) (λ most. n < most)) (sym is) free), record { here = ap (λ n. n + 1) is; others = others })
+  takes : (loaded : LoadedPairs P) (count : ℕ) → MatchOption g.most (Unit {0}) (λ most. count < most)
+      → MayDo (Some kinds.Take) loaded Made_word count (count + 1)
+  takes loaded count free is = (
+    Take now.made,
+    refl,
+    (refl, subst (λ n. MatchOption g.most (Unit {0}) (λ most. n < most)) (sym is) free),
+    record { here = ap (λ n. n + 1) is; others = others },
+  )
     where
       others : (other : At) → (other ≡ Made_word → ⊥) → word_of g c (after now (Take now.made)) other ≡ word_of g c now other
       others Root different = refl
@@ -144,16 +162,19 @@ module _ {K P : Type 0} (g : Setting K P) (c : Coding K P) (hashed : IsHashed g 
   new_code n q is = ap live_word is
 
   -- a Live word that came of one of the key is of the key
-  still_own : (was : Word P) (p q : P) → IsOfKind word_kinds.Live was → named was ≡ Some p → Becomes g was (Live q) → g.same k (g.key p) ≡ true → g.same k (g.key q) ≡ true
+  still_own : (was : Word P) (p q : P) → IsOfKind word_kinds.Live was → named was ≡ Some p → Becomes g was (Live q) → g.same k (g.key p) ≡ true
+      → g.same k (g.key q) ≡ true
   still_own was p q live names became same =
       let is : live.0 ≡ p = let n = ap named (sym live.1) ∙ names in cc n in
       let kept : g.key q ≡ g.key live.0 = subst (λ w. Becomes g w (Live q)) live.1 became in
       subst (λ l. g.same k l ≡ true) (sym (kept ∙ ap g.key is)) same
 
   -- so is a Live word that stands where a removal met its pair
-  pub live_same : (loaded : LoadedPairs P) (removal : Removal) → MayRemove g c begun since k loaded removal → (q : P) → now.slot removal.place.table removal.place.probe.i ≡ Live q → g.same k (g.key q) ≡ true
+  pub live_same : (loaded : LoadedPairs P) (removal : Removal) → MayRemove g c begun since k loaded removal → (q : P)
+      → now.slot removal.place.table removal.place.probe.i ≡ Live q → g.same k (g.key q) ≡ true
   live_same loaded removal r q live =
-      let was_live : IsOfKind word_kinds.Live r.met.was = subst (λ y. IsOfKind y r.met.was) (ap kind_of (sym r.met.as_loaded) ∙ r.live) (word_of_kind g c r.met.was) in
+      let was_live : IsOfKind word_kinds.Live r.met.was = subst (λ y. IsOfKind y r.met.was) (ap kind_of (sym r.met.as_loaded) ∙ r.live)
+      (word_of_kind g c r.met.was) in
       still_own r.met.was r.pair q was_live r.met.names (subst (Becomes g r.met.was) live r.met.became) r.same
 
   -- a pair of the key that is in a slot has the key of the Live word there
@@ -185,7 +206,8 @@ module _ {K P : Type 0} (g : Setting K P) (c : Coding K P) (hashed : IsHashed g 
         (λ none. absurd (let some = eq-eqb write.old 0 none in cc (some, e)))
         (λ h.
         let removal : Removal = record { place = write.place; word = write.old } in
-        let live : IsOfKind word_kinds.Live (now.slot t x) = subst (λ y. IsOfKind y (now.slot t x)) (ap kind_of old ∙ h.1.live) (word_of_kind g c (now.slot t x)) in
+        let live : IsOfKind word_kinds.Live (now.slot t x) = subst (λ y. IsOfKind y (now.slot t x)) (ap kind_of old ∙ h.1.live)
+        (word_of_kind g c (now.slot t x)) in
         let kept : g.key q ≡ g.key live.0 = live_key t x live.0 q live.1 m.3 in (
           Replace t x live.0 q,
           (live.0, q, live.1, record { made = m.1; named = m.2 ∙ sym (pair_of-live_word n) }, kept, refl),
@@ -204,7 +226,8 @@ module _ {K P : Type 0} (g : Setting K P) (c : Coding K P) (hashed : IsHashed g 
 
     -- and so does a compute
     puts : (put : Put) → MayWrite g c begun since k loaded true put.write → IsPairFor g c begun since k loaded put.write put.pair
-        → MayDo (Some (cond (put.write.old == 0) kinds.Claim kinds.Replace)) loaded (Slot put.write.place.table put.write.place.probe.i) put.write.old (live_word put.pair)
+        → MayDo (Some (cond (put.write.old == 0) kinds.Claim kinds.Replace)) loaded (Slot put.write.place.table put.write.place.probe.i) put.write.old
+        (live_word put.pair)
     puts put r m = writes put.pair true put.write r (put.write.old == 0) refl m
 
   -- a removed pair's word is the code of its Tombstone
@@ -212,36 +235,43 @@ module _ {K P : Type 0} (g : Setting K P) (c : Coding K P) (hashed : IsHashed g 
   grave_code p word e = ap tombstone_word (sym (code_pair g c hashed.coding (Live p) p refl)) ∙ ap grave_word e
 
   -- a pair to which the closure agreed is deleted where its word stands
-  deletes : (loaded : LoadedPairs P) (removal : Removal) → MayRemove g c begun since k loaded removal → MayDo (Some kinds.Delete) loaded (Slot removal.place.table removal.place.probe.i) removal.word (grave_word removal.word)
+  deletes : (loaded : LoadedPairs P) (removal : Removal) → MayRemove g c begun since k loaded removal
+      → MayDo (Some kinds.Delete) loaded (Slot removal.place.table removal.place.probe.i) removal.word (grave_word removal.word)
   deletes loaded removal r stands_there =
       let t : ℕ = removal.place.table in
       let x : ℕ = removal.place.probe.i in
-      let live : IsOfKind word_kinds.Live (now.slot t x) = subst (λ y. IsOfKind y (now.slot t x)) (ap kind_of stands_there ∙ r.live) (word_of_kind g c (now.slot t x)) in
+      let live : IsOfKind word_kinds.Live (now.slot t x) = subst (λ y. IsOfKind y (now.slot t x)) (ap kind_of stands_there ∙ r.live)
+      (word_of_kind g c (now.slot t x)) in
       let q : P = live.0 in
       let same : g.same k (g.key q) ≡ true = live_same loaded removal r q live.1 in (
         Delete t x q,
         (q, live.1, refl),
         may_delete removal.place r.met.stands q live.1 same,
-        subst (λ y. IsWritten g c now (Slot t x) y (slot_put now t x (Tombstone q))) (grave_code q removal.word (ap (code g c) (sym live.1) ∙ stands_there)) (slot_written t x (Tombstone q)),
+        subst (λ y. IsWritten g c now (Slot t x) y (slot_put now t x (Tombstone q)))
+            (grave_code q removal.word (ap (code g c) (sym live.1) ∙ stands_there)) (slot_written t x (Tombstone q)),
       )
 
   module _ (loaded : LoadedPairs P) (hash : ℕ) (task : Task) where
     -- what is asked for a pair may be made
-    number_do : (number : Number) (made : Made) (word : ℕ) → ReliesNumber g c begun since k number → (at : At) (old new : ℕ) → number_ask number made word ≡ Ask_exchange at old new → MayDo (number_kind number) loaded at old new
+    number_do : (number : Number) (made : Made) (word : ℕ) → ReliesNumber g c begun since k number → (at : At) (old new : ℕ)
+        → number_ask number made word ≡ Ask_exchange at old new → MayDo (number_kind number) loaded at old new
     number_do Wanted made word r at old new e = absurd cc
     number_do (Free count) made word r at old new e = same_ask (Some kinds.Take) loaded Made_word at count old (count + 1) new e (takes loaded count r)
     number_do Taken made word r at old new e = absurd (subst IsMakeAsk e (make_asks made word))
 
     -- and what an insertion asks that writes
-    write_do : (made : Made) (held : Remembered) → ReliesLoaded g c begun since k loaded made held → (write : Write) → ReliesWriting g c begun since k loaded task write → (served : Option ℕ) → serves made write ≡ served
+    write_do : (made : Made) (held : Remembered) → ReliesLoaded g c begun since k loaded made held → (write : Write)
+        → ReliesWriting g c begun since k loaded task write → (served : Option ℕ) → serves made write ≡ served
         → (at : At) (old new : ℕ) → served_ask served write made ≡ Ask_exchange at old new → MayDo (served_kind served made write) loaded at old new
     write_do made held m write r None is at old new e = number_do made.number made write.old m.number_is at old new e
     write_do made held m write r (Some n) is at old new e =
-        same_ask (Some (cond (write.old == 0) kinds.Claim kinds.Replace)) loaded (Slot write.place.table write.place.probe.i) at write.old old (live_word n) new e
+        same_ask (Some (cond (write.old == 0) kinds.Claim kinds.Replace)) loaded (Slot write.place.table write.place.probe.i) at write.old old
+        (live_word n) new e
         (writing loaded n task write r (served_pair g c begun since k loaded made held m write n is))
 
     -- what a machine asks for may be made
-    may_do : (made : Made) (held : Remembered) → ReliesLoaded g c begun since k loaded made held → (stage : Stage) → ReliesStage g c begun since k loaded task stage
+    may_do : (made : Made) (held : Remembered) → ReliesLoaded g c begun since k loaded made held → (stage : Stage)
+        → ReliesStage g c begun since k loaded task stage
         → (at : At) (old new : ℕ) → asks made hash stage ≡ Ask_exchange at old new → MayDo (kind_asked made stage) loaded at old new
     may_do made held m AtRoot r at old new e = absurd cc
     may_do made held m Making r at old new e = absurd cc
@@ -256,9 +286,11 @@ module _ {K P : Type 0} (g : Setting K P) (c : Coding K P) (hashed : IsHashed g 
     may_do made held m (Pairing purpose) r at old new e = number_do made.number made (in_place_of purpose) m.number_is at old new e
     may_do made held m (Putting put) r at old new e =
         let write : Write = put.write in
-        same_ask (Some (cond (write.old == 0) kinds.Claim kinds.Replace)) loaded (Slot write.place.table write.place.probe.i) at write.old old (live_word put.pair) new e (puts loaded put r.1 r.2)
+        same_ask (Some (cond (write.old == 0) kinds.Claim kinds.Replace)) loaded (Slot write.place.table write.place.probe.i) at write.old old
+        (live_word put.pair) new e (puts loaded put r.1 r.2)
     may_do made held m (Deleting removal) r at old new e =
-        same_ask (Some kinds.Delete) loaded (Slot removal.place.table removal.place.probe.i) at removal.word old (grave_word removal.word) new e (deletes loaded removal r.1)
+        same_ask (Some kinds.Delete) loaded (Slot removal.place.table removal.place.probe.i) at removal.word old (grave_word removal.word) new e
+        (deletes loaded removal r.1)
     may_do made held m (Counting n) r at old new e = absurd cc
     may_do made held m (Noting n) r at old new e = absurd cc
     may_do made held m (Uncounting n) r at old new e = absurd cc
@@ -267,5 +299,6 @@ module _ {K P : Type 0} (g : Setting K P) (c : Coding K P) (hashed : IsHashed g 
     may_do made held m (Ended reply) r at old new e = absurd cc
 
   -- the same of the machine
-  pub machine_may : (m : Machine) (loaded : LoadedPairs P) → Relies g c begun since k m loaded → (at : At) (old new : ℕ) → asks m.made m.hash m.state ≡ Ask_exchange at old new → MayDo (kind_asked m.made m.state) loaded at old new
+  pub machine_may : (m : Machine) (loaded : LoadedPairs P) → Relies g c begun since k m loaded → (at : At) (old new : ℕ)
+      → asks m.made m.hash m.state ≡ Ask_exchange at old new → MayDo (kind_asked m.made m.state) loaded at old new
   machine_may m loaded r at old new e = may_do loaded m.hash m.task m.made m.remembered r.made m.state r.stage at old new e

@@ -24,7 +24,11 @@ use Rattle.papaya_call.specs.declared.write.Write.{Write}
 use Rattle.papaya_call.specs.Write.{served_ask, serves}
 use Rattle.papaya_call.specs.declared.machine.Machine.{Machine}
 use Rattle.papaya_call.specs.declared.machine.State.{State as Stage}
-use Rattle.papaya_call.specs.declared.machine.State.TheVariants.{AtRoot, Making, Opening, Searching, Writing, Offering, Showing, Pairing, Putting, Deleting, Counting, Noting, Uncounting, Leaving, Growing, Ended}
+use Rattle.papaya_call.specs.declared.machine.State.TheVariants.{AtRoot, Making, Opening, Searching}
+use Rattle.papaya_call.specs.declared.machine.State.TheVariants.{Writing, Offering, Showing}
+use Rattle.papaya_call.specs.declared.machine.State.TheVariants.{Pairing, Putting, Deleting}
+use Rattle.papaya_call.specs.declared.machine.State.TheVariants.{Counting, Noting, Uncounting}
+use Rattle.papaya_call.specs.declared.machine.State.TheVariants.{Leaving, Growing, Ended}
 use Rattle.papaya_law.specs.Exchange.{Setting, Exchange}
 use Rattle.papaya_ask.specs.declared.call.Reply.{Reply}
 use Rattle.papaya_ask.specs.declared.ask.Ask.TheVariants.{Done}
@@ -69,11 +73,15 @@ module _ {K P : Type 0} (g : Setting K P) (c : Coding K P) (begun since : List (
   computes_not Compute r w = w
 
   -- an insertion that exchanges a slot has a pair that serves there
-  write_made : (made : Made) (held : Remembered) → ReliesLoaded g c begun since k loaded made held → (write : Write) (t x old new : ℕ) (served : Option ℕ) → serves made write ≡ served → served_ask served write made ≡ Ask_exchange (Slot t x) old new → HasMade
+  write_made : (made : Made) (held : Remembered) → ReliesLoaded g c begun since k loaded made held
+      → (write : Write) (t x old new : ℕ) (served : Option ℕ) → serves made write ≡ served
+      → served_ask served write made ≡ Ask_exchange (Slot t x) old new → HasMade
   write_made made held r write t x old new None is e = absurd (subst IsPairAsk e (pair_asks made write.old))
-  write_made made held r write t x old new (Some n) is e = let own = pair_made g c begun since k loaded write n (served_pair g c begun since k loaded made held r write n is) in (own.0, own.1, r.keys own.0 own.1)
+  write_made made held r write t x old new (Some n) is e = let own = pair_made g c begun since k loaded write n
+      (served_pair g c begun since k loaded made held r write n is) in (own.0, own.1, r.keys own.0 own.1)
 
-  made_in : (task : Task) (hash : ℕ) (made : Made) (held : Remembered) → ReliesLoaded g c begun since k loaded made held → (stage : Stage) → ReliesStage g c begun since k loaded task stage → (t x old new : ℕ) → asks made hash stage ≡ Ask_exchange (Slot t x) old new → IsWriter task → HasMade
+  made_in : (task : Task) (hash : ℕ) (made : Made) (held : Remembered) → ReliesLoaded g c begun since k loaded made held → (stage : Stage)
+      → ReliesStage g c begun since k loaded task stage → (t x old new : ℕ) → asks made hash stage ≡ Ask_exchange (Slot t x) old new → IsWriter task → HasMade
   made_in task hash made held r AtRoot s t x old new e w = absurd cc
   made_in task hash made held r Making s t x old new e w = absurd cc
   made_in task hash made held r (Opening u) s t x old new e w = absurd cc
@@ -95,14 +103,16 @@ module _ {K P : Type 0} (g : Setting K P) (c : Coding K P) (begun since : List (
   made_in task hash made held r (Ended reply) s t x old new e w = absurd cc
 
   -- an insertion that exchanges a slot has made its pair
-  pub machine_made : (m : Machine) → Relies g c begun since k m loaded → (t x old new : ℕ) → ask_of m ≡ Ask_exchange (Slot t x) old new → IsWriter m.task → HasMade
+  pub machine_made : (m : Machine) → Relies g c begun since k m loaded → (t x old new : ℕ) → ask_of m ≡ Ask_exchange (Slot t x) old new
+      → IsWriter m.task → HasMade
   machine_made m r t x old new e w = made_in m.task m.hash m.made m.remembered r.made m.state r.stage t x old new e w
 
   -- a pair that was told of
   abbrev pub WasTold : Type 0
   WasTold = (p : P) × (loaded.last ≡ Some p)
 
-  told_in : (task : Task) (hash : ℕ) (made : Made) (stage : Stage) → ReliesStage g c begun since k loaded task stage → (n : ℕ) → asks made hash stage ≡ SameKey n → WasTold
+  told_in : (task : Task) (hash : ℕ) (made : Made) (stage : Stage) → ReliesStage g c begun since k loaded task stage → (n : ℕ)
+      → asks made hash stage ≡ SameKey n → WasTold
   told_in task hash made AtRoot s n e = absurd cc
   told_in task hash made Making s n e = absurd cc
   told_in task hash made (Opening u) s n e = absurd cc
@@ -134,14 +144,16 @@ module _ {K P : Type 0} (g : Setting K P) (c : Coding K P) (hashed : IsHashed g 
 
   removal_shows : (removal : Removal) → MayRemove g c begun since k loaded removal → IsShowing (pair_of removal.word)
   removal_shows removal r =
-      let live : IsOfKind word_kinds.Live r.met.was = subst (λ y. IsOfKind y r.met.was) (ap kind_of (sym r.met.as_loaded) ∙ r.live) (word_of_kind g c r.met.was) in
+      let live : IsOfKind word_kinds.Live r.met.was = subst (λ y. IsOfKind y r.met.was) (ap kind_of (sym r.met.as_loaded) ∙ r.live)
+      (word_of_kind g c r.met.was) in
       let names = ap named (sym live.1) ∙ r.met.names in
       let is : live.0 ≡ r.pair = cc names in
       let was : r.met.was ≡ Live r.pair = live.1 ∙ ap Live is in
       let held_there : held (view g k r.met.was) ≡ true = ap (λ w. held (view g k w)) was ∙ ap (λ y. held (cond y (Here r.pair) Foreign)) r.same in
       (r.pair, r.last, sym (ap pair_of r.met.as_loaded ∙ (code_pair g c hashed.coding r.met.was r.pair r.met.names)), r.same, r.met.had held_there)
 
-  shows_in : (task : Task) (hash : ℕ) (made : Made) (stage : Stage) → ReliesStage g c begun since k loaded task stage → (n : ℕ) → asks made hash stage ≡ ShowPair n → IsShowing n
+  shows_in : (task : Task) (hash : ℕ) (made : Made) (stage : Stage) → ReliesStage g c begun since k loaded task stage → (n : ℕ)
+      → asks made hash stage ≡ ShowPair n → IsShowing n
   shows_in task hash made AtRoot s n e = absurd cc
   shows_in task hash made Making s n e = absurd cc
   shows_in task hash made (Opening u) s n e = absurd cc
@@ -189,7 +201,9 @@ ended_in made hash (Growing u) reply e = absurd cc
 ended_in made hash (Ended other) reply e = let is : other ≡ reply = cc e in ap Ended is
 
 -- what it replies, and the change that it made
-pub machine_replies : {K P : Type 0} (g : Setting K P) (c : Coding K P) (begun since : List (Exchange P)) (k : K) (loaded : LoadedPairs P) (m : Machine) → Relies g c begun since k m loaded → (reply : Reply) → ask_of m ≡ Done reply → IsReply g c begun since k loaded m.task reply × (change_in m.state ≡ change_of_reply reply)
+pub machine_replies : {K P : Type 0} (g : Setting K P) (c : Coding K P) (begun since : List (Exchange P)) (k : K) (loaded : LoadedPairs P)
+    (m : Machine) → Relies g c begun since k m loaded → (reply : Reply) → ask_of m ≡ Done reply → IsReply g c begun since k loaded m.task reply
+    × (change_in m.state ≡ change_of_reply reply)
 machine_replies g c begun since k loaded m r reply e =
     let is = ended_in m.made m.hash m.state reply e in (subst (λ s. ReliesStage g c begun since k loaded m.task s) is r.stage, ap change_in is)
 
@@ -216,17 +230,22 @@ offering_in made hash (Growing u) e = absurd cc
 offering_in made hash (Ended reply) e = absurd cc
 
 -- the map had none of its key at a moment of the call
-pub machine_offers : {K P : Type 0} (g : Setting K P) (c : Coding K P) (begun since : List (Exchange P)) (k : K) (loaded : LoadedPairs P) (m : Machine) → Relies g c begun since k m loaded → ask_of m ≡ ShowNone → WasAtMoment g c begun since k None
-machine_offers g c begun since k loaded m r e = let at = offering_in m.made m.hash m.state e in (subst (λ s. ReliesStage g c begun since k loaded m.task s) at.1 r.stage).2
+pub machine_offers : {K P : Type 0} (g : Setting K P) (c : Coding K P) (begun since : List (Exchange P)) (k : K) (loaded : LoadedPairs P)
+    (m : Machine) → Relies g c begun since k m loaded → ask_of m ≡ ShowNone → WasAtMoment g c begun since k None
+machine_offers g c begun since k loaded m r e = let at = offering_in m.made m.hash m.state e in
+    (subst (λ s. ReliesStage g c begun since k loaded m.task s) at.1 r.stage).2
 
-offered_shown : (m : Machine) (gap : Gap) (kind : OpKind) → HasShownNone (after (record m { state = Offering gap }) (Op kind)).remembered.fill (after (record m { state = Offering gap }) (Op kind)).state
+offered_shown : (m : Machine) (gap : Gap) (kind : OpKind)
+    → HasShownNone (after (record m { state = Offering gap }) (Op kind)).remembered.fill (after (record m { state = Offering gap }) (Op kind)).state
 offered_shown m gap ops.Insert = tt
 offered_shown m gap ops.Remove = tt
 offered_shown m gap (ops.Abort with) = tt
 
 -- and it never shows that again
 pub machine_offered : (m : Machine) (kind : OpKind) → ask_of m ≡ ShowNone → HasShownNone (after m (Op kind)).remembered.fill (after m (Op kind)).state
-machine_offered m kind e = let at = offering_in m.made m.hash m.state e in subst (λ s. HasShownNone (after (record m { state = s }) (Op kind)).remembered.fill (after (record m { state = s }) (Op kind)).state) (sym at.1) (offered_shown m at.0 kind)
+machine_offered m kind e = let at = offering_in m.made m.hash m.state e in
+    subst (λ s. HasShownNone (after (record m { state = s }) (Op kind)).remembered.fill (after (record m { state = s }) (Op kind)).state) (sym at.1)
+    (offered_shown m at.0 kind)
 
 -- a machine that shows a pair has found it
 showing_in : (made : Made) (hash : ℕ) (s : Stage) (n : ℕ) → asks made hash s ≡ ShowPair n → (removal : Removal) × (s ≡ Showing removal)
@@ -263,8 +282,10 @@ choice_is_made (Some (To_remove old)) shown e = cc e
 pub machine_unpaired : (m : Machine) (shown other : Option ℕ) → ask_of m ≡ show other → StandsOn m (Inserts shown) → ⊥
 machine_unpaired m shown other e (inr (inl h)) = fill_is_made m.remembered.fill shown h
 machine_unpaired m shown other e (inr (inr h)) = choice_is_made m.remembered.choice shown h
-machine_unpaired m shown None e (inl h) = let at = offering_in m.made m.hash m.state e in let none : None ≡ Some (Inserts shown) = ap (said_in m.task) (sym at.1) ∙ h in cc none
-machine_unpaired m shown (Some n) e (inl h) = let at = showing_in m.made m.hash m.state n e in let none : None ≡ Some (Inserts shown) = ap (said_in m.task) (sym at.1) ∙ h in cc none
+machine_unpaired m shown None e (inl h) = let at = offering_in m.made m.hash m.state e in
+    let none : None ≡ Some (Inserts shown) = ap (said_in m.task) (sym at.1) ∙ h in cc none
+machine_unpaired m shown (Some n) e (inl h) = let at = showing_in m.made m.hash m.state n e in
+    let none : None ≡ Some (Inserts shown) = ap (said_in m.task) (sym at.1) ∙ h in cc none
 
 -- a compute that makes a pair makes it of its closure's value
 pairing_in : (made : Made) (hash : ℕ) (s : Stage) → IsStandingState Compute s → MakesPair (asks made hash s) → (purpose : Purpose) × (s ≡ Pairing purpose)
@@ -288,13 +309,16 @@ pairing_in made hash (Leaving u) stands e = absurd e
 pairing_in made hash (Growing u) stands e = absurd e
 pairing_in made hash (Ended reply) stands e = absurd e
 
-refused_unpaired : (m : Machine) (purpose : Purpose) (cause : Cause) (shown : Option ℕ) → m.task ≡ Compute → StandsOn (after (record m { state = Pairing purpose }) (Was_refused cause)) (Inserts shown) → ⊥
-refused_unpaired m purpose cause shown task (inl h) = let none : None ≡ Some (Inserts shown) = ap (λ t. said_in t (Ended (Reply_refused cause))) (sym task) ∙ h in cc none
+refused_unpaired : (m : Machine) (purpose : Purpose) (cause : Cause) (shown : Option ℕ) → m.task ≡ Compute
+    → StandsOn (after (record m { state = Pairing purpose }) (Was_refused cause)) (Inserts shown) → ⊥
+refused_unpaired m purpose cause shown task (inl h) = let none : None ≡ Some (Inserts shown) = ap (λ t. said_in t (Ended (Reply_refused cause)))
+    (sym task) ∙ h in cc none
 refused_unpaired m purpose cause shown task (inr (inl h)) = fill_is_made m.remembered.fill shown h
 refused_unpaired m purpose cause shown task (inr (inr h)) = choice_is_made m.remembered.choice shown h
 
 -- where that was refused, no value waits any more
-pub machine_refused_pair : (m : Machine) (cause : Cause) (shown : Option ℕ) → m.task ≡ Compute → IsStanding m → MakesPair (ask_of m) → StandsOn (after m (Was_refused cause)) (Inserts shown) → ⊥
+pub machine_refused_pair : (m : Machine) (cause : Cause) (shown : Option ℕ) → m.task ≡ Compute → IsStanding m → MakesPair (ask_of m)
+    → StandsOn (after m (Was_refused cause)) (Inserts shown) → ⊥
 machine_refused_pair m cause shown task standing e h =
     let at = pairing_in m.made m.hash m.state (subst (λ t. IsStandingState t m.state) task standing.state) e in
     refused_unpaired m at.0 cause shown task (subst (λ s. StandsOn (after (record m { state = s }) (Was_refused cause)) (Inserts shown)) at.1 h)
@@ -307,11 +331,13 @@ provided_waits task (Fill (After t)) n shown e = cc e
 provided_waits task (Replace write) n shown e = cc e
 provided_waits task (Again write) n shown e = cc e
 
-paired_waits : (task : Task) (purpose : Purpose) (n : ℕ) (shown : Option ℕ) (done : Made) (G : Grown) → G ≡ Pair done → said_in task (paired G purpose n) ≡ Some (Inserts shown) → ⊥
+paired_waits : (task : Task) (purpose : Purpose) (n : ℕ) (shown : Option ℕ) (done : Made) (G : Grown) → G ≡ Pair done
+    → said_in task (paired G purpose n) ≡ Some (Inserts shown) → ⊥
 paired_waits task purpose n shown done (On made) is e = cc is
 paired_waits task purpose n shown done (Pair made) is e = provided_waits task purpose n shown e
 
-pair_waits_in : (m : Machine) (made : Made) (s : Stage) (n : ℕ) (shown : Option ℕ) → MakesPair (asks made m.hash s) → said_in m.task (after (record m { made = made; state = s }) (Made_number n)).state ≡ Some (Inserts shown) → ⊥
+pair_waits_in : (m : Machine) (made : Made) (s : Stage) (n : ℕ) (shown : Option ℕ) → MakesPair (asks made m.hash s)
+    → said_in m.task (after (record m { made = made; state = s }) (Made_number n)).state ≡ Some (Inserts shown) → ⊥
 pair_waits_in m made AtRoot n shown makes e = makes
 pair_waits_in m made Making n shown makes e = makes
 pair_waits_in m made (Opening u) n shown makes e = makes
@@ -322,7 +348,8 @@ pair_waits_in m made (Searching (Comparing at word)) n shown makes e = makes
 pair_waits_in m made (Writing write) n shown makes e = cc e
 pair_waits_in m made (Offering gap) n shown makes e = makes
 pair_waits_in m made (Showing removal) n shown makes e = makes
-pair_waits_in m made (Pairing purpose) n shown makes e = paired_waits m.task purpose n shown (pair_done made) (grown made (in_place_of purpose)) (pair_of_grown made (in_place_of purpose) makes) e
+pair_waits_in m made (Pairing purpose) n shown makes e = paired_waits m.task purpose n shown (pair_done made) (grown made (in_place_of purpose))
+    (pair_of_grown made (in_place_of purpose) makes) e
 pair_waits_in m made (Putting put) n shown makes e = makes
 pair_waits_in m made (Deleting removal) n shown makes e = makes
 pair_waits_in m made (Counting i) n shown makes e = makes

@@ -25,7 +25,8 @@ use Rattle.papaya_call_law.proofs.ReliesLearnMoments.{empty_here, over_blocking}
 use Rattle.papaya_call_law.proofs.ReliesLearnPlaces.{ReliesProbed, sees}
 use Rattle.papaya_call_law.proofs.ReliesLearnLook.{became_of}
 
-module _ {K P : Type 0} (g : Setting K P) (c : Coding K P) (hashed : IsHashed g c) (begun since : List (Exchange P)) (may : AllAllowed g start (begun ++ since)) (k : K) where
+module _ {K P : Type 0} (g : Setting K P) (c : Coding K P) (hashed : IsHashed g c) (begun since : List (Exchange P))
+    (may : AllAllowed g start (begun ++ since)) (k : K) where
   -- the state after all exchanges
   abbrev now : State P
   now = run (begun ++ since) start
@@ -51,8 +52,22 @@ module _ {K P : Type 0} (g : Setting K P) (c : Coding K P) (hashed : IsHashed g 
     moving : h.was ≡ Marked p → IsMovingFrom g c begun since k at.table at.probe.i
     moving e =
         ⊎_elim
-        (λ m. (at.probe.len, p, h.stands.within, sym h.stands.slot, inl (sees g c hashed begun since k at h.stands (Marked p) m ∙ ap (λ b. cond b (Leaving p) Foreign) same)))
-        (λ m. (at.probe.len, p, h.stands.within, sym h.stands.slot, inr (sees g c hashed begun since k at h.stands (Copied p) m ∙ ap (λ b. cond b (Gone p) Foreign) same)))
+        (λ m. (
+          at.probe.len,
+          p,
+          h.stands.within,
+          sym h.stands.slot,
+          inl
+              (sees g c hashed begun since k at h.stands (Marked p) m ∙ ap (λ b. cond b (Leaving p) Foreign) same),
+        ))
+        (λ m. (
+          at.probe.len,
+          p,
+          h.stands.within,
+          sym h.stands.slot,
+          inr
+              (sees g c hashed begun since k at h.stands (Copied p) m ∙ ap (λ b. cond b (Gone p) Foreign) same),
+        ))
         (became_of g c hashed begun since may k at word p h (Marked p) e)
 
     -- the number says how the word stood
@@ -68,25 +83,31 @@ module _ {K P : Type 0} (g : Setting K P) (c : Coding K P) (hashed : IsHashed g 
     removable loaded last e = record { pair = p; last = last; met = h; live = live_kind e; same = same }
 
     -- an insertion that replaces
-    replacing : (loaded : LoadedPairs P) → loaded.last ≡ Some p → (h.was ≡ Live p) ⊎ (h.was ≡ Marked p) → ReliesStage g c begun since k loaded (Insert true) (replaces (kind_of word) at word)
-    replacing loaded last (inl e) = subst (λ y. ReliesStage g c begun since k loaded (Insert true) (replaces y at word)) (sym (live_kind e)) (replaceable g c begun since k loaded (record { place = at; old = word }) (removable loaded last e))
+    replacing : (loaded : LoadedPairs P) → loaded.last ≡ Some p → (h.was ≡ Live p) ⊎ (h.was ≡ Marked p)
+        → ReliesStage g c begun since k loaded (Insert true) (replaces (kind_of word) at word)
+    replacing loaded last (inl e) = subst (λ y. ReliesStage g c begun since k loaded (Insert true) (replaces y at word)) (sym (live_kind e))
+        (replaceable g c begun since k loaded (record { place = at; old = word }) (removable loaded last e))
     replacing loaded last (inr e) =
         subst (λ y. ReliesStage g c begun since k loaded (Insert true) (replaces y at word)) (sym (marked_kind e)) (tt, (h.stands.come, moving e))
 
     -- one that replaces nothing
-    trying : (loaded : LoadedPairs P) → (h.was ≡ Live p) ⊎ (h.was ≡ Marked p) → ReliesStage g c begun since k loaded (Insert false) (occupies (kind_of word) at word)
+    trying : (loaded : LoadedPairs P) → (h.was ≡ Live p) ⊎ (h.was ≡ Marked p)
+        → ReliesStage g c begun since k loaded (Insert false) (occupies (kind_of word) at word)
     trying loaded (inl e) = subst (λ y. ReliesStage g c begun since k loaded (Insert false) (occupies y at word)) (sym (live_kind e)) (had_pair (inl e))
     trying loaded (inr e) =
         subst (λ y. ReliesStage g c begun since k loaded (Insert false) (occupies y at word)) (sym (marked_kind e)) (tt, (h.stands.come, moving e))
 
     -- a removal
-    removing : (loaded : LoadedPairs P) → loaded.last ≡ Some p → (h.was ≡ Live p) ⊎ (h.was ≡ Marked p) → ReliesStage g c begun since k loaded RemoveIf (removes (kind_of word) at word)
-    removing loaded last (inl e) = subst (λ y. ReliesStage g c begun since k loaded RemoveIf (removes y at word)) (sym (live_kind e)) (tt, removable loaded last e)
+    removing : (loaded : LoadedPairs P) → loaded.last ≡ Some p → (h.was ≡ Live p) ⊎ (h.was ≡ Marked p)
+        → ReliesStage g c begun since k loaded RemoveIf (removes (kind_of word) at word)
+    removing loaded last (inl e) = subst (λ y. ReliesStage g c begun since k loaded RemoveIf (removes y at word)) (sym (live_kind e))
+        (tt, removable loaded last e)
     removing loaded last (inr e) =
         subst (λ y. ReliesStage g c begun since k loaded RemoveIf (removes y at word)) (sym (marked_kind e)) (tt, (h.stands.come, moving e))
 
     -- a compute
-    computing : (loaded : LoadedPairs P) → loaded.last ≡ Some p → (held : Remembered) → ReliesChoice g c begun since k loaded held.choice → (h.was ≡ Live p) ⊎ (h.was ≡ Marked p)
+    computing : (loaded : LoadedPairs P) → loaded.last ≡ Some p → (held : Remembered) → ReliesChoice g c begun since k loaded held.choice
+        → (h.was ≡ Live p) ⊎ (h.was ≡ Marked p)
         → ReliesStage g c begun since k loaded Compute (computes (kind_of word) held at word)
     computing loaded last held own (inl e) =
         subst (λ y. ReliesStage g c begun since k loaded Compute (computes y held at word)) (sym (live_kind e))
@@ -95,7 +116,8 @@ module _ {K P : Type 0} (g : Setting K P) (c : Coding K P) (hashed : IsHashed g 
         subst (λ y. ReliesStage g c begun since k loaded Compute (computes y held at word)) (sym (marked_kind e)) (tt, (h.stands.come, moving e))
 
     -- each task
-    finds : (loaded : LoadedPairs P) → loaded.last ≡ Some p → (held : Remembered) → ReliesChoice g c begun since k loaded held.choice → (task : Task) → (h.was ≡ Live p) ⊎ (h.was ≡ Marked p)
+    finds : (loaded : LoadedPairs P) → loaded.last ≡ Some p → (held : Remembered) → ReliesChoice g c begun since k loaded held.choice → (task : Task)
+        → (h.was ≡ Live p) ⊎ (h.was ≡ Marked p)
         → ReliesStage g c begun since k loaded task (found task held at word)
     finds loaded last held own Get e = had_pair e
     finds loaded last held own (Insert false) e = trying loaded e
@@ -105,11 +127,14 @@ module _ {K P : Type 0} (g : Setting K P) (c : Coding K P) (hashed : IsHashed g 
 
   -- a call that looks for its key comes to an Empty place
   empty_relies : (at : Place) → IsAt g c begun since k at → now.slot at.table at.probe.i ≡ Word.Empty → WasAtMoment g c begun since k None
-  empty_relies at r e = empty_here g c hashed.lawful begun since may k at.table at.probe.len r.come r.within r.before (sees g c hashed begun since k at r Word.Empty e)
+  empty_relies at r e = empty_here g c hashed.lawful begun since may k at.table at.probe.len r.come r.within r.before
+      (sees g c hashed begun since k at r Word.Empty e)
 
-  module _ (loaded : LoadedPairs P) (held : Remembered) (fill : ReliesFill g c begun since k loaded held.fill) (choice : ReliesChoice g c begun since k loaded held.choice) where
+  module _ (loaded : LoadedPairs P) (held : Remembered) (fill : ReliesFill g c begun since k loaded held.fill)
+      (choice : ReliesChoice g c begun since k loaded held.choice) where
     -- what the search saw leads where the machine relies on what holds
-    pub goes_relies : (task : Task) (mode : ResizeMode) → IsModeOf mode g.blocking → (s : Probed) → ReliesProbed g c hashed begun since k loaded s → ReliesStage g c begun since k loaded task (goes_as task mode held s)
+    pub goes_relies : (task : Task) (mode : ResizeMode) → IsModeOf mode g.blocking → (s : Probed) → ReliesProbed g c hashed begun since k loaded s
+        → ReliesStage g c begun since k loaded task (goes_as task mode held s)
     goes_relies task mode is (seen.On _) r = r
     goes_relies task mode is (seen.Here at word) r = finds at word r.0 r.2 r.3 loaded r.1 held choice task r.4
     goes_relies Get mode is (seen.Empty at) r = empty_relies at r.0 r.1
@@ -121,5 +146,6 @@ module _ {K P : Type 0} (g : Setting K P) (c : Coding K P) (hashed : IsHashed g 
     goes_relies RemoveIf (Incremental chunk) is (seen.Over t) r = (is, r.0, r.1)
     goes_relies RemoveIf Blocking is (seen.Over t) r = over_blocking g c hashed.lawful begun since may k t r.0 is r.1
     goes_relies Compute (Incremental chunk) is (seen.Over t) r = (is, r.0, r.1)
-    goes_relies Compute Blocking is (seen.Over t) r = lacks_relies g c begun since k loaded held.fill fill (After t) r (over_blocking g c hashed.lawful begun since may k t r.0 is r.1)
+    goes_relies Compute Blocking is (seen.Over t) r = lacks_relies g c begun since k loaded held.fill fill (After t) r
+        (over_blocking g c hashed.lawful begun since may k t r.0 is r.1)
     goes_relies (Insert replace) mode is (seen.Over t) r = (tt, r)

@@ -20,7 +20,8 @@ module _ {K P : Type 0} (g : Setting K P) (c : Coding K P) (begun since : List (
   abbrev pub KeysLast : List (Exchange P) → Type 0
   KeysLast since' = (t x : ℕ) (key : K) → IsOfKey g ((now g c begun since k).slot t x) key → IsOfKey g ((now g c begun since' k).slot t x) key
 
-  module _ (since' : List (Exchange P)) (last : KeysLast since') (loaded loaded' : LoadedPairs P) (kept : (q : P) → IsOneOf loaded.made q → IsOneOf loaded'.made q) where
+  module _ (since' : List (Exchange P)) (last : KeysLast since') (loaded loaded' : LoadedPairs P)
+      (kept : (q : P) → IsOneOf loaded.made q → IsOneOf loaded'.made q) where
     -- a pair that the call made is one of more
     own_kept : (n : ℕ) → IsOwnPair g c begun since k loaded n → IsOwnPair g c begun since' k loaded' n
     own_kept n r = (r.0, kept r.0 r.1, r.2, r.3)
@@ -46,7 +47,8 @@ module _ {K P : Type 0} (g : Setting K P) (c : Coding K P) (begun since : List (
     choice_kept (Some (To_remove old)) r = r
 
     -- all of it, where each pair is still of the key's class
-    pub loaded_kept : ((q : P) → IsOneOf loaded'.made q → g.same k (g.key q) ≡ true) → (made : Made) (held : Remembered) → ReliesLoaded g c begun since k loaded made held → ReliesLoaded g c begun since' k loaded' made held
+    pub loaded_kept : ((q : P) → IsOneOf loaded'.made q → g.same k (g.key q) ≡ true) → (made : Made) (held : Remembered)
+        → ReliesLoaded g c begun since k loaded made held → ReliesLoaded g c begun since' k loaded' made held
     loaded_kept keys made held r = record {
       keys = keys;
       limit = r.limit;
@@ -58,7 +60,8 @@ module _ {K P : Type 0} (g : Setting K P) (c : Coding K P) (begun since : List (
     }
 
   -- another exchange says nothing of what was made
-  pub loaded_later : (since' : List (Exchange P)) → KeysLast since' → (loaded : LoadedPairs P) (made : Made) (held : Remembered) → ReliesLoaded g c begun since k loaded made held → ReliesLoaded g c begun since' k loaded made held
+  pub loaded_later : (since' : List (Exchange P)) → KeysLast since' → (loaded : LoadedPairs P) (made : Made) (held : Remembered)
+      → ReliesLoaded g c begun since k loaded made held → ReliesLoaded g c begun since' k loaded made held
   loaded_later since' last loaded made held r = loaded_kept since' last loaded loaded (λ q one. one) r.keys made held r
 
   module _ (loaded : LoadedPairs P) (made : Made) (held : Remembered) (r : ReliesLoaded g c begun since k loaded made held) where
@@ -75,26 +78,75 @@ module _ {K P : Type 0} (g : Setting K P) (c : Coding K P) (begun since : List (
 
     -- the number of the next pair is another, and the key or the value was logged
     pub loaded_number : (number : Number) → ReliesNumber g c begun since k number → ReliesLoaded g c begun since k loaded (record made { number = number }) held
-    loaded_number number is = record { keys = r.keys; limit = r.limit; number_is = is; own_is = r.own_is; of_is = r.of_is; fill_is = r.fill_is; choice_is = r.choice_is }
+    loaded_number number is = record {
+      keys = r.keys;
+      limit = r.limit;
+      number_is = is;
+      own_is = r.own_is;
+      of_is = r.of_is;
+      fill_is = r.fill_is;
+      choice_is = r.choice_is;
+    }
 
     pub loaded_keyed : ReliesLoaded g c begun since k loaded (record made { keyed = true }) held
-    loaded_keyed = record { keys = r.keys; limit = r.limit; number_is = r.number_is; own_is = r.own_is; of_is = r.of_is; fill_is = r.fill_is; choice_is = r.choice_is }
+    loaded_keyed = record {
+      keys = r.keys;
+      limit = r.limit;
+      number_is = r.number_is;
+      own_is = r.own_is;
+      of_is = r.of_is;
+      fill_is = r.fill_is;
+      choice_is = r.choice_is;
+    }
 
     pub loaded_valued : ReliesLoaded g c begun since k loaded (record made { valued = true }) held
-    loaded_valued = record { keys = r.keys; limit = r.limit; number_is = r.number_is; own_is = r.own_is; of_is = r.of_is; fill_is = r.fill_is; choice_is = r.choice_is }
+    loaded_valued = record {
+      keys = r.keys;
+      limit = r.limit;
+      number_is = r.number_is;
+      own_is = r.own_is;
+      of_is = r.of_is;
+      fill_is = r.fill_is;
+      choice_is = r.choice_is;
+    }
 
     -- or a value was answered
     pub loaded_answered : (kind : OpKind) → ReliesLoaded g c begun since k loaded (answered kind made) held
-    loaded_answered ops.Insert = record { keys = r.keys; limit = r.limit; number_is = r.number_is; own_is = r.own_is; of_is = r.of_is; fill_is = r.fill_is; choice_is = r.choice_is }
+    loaded_answered ops.Insert = record {
+      keys = r.keys;
+      limit = r.limit;
+      number_is = r.number_is;
+      own_is = r.own_is;
+      of_is = r.of_is;
+      fill_is = r.fill_is;
+      choice_is = r.choice_is;
+    }
     loaded_answered ops.Remove = r
     loaded_answered (ops.Abort t) = r
 
     -- a pair of an insertion was made
     pub loaded_own : (n : ℕ) → IsOwnPair g c begun since k loaded n → ReliesLoaded g c begun since k loaded (record made { own = Some n }) held
-    loaded_own n is = record { keys = r.keys; limit = r.limit; number_is = r.number_is; own_is = is; of_is = r.of_is; fill_is = r.fill_is; choice_is = r.choice_is }
+    loaded_own n is = record {
+      keys = r.keys;
+      limit = r.limit;
+      number_is = r.number_is;
+      own_is = is;
+      of_is = r.of_is;
+      fill_is = r.fill_is;
+      choice_is = r.choice_is;
+    }
 
-    pub loaded_of : (of : Of) → IsPairAt g c begun since k loaded of.pair of.table of.index → ReliesLoaded g c begun since k loaded (record made { of = Some of }) held
-    loaded_of of is = record { keys = r.keys; limit = r.limit; number_is = r.number_is; own_is = r.own_is; of_is = is; fill_is = r.fill_is; choice_is = r.choice_is }
+    pub loaded_of : (of : Of) → IsPairAt g c begun since k loaded of.pair of.table of.index
+        → ReliesLoaded g c begun since k loaded (record made { of = Some of }) held
+    loaded_of of is = record {
+      keys = r.keys;
+      limit = r.limit;
+      number_is = r.number_is;
+      own_is = r.own_is;
+      of_is = is;
+      fill_is = r.fill_is;
+      choice_is = r.choice_is;
+    }
 
   module _ (loaded : LoadedPairs P) (q : P) where
     -- the newest pair is the call's own, where it has its key
@@ -102,5 +154,6 @@ module _ {K P : Type 0} (g : Setting K P) (c : Coding K P) (begun since : List (
     own_newest mine = (q, inl refl, refl, mine)
 
     -- or one of a slot's key
-    pub at_newest : (t x : ℕ) → IsOfKey g ((now g c begun since k).slot t x) (g.key q) → IsPairAt g c begun since k (record loaded { made = q ∷ loaded.made }) (c.number q) t x
+    pub at_newest : (t x : ℕ) → IsOfKey g ((now g c begun since k).slot t x) (g.key q)
+        → IsPairAt g c begun since k (record loaded { made = q ∷ loaded.made }) (c.number q) t x
     at_newest t x is = (q, inl refl, refl, is)

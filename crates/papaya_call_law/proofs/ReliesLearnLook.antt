@@ -41,16 +41,19 @@ module _ {K P : Type 0} (g : Setting K P) (k : K) where
   held_pair (Live q) p n h = let is : q ≡ p = cc n in inl (one_held (g.same k (g.key q)) (Here q) h ∙ ap Here is)
   held_pair (Marked q) p n h = let is : q ≡ p = cc n in inr (one_held (g.same k (g.key q)) (Leaving q) h ∙ ap Leaving is)
   held_pair (Copied q) p n h = let e = one_held (g.same k (g.key q)) (Gone q) h in let no : held (Gone q) ≡ true = subst (λ v. held v ≡ true) e h in absurd cc
-  held_pair (Tombstone q) p n h = let e = one_held (g.same k (g.key q)) (View.Grave q) h in let no : held (View.Grave q) ≡ true = subst (λ v. held v ≡ true) e h in absurd cc
+  held_pair (Tombstone q) p n h = let e = one_held (g.same k (g.key q)) (View.Grave q) h in
+      let no : held (View.Grave q) ≡ true = subst (λ v. held v ≡ true) e h in absurd cc
 
-module _ {K P : Type 0} (g : Setting K P) (c : Coding K P) (hashed : IsHashed g c) (begun since : List (Exchange P)) (may : AllAllowed g start (begun ++ since)) (k : K) where
+module _ {K P : Type 0} (g : Setting K P) (c : Coding K P) (hashed : IsHashed g c) (begun since : List (Exchange P))
+    (may : AllAllowed g start (begun ++ since)) (k : K) where
   -- the state after all exchanges
   abbrev now : State P
   now = run (begun ++ since) start
 
   module _ (at : Place) (r : IsAt g c begun since k at) where
     -- the pair that the word at the place names is met
-    met : (w : Word P) (p : P) → now.slot at.table at.probe.i ≡ w → named w ≡ Some p → (kind w ≡ kinds.Tombstone → ⊥) → HasMet g c begun since k at (code g c w) p
+    met : (w : Word P) (p : P) → now.slot at.table at.probe.i ≡ w → named w ≡ Some p → (kind w ≡ kinds.Tombstone → ⊥)
+        → HasMet g c begun since k at (code g c w) p
     met w p e n undeleted = record {
       stands = r;
       was = w;
@@ -66,11 +69,13 @@ module _ {K P : Type 0} (g : Setting K P) (c : Coding K P) (hashed : IsHashed g 
     }
 
     -- a filled word is compared
-    compares : (w : Word P) (p : P) → now.slot at.table at.probe.i ≡ w → named w ≡ Some p → (kind w ≡ kinds.Tombstone → ⊥) → (loaded : LoadedPairs P) → ReliesProbed g c hashed begun since k (told_word w loaded) (seen.On (Comparing at (code g c w)))
+    compares : (w : Word P) (p : P) → now.slot at.table at.probe.i ≡ w → named w ≡ Some p → (kind w ≡ kinds.Tombstone → ⊥) → (loaded : LoadedPairs P)
+        → ReliesProbed g c hashed begun since k (told_word w loaded) (seen.On (Comparing at (code g c w)))
     compares w p e n undeleted loaded = (p, ap (λ o. or_last o loaded.last) n, met w p e n undeleted)
 
     -- a hint that may be there: the word is loaded next, or the place is passed
-    pub hints : (loaded : LoadedPairs P) (hash n : ℕ) → hash ≡ c.hash k → IsHint g c now at.table at.probe.i n → ReliesProbed g c hashed begun since k loaded (hinted at hash n)
+    pub hints : (loaded : LoadedPairs P) (hash n : ℕ) → hash ≡ c.hash k → IsHint g c now at.table at.probe.i n
+        → ReliesProbed g c hashed begun since k loaded (hinted at hash n)
     hints loaded hash n same is =
         let w : Word P = now.slot at.table at.probe.i in
         cond_both (may_hold n hash) (seen.On (Reading at)) (go_on at) (ReliesProbed g c hashed begun since k loaded)
@@ -80,11 +85,13 @@ module _ {K P : Type 0} (g : Setting K P) (c : Coding K P) (hashed : IsHashed g 
         goes_on g c hashed begun since k at r (ap beyond (sees g c hashed begun since k at r w refl ∙ foreign)) loaded)
 
     -- a word that is passed whatever its key
-    passes : (w : Word P) → now.slot at.table at.probe.i ≡ w → beyond (view g k w) ≡ true → (loaded : LoadedPairs P) → ReliesProbed g c hashed begun since k (told_word w loaded) (go_on at)
+    passes : (w : Word P) → now.slot at.table at.probe.i ≡ w → beyond (view g k w) ≡ true → (loaded : LoadedPairs P)
+        → ReliesProbed g c hashed begun since k (told_word w loaded) (go_on at)
     passes w e past loaded = goes_on g c hashed begun since k at r (ap beyond (sees g c hashed begun since k at r w e) ∙ past) (told_word w loaded)
 
     -- by the word's kind
-    by_kind : (w : Word P) → now.slot at.table at.probe.i ≡ w → (loaded : LoadedPairs P) → ReliesProbed g c hashed begun since k (told_word w loaded) (look_at (kind w) at (code g c w))
+    by_kind : (w : Word P) → now.slot at.table at.probe.i ≡ w → (loaded : LoadedPairs P)
+        → ReliesProbed g c hashed begun since k (told_word w loaded) (look_at (kind w) at (code g c w))
     by_kind Empty e loaded = (r, e)
     by_kind Closed e loaded = passes Closed e refl loaded
     by_kind (Live p) e loaded = compares (Live p) p e refl (λ q. cc) loaded
@@ -93,7 +100,8 @@ module _ {K P : Type 0} (g : Setting K P) (c : Coding K P) (hashed : IsHashed g 
     by_kind (Tombstone p) e loaded = passes (Tombstone p) e (past_tombstone g c k (Tombstone p) (code_kind g c (Tombstone p))) loaded
 
     -- what the word that stands there tells
-    pub looks : (loaded : LoadedPairs P) → ReliesProbed g c hashed begun since k (told_word (now.slot at.table at.probe.i) loaded) (look_seen at (code g c (now.slot at.table at.probe.i)))
+    pub looks : (loaded : LoadedPairs P) → ReliesProbed g c hashed begun since k (told_word (now.slot at.table at.probe.i) loaded)
+        (look_seen at (code g c (now.slot at.table at.probe.i)))
     looks loaded =
         let w : Word P = now.slot at.table at.probe.i in
         subst (λ y. ReliesProbed g c hashed begun since k (told_word w loaded) (look_at y at (code g c w))) (sym (code_kind g c w)) (by_kind w refl loaded)
@@ -112,14 +120,16 @@ module _ {K P : Type 0} (g : Setting K P) (c : Coding K P) (hashed : IsHashed g 
     became_of w e = subst (λ v. Becomes g v (now.slot at.table at.probe.i)) e h.became
 
     -- the key's pair
-    matches : g.same k (g.key p) ≡ true → (loaded : LoadedPairs P) → loaded.last ≡ Some p → (w : Word P) → h.was ≡ w → ReliesProbed g c hashed begun since k loaded (match_at (kind w) at word)
+    matches : g.same k (g.key p) ≡ true → (loaded : LoadedPairs P) → loaded.last ≡ Some p → (w : Word P) → h.was ≡ w
+        → ReliesProbed g c hashed begun since k loaded (match_at (kind w) at word)
     matches same loaded last Empty e = absurd (let n = h.names in let there = ap named e in cc (n, there))
     matches same loaded last Closed e = absurd (let n = h.names in let there = ap named e in cc (n, there))
     matches same loaded last (Live q) e = (p, last, h, same, inl (e ∙ ap Live (same_pair (Live q) q refl e)))
     matches same loaded last (Marked q) e = (p, last, h, same, inr (e ∙ ap Marked (same_pair (Marked q) q refl e)))
     matches same loaded last (Copied q) e =
         let mine : g.same k (g.key q) ≡ true = subst (λ y. g.same k (g.key y) ≡ true) (sym (same_pair (Copied q) q refl e)) same in
-        let gone : look g now k at.table at.probe.len ≡ Gone q = sees g c hashed begun since k at h.stands (Copied q) (became_of (Copied q) e) ∙ ap (λ b. cond b (Gone q) Foreign) mine in
+        let gone : look g now k at.table at.probe.len ≡ Gone q = sees g c hashed begun since k at h.stands (Copied q) (became_of (Copied q) e)
+        ∙ ap (λ b. cond b (Gone q) Foreign) mine in
         (h.stands.come, inl (at.probe.len, q, h.stands.within, gone))
     matches same loaded last (Tombstone q) e = absurd (h.undeleted (kind_then (Tombstone q) e))
 
@@ -127,11 +137,15 @@ module _ {K P : Type 0} (g : Setting K P) (c : Coding K P) (hashed : IsHashed g 
     differs : g.same k (g.key p) ≡ false → (loaded : LoadedPairs P) → ReliesProbed g c hashed begun since k loaded (go_on at)
     differs other loaded =
         let then' : view g k h.was ≡ Foreign = other_key g k h.was p h.names other in
-        let still : Sees (view g k h.was) (view g k (now.slot at.table at.probe.i)) = sees_later g hashed.lawful k h.was (now.slot at.table at.probe.i) h.became in
+        let still : Sees (view g k h.was) (view g k (now.slot at.table at.probe.i)) = sees_later g hashed.lawful k h.was
+        (now.slot at.table at.probe.i) h.became in
         let foreign : view g k (now.slot at.table at.probe.i) ≡ Foreign = subst (λ v. Sees v (view g k (now.slot at.table at.probe.i))) then' still in
-        goes_on g c hashed begun since k at h.stands (ap beyond (sees g c hashed begun since k at h.stands (now.slot at.table at.probe.i) refl ∙ foreign)) loaded
+        goes_on g c hashed begun since k at h.stands
+        (ap beyond (sees g c hashed begun since k at h.stands (now.slot at.table at.probe.i) refl ∙ foreign)) loaded
 
     -- what the comparison tells
-    pub compared : (loaded : LoadedPairs P) → loaded.last ≡ Some p → (same : Bool) → g.same k (g.key p) ≡ same → ReliesProbed g c hashed begun since k loaded (at_yes (Comparing at word) same)
-    compared loaded last true e = subst (λ y. ReliesProbed g c hashed begun since k loaded (match_at y at word)) (sym (kind_then h.was refl)) (matches e loaded last h.was refl)
+    pub compared : (loaded : LoadedPairs P) → loaded.last ≡ Some p → (same : Bool) → g.same k (g.key p) ≡ same
+        → ReliesProbed g c hashed begun since k loaded (at_yes (Comparing at word) same)
+    compared loaded last true e = subst (λ y. ReliesProbed g c hashed begun since k loaded (match_at y at word)) (sym (kind_then h.was refl))
+        (matches e loaded last h.was refl)
     compared loaded last false e = differs e loaded

@@ -1,5 +1,6 @@
 -- What a search finds where it has come to is the map's at a moment of the call.
-use Rattle.std.proofs.Common.{◌≡◌, ◌⊎◌, inl, inr, ⊎_elim, ℕ, ◌<◌, true, false, Option, None, Some, List, [], ◌++◌, append_assoc, append-nil, refl, sym, ap, ◌∙◌, subst}
+use Rattle.std.proofs.Common.{◌≡◌, ◌⊎◌, inl, inr, ⊎_elim, ℕ, ◌<◌, true, false, Option, None, Some}
+use Rattle.std.proofs.Common.{List, [], ◌++◌, append_assoc, append-nil, refl, sym, ap, ◌∙◌, subst}
 use Rattle.std.proofs.lemmas.Bool.{cases_Bool}
 use Rattle.papaya_law.specs.Exchange.{Live, Tombstone, Setting, State, Exchange, run, start}
 use Rattle.papaya_law.specs.View.{Free, Here, Leaving, look, beyond, IsPassed, IsReached}
@@ -12,7 +13,8 @@ use Rattle.papaya_law.proofs.Moments.{run-append, map_of-append, allowed_first, 
 use Rattle.papaya_law.proofs.Onward.{next_reached}
 use Rattle.papaya_law.proofs.OneMap.{means_map, root_is_reached, lasting, reader_found, reader_empty, reader_over}
 
-module _ {K P : Type 0} (g : Setting K P) (c : Coding K P) (law : IsLawful g) (begun since : List (Exchange P)) (may : AllAllowed g start (begun ++ since)) (k : K) where
+module _ {K P : Type 0} (g : Setting K P) (c : Coding K P) (law : IsLawful g) (begun since : List (Exchange P))
+    (may : AllAllowed g start (begun ++ since)) (k : K) where
   -- the state after all exchanges
   abbrev now : State P
   now = run (begun ++ since) start
@@ -46,7 +48,8 @@ module _ {K P : Type 0} (g : Setting K P) (c : Coding K P) (law : IsLawful g) (b
     root_then : (t : ℕ) → 0 < t → (run (begun ++ es) start).root ≡ t → IsReached g now k t
     root_then t some root =
         let first : AllAllowed g start (begun ++ es) = allowed_first g (begun ++ es) fs start may-split in
-        let at : IsReached g (run (begun ++ es) start) k t = subst (IsReached g (run (begun ++ es) start) k) root (root_is_reached g law (begun ++ es) first k (subst (λ y. 0 < y) (sym root) some)) in
+        let at : IsReached g (run (begun ++ es) start) k t = subst (IsReached g (run (begun ++ es) start) k) root
+        (root_is_reached g law (begun ++ es) first k (subst (λ y. 0 < y) (sym root) some)) in
         subst (λ l. IsReached g (run l start) k t) (sym split) ((lasting g law (begun ++ es) fs may-split).reached k t at)
 
   -- where a search has come to is reached, in both modes
@@ -54,7 +57,8 @@ module _ {K P : Type 0} (g : Setting K P) (c : Coding K P) (law : IsLawful g) (b
   come_reached t r = ⊎_elim (λ h. h.1) (λ h. let m = h.1 in root_then m.0 m.1 m.2 t r.some m.3) r.is
 
   -- a pair that is found
-  pub found_here : (t j : ℕ) (p : P) → HasComeTo g c begun since k t → j < g.places t → (look g now k t j ≡ Here p) ⊎ (look g now k t j ≡ Leaving p) → WasAtMoment g c begun since k (Some p)
+  pub found_here : (t j : ℕ) (p : P) → HasComeTo g c begun since k t → j < g.places t → (look g now k t j ≡ Here p) ⊎ (look g now k t j ≡ Leaving p)
+      → WasAtMoment g c begun since k (Some p)
   found_here t j p r lt h =
       ⊎_elim
       (λ a. at_now (Some p) ((means_map g law (begun ++ since) may k).found t j p a.1 (λ b. absurd (let d = a.0 in cc (b, d))) lt h))
@@ -63,7 +67,8 @@ module _ {K P : Type 0} (g : Setting K P) (c : Coding K P) (law : IsLawful g) (b
       r.is
 
   -- an Empty place
-  pub empty_here : (t j : ℕ) → HasComeTo g c begun since k t → j < g.places t → ((i : ℕ) → i < j → beyond (look g now k t i) ≡ true) → look g now k t j ≡ Free → WasAtMoment g c begun since k None
+  pub empty_here : (t j : ℕ) → HasComeTo g c begun since k t → j < g.places t → ((i : ℕ) → i < j → beyond (look g now k t i) ≡ true)
+      → look g now k t j ≡ Free → WasAtMoment g c begun since k None
   empty_here t j r lt all h =
       ⊎_elim
       (λ a. at_now None ((means_map g law (begun ++ since) may k).empty t j a.1 (λ b. absurd (let d = a.0 in cc (b, d))) lt all h))
@@ -73,9 +78,11 @@ module _ {K P : Type 0} (g : Setting K P) (c : Coding K P) (law : IsLawful g) (b
       r.is
 
   -- a pair of the key that stood Live in a slot at a moment, and is Tombstone there now
-  pub tombstone_here : (es fs : List (Exchange P)) → es ++ fs ≡ since → (t x : ℕ) (p q : P) → (run (begun ++ es) start).slot t x ≡ Live p → g.same k (g.key p) ≡ true → now.slot t x ≡ Tombstone q → WasAtMoment g c begun since k None
+  pub tombstone_here : (es fs : List (Exchange P)) → es ++ fs ≡ since → (t x : ℕ) (p q : P) → (run (begun ++ es) start).slot t x ≡ Live p
+      → g.same k (g.key p) ≡ true → now.slot t x ≡ Tombstone q → WasAtMoment g c begun since k None
   tombstone_here es fs e t x p q live same tombstone =
-      at_deeper es fs e None (tombstone_between g law t x q k fs (run (begun ++ es) start) (map_left g (begun ++ es)) (allowed_rest g (begun ++ es) fs start (may-split es fs e)) p live same
+      at_deeper es fs e None (tombstone_between g law t x q k fs (run (begun ++ es) start) (map_left g (begun ++ es))
+      (allowed_rest g (begun ++ es) fs start (may-split es fs e)) p live same
       (ap (λ s. s.slot t x) (sym (run-append (begun ++ es) fs start)) ∙ (ap (λ l. (run l start).slot t x) (sym (split es fs e)) ∙ tombstone)))
 
   -- with blocking, a passed table
@@ -88,7 +95,8 @@ module _ {K P : Type 0} (g : Setting K P) (c : Coding K P) (law : IsLawful g) (b
       r.is
 
   -- without blocking, a passed table with no next one
-  pub over_last : (t : ℕ) → HasComeTo g c begun since k t → g.blocking ≡ false → IsPassed g.places (look g now k) t → now.next t ≡ 0 → WasAtMoment g c begun since k None
+  pub over_last : (t : ℕ) → HasComeTo g c begun since k t → g.blocking ≡ false → IsPassed g.places (look g now k) t → now.next t ≡ 0
+      → WasAtMoment g c begun since k None
   over_last t r inc pass last = at_now None ((means_map g law (begun ++ since) may k).over t (come_reached t r) pass (inr (inc, last)))
 
   -- no root
@@ -103,5 +111,6 @@ module _ {K P : Type 0} (g : Setting K P) (c : Coding K P) (law : IsLawful g) (b
   }
 
   -- without blocking, it goes on from a passed table
-  pub next_come : (t : ℕ) → HasComeTo g c begun since k t → g.blocking ≡ false → IsPassed g.places (look g now k) t → 0 < now.next t → HasComeTo g c begun since k (now.next t)
+  pub next_come : (t : ℕ) → HasComeTo g c begun since k t → g.blocking ≡ false → IsPassed g.places (look g now k) t → 0 < now.next t
+      → HasComeTo g c begun since k (now.next t)
   next_come t r inc pass some = record { some = some; is = inl (inc, next_reached g now inc k t (come_reached t r) pass some) }

@@ -1,5 +1,7 @@
 -- A call that makes a pair: its number, its key and its value, and the pair itself.
-use Rattle.std.proofs.Common.{◌≡◌, inl, inr, ⊎_elim, ℕ, ◌<◌, ◌==◌, nat_lt, ltb-true, eq-eqb, Bool, true, false, cond, MatchBool, MatchOption, Option, None, Some, List, ◌∷◌, ◌++◌, refl, sym, ap, ◌∙◌, subst}
+use Rattle.std.proofs.Common.{◌≡◌, inl, inr, ⊎_elim, ℕ, ◌<◌, ◌==◌, nat_lt, ltb-true, eq-eqb, Bool}
+use Rattle.std.proofs.Common.{true, false, cond, MatchBool, MatchOption, Option, None, Some, List}
+use Rattle.std.proofs.Common.{◌∷◌, ◌++◌, refl, sym, ap, ◌∙◌, subst}
 use Rattle.std.proofs.lemmas.Bool.{cond_both}
 use Rattle.papaya_words.specs.Word.{pair_of}
 use Rattle.papaya_ask.specs.declared.call.Task.{Task}
@@ -27,9 +29,11 @@ abbrev pub grown_by : Bool → (keyed valued : Bool) → Made → Grown
 grown_by true keyed valued made = own_grown keyed valued made
 grown_by false keyed valued made = of_grown valued made
 
-pub grown_is : (made : Made) (old : ℕ) (b keyed valued : Bool) → made.number ≡ Taken → (old == 0) ≡ b → made.keyed ≡ keyed → made.valued ≡ valued → grown made old ≡ grown_by b keyed valued made
+pub grown_is : (made : Made) (old : ℕ) (b keyed valued : Bool) → made.number ≡ Taken → (old == 0) ≡ b → made.keyed ≡ keyed → made.valued ≡ valued
+    → grown made old ≡ grown_by b keyed valued made
 grown_is made old true keyed valued n b k v =
-    ap (λ y. grown_as y made old) n ∙ ap (λ y. cond y (own_grown made.keyed made.valued made) (of_grown made.valued made)) b ∙ ap (λ y. own_grown y made.valued made) k ∙ ap (λ y. own_grown keyed y made) v
+    ap (λ y. grown_as y made old) n ∙ ap (λ y. cond y (own_grown made.keyed made.valued made) (of_grown made.valued made)) b
+    ∙ ap (λ y. own_grown y made.valued made) k ∙ ap (λ y. own_grown keyed y made) v
 grown_is made old false keyed valued n b k v =
     ap (λ y. grown_as y made old) n ∙ ap (λ y. cond y (own_grown made.keyed made.valued made) (of_grown made.valued made)) b ∙ ap (λ y. of_grown y made) v
 
@@ -102,7 +106,8 @@ module _ {K P : Type 0} (g : Setting K P) (c : Coding K P) (hashed : IsHashed g 
       new_same = subst (λ l. g.same k l ≡ true) (sym kept) r.same
 
       pub new_at : IsPairAt g c begun since k (record loaded { made = q ∷ loaded.made }) (c.number q) removal.place.table removal.place.probe.i
-      new_at = at_newest g c begun since k loaded q removal.place.table removal.place.probe.i (subst (IsOfKey g (now.slot removal.place.table removal.place.probe.i)) (sym kept) removal_key)
+      new_at = at_newest g c begun since k loaded q removal.place.table removal.place.probe.i
+          (subst (IsOfKey g (now.slot removal.place.table removal.place.probe.i)) (sym kept) removal_key)
 
   -- a pair of the call's own key is of the class
   pub own_same : (q : P) → g.key q ≡ k → g.same k (g.key q) ≡ true
@@ -122,17 +127,22 @@ module _ {K P : Type 0} (g : Setting K P) (c : Coding K P) (hashed : IsHashed g 
             w.old
 
     -- it serves there
-    pub write_paired : (made : Made) (held : Remembered) → ReliesLoaded g c begun since k loaded made held → IsNewFor loaded write.old q → ReliesLoaded g c begun since k (record loaded { made = q ∷ loaded.made }) (with_pair_at made write (c.number q)) held
+    pub write_paired : (made : Made) (held : Remembered) → ReliesLoaded g c begun since k loaded made held → IsNewFor loaded write.old q
+        → ReliesLoaded g c begun since k (record loaded { made = q ∷ loaded.made }) (with_pair_at made write (c.number q)) held
     write_paired made held r new =
         let told : LoadedPairs P = record loaded { made = q ∷ loaded.made } in
         let more = loaded_more g c begun since k loaded made held r q (write_same new) in
-        cond_both (write.old == 0) (record made { own = Some (c.number q) }) (record made { of = Some (made_of write (c.number q)) }) (λ m. ReliesLoaded g c begun since k told m held)
-        (λ e. loaded_own g c begun since k told made held more (c.number q) (own_newest g c begun since k loaded q (subst (λ b. MatchBool b (g.key q ≡ k) (IsOfLast g c k loaded (pair_of write.old) q)) e new)))
+        cond_both (write.old == 0) (record made { own = Some (c.number q) }) (record made { of = Some (made_of write (c.number q)) })
+        (λ m. ReliesLoaded g c begun since k told m held)
+        (λ e. loaded_own g c begun since k told made held more (c.number q)
+        (own_newest g c begun since k loaded q (subst (λ b. MatchBool b (g.key q ≡ k) (IsOfLast g c k loaded (pair_of write.old) q)) e new)))
         (λ e.
-        let of_last : IsOfLast g c k loaded (pair_of write.old) q = subst (λ b. MatchBool b (g.key q ≡ k) (IsOfLast g c k loaded (pair_of write.old) q)) e new in
+        let of_last : IsOfLast g c k loaded (pair_of write.old)
+        q = subst (λ b. MatchBool b (g.key q ≡ k) (IsOfLast g c k loaded (pair_of write.old) q)) e new in
         ⊎_elim
         (λ none. absurd (let some = eq-eqb write.old 0 none in cc (some, e)))
-        (λ o. loaded_of g c begun since k told made held more (made_of write (c.number q)) (new_at loaded (record { place = write.place; word = write.old }) o.1 q of_last))
+        (λ o. loaded_of g c begun since k told made held more (made_of write (c.number q))
+        (new_at loaded (record { place = write.place; word = write.old }) o.1 q of_last))
         w.old)
 
   module _ (loaded : LoadedPairs P) (q : P) where
@@ -146,16 +156,22 @@ module _ {K P : Type 0} (g : Setting K P) (c : Coding K P) (hashed : IsHashed g 
 
     -- and so does what a write takes the place of
     pub write_more : (replace : Bool) (write : Write) → MayWrite g c begun since k loaded replace write → MayWrite g c begun since k more_loaded replace write
-    write_more replace write r = record { stands = r.stands; old = ⊎_elim (λ e. inl e) (λ o. inr (o.0, removal_more (record { place = write.place; word = write.old }) o.1)) r.old }
+    write_more replace write r = record {
+      stands = r.stands;
+      old =
+          ⊎_elim (λ e. inl e) (λ o. inr (o.0, removal_more (record { place = write.place; word = write.old }) o.1)) r.old;
+    }
 
-    pub writing_more : (task : Task) (write : Write) → ReliesWriting g c begun since k loaded task write → ReliesWriting g c begun since k more_loaded task write
+    pub writing_more : (task : Task) (write : Write) → ReliesWriting g c begun since k loaded task write
+        → ReliesWriting g c begun since k more_loaded task write
     writing_more Get write r = r
     writing_more (Insert replace) write r = write_more replace write r
     writing_more RemoveIf write r = r
     writing_more Compute write r = r
 
     -- the newest pair of an insertion serves where it writes
-    pub writing_paired : (made : Made) (held : Remembered) → ReliesLoaded g c begun since k loaded made held → (task : Task) (write : Write) → ReliesWriting g c begun since k loaded task write → IsNewFor loaded write.old q
+    pub writing_paired : (made : Made) (held : Remembered) → ReliesLoaded g c begun since k loaded made held → (task : Task) (write : Write)
+        → ReliesWriting g c begun since k loaded task write → IsNewFor loaded write.old q
         → ReliesLoaded g c begun since k more_loaded (with_pair_at made write (c.number q)) held
     writing_paired made held r Get write w new = absurd w
     writing_paired made held r (Insert replace) write w new = write_paired loaded replace write w q made held r new

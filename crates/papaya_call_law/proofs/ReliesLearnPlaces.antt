@@ -1,5 +1,6 @@
 -- The places of a search: the first one, the next one, and that none is left.
-use Rattle.std.proofs.Common.{◌≡◌, ◌⊎◌, inr, ⊎_elim, ℕ, ◌+◌, ◌%◌, ◌<◌, ◌≤◌, nat_lt, ltb-true, ltb-false, true, Some, List, ◌++◌, refl, sym, ap, ◌∙◌, subst, arith}
+use Rattle.std.proofs.Common.{◌≡◌, ◌⊎◌, inr, ⊎_elim, ℕ, ◌+◌, ◌%◌, ◌<◌, ◌≤◌, nat_lt, ltb-true}
+use Rattle.std.proofs.Common.{ltb-false, true, Some, List, ◌++◌, refl, sym, ap, ◌∙◌, subst, arith}
 use Rattle.std.proofs.lemmas.Bool.{cases_lt, cond_both}
 use Rattle.papaya_words.specs.Probe.{place}
 use Rattle.papaya_words.proofs.Places.{place-next}
@@ -24,11 +25,13 @@ module _ {K P : Type 0} (g : Setting K P) (c : Coding K P) (hashed : IsHashed g 
   abbrev pub ReliesProbed : LoadedPairs P → Probed → Type 0
   ReliesProbed loaded (seen.On search) = ReliesSearch g c begun since k loaded search
   ReliesProbed loaded (seen.Empty at) = IsAt g c begun since k at × (now.slot at.table at.probe.i ≡ Empty)
-  ReliesProbed loaded (seen.Here at word) = (p : P) × (loaded.last ≡ Some p) × (h : HasMet g c begun since k at word p) × (g.same k (g.key p) ≡ true) × ((h.was ≡ Live p) ⊎ (h.was ≡ Marked p))
+  ReliesProbed loaded (seen.Here at word) = (p : P) × (loaded.last ≡ Some p) × (h : HasMet g c begun since k at word p) × (g.same k (g.key p) ≡ true)
+      × ((h.was ≡ Live p) ⊎ (h.was ≡ Marked p))
   ReliesProbed loaded (seen.Over t) = HasComeTo g c begun since k t × IsPassed g.places (look g now k) t
 
   -- a search begins at a table's first place
-  pub first : (t limit hash : ℕ) → HasComeTo g c begun since k t → limit + 1 ≡ g.places t → hash ≡ c.hash k → IsAt g c begun since k (first_place hash t (g.size t) limit)
+  pub first : (t limit hash : ℕ) → HasComeTo g c begun since k t → limit + 1 ≡ g.places t → hash ≡ c.hash k
+      → IsAt g c begun since k (first_place hash t (g.size t) limit)
   first t limit hash come most same = record {
     come = come;
     len = refl;

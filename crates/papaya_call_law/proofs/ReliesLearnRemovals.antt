@@ -27,7 +27,8 @@ use Rattle.papaya_call_law.proofs.ReliesLearnLook.{became_of}
 use Rattle.papaya_call_law.proofs.ReliesLearnMoments.{tombstone_here}
 use Rattle.papaya_call_law.proofs.ReliesLearnWrites.{IsSlotAsked, one_more}
 
-module _ {K P : Type 0} (g : Setting K P) (c : Coding K P) (hashed : IsHashed g c) (begun since : List (Exchange P)) (may : AllAllowed g start (begun ++ since)) (k : K) where
+module _ {K P : Type 0} (g : Setting K P) (c : Coding K P) (hashed : IsHashed g c) (begun since : List (Exchange P))
+    (may : AllAllowed g start (begun ++ since)) (k : K) where
   -- the state after all exchanges
   abbrev now : State P
   now = run (begun ++ since) start
@@ -43,7 +44,8 @@ module _ {K P : Type 0} (g : Setting K P) (c : Coding K P) (hashed : IsHashed g 
     -- the word that was loaded stood Live
     was_live : r.met.was ≡ Live r.pair
     was_live =
-        let live : IsOfKind word_kinds.Live r.met.was = subst (λ y. IsOfKind y r.met.was) (ap kind_of (sym r.met.as_loaded) ∙ r.live) (word_of_kind g c r.met.was) in
+        let live : IsOfKind word_kinds.Live r.met.was = subst (λ y. IsOfKind y r.met.was) (ap kind_of (sym r.met.as_loaded) ∙ r.live)
+        (word_of_kind g c r.met.was) in
         let names = ap named (sym live.1) ∙ r.met.names in
         let is : live.0 ≡ r.pair = cc names in
         live.1 ∙ ap Live is
@@ -57,10 +59,12 @@ module _ {K P : Type 0} (g : Setting K P) (c : Coding K P) (hashed : IsHashed g 
     same_now q is = let kept : g.key q ≡ g.key r.pair = subst (Becomes g (Live r.pair)) is became in subst (λ l. g.same k l ≡ true) (sym kept) r.same
 
     -- the deletion that was asked for is allowed
-    pub deletes : (new : ℕ) (es : List (Exchange P)) → IsSlotAsked g c hashed begun since may k (Some kinds.Delete) removal.place new loaded es → AllAllowed g start (begun ++ (since ++ es))
+    pub deletes : (new : ℕ) (es : List (Exchange P)) → IsSlotAsked g c hashed begun since may k (Some kinds.Delete) removal.place new loaded es
+        → AllAllowed g start (begun ++ (since ++ es))
     deletes new es h =
         let p : P = (h.1).0 in
-        let allows : Allows g now h.0 = subst (Allows g now) (sym (h.1).2) (may_delete g c hashed begun since may k removal.place r.met.stands p (h.1).1 (same_now p (h.1).1)) in
+        let allows : Allows g now h.0 = subst (Allows g now) (sym (h.1).2)
+        (may_delete g c hashed begun since may k removal.place r.met.stands p (h.1).1 (same_now p (h.1).1)) in
         subst (λ l. AllAllowed g start (begun ++ (since ++ l))) (sym h.2) (one_more g c hashed begun since may k h.0 allows)
 
     -- where the closure agrees the pair is to be deleted, and where it doesn't, the map had the pair
@@ -79,12 +83,16 @@ module _ {K P : Type 0} (g : Setting K P) (c : Coding K P) (hashed : IsHashed g 
     tombstone_absent : IsOfKind word_kinds.Tombstone (now.slot removal.place.table removal.place.probe.i) → WasAtMoment g c begun since k None
     tombstone_absent b =
         let m = r.met.stood in
-        tombstone_here g c hashed.lawful begun since may k m.0 (m.1).0 (m.1).1 removal.place.table removal.place.probe.i r.pair b.0 ((m.1).2 ∙ was_live) r.same b.1
+        tombstone_here g c hashed.lawful begun since may k m.0 (m.1).0 (m.1).1 removal.place.table removal.place.probe.i r.pair b.0
+        ((m.1).2 ∙ was_live) r.same b.1
 
     module _ (m : Machine) (loaded' : LoadedPairs P) (word : ℕ) (is : word ≡ code g c (now.slot removal.place.table removal.place.probe.i)) where
       -- so where another word stands, a removal is over if that is Tombstone, and else goes on as its search does
-      by_kind : ReliesStage g c begun since k loaded' RemoveIf (goes m (look_seen removal.place word)) → (y : Kind) → kind_of word ≡ y → ReliesStage g c begun since k loaded' RemoveIf (beaten_by y m removal.place word)
-      by_kind on word_kinds.Tombstone e = tombstone_absent (subst (λ y. IsOfKind y (now.slot removal.place.table removal.place.probe.i)) (ap kind_of (sym is) ∙ e) (word_of_kind g c (now.slot removal.place.table removal.place.probe.i)))
+      by_kind : ReliesStage g c begun since k loaded' RemoveIf (goes m (look_seen removal.place word)) → (y : Kind) → kind_of word ≡ y
+          → ReliesStage g c begun since k loaded' RemoveIf (beaten_by y m removal.place word)
+      by_kind on word_kinds.Tombstone e = tombstone_absent
+          (subst (λ y. IsOfKind y (now.slot removal.place.table removal.place.probe.i)) (ap kind_of (sym is) ∙ e)
+          (word_of_kind g c (now.slot removal.place.table removal.place.probe.i)))
       by_kind on word_kinds.Empty e = on
       by_kind on word_kinds.Live e = on
       by_kind on word_kinds.Marked e = on
@@ -92,7 +100,8 @@ module _ {K P : Type 0} (g : Setting K P) (c : Coding K P) (hashed : IsHashed g 
       by_kind on word_kinds.Closed e = on
 
       -- and a compute goes on in any case
-      pub beaten_relies : (task : Task) → HasClosure task → ReliesStage g c begun since k loaded' task (goes m (look_seen removal.place word)) → ReliesStage g c begun since k loaded' task (beaten_as task m removal.place word)
+      pub beaten_relies : (task : Task) → HasClosure task → ReliesStage g c begun since k loaded' task (goes m (look_seen removal.place word))
+          → ReliesStage g c begun since k loaded' task (beaten_as task m removal.place word)
       beaten_relies Get closure on = absurd closure
       beaten_relies (Insert replace) closure on = absurd closure
       beaten_relies RemoveIf closure on = by_kind on (kind_of word) refl

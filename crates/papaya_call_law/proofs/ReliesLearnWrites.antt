@@ -1,5 +1,7 @@
 -- After an exchange of its own a machine relies on what holds again, and the exchange was allowed.
-use Rattle.std.proofs.Common.{◌≡◌, ⊎_elim, ℕ, ◌<◌, ◌==◌, eqb-true, eq-eqb, Bool, true, false, cond, MatchBool, Option, Some, List, [], ◌∷◌, ◌++◌, append_assoc, refl, sym, ap, ◌∙◌, subst}
+use Rattle.std.proofs.Common.{◌≡◌, ⊎_elim, ℕ, ◌<◌, ◌==◌, eqb-true, eq-eqb, Bool, true, false, cond}
+use Rattle.std.proofs.Common.{MatchBool, Option, Some, List, [], ◌∷◌, ◌++◌, append_assoc, refl, sym}
+use Rattle.std.proofs.Common.{ap, ◌∙◌, subst}
 use Rattle.papaya_words.specs.Word.{pair_of, hint_of}
 use Rattle.papaya_ask.specs.declared.ask.At.TheVariants.{Root, Slot}
 use Rattle.papaya_ask.specs.declared.ask.StepKind.{StepKind}
@@ -27,7 +29,8 @@ use Rattle.papaya_call_law.proofs.ReliesExchange.{live_same, may_claim, may_repl
 use Rattle.papaya_call_law.proofs.ReliesLearnMoments.{root_come}
 use Rattle.papaya_law.specs.Hints.{IsHint}
 
-module _ {K P : Type 0} (g : Setting K P) (c : Coding K P) (hashed : IsHashed g c) (begun since : List (Exchange P)) (may : AllAllowed g start (begun ++ since)) (k : K) where
+module _ {K P : Type 0} (g : Setting K P) (c : Coding K P) (hashed : IsHashed g c) (begun since : List (Exchange P))
+    (may : AllAllowed g start (begun ++ since)) (k : K) where
   -- the state after all exchanges
   abbrev now : State P
   now = run (begun ++ since) start
@@ -41,17 +44,21 @@ module _ {K P : Type 0} (g : Setting K P) (c : Coding K P) (hashed : IsHashed g 
   after_more e = ap (λ l. run l start) (sym (append_assoc begun since (e ∷ []))) ∙ run-append (begun ++ since) (e ∷ []) start
 
   -- the root that was put in is come to
-  opened : (t : ℕ) → 0 < t → now.root ≡ 0 → (e : Exchange P) → e ≡ Open t → AllAllowed g start (begun ++ (since ++ e ∷ [])) × HasComeTo g c begun (since ++ e ∷ []) k t
+  opened : (t : ℕ) → 0 < t → now.root ≡ 0 → (e : Exchange P) → e ≡ Open t → AllAllowed g start (begun ++ (since ++ e ∷ []))
+      × HasComeTo g c begun (since ++ e ∷ []) k t
   opened t some none e is =
       let all : AllAllowed g start (begun ++ (since ++ Open t ∷ [])) = one_more (Open t) (none, some) in
       let root : (run (begun ++ (since ++ Open t ∷ [])) start).root ≡ t = ap (λ s. s.root) (after_more (Open t)) in
-      let come : HasComeTo g c begun (since ++ Open t ∷ []) k t = subst (HasComeTo g c begun (since ++ Open t ∷ []) k) root (root_come g c hashed.lawful begun (since ++ Open t ∷ []) all k (subst (λ y. 0 < y) (sym root) some)) in
+      let come : HasComeTo g c begun (since ++ Open t ∷ []) k t = subst (HasComeTo g c begun (since ++ Open t ∷ []) k) root
+      (root_come g c hashed.lawful begun (since ++ Open t ∷ []) all k (subst (λ y. 0 < y) (sym root) some)) in
       subst (λ y. AllAllowed g start (begun ++ (since ++ y ∷ [])) × HasComeTo g c begun (since ++ y ∷ []) k t) (sym is) (all, come)
 
   -- what was asked for at the root
-  pub opens : (t : ℕ) → 0 < t → now.root ≡ 0 → (loaded : LoadedPairs P) (es : List (Exchange P)) → ((e : Exchange P) × IsAsked g c k (Some kinds.Open) Root t now loaded e × (es ≡ e ∷ []))
+  pub opens : (t : ℕ) → 0 < t → now.root ≡ 0 → (loaded : LoadedPairs P) (es : List (Exchange P))
+      → ((e : Exchange P) × IsAsked g c k (Some kinds.Open) Root t now loaded e × (es ≡ e ∷ []))
       → AllAllowed g start (begun ++ (since ++ es)) × HasComeTo g c begun (since ++ es) k t
-  opens t some none loaded es h = subst (λ l. AllAllowed g start (begun ++ (since ++ l)) × HasComeTo g c begun (since ++ l) k t) (sym h.2) (opened t some none h.0 h.1)
+  opens t some none loaded es h = subst (λ l. AllAllowed g start (begun ++ (since ++ l)) × HasComeTo g c begun (since ++ l) k t) (sym h.2)
+      (opened t some none h.0 h.1)
 
   -- the word at a place of the search
   abbrev word_at : Place → ℕ
@@ -61,14 +68,18 @@ module _ {K P : Type 0} (g : Setting K P) (c : Coding K P) (hashed : IsHashed g 
   abbrev pub IsSlotAsked : Option StepKind → Place → ℕ → LoadedPairs P → List (Exchange P) → Type 0
   IsSlotAsked kind at new loaded es = (e : Exchange P) × IsAsked g c k kind (Slot at.table at.probe.i) new now loaded e × (es ≡ e ∷ [])
 
-  module _ (loaded : LoadedPairs P) (new : ℕ) (replace : Bool) (write : Write) (r : MayWrite g c begun since k loaded replace write) (old : word_at write.place ≡ write.old) where
+  module _ (loaded : LoadedPairs P) (new : ℕ) (replace : Bool) (write : Write) (r : MayWrite g c begun since k loaded replace write)
+      (old : word_at write.place ≡ write.old) where
     -- an exchange of a slot that was asked for where a machine writes is allowed
-    allowed_write : (b : Bool) → (write.old == 0) ≡ b → (e : Exchange P) → IsAsked g c k (Some (cond b kinds.Claim kinds.Replace)) (Slot write.place.table write.place.probe.i) new now loaded e → Allows g now e
-    allowed_write true is e h = subst (Allows g now) (sym h.3) (may_claim g c hashed begun since may k write.place r.stands h.0 h.2 (old ∙ eqb-true write.old 0 is))
+    allowed_write : (b : Bool) → (write.old == 0) ≡ b → (e : Exchange P)
+        → IsAsked g c k (Some (cond b kinds.Claim kinds.Replace)) (Slot write.place.table write.place.probe.i) new now loaded e → Allows g now e
+    allowed_write true is e h = subst (Allows g now) (sym h.3)
+        (may_claim g c hashed begun since may k write.place r.stands h.0 h.2 (old ∙ eqb-true write.old 0 is))
     allowed_write false is e h =
         ⊎_elim
         (λ none. absurd (let some = eq-eqb write.old 0 none in cc (some, is)))
-        (λ o. subst (Allows g now) (sym h.5) (may_replace g c hashed begun since may k write.place r.stands h.0 h.1 h.2 (live_same g c hashed begun since may k loaded (record { place = write.place; word = write.old }) o.1 h.0 h.2) h.4))
+        (λ o. subst (Allows g now) (sym h.5) (may_replace g c hashed begun since may k write.place r.stands h.0 h.1 h.2
+        (live_same g c hashed begun since may k loaded (record { place = write.place; word = write.old }) o.1 h.0 h.2) h.4))
         r.old
 
     -- so it may follow what was exchanged
@@ -81,14 +92,17 @@ module _ {K P : Type 0} (g : Setting K P) (c : Coding K P) (hashed : IsHashed g 
   claimed_there loaded new write es (e, (q, own, mine, is), one) =
       let t : ℕ = write.place.table in
       let x : ℕ = write.place.probe.i in
-      let there : (run (begun ++ (since ++ Claim t x q ∷ [])) start).slot t x ≡ Live q = ap (λ s. s.slot t x) (after_more (Claim t x q)) ∙ (put_there now t x (Live q) t x (refl, refl)).0 in
+      let there : (run (begun ++ (since ++ Claim t x q ∷ [])) start).slot t x ≡ Live q = ap (λ s. s.slot t x) (after_more (Claim t x q))
+      ∙ (put_there now t x (Live q) t x (refl, refl)).0 in
       let same : g.same k (g.key q) ≡ true = subst (λ l. g.same k l ≡ true) (sym mine) (hashed.lawful.itself k) in
       subst (λ l. IsHint g c (run (begun ++ (since ++ l)) start) t x (hint_of (c.hash k))) (sym (one ∙ ap (λ y. y ∷ []) is))
       (hint_fills g c hashed.coding k ((run (begun ++ (since ++ Claim t x q ∷ [])) start).slot t x) q there same)
 
   -- the claimed pair, its place and its hint
-  has_claimed : (loaded : LoadedPairs P) → (n new : ℕ) → IsOwnPair g c begun since k loaded n → (replace : Bool) (write : Write) → MayWrite g c begun since k loaded replace write
-      → (es : List (Exchange P)) → AllAllowed g start (begun ++ (since ++ es)) → IsSlotAsked (Some kinds.Claim) write.place new loaded es → HasClaimed g c begun (since ++ es) k loaded (claimed_by write n)
+  has_claimed : (loaded : LoadedPairs P) → (n new : ℕ) → IsOwnPair g c begun since k loaded n → (replace : Bool) (write : Write)
+      → MayWrite g c begun since k loaded replace write
+      → (es : List (Exchange P)) → AllAllowed g start (begun ++ (since ++ es)) → IsSlotAsked (Some kinds.Claim) write.place new loaded es
+      → HasClaimed g c begun (since ++ es) k loaded (claimed_by write n)
   has_claimed loaded n new own replace write r es all h = record {
     pair = own;
     stands = at_stable g c hashed begun since es all k write.place r.stands;
@@ -101,7 +115,8 @@ module _ {K P : Type 0} (g : Setting K P) (c : Coding K P) (hashed : IsHashed g 
 
   -- an insertion that replaces has replaced, and another one has claimed
   has_written : (loaded : LoadedPairs P) → (n new : ℕ) → (replace : Bool) (write : Write) → MayWrite g c begun since k loaded replace write
-      → (es : List (Exchange P)) → AllAllowed g start (begun ++ (since ++ es)) → (b : Bool) → (write.old == 0) ≡ b → IsPairBy loaded write n b → IsSlotAsked (Some (cond b kinds.Claim kinds.Replace)) write.place new loaded es
+      → (es : List (Exchange P)) → AllAllowed g start (begun ++ (since ++ es)) → (b : Bool) → (write.old == 0) ≡ b → IsPairBy loaded write n b
+      → IsSlotAsked (Some (cond b kinds.Claim kinds.Replace)) write.place new loaded es
       → ReliesStage g c begun (since ++ es) k loaded (Insert replace) (cond b (Counting (claimed_by write n)) (Ended (Replaced (pair_of write.old) n)))
   has_written loaded n new replace write r es all true is own h = (tt, has_claimed loaded n new own replace write r es all h)
   has_written loaded n new true write r es all false is own h = (own.0, own.1, own.2)
@@ -112,7 +127,8 @@ module _ {K P : Type 0} (g : Setting K P) (c : Coding K P) (hashed : IsHashed g 
       r.old
 
   -- what was asked for at a slot
-  pub writes : (loaded : LoadedPairs P) → (n new : ℕ) → (task : Task) (write : Write) → IsPairFor g c begun since k loaded write n → ReliesWriting g c begun since k loaded task write
+  pub writes : (loaded : LoadedPairs P) → (n new : ℕ) → (task : Task) (write : Write) → IsPairFor g c begun since k loaded write n
+      → ReliesWriting g c begun since k loaded task write
       → word_at write.place ≡ write.old → (es : List (Exchange P)) → IsSlotAsked (Some (write_kind write)) write.place new loaded es
       → AllAllowed g start (begun ++ (since ++ es)) × ReliesStage g c begun (since ++ es) k loaded task (written write n)
   writes loaded n new Get write own r old es h = absurd r
@@ -124,7 +140,8 @@ module _ {K P : Type 0} (g : Setting K P) (c : Coding K P) (hashed : IsHashed g 
 
   -- a compute has claimed or replaced
   has_put : (loaded : LoadedPairs P) → (task : Task) → IsComputer task → (n new : ℕ) (write : Write) → MayWrite g c begun since k loaded true write
-      → (es : List (Exchange P)) → AllAllowed g start (begun ++ (since ++ es)) → (b : Bool) → IsPairBy loaded write n b → IsSlotAsked (Some (cond b kinds.Claim kinds.Replace)) write.place new loaded es
+      → (es : List (Exchange P)) → AllAllowed g start (begun ++ (since ++ es)) → (b : Bool) → IsPairBy loaded write n b
+      → IsSlotAsked (Some (cond b kinds.Claim kinds.Replace)) write.place new loaded es
       → ReliesStage g c begun (since ++ es) k loaded task (cond b (Counting (claimed_by write n)) (Ended (Replaced (pair_of write.old) n)))
   has_put loaded Get is n new write r es all b own h = absurd is
   has_put loaded (Insert replace) is n new write r es all b own h = absurd is
@@ -133,7 +150,8 @@ module _ {K P : Type 0} (g : Setting K P) (c : Coding K P) (hashed : IsHashed g 
   has_put loaded Compute is n new write r es all false own h = (own.0, own.1, own.2)
 
   -- where it puts the pair that it made
-  pub puts : (loaded : LoadedPairs P) → (task : Task) → IsComputer task → (put : Put) → IsPairFor g c begun since k loaded put.write put.pair → (new : ℕ) → MayWrite g c begun since k loaded true put.write
+  pub puts : (loaded : LoadedPairs P) → (task : Task) → IsComputer task → (put : Put) → IsPairFor g c begun since k loaded put.write put.pair
+      → (new : ℕ) → MayWrite g c begun since k loaded true put.write
       → word_at put.write.place ≡ put.write.old → (es : List (Exchange P)) → IsSlotAsked (Some (write_kind put.write)) put.write.place new loaded es
       → AllAllowed g start (begun ++ (since ++ es)) × ReliesStage g c begun (since ++ es) k loaded task (written put.write put.pair)
   puts loaded task is put own new r old es h =

@@ -12,7 +12,11 @@ use Rattle.papaya_call.specs.Compute.{in_place_of}
 use Rattle.papaya_call_law.proofs.Makings.{HoldsOfPairAsks, pair_holds, write_holds}
 use Rattle.papaya_call.specs.declared.write.Write.{Write}
 use Rattle.papaya_call.specs.declared.machine.State.{State as Stage}
-use Rattle.papaya_call.specs.declared.machine.State.TheVariants.{AtRoot, Making, Opening, Searching, Writing, Offering, Showing, Pairing, Putting, Deleting, Counting, Noting, Uncounting, Leaving, Growing, Ended}
+use Rattle.papaya_call.specs.declared.machine.State.TheVariants.{AtRoot, Making, Opening, Searching}
+use Rattle.papaya_call.specs.declared.machine.State.TheVariants.{Writing, Offering, Showing}
+use Rattle.papaya_call.specs.declared.machine.State.TheVariants.{Pairing, Putting, Deleting}
+use Rattle.papaya_call.specs.declared.machine.State.TheVariants.{Counting, Noting, Uncounting}
+use Rattle.papaya_call.specs.declared.machine.State.TheVariants.{Leaving, Growing, Ended}
 use Rattle.papaya_law.specs.Exchange.{Setting, Exchange, run, start}
 use Rattle.papaya_law.specs.View.{IsReached}
 use Rattle.papaya_law.specs.Class.{IsOn}
@@ -29,7 +33,8 @@ use Rattle.papaya_call.specs.declared.need.Need.{Need}
 use Rattle.papaya_call.specs.declared.need.Need.TheVariants.{Room, Pair as Pair_at}
 use Rattle.papaya_call.specs.Machine.{needed}
 
-module _ {K P : Type 0} (g : Setting K P) (c : Coding K P) (h : IsHashed g c) (begun since : List (Exchange P)) (may : AllAllowed g start (begun ++ since)) (k : K) where
+module _ {K P : Type 0} (g : Setting K P) (c : Coding K P) (h : IsHashed g c) (begun since : List (Exchange P))
+    (may : AllAllowed g start (begun ++ since)) (k : K) where
   -- the table is opened or linked
   abbrev pub OnChain : ℕ → Type 0
   OnChain t = IsOn (now g c begun since k).first (now g c begun since k).next t
@@ -38,7 +43,8 @@ module _ {K P : Type 0} (g : Setting K P) (c : Coding K P) (h : IsHashed g c) (b
   pub reached_on : (t : ℕ) → IsReached g (now g c begun since k) k t → OnChain t
   reached_on t r =
       let s = sound g h.lawful (begun ++ since) may in
-      subst OnChain r.is (walk_on (now g c begun since k).next s.rises (now g c begun since k).first r.from r.links (s.was r.from r.was).0 (subst (λ y. 0 < y) (sym r.is) r.made))
+      subst OnChain r.is (walk_on (now g c begun since k).next s.rises (now g c begun since k).first r.from r.links (s.was r.from r.was).0
+      (subst (λ y. 0 < y) (sym r.is) r.made))
 
   -- where a search has come to is reached, in both modes
   pub come_reached : (t : ℕ) → HasComeTo g c begun since k t → IsReached g (now g c begun since k) k t
@@ -49,7 +55,8 @@ module _ {K P : Type 0} (g : Setting K P) (c : Coding K P) (h : IsHashed g c) (b
           let split : (begun ++ es) ++ fs ≡ begun ++ since = append_assoc begun es fs ∙ ap (λ l. begun ++ l) e in
           let may' : AllAllowed g start ((begun ++ es) ++ fs) = subst (AllAllowed g start) (sym split) may in
           let first : AllAllowed g start (begun ++ es) = allowed_first g (begun ++ es) fs start may' in
-          let then' : IsReached g (run (begun ++ es) start) k t = subst (IsReached g (run (begun ++ es) start) k) root (root_is_reached g h.lawful (begun ++ es) first k (subst (λ y. 0 < y) (sym root) r.some)) in
+          let then' : IsReached g (run (begun ++ es) start) k t = subst (IsReached g (run (begun ++ es) start) k) root
+          (root_is_reached g h.lawful (begun ++ es) first k (subst (λ y. 0 < y) (sym root) r.some)) in
           subst (λ l. IsReached g (run l start) k t) split ((lasting g h.lawful (begun ++ es) fs may').reached k t then')
 
   -- and so on the chain
@@ -91,7 +98,8 @@ module _ {K P : Type 0} (g : Setting K P) (c : Coding K P) (h : IsHashed g c) (b
   place_within at r = (come_on at.table r.come, subst (λ y. y < g.size at.table) (sym r.slot) (h.lawful.within k at.table at.probe.len r.within))
 
   -- the place of a write
-  write_within : (loaded : LoadedPairs P) (task : Task) (write : Write) → ReliesWriting g c begun since k loaded task write → HasSlot write.place.table write.place.probe.i
+  write_within : (loaded : LoadedPairs P) (task : Task) (write : Write) → ReliesWriting g c begun since k loaded task write
+      → HasSlot write.place.table write.place.probe.i
   write_within loaded Get write r = absurd r
   write_within loaded (Insert replace) write r = place_within write.place r.stands
   write_within loaded RemoveIf write r = absurd r
@@ -121,7 +129,8 @@ module _ {K P : Type 0} (g : Setting K P) (c : Coding K P) (h : IsHashed g c) (b
     ask_named made (Ended reply) r = tt
 
   -- a slot that is loaded or exchanged
-  pub slot_named : (ask : Ask) → IsNamed ask → (t x : ℕ) → (ask ≡ Load (Slot t x)) ⊎ ((old : ℕ) × (new : ℕ) × (ask ≡ Ask_exchange (Slot t x) old new)) → HasSlot t x
+  pub slot_named : (ask : Ask) → IsNamed ask → (t x : ℕ) → (ask ≡ Load (Slot t x)) ⊎ ((old : ℕ) × (new : ℕ) × (ask ≡ Ask_exchange (Slot t x) old new))
+      → HasSlot t x
   slot_named ask r t x (inl e) = subst IsNamed e r
   slot_named ask r t x (inr (old, new, e)) = subst IsNamed e r
 

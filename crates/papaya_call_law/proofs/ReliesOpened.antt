@@ -5,7 +5,10 @@ use Rattle.papaya_words.specs.Word.{pair_of}
 use Rattle.papaya_words.specs.declared.limits.TheConstants.{FIRST_TABLE_LEN, FIRST_TABLE_LIMIT}
 use Rattle.papaya_words.specs.declared.probe.ResizeMode.{ResizeMode}
 use Rattle.papaya_ask.specs.declared.ask.Answer.{Answer}
-use Rattle.papaya_ask.specs.declared.ask.Answer.TheVariants.{Word as Word_read, Exchanged, Found as Found_instead, Yes, Op, Made as Made_number, Ok as Ok_done, Refused as Was_refused}
+use Rattle.papaya_ask.specs.declared.ask.Answer.TheVariants.{Word as Word_read, Exchanged}
+use Rattle.papaya_ask.specs.declared.ask.Answer.TheVariants.{Found as Found_instead, Yes, Op}
+use Rattle.papaya_ask.specs.declared.ask.Answer.TheVariants.{Made as Made_number, Ok as Ok_done}
+use Rattle.papaya_ask.specs.declared.ask.Answer.TheVariants.{Refused as Was_refused}
 use Rattle.papaya_ask.specs.declared.ask.Ask.{Ask}
 use Rattle.papaya_ask.specs.declared.ask.Ask.TheVariants.{Exchange as Ask_exchange, MakeTable}
 use Rattle.papaya_ask.specs.declared.ask.At.TheVariants.{Root}
@@ -20,14 +23,22 @@ use Rattle.papaya_call.specs.declared.remove.Removal.{Removal}
 use Rattle.papaya_ask.specs.declared.search.Search.TheVariants.{Sizing, Looking, Reading, Comparing}
 use Rattle.papaya_ask.specs.declared.search.Probed.{Probed}
 use Rattle.papaya_call.specs.declared.made.Made.{Made}
-use Rattle.papaya_call_law.proofs.Makings.{HoldsOfPairAsks, exchanged_leads, lost_leads, numbered_leads, pair_holds, paired_leads, refuses_leads, told_leads, write_holds}
+use Rattle.papaya_call_law.proofs.Makings.{HoldsOfPairAsks, exchanged_leads, lost_leads}
+use Rattle.papaya_call_law.proofs.Makings.{numbered_leads, pair_holds, paired_leads, refuses_leads}
+use Rattle.papaya_call_law.proofs.Makings.{told_leads, write_holds}
 use Rattle.papaya_call.specs.declared.write.Write.{Write}
 use Rattle.papaya_call.specs.declared.machine.Machine.{Machine}
 use Rattle.papaya_call.specs.declared.machine.State.{State as Stage}
-use Rattle.papaya_call.specs.declared.machine.State.TheVariants.{AtRoot, Making, Opening, Searching, Writing, Offering, Showing, Pairing, Putting, Deleting, Counting, Noting, Uncounting, Leaving, Growing, Ended}
+use Rattle.papaya_call.specs.declared.machine.State.TheVariants.{AtRoot, Making, Opening, Searching}
+use Rattle.papaya_call.specs.declared.machine.State.TheVariants.{Writing, Offering, Showing}
+use Rattle.papaya_call.specs.declared.machine.State.TheVariants.{Pairing, Putting, Deleting}
+use Rattle.papaya_call.specs.declared.machine.State.TheVariants.{Counting, Noting, Uncounting}
+use Rattle.papaya_call.specs.declared.machine.State.TheVariants.{Leaving, Growing, Ended}
 use Rattle.papaya_call.specs.Compute.{in_place_of, offered}
 use Rattle.papaya_call.specs.Made.{grown, told}
-use Rattle.papaya_call.specs.Machine.{after, ask_of, asks, at_root, beaten, decided, exchanged, goes_as, judged, left, numbered, paired, refuses, write_lost, write_told, written}
+use Rattle.papaya_call.specs.Machine.{after, ask_of, asks, at_root, beaten, decided, exchanged}
+use Rattle.papaya_call.specs.Machine.{goes_as, judged, left, numbered, paired, refuses, write_lost}
+use Rattle.papaya_call.specs.Machine.{write_told, written}
 use Rattle.papaya_ask.specs.Search.{look as look_seen, at_word as search_loaded, at_yes as search_compared}
 use Rattle.papaya_call_law.proofs.Leads.{HoldsOfLeads, beaten_leads, goes_leads, left_leads, provides_leads, root_leads}
 use Rattle.papaya_call.specs.Write.{claimed_by, serves}
@@ -96,7 +107,8 @@ goes_open_none task mode held s = goes_leads OpensNone leads_open_none task mode
 
 -- nor does a write
 written_opens_none : (write : Write) (n : ℕ) → OpensNone (written write n)
-written_opens_none write n = cond_both (write.old == 0) (Counting (claimed_by write n)) (Ended (Replaced (pair_of write.old) n)) OpensNone (λ _. refl) (λ _. refl)
+written_opens_none write n = cond_both (write.old == 0) (Counting (claimed_by write n)) (Ended (Replaced (pair_of write.old) n)) OpensNone (λ _. refl)
+    (λ _. refl)
 
 -- nor what a closure answers
 judged_opens_none : (task : Task) (removal : Removal) (agrees : Bool) → OpensNone (judged task removal agrees)
@@ -131,8 +143,10 @@ module _ (m : Machine) (t : ℕ) where
   none_opened stage answer o none some = let no : None ≡ Some t = sym none ∙ some in absurd cc
 
   -- in each stage
-  opened_in : (made : Made) (stage : Stage) (answer : Answer) → opening_in (after (record m { made = made; state = stage }) answer).state ≡ Some t → IsOpened stage answer
-  opened_in made AtRoot (Word_read word) e = none_opened AtRoot (Word_read word) (opening_in (at_root m.task m.remembered.fill word)) (root_leads OpensNone leads_open_none m.task m.remembered.fill word) e
+  opened_in : (made : Made) (stage : Stage) (answer : Answer) → opening_in (after (record m { made = made; state = stage }) answer).state ≡ Some t
+      → IsOpened stage answer
+  opened_in made AtRoot (Word_read word) e = none_opened AtRoot (Word_read word) (opening_in (at_root m.task m.remembered.fill word))
+      (root_leads OpensNone leads_open_none m.task m.remembered.fill word) e
   opened_in made AtRoot answer e = absurd cc
   opened_in made Making (Made_number n) e = let is : n ≡ t = cc e in inl (ap Made_number is, refl)
   opened_in made Making answer e = absurd cc
@@ -140,34 +154,48 @@ module _ (m : Machine) (t : ℕ) where
   opened_in made (Opening i) (Found_instead word) e = absurd cc
   opened_in made (Opening i) answer e = let is : i ≡ t = cc e in inr (ap Opening is)
   opened_in made (Searching place) (Word_read word) e =
-      none_opened (Searching place) (Word_read word) (opening_in (goes_as m.task m.mode m.remembered (search_loaded place m.hash word))) (goes_open_none m.task m.mode m.remembered (search_loaded place m.hash word)) e
+      none_opened (Searching place) (Word_read word) (opening_in (goes_as m.task m.mode m.remembered (search_loaded place m.hash word)))
+      (goes_open_none m.task m.mode m.remembered (search_loaded place m.hash word)) e
   opened_in made (Searching place) (Yes same) e =
-      none_opened (Searching place) (Yes same) (opening_in (goes_as m.task m.mode m.remembered (search_compared place same))) (goes_open_none m.task m.mode m.remembered (search_compared place same)) e
+      none_opened (Searching place) (Yes same) (opening_in (goes_as m.task m.mode m.remembered (search_compared place same)))
+      (goes_open_none m.task m.mode m.remembered (search_compared place same)) e
   opened_in made (Searching place) answer e = absurd cc
-  opened_in made (Writing write) (Word_read word) e = none_opened (Writing write) (Word_read word) (opening_in (write_told (serves made write) made write word)) (told_leads OpensNone refl write refl (serves made write) made word) e
+  opened_in made (Writing write) (Word_read word) e = none_opened (Writing write) (Word_read word)
+      (opening_in (write_told (serves made write) made write word)) (told_leads OpensNone refl write refl (serves made write) made word) e
   opened_in made (Writing write) (Found_instead word) e =
       let machine : Machine = record m { made = made; state = Writing write } in
-      none_opened (Writing write) (Found_instead word) (opening_in (write_lost (serves made write) machine write word)) (lost_leads OpensNone refl write refl machine word (goes_open_none m.task m.mode m.remembered (look_seen write.place word)) (serves made write)) e
-  opened_in made (Writing write) Exchanged e = none_opened (Writing write) Exchanged (opening_in (exchanged (serves made write) write)) (exchanged_leads OpensNone write refl (written_opens_none write) (serves made write)) e
-  opened_in made (Writing write) (Was_refused refused) e = none_opened (Writing write) (Was_refused refused) (opening_in (refuses (serves made write) refused write)) (refuses_leads OpensNone write refused refl refl (serves made write)) e
+      none_opened (Writing write) (Found_instead word) (opening_in (write_lost (serves made write) machine write word))
+      (lost_leads OpensNone refl write refl machine word (goes_open_none m.task m.mode m.remembered (look_seen write.place word)) (serves made write)) e
+  opened_in made (Writing write) Exchanged e = none_opened (Writing write) Exchanged (opening_in (exchanged (serves made write) write))
+      (exchanged_leads OpensNone write refl (written_opens_none write) (serves made write)) e
+  opened_in made (Writing write) (Was_refused refused) e = none_opened (Writing write) (Was_refused refused)
+      (opening_in (refuses (serves made write) refused write)) (refuses_leads OpensNone write refused refl refl (serves made write)) e
   opened_in made (Writing write) answer e = absurd cc
   opened_in made (Offering gap) (Op kind) e = none_opened (Offering gap) (Op kind) (opening_in (offered gap kind)) (offered_opens_none gap kind) e
   opened_in made (Offering gap) answer e = absurd cc
-  opened_in made (Showing removal) (Yes agrees) e = none_opened (Showing removal) (Yes agrees) (opening_in (judged m.task removal agrees)) (judged_opens_none m.task removal agrees) e
-  opened_in made (Showing removal) (Op kind) e = none_opened (Showing removal) (Op kind) (opening_in (decided m.task removal kind)) (decided_opens_none m.task removal kind) e
+  opened_in made (Showing removal) (Yes agrees) e = none_opened (Showing removal) (Yes agrees) (opening_in (judged m.task removal agrees))
+      (judged_opens_none m.task removal agrees) e
+  opened_in made (Showing removal) (Op kind) e = none_opened (Showing removal) (Op kind) (opening_in (decided m.task removal kind))
+      (decided_opens_none m.task removal kind) e
   opened_in made (Showing removal) answer e = absurd cc
   opened_in made (Pairing purpose) (Made_number n) e =
-      none_opened (Pairing purpose) (Made_number n) (opening_in (paired (grown made (in_place_of purpose)) purpose n)) (paired_leads OpensNone purpose n refl (provides_leads OpensNone leads_open_none purpose n) (grown made (in_place_of purpose))) e
-  opened_in made (Pairing purpose) (Word_read word) e = none_opened (Pairing purpose) (Word_read word) (opening_in (numbered (told made word) (Pairing purpose))) (numbered_leads OpensNone refl (Pairing purpose) refl (told made word)) e
-  opened_in made (Pairing purpose) (Found_instead word) e = none_opened (Pairing purpose) (Found_instead word) (opening_in (numbered (told made word) (Pairing purpose))) (numbered_leads OpensNone refl (Pairing purpose) refl (told made word)) e
+      none_opened (Pairing purpose) (Made_number n) (opening_in (paired (grown made (in_place_of purpose)) purpose n))
+      (paired_leads OpensNone purpose n refl (provides_leads OpensNone leads_open_none purpose n) (grown made (in_place_of purpose))) e
+  opened_in made (Pairing purpose) (Word_read word) e = none_opened (Pairing purpose) (Word_read word)
+      (opening_in (numbered (told made word) (Pairing purpose))) (numbered_leads OpensNone refl (Pairing purpose) refl (told made word)) e
+  opened_in made (Pairing purpose) (Found_instead word) e = none_opened (Pairing purpose) (Found_instead word)
+      (opening_in (numbered (told made word) (Pairing purpose))) (numbered_leads OpensNone refl (Pairing purpose) refl (told made word)) e
   opened_in made (Pairing purpose) answer e = absurd cc
-  opened_in made (Putting put) Exchanged e = none_opened (Putting put) Exchanged (opening_in (written put.write put.pair)) (written_opens_none put.write put.pair) e
+  opened_in made (Putting put) Exchanged e = none_opened (Putting put) Exchanged (opening_in (written put.write put.pair))
+      (written_opens_none put.write put.pair) e
   opened_in made (Putting put) (Found_instead word) e =
-      none_opened (Putting put) (Found_instead word) (opening_in (goes_as m.task m.mode m.remembered (look_seen put.write.place word))) (goes_open_none m.task m.mode m.remembered (look_seen put.write.place word)) e
+      none_opened (Putting put) (Found_instead word) (opening_in (goes_as m.task m.mode m.remembered (look_seen put.write.place word)))
+      (goes_open_none m.task m.mode m.remembered (look_seen put.write.place word)) e
   opened_in made (Putting put) answer e = absurd cc
   opened_in made (Deleting removal) (Found_instead word) e =
       let machine : Machine = record m { made = made; state = Deleting removal } in
-      none_opened (Deleting removal) (Found_instead word) (opening_in (beaten machine removal word)) (beaten_leads OpensNone leads_open_none machine removal word) e
+      none_opened (Deleting removal) (Found_instead word) (opening_in (beaten machine removal word))
+      (beaten_leads OpensNone leads_open_none machine removal word) e
   opened_in made (Deleting removal) answer e = absurd cc
   opened_in made (Counting n) Ok_done e = absurd cc
   opened_in made (Noting n) Ok_done e = absurd cc
@@ -175,7 +203,8 @@ module _ (m : Machine) (t : ℕ) where
   opened_in made (Noting n) answer e = absurd cc
   opened_in made (Uncounting n) Ok_done e = absurd cc
   opened_in made (Uncounting n) answer e = absurd cc
-  opened_in made (Leaving i) (Word_read word) e = none_opened (Leaving i) (Word_read word) (opening_in (left m.task m.remembered.fill i word)) (left_leads OpensNone leads_open_none m.task m.remembered.fill i word) e
+  opened_in made (Leaving i) (Word_read word) e = none_opened (Leaving i) (Word_read word) (opening_in (left m.task m.remembered.fill i word))
+      (left_leads OpensNone leads_open_none m.task m.remembered.fill i word) e
   opened_in made (Leaving i) answer e = absurd cc
   opened_in made (Growing i) (Word_read word) e = absurd cc
   opened_in made (Growing i) answer e = absurd cc
@@ -183,7 +212,8 @@ module _ (m : Machine) (t : ℕ) where
   opened_in made (Ended reply) answer e = absurd cc
 
   -- of the machine
-  pub machine_opened : (answer : Answer) → ask_of (after m answer) ≡ Ask_exchange Root 0 t → ((answer ≡ Made_number t) × ((slots : ℕ) × (limit : ℕ) × (ask_of m ≡ MakeTable slots limit 0))) ⊎ (ask_of m ≡ Ask_exchange Root 0 t)
+  pub machine_opened : (answer : Answer) → ask_of (after m answer) ≡ Ask_exchange Root 0 t
+      → ((answer ≡ Made_number t) × ((slots : ℕ) × (limit : ℕ) × (ask_of m ≡ MakeTable slots limit 0))) ⊎ (ask_of m ≡ Ask_exchange Root 0 t)
   machine_opened answer e =
       let then : Machine = after m answer in
       ⊎_elim

@@ -12,7 +12,11 @@ use Rattle.papaya_ask.specs.declared.call.Task.TheVariants.{RemoveIf}
 use Rattle.papaya_call.specs.declared.compute.Gap.{Gap}
 use Rattle.papaya_call.specs.declared.machine.Machine.{Machine}
 use Rattle.papaya_call.specs.declared.machine.State.{State as Stage}
-use Rattle.papaya_call.specs.declared.machine.State.TheVariants.{AtRoot, Making, Opening, Searching, Writing, Offering, Showing, Pairing, Putting, Deleting, Counting, Noting, Uncounting, Leaving, Growing, Ended}
+use Rattle.papaya_call.specs.declared.machine.State.TheVariants.{AtRoot, Making, Opening, Searching}
+use Rattle.papaya_call.specs.declared.machine.State.TheVariants.{Writing, Offering, Showing}
+use Rattle.papaya_call.specs.declared.machine.State.TheVariants.{Pairing, Putting, Deleting}
+use Rattle.papaya_call.specs.declared.machine.State.TheVariants.{Counting, Noting, Uncounting}
+use Rattle.papaya_call.specs.declared.machine.State.TheVariants.{Leaving, Growing, Ended}
 use Rattle.papaya_law.specs.Exchange.{Setting, State, Exchange, run, start}
 use Rattle.papaya_law.specs.Allows.{AllAllowed}
 use Rattle.papaya_law.specs.Code.{Coding}
@@ -27,7 +31,8 @@ use Rattle.papaya_call_law.proofs.ReliesReplyRefused.{IsMaking, IsOver, machine_
 use Rattle.papaya_call.specs.declared.need.Need.{Need}
 use Rattle.papaya_call.specs.declared.need.Need.TheVariants.{Room, Pair as Pair_at}
 
-module _ {K P : Type 0} (g : Setting K P) (c : Coding K P) (law : IsLawful g) (begun since : List (Exchange P)) (may : AllAllowed g start (begun ++ since)) (k : K) where
+module _ {K P : Type 0} (g : Setting K P) (c : Coding K P) (law : IsLawful g) (begun since : List (Exchange P))
+    (may : AllAllowed g start (begun ++ since)) (k : K) where
   -- the state after all exchanges
   abbrev now : State P
   now = run (begun ++ since) start
@@ -72,18 +77,22 @@ module _ {K P : Type 0} (g : Setting K P) (c : Coding K P) (law : IsLawful g) (b
       nothing_needed (Pair_at t x) r = let some = moving_further t x (r.1).1 in let none = alone t in omega (arith, some, none)
 
       -- so no reason for a refusal is there
-      pub removal_unrefused : (m : Machine) → Relies g c begun since k m loaded → m.task ≡ RemoveIf → ((reply : Reply) → ask_of m ≡ Ask_done reply → ⊥) → (answer : Answer) (refused : Refused) → ask_of (after m answer) ≡ Ask_done (Reply_refused refused) → ⊥
+      pub removal_unrefused : (m : Machine) → Relies g c begun since k m loaded → m.task ≡ RemoveIf
+          → ((reply : Reply) → ask_of m ≡ Ask_done reply → ⊥) → (answer : Answer) (refused : Refused)
+          → ask_of (after m answer) ≡ Ask_done (Reply_refused refused) → ⊥
       removal_unrefused m r task open_still answer refused e =
           let stage : ReliesStage g c begun since k loaded RemoveIf m.state = subst (λ a. ReliesStage g c begun since k loaded a m.state) task r.stage in
           ⊎_elim
           (λ made. nothing_made m.state stage made.1)
           (λ rest.
           ⊎_elim
-          (λ (grows : (refused ≡ Capacity) × ((need : Need) × (m.state ≡ Growing need))). let last = grows.1 in nothing_needed last.0 (subst (ReliesStage g c begun since k loaded RemoveIf) last.1 stage))
+          (λ (grows : (refused ≡ Capacity) × ((need : Need) × (m.state ≡ Growing need))). let last = grows.1 in
+          nothing_needed last.0 (subst (ReliesStage g c begun since k loaded RemoveIf) last.1 stage))
           (λ more.
           ⊎_elim
           (λ (limit : (refused ≡ Limit) × IsOver m refused m.made m.state answer × IsMaking m.state). nothing_made m.state stage limit.2)
-          (λ (offers : (refused ≡ RemoveNothing) × ((gap : Gap) × (m.state ≡ Offering gap)) × (answer ≡ Op ops.Remove)). let last = offers.1 in nothing_offered last.0 (subst (ReliesStage g c begun since k loaded RemoveIf) last.1 stage))
+          (λ (offers : (refused ≡ RemoveNothing) × ((gap : Gap) × (m.state ≡ Offering gap)) × (answer ≡ Op ops.Remove)). let last = offers.1 in
+          nothing_offered last.0 (subst (ReliesStage g c begun since k loaded RemoveIf) last.1 stage))
           more)
           rest)
           (machine_reason m refused answer open_still e)

@@ -6,7 +6,10 @@ use Rattle.papaya_words.specs.declared.probe.Refused.{Refused}
 use Rattle.papaya_words.specs.declared.probe.Refused.TheVariants.{Capacity, Limit, RemoveNothing}
 use Rattle.papaya_words.specs.declared.probe.ResizeMode.{ResizeMode}
 use Rattle.papaya_ask.specs.declared.ask.Answer.{Answer}
-use Rattle.papaya_ask.specs.declared.ask.Answer.TheVariants.{Word as Word_read, Exchanged, Found as Found_instead, Yes, Op, Size, Made as Made_number, Ok as Ok_done, Refused as Was_refused}
+use Rattle.papaya_ask.specs.declared.ask.Answer.TheVariants.{Word as Word_read, Exchanged}
+use Rattle.papaya_ask.specs.declared.ask.Answer.TheVariants.{Found as Found_instead, Yes, Op, Size}
+use Rattle.papaya_ask.specs.declared.ask.Answer.TheVariants.{Made as Made_number, Ok as Ok_done}
+use Rattle.papaya_ask.specs.declared.ask.Answer.TheVariants.{Refused as Was_refused}
 use Rattle.papaya_ask.specs.declared.ask.Ask.{Ask}
 use Rattle.papaya_ask.specs.declared.ask.Ask.TheVariants.{Load, ShowNone, Done as Ask_done}
 use Rattle.papaya_ask.specs.declared.ask.At.TheVariants.{Next}
@@ -27,10 +30,17 @@ use Rattle.papaya_call_law.proofs.Makings.{HoldsOfPairAsks, pair_holds, write_ho
 use Rattle.papaya_call.specs.declared.write.Write.{Write}
 use Rattle.papaya_call.specs.declared.machine.Machine.{Machine}
 use Rattle.papaya_call.specs.declared.machine.State.{State as Stage}
-use Rattle.papaya_call.specs.declared.machine.State.TheVariants.{AtRoot, Making, Opening, Searching, Writing, Offering, Showing, Pairing, Putting, Deleting, Counting, Noting, Uncounting, Leaving, Growing, Ended}
+use Rattle.papaya_call.specs.declared.machine.State.TheVariants.{AtRoot, Making, Opening, Searching}
+use Rattle.papaya_call.specs.declared.machine.State.TheVariants.{Writing, Offering, Showing}
+use Rattle.papaya_call.specs.declared.machine.State.TheVariants.{Pairing, Putting, Deleting}
+use Rattle.papaya_call.specs.declared.machine.State.TheVariants.{Counting, Noting, Uncounting}
+use Rattle.papaya_call.specs.declared.machine.State.TheVariants.{Leaving, Growing, Ended}
 use Rattle.papaya_call.specs.Compute.{in_place_of, provides}
 use Rattle.papaya_call.specs.Made.{answered as answered_made, grown, number_ask, pair_ask, taken, told, told_as, told_limit}
-use Rattle.papaya_call.specs.Machine.{after, ask_of, asks, at_root, beaten, decided, exchanged, goes_as, judged, left, made_decided, made_to_pair, number_told, numbered, paired, refuses, write_lost, write_made, write_taken, write_told, written}
+use Rattle.papaya_call.specs.Machine.{after, ask_of, asks, at_root, beaten, decided, exchanged}
+use Rattle.papaya_call.specs.Machine.{goes_as, judged, left, made_decided, made_to_pair}
+use Rattle.papaya_call.specs.Machine.{number_told, numbered, paired, refuses, write_lost}
+use Rattle.papaya_call.specs.Machine.{write_made, write_taken, write_told, written}
 use Rattle.papaya_ask.specs.Search.{look as look_seen, ask_of as search_ask, at_size as search_sized, at_word as search_loaded, at_yes as search_compared}
 use Rattle.papaya_call.specs.Write.{claimed_by, served_ask, serves, write_ask, write_grown}
 use Rattle.papaya_call.specs.declared.compute.Purpose.{Purpose}
@@ -102,7 +112,8 @@ module _ (made : Made) (hash : ℕ) where
 
   -- nor a pair that was written
   written_unrefused : (write : Write) (n : ℕ) → IsUnrefused (written write n)
-  written_unrefused write n = cond_both (write.old == 0) (Counting (claimed_by write n)) (Ended (Replaced (pair_of write.old) n)) IsUnrefused (λ _. refl) (λ _. refl)
+  written_unrefused write n = cond_both (write.old == 0) (Counting (claimed_by write n)) (Ended (Replaced (pair_of write.old) n)) IsUnrefused
+      (λ _. refl) (λ _. refl)
 
   -- nor what the closure of a removal answers
   judged_unrefused : (task : Task) (removal : Removal) (agrees : Bool) → IsUnrefused (judged task removal agrees)
@@ -129,11 +140,13 @@ IsMaking (Pairing purpose) = Unit {0}
 IsMaking _ = ⊥
 
 -- by the limit
-over_limit : (made : Made) (limit : Option ℕ) (count : ℕ) → made.limit ≡ limit → told_limit made limit count ≡ None → (most : ℕ) × (made.limit ≡ Some most) × (most ≤ count)
+over_limit : (made : Made) (limit : Option ℕ) (count : ℕ) → made.limit ≡ limit → told_limit made limit count ≡ None → (most : ℕ)
+    × (made.limit ≡ Some most) × (most ≤ count)
 over_limit made None count is e = absurd cc
 over_limit made (Some most) count is e = by_count (nat_lt count most) refl e
   where
-    by_count : (b : Bool) → nat_lt count most ≡ b → cond b (Some (record made { number = Free count })) None ≡ None → (most : ℕ) × (made.limit ≡ Some most) × (most ≤ count)
+    by_count : (b : Bool) → nat_lt count most ≡ b → cond b (Some (record made { number = Free count })) None ≡ None → (most : ℕ)
+        × (made.limit ≡ Some most) × (most ≤ count)
     by_count true less o = absurd cc
     by_count false more o = (most, is, ltb-false count most more)
 
@@ -152,19 +165,22 @@ over_asked made (Free n) old count e = tt
 module _ (m : Machine) (refused : Refused) where
   -- as many numbers were taken for pairs as the limit says, or more
   abbrev pub IsOver : Made → Stage → Answer → Type 0
-  IsOver made stage answer = (most : ℕ) × (count : ℕ) × (made.limit ≡ Some most) × (most ≤ count) × IsNumberAsk (asks made m.hash stage) × ((answer ≡ Word_read count) ⊎ (answer ≡ Found_instead count))
+  IsOver made stage answer = (most : ℕ) × (count : ℕ) × (made.limit ≡ Some most) × (most ≤ count) × IsNumberAsk (asks made m.hash stage)
+      × ((answer ≡ Word_read count) ⊎ (answer ≡ Found_instead count))
 
   -- what was to be made was refused so, the call needs a next table, its closure would remove nothing, or no number is left
   abbrev pub IsReason : Made → Stage → Answer → Type 0
   IsReason made stage answer = ((answer ≡ Was_refused refused) × IsMaking stage) ⊎ ((refused ≡ Capacity) × ((need : Need) × (stage ≡ Growing need)))
-      ⊎ ((refused ≡ Limit) × IsOver made stage answer × IsMaking stage) ⊎ ((refused ≡ RemoveNothing) × ((gap : Gap) × (stage ≡ Offering gap)) × (answer ≡ Op ops.Remove))
+      ⊎ ((refused ≡ Limit) × IsOver made stage answer × IsMaking stage)
+      ⊎ ((refused ≡ RemoveNothing) × ((gap : Gap) × (stage ≡ Offering gap)) × (answer ≡ Op ops.Remove))
 
   -- what was answered so
   answered : (made : Made) (stage : Stage) → IsMaking stage → (refused' : Refused) → Some refused' ≡ Some refused → IsReason made stage (Was_refused refused')
   answered made stage making refused' e = let is : refused' ≡ refused = cc e in inl (ap Was_refused is, making)
 
   -- no number is left
-  at_limit : (made : Made) (stage : Stage) → IsMaking stage → (answer : Answer) → IsOver made stage answer → Some Limit ≡ Some refused → IsReason made stage answer
+  at_limit : (made : Made) (stage : Stage) → IsMaking stage → (answer : Answer) → IsOver made stage answer → Some Limit ≡ Some refused
+      → IsReason made stage answer
   at_limit made stage making answer over e = let is : Limit ≡ refused = cc e in inr (inr (inl (sym is, over, making)))
 
   -- nothing has two refusals
@@ -172,11 +188,14 @@ module _ (m : Machine) (refused : Refused) where
   unrefused made stage answer o none some = absurd (cc (none, some))
 
   -- a call that makes a pair, where it is told how many numbers were taken
-  numbered_refused : (made : Made) (stage : Stage) → IsMaking stage → (answer : Answer) (count : ℕ) → ((answer ≡ Word_read count) ⊎ (answer ≡ Found_instead count))
+  numbered_refused : (made : Made) (stage : Stage) → IsMaking stage → (answer : Answer) (count : ℕ)
+      → ((answer ≡ Word_read count) ⊎ (answer ≡ Found_instead count))
       → (told made count ≡ None → IsNumberAsk (asks made m.hash stage)) → ((next : Made) → refusal_of (asks next m.hash stage) ≡ None)
       → (o : Option Made) → told made count ≡ o → refusal_of (asks (number_told o made) m.hash (numbered o stage)) ≡ Some refused → IsReason made stage answer
-  numbered_refused made stage making answer count says number goes None is e = at_limit made stage making answer (let over = over_by made made.number count is in (over.0, count, over.1, over.2, number is, says)) e
-  numbered_refused made stage making answer count says number goes (Some next) is e = unrefused made stage answer (refusal_of (asks next m.hash stage)) (goes next) e
+  numbered_refused made stage making answer count says number goes None is e = at_limit made stage making answer
+      (let over = over_by made made.number count is in (over.0, count, over.1, over.2, number is, says)) e
+  numbered_refused made stage making answer count says number goes (Some next) is e = unrefused made stage answer
+      (refusal_of (asks next m.hash stage)) (goes next) e
 
   -- an insertion is told so
   module _ (made : Made) (write : Write) where
@@ -187,20 +206,30 @@ module _ (m : Machine) (refused : Refused) where
     write_number : (count : ℕ) → serves made write ≡ None → told made count ≡ None → IsNumberAsk (asks made m.hash (Writing write))
     write_number count none is = write_asked count (serves made write) is none
 
-    write_loaded : (word : ℕ) (served : Option ℕ) → serves made write ≡ served → refusal_of (asks (write_made served made word) m.hash (write_told served made write word)) ≡ Some refused → IsReason made (Writing write) (Word_read word)
-    write_loaded word None is e = numbered_refused made (Writing write) tt (Word_read word) word (inl refl) (write_number word is) (λ next. write_unrefused next write) (told made word) refl e
+    write_loaded : (word : ℕ) (served : Option ℕ) → serves made write ≡ served
+        → refusal_of (asks (write_made served made word) m.hash (write_told served made write word)) ≡ Some refused
+        → IsReason made (Writing write) (Word_read word)
+    write_loaded word None is e = numbered_refused made (Writing write) tt (Word_read word) word (inl refl) (write_number word is)
+        (λ next. write_unrefused next write) (told made word) refl e
     write_loaded word (Some n) is e = unrefused made (Writing write) (Word_read word) (refusal_of (write_ask write made)) (write_unrefused made write) e
 
-    write_found : (word : ℕ) (served : Option ℕ) → serves made write ≡ served → refusal_of (asks (write_made served made word) m.hash (write_lost served (record m { made = made; state = Writing write }) write word)) ≡ Some refused → IsReason made (Writing write) (Found_instead word)
-    write_found word None is e = numbered_refused made (Writing write) tt (Found_instead word) word (inr refl) (write_number word is) (λ next. write_unrefused next write) (told made word) refl e
+    write_found : (word : ℕ) (served : Option ℕ) → serves made write ≡ served
+        → refusal_of (asks (write_made served made word) m.hash (write_lost served (record m { made = made; state = Writing write }) write word)) ≡ Some
+        refused → IsReason made (Writing write) (Found_instead word)
+    write_found word None is e = numbered_refused made (Writing write) tt (Found_instead word) word (inr refl) (write_number word is)
+        (λ next. write_unrefused next write) (told made word) refl e
     write_found word (Some n) is e =
-        unrefused made (Writing write) (Found_instead word) (refusal_of (asks made m.hash (goes_as m.task m.mode m.remembered (look_seen write.place word)))) (goes_unrefused made m.hash m.task m.mode m.remembered (look_seen write.place word)) e
+        unrefused made (Writing write) (Found_instead word)
+        (refusal_of (asks made m.hash (goes_as m.task m.mode m.remembered (look_seen write.place word))))
+        (goes_unrefused made m.hash m.task m.mode m.remembered (look_seen write.place word)) e
 
-    write_done : (served : Option ℕ) → refusal_of (asks (write_taken served made) m.hash (exchanged served write)) ≡ Some refused → IsReason made (Writing write) Exchanged
+    write_done : (served : Option ℕ) → refusal_of (asks (write_taken served made) m.hash (exchanged served write)) ≡ Some refused
+        → IsReason made (Writing write) Exchanged
     write_done None e = unrefused made (Writing write) Exchanged (refusal_of (write_ask write (taken made))) (write_unrefused (taken made) write) e
     write_done (Some n) e = unrefused made (Writing write) Exchanged (refusal_of (asks made m.hash (written write n))) (written_unrefused made m.hash write n) e
 
-    write_refused : (refused' : Refused) (served : Option ℕ) → refusal_of (asks made m.hash (refuses served refused' write)) ≡ Some refused → IsReason made (Writing write) (Was_refused refused')
+    write_refused : (refused' : Refused) (served : Option ℕ) → refusal_of (asks made m.hash (refuses served refused' write)) ≡ Some refused
+        → IsReason made (Writing write) (Was_refused refused')
     write_refused refused' None e = answered made (Writing write) tt refused' e
     write_refused refused' (Some n) e = unrefused made (Writing write) (Was_refused refused') (refusal_of (write_ask write made)) (write_unrefused made write) e
 
@@ -209,24 +238,34 @@ module _ (m : Machine) (refused : Refused) where
     pairing_number : (count : ℕ) → told made count ≡ None → IsNumberAsk (asks made m.hash (Pairing purpose))
     pairing_number count is = over_asked made made.number (in_place_of purpose) count is
 
-    pairing_made : (n : ℕ) (G : Grown) → refusal_of (asks (made_to_pair G) m.hash (paired G purpose n)) ≡ Some refused → IsReason made (Pairing purpose) (Made_number n)
-    pairing_made n (On next) e = unrefused made (Pairing purpose) (Made_number n) (refusal_of (pair_ask next (in_place_of purpose))) (pairing_unrefused next purpose) e
-    pairing_made n (Pair next) e = unrefused made (Pairing purpose) (Made_number n) (refusal_of (asks next m.hash (provides purpose n))) (provides_leads (IsUnrefused next m.hash) (leads_unrefused next m.hash) purpose n) e
+    pairing_made : (n : ℕ) (G : Grown) → refusal_of (asks (made_to_pair G) m.hash (paired G purpose n)) ≡ Some refused
+        → IsReason made (Pairing purpose) (Made_number n)
+    pairing_made n (On next) e = unrefused made (Pairing purpose) (Made_number n) (refusal_of (pair_ask next (in_place_of purpose)))
+        (pairing_unrefused next purpose) e
+    pairing_made n (Pair next) e = unrefused made (Pairing purpose) (Made_number n) (refusal_of (asks next m.hash (provides purpose n)))
+        (provides_leads (IsUnrefused next m.hash) (leads_unrefused next m.hash) purpose n) e
 
   -- in each stage
-  refused_in : (made : Made) (stage : Stage) (answer : Answer) → ((reply : Reply) → asks made m.hash stage ≡ Ask_done reply → ⊥) → refusal_of (ask_of (after (record m { made = made; state = stage }) answer)) ≡ Some refused → IsReason made stage answer
-  refused_in made AtRoot (Word_read word) open_still e = unrefused made AtRoot (Word_read word) (refusal_of (asks made m.hash (at_root m.task m.remembered.fill word))) (root_leads (IsUnrefused made m.hash) (leads_unrefused made m.hash) m.task m.remembered.fill word) e
+  refused_in : (made : Made) (stage : Stage) (answer : Answer) → ((reply : Reply) → asks made m.hash stage ≡ Ask_done reply → ⊥)
+      → refusal_of (ask_of (after (record m { made = made; state = stage }) answer)) ≡ Some refused → IsReason made stage answer
+  refused_in made AtRoot (Word_read word) open_still e = unrefused made AtRoot (Word_read word)
+      (refusal_of (asks made m.hash (at_root m.task m.remembered.fill word)))
+      (root_leads (IsUnrefused made m.hash) (leads_unrefused made m.hash) m.task m.remembered.fill word) e
   refused_in made AtRoot answer open_still e = absurd cc
   refused_in made Making (Was_refused refused') open_still e = answered made Making tt refused' e
   refused_in made Making answer open_still e = absurd cc
   refused_in made (Opening t) Exchanged open_still e = absurd cc
   refused_in made (Opening t) answer open_still e = absurd cc
   refused_in made (Searching place) (Word_read word) open_still e =
-      unrefused made (Searching place) (Word_read word) (refusal_of (asks made m.hash (goes_as m.task m.mode m.remembered (search_loaded place m.hash word)))) (goes_unrefused made m.hash m.task m.mode m.remembered (search_loaded place m.hash word)) e
+      unrefused made (Searching place) (Word_read word)
+      (refusal_of (asks made m.hash (goes_as m.task m.mode m.remembered (search_loaded place m.hash word))))
+      (goes_unrefused made m.hash m.task m.mode m.remembered (search_loaded place m.hash word)) e
   refused_in made (Searching place) (Yes same) open_still e =
-      unrefused made (Searching place) (Yes same) (refusal_of (asks made m.hash (goes_as m.task m.mode m.remembered (search_compared place same)))) (goes_unrefused made m.hash m.task m.mode m.remembered (search_compared place same)) e
+      unrefused made (Searching place) (Yes same) (refusal_of (asks made m.hash (goes_as m.task m.mode m.remembered (search_compared place same))))
+      (goes_unrefused made m.hash m.task m.mode m.remembered (search_compared place same)) e
   refused_in made (Searching place) (Size slots limit) open_still e =
-      unrefused made (Searching place) (Size slots limit) (refusal_of (search_ask (search_sized place m.hash slots limit))) (search_unrefused (search_sized place m.hash slots limit)) e
+      unrefused made (Searching place) (Size slots limit) (refusal_of (search_ask (search_sized place m.hash slots limit)))
+      (search_unrefused (search_sized place m.hash slots limit)) e
   refused_in made (Searching place) answer open_still e = unrefused made (Searching place) answer (refusal_of (search_ask place)) (search_unrefused place) e
   refused_in made (Writing write) (Word_read word) open_still e = write_loaded made write word (serves made write) refl e
   refused_in made (Writing write) (Found_instead word) open_still e = write_found made write word (serves made write) refl e
@@ -240,42 +279,58 @@ module _ (m : Machine) (refused : Refused) where
   refused_in made (Noting n) Ok_done open_still e = absurd cc
   refused_in made (Counting n) answer open_still e = absurd cc
   refused_in made (Noting n) answer open_still e = absurd cc
-  refused_in made (Offering gap) (Op ops.Insert) open_still e = unrefused made (Offering gap) (Op ops.Insert) (refusal_of (pair_ask (answered_made ops.Insert made) 0)) (pairing_unrefused (answered_made ops.Insert made) (Fill gap)) e
+  refused_in made (Offering gap) (Op ops.Insert) open_still e = unrefused made (Offering gap) (Op ops.Insert)
+      (refusal_of (pair_ask (answered_made ops.Insert made) 0)) (pairing_unrefused (answered_made ops.Insert made) (Fill gap)) e
   refused_in made (Offering gap) (Op ops.Remove) open_still e = let is : RemoveNothing ≡ refused = cc e in inr (inr (inr (sym is, (gap, refl), refl)))
   refused_in made (Offering gap) (Op (ops.Abort t)) open_still e = absurd cc
   refused_in made (Offering gap) answer open_still e = absurd cc
   refused_in made (Pairing purpose) (Was_refused refused') open_still e = answered made (Pairing purpose) tt refused' e
   refused_in made (Pairing purpose) (Made_number n) open_still e = pairing_made made purpose n (grown made (in_place_of purpose)) e
-  refused_in made (Pairing purpose) (Word_read word) open_still e = numbered_refused made (Pairing purpose) tt (Word_read word) word (inl refl) (pairing_number made purpose word) (λ next. pairing_unrefused next purpose) (told made word) refl e
-  refused_in made (Pairing purpose) (Found_instead word) open_still e = numbered_refused made (Pairing purpose) tt (Found_instead word) word (inr refl) (pairing_number made purpose word) (λ next. pairing_unrefused next purpose) (told made word) refl e
-  refused_in made (Pairing purpose) Exchanged open_still e = unrefused made (Pairing purpose) Exchanged (refusal_of (pair_ask (taken made) (in_place_of purpose))) (pairing_unrefused (taken made) purpose) e
-  refused_in made (Pairing purpose) answer open_still e = unrefused made (Pairing purpose) answer (refusal_of (pair_ask made (in_place_of purpose))) (pairing_unrefused made purpose) e
+  refused_in made (Pairing purpose) (Word_read word) open_still e = numbered_refused made (Pairing purpose) tt (Word_read word) word (inl refl)
+      (pairing_number made purpose word) (λ next. pairing_unrefused next purpose) (told made word) refl e
+  refused_in made (Pairing purpose) (Found_instead word) open_still e = numbered_refused made (Pairing purpose) tt (Found_instead word) word
+      (inr refl) (pairing_number made purpose word) (λ next. pairing_unrefused next purpose) (told made word) refl e
+  refused_in made (Pairing purpose) Exchanged open_still e = unrefused made (Pairing purpose) Exchanged
+      (refusal_of (pair_ask (taken made) (in_place_of purpose))) (pairing_unrefused (taken made) purpose) e
+  refused_in made (Pairing purpose) answer open_still e = unrefused made (Pairing purpose) answer (refusal_of (pair_ask made (in_place_of purpose)))
+      (pairing_unrefused made purpose) e
   refused_in made (Putting put) (Found_instead word) open_still e =
-      unrefused made (Putting put) (Found_instead word) (refusal_of (asks made m.hash (goes_as m.task m.mode m.remembered (look_seen put.write.place word)))) (goes_unrefused made m.hash m.task m.mode m.remembered (look_seen put.write.place word)) e
-  refused_in made (Putting put) Exchanged open_still e = unrefused made (Putting put) Exchanged (refusal_of (asks made m.hash (written put.write put.pair))) (written_unrefused made m.hash put.write put.pair) e
+      unrefused made (Putting put) (Found_instead word)
+      (refusal_of (asks made m.hash (goes_as m.task m.mode m.remembered (look_seen put.write.place word))))
+      (goes_unrefused made m.hash m.task m.mode m.remembered (look_seen put.write.place word)) e
+  refused_in made (Putting put) Exchanged open_still e = unrefused made (Putting put) Exchanged
+      (refusal_of (asks made m.hash (written put.write put.pair))) (written_unrefused made m.hash put.write put.pair) e
   refused_in made (Putting put) answer open_still e = absurd cc
-  refused_in made (Showing removal) (Yes agrees) open_still e = unrefused made (Showing removal) (Yes agrees) (refusal_of (asks made m.hash (judged m.task removal agrees))) (judged_unrefused made m.hash m.task removal agrees) e
-  refused_in made (Showing removal) (Op kind) open_still e = unrefused made (Showing removal) (Op kind) (refusal_of (asks (made_decided m.task kind made) m.hash (decided m.task removal kind))) (decided_unrefused (made_decided m.task kind made) m.hash m.task removal kind) e
+  refused_in made (Showing removal) (Yes agrees) open_still e = unrefused made (Showing removal) (Yes agrees)
+      (refusal_of (asks made m.hash (judged m.task removal agrees))) (judged_unrefused made m.hash m.task removal agrees) e
+  refused_in made (Showing removal) (Op kind) open_still e = unrefused made (Showing removal) (Op kind)
+      (refusal_of (asks (made_decided m.task kind made) m.hash (decided m.task removal kind)))
+      (decided_unrefused (made_decided m.task kind made) m.hash m.task removal kind) e
   refused_in made (Showing removal) answer open_still e = absurd cc
   refused_in made (Deleting removal) (Found_instead word) open_still e =
       let machine : Machine = record m { made = made; state = Deleting removal } in
-      unrefused made (Deleting removal) (Found_instead word) (refusal_of (asks made m.hash (beaten machine removal word))) (beaten_leads (IsUnrefused made m.hash) (leads_unrefused made m.hash) machine removal word) e
+      unrefused made (Deleting removal) (Found_instead word) (refusal_of (asks made m.hash (beaten machine removal word)))
+      (beaten_leads (IsUnrefused made m.hash) (leads_unrefused made m.hash) machine removal word) e
   refused_in made (Deleting removal) answer open_still e = absurd cc
   refused_in made (Uncounting n) Ok_done open_still e = absurd cc
   refused_in made (Uncounting n) answer open_still e = absurd cc
-  refused_in made (Leaving t) (Word_read word) open_still e = unrefused made (Leaving t) (Word_read word) (refusal_of (asks made m.hash (left m.task m.remembered.fill t word))) (left_leads (IsUnrefused made m.hash) (leads_unrefused made m.hash) m.task m.remembered.fill t word) e
+  refused_in made (Leaving t) (Word_read word) open_still e = unrefused made (Leaving t) (Word_read word)
+      (refusal_of (asks made m.hash (left m.task m.remembered.fill t word)))
+      (left_leads (IsUnrefused made m.hash) (leads_unrefused made m.hash) m.task m.remembered.fill t word) e
   refused_in made (Leaving t) answer open_still e = absurd cc
   refused_in made (Growing t) (Word_read word) open_still e = let is : Capacity ≡ refused = cc e in inr (inl (sym is, (t, refl)))
   refused_in made (Growing t) answer open_still e = absurd cc
   refused_in made (Ended reply) answer open_still e = absurd (open_still reply refl)
 
   -- of the machine
-  pub machine_reason : (answer : Answer) → ((reply : Reply) → ask_of m ≡ Ask_done reply → ⊥) → ask_of (after m answer) ≡ Ask_done (Reply_refused refused) → IsReason m.made m.state answer
+  pub machine_reason : (answer : Answer) → ((reply : Reply) → ask_of m ≡ Ask_done reply → ⊥)
+      → ask_of (after m answer) ≡ Ask_done (Reply_refused refused) → IsReason m.made m.state answer
   machine_reason answer open_still e = refused_in m.made m.state answer open_still (ap refusal_of e)
 
   -- why an ask's answer ends a call refused
   abbrev IsRefusal : Answer → Type 0
-  IsRefusal answer = (answer ≡ Was_refused refused) ⊎ ((refused ≡ Capacity) × ((t : ℕ) × (ask_of m ≡ Load (Next t)))) ⊎ ((refused ≡ Limit) × IsAtLimit m answer) ⊎ ((refused ≡ RemoveNothing) × (ask_of m ≡ ShowNone) × (answer ≡ Op ops.Remove))
+  IsRefusal answer = (answer ≡ Was_refused refused) ⊎ ((refused ≡ Capacity) × ((t : ℕ) × (ask_of m ≡ Load (Next t))))
+      ⊎ ((refused ≡ Limit) × IsAtLimit m answer) ⊎ ((refused ≡ RemoveNothing) × (ask_of m ≡ ShowNone) × (answer ≡ Op ops.Remove))
 
   -- a reason of the machine's state is one of its ask
   refusal : (answer : Answer) → IsReason m.made m.state answer → IsRefusal answer
@@ -285,5 +340,6 @@ module _ (m : Machine) (refused : Refused) where
   refusal answer (inr (inr (inr (none, (gap, offers), removes)))) = inr (inr (inr (none, ap (asks m.made m.hash) offers, removes)))
 
   -- so it was answered, the machine loads the number of a next table, or it showed that its key is absent
-  pub machine_refused : (answer : Answer) → ((reply : Reply) → ask_of m ≡ Ask_done reply → ⊥) → ask_of (after m answer) ≡ Ask_done (Reply_refused refused) → IsRefusal answer
+  pub machine_refused : (answer : Answer) → ((reply : Reply) → ask_of m ≡ Ask_done reply → ⊥)
+      → ask_of (after m answer) ≡ Ask_done (Reply_refused refused) → IsRefusal answer
   machine_refused answer open_still e = refusal answer (machine_reason answer open_still e)

@@ -20,25 +20,32 @@ module _ {K P : Type 0} (g : Setting K P) (c : Coding K P) (begun since : List (
   own_pair (Some i) r n e = let is : i ≡ n = cc e in subst (IsOwnPair g c begun since k loaded) is r
 
   -- the pair that was made for a place serves there
-  pub placed_pair : (of : Of) (at : Place) → IsPairAt g c begun since k loaded of.pair of.table of.index → serves_at of at.table at.probe.i ≡ true → IsPairAt g c begun since k loaded of.pair at.table at.probe.i
+  pub placed_pair : (of : Of) (at : Place) → IsPairAt g c begun since k loaded of.pair of.table of.index → serves_at of at.table at.probe.i ≡ true
+      → IsPairAt g c begun since k loaded of.pair at.table at.probe.i
   placed_pair of at r e =
       let parts = and_parts (of.table == at.table) (of.index == at.probe.i) e in
-      subst (λ x. IsPairAt g c begun since k loaded of.pair at.table x) (eqb-true of.index at.probe.i parts.1) (subst (λ t. IsPairAt g c begun since k loaded of.pair t of.index) (eqb-true of.table at.table parts.0) r)
+      subst (λ x. IsPairAt g c begun since k loaded of.pair at.table x) (eqb-true of.index at.probe.i parts.1)
+      (subst (λ t. IsPairAt g c begun since k loaded of.pair t of.index) (eqb-true of.table at.table parts.0) r)
 
   -- and only there
-  of_pair : (of : Option Of) → ReliesOf g c begun since k loaded of → (at : Place) (n : ℕ) → served_of of at ≡ Some n → IsPairAt g c begun since k loaded n at.table at.probe.i
+  of_pair : (of : Option Of) → ReliesOf g c begun since k loaded of → (at : Place) (n : ℕ) → served_of of at ≡ Some n
+      → IsPairAt g c begun since k loaded n at.table at.probe.i
   of_pair None r at n e = absurd cc
   of_pair (Some of) r at n e = by_place (serves_at of at.table at.probe.i) refl e
     where
-      by_place : (b : Bool) → serves_at of at.table at.probe.i ≡ b → cond b (Some of.pair) None ≡ Some n → IsPairAt g c begun since k loaded n at.table at.probe.i
-      by_place true there is = let same : of.pair ≡ n = cc is in subst (λ i. IsPairAt g c begun since k loaded i at.table at.probe.i) same (placed_pair of at r there)
+      by_place : (b : Bool) → serves_at of at.table at.probe.i ≡ b → cond b (Some of.pair) None ≡ Some n
+          → IsPairAt g c begun since k loaded n at.table at.probe.i
+      by_place true there is = let same : of.pair ≡ n = cc is in
+          subst (λ i. IsPairAt g c begun since k loaded i at.table at.probe.i) same (placed_pair of at r there)
       by_place false there is = absurd cc
 
   -- so it is with what serves a write
-  pub served_pair : (made : Made) (held : Remembered) → ReliesLoaded g c begun since k loaded made held → (write : Write) (n : ℕ) → serves made write ≡ Some n → IsPairFor g c begun since k loaded write n
+  pub served_pair : (made : Made) (held : Remembered) → ReliesLoaded g c begun since k loaded made held → (write : Write) (n : ℕ)
+      → serves made write ≡ Some n → IsPairFor g c begun since k loaded write n
   served_pair made held r write n e = by_old (write.old == 0) e
     where
-      by_old : (b : Bool) → cond b made.own (served_of made.of write.place) ≡ Some n → MatchBool b (IsOwnPair g c begun since k loaded n) (IsPairAt g c begun since k loaded n write.place.table write.place.probe.i)
+      by_old : (b : Bool) → cond b made.own (served_of made.of write.place) ≡ Some n
+          → MatchBool b (IsOwnPair g c begun since k loaded n) (IsPairAt g c begun since k loaded n write.place.table write.place.probe.i)
       by_old true is = own_pair made.own r.own_is n is
       by_old false is = of_pair made.of r.of_is write.place n is
 
@@ -46,6 +53,7 @@ module _ {K P : Type 0} (g : Setting K P) (c : Coding K P) (begun since : List (
   pub pair_made : (write : Write) (n : ℕ) → IsPairFor g c begun since k loaded write n → IsMadePair g c begun since k loaded n
   pair_made write n r = by_old (write.old == 0) r
     where
-      by_old : (b : Bool) → MatchBool b (IsOwnPair g c begun since k loaded n) (IsPairAt g c begun since k loaded n write.place.table write.place.probe.i) → IsMadePair g c begun since k loaded n
+      by_old : (b : Bool) → MatchBool b (IsOwnPair g c begun since k loaded n)
+          (IsPairAt g c begun since k loaded n write.place.table write.place.probe.i) → IsMadePair g c begun since k loaded n
       by_old true h = (h.0, h.1, h.2)
       by_old false h = (h.0, h.1, h.2)

@@ -22,7 +22,8 @@ use Rattle.papaya_words.specs.Word.{hint_of}
 use Rattle.papaya_law.proofs.Hints.{hint_lasts}
 use Rattle.papaya_call.specs.declared.write.Claimed.{Claimed}
 
-module _ {K P : Type 0} (g : Setting K P) (c : Coding K P) (h : IsHashed g c) (begun since es : List (Exchange P)) (may : AllAllowed g start (begun ++ (since ++ es))) (k : K) where
+module _ {K P : Type 0} (g : Setting K P) (c : Coding K P) (h : IsHashed g c) (begun since es : List (Exchange P))
+    (may : AllAllowed g start (begun ++ (since ++ es))) (k : K) where
   -- the exchanges in two lists, those of before and those since then
   split : (begun ++ since) ++ es ≡ begun ++ (since ++ es)
   split = append_assoc begun since es
@@ -45,7 +46,8 @@ module _ {K P : Type 0} (g : Setting K P) (c : Coding K P) (h : IsHashed g c) (b
 
   -- what the key saw at a place may have changed as a word may
   sees_next : (t j : ℕ) → Sees (look g (now g c begun since k) k t j) (look g (now g c begun (since ++ es) k) k t j)
-  sees_next t j = let x : ℕ = g.place k t j in sees_later g h.lawful k ((now g c begun since k).slot t x) ((now g c begun (since ++ es) k).slot t x) (state_later.words t x)
+  sees_next t j = let x : ℕ = g.place k t j in
+      sees_later g h.lawful k ((now g c begun since k).slot t x) ((now g c begun (since ++ es) k).slot t x) (state_later.words t x)
 
   -- a moment of the call has the new exchanges behind it too
   more_behind : (so_far rest : List (Exchange P)) → so_far ++ rest ≡ since → so_far ++ (rest ++ es) ≡ since ++ es
@@ -85,7 +87,8 @@ module _ {K P : Type 0} (g : Setting K P) (c : Coding K P) (h : IsHashed g c) (b
     names = r.names;
     undeleted = r.undeleted;
     stood = let m = r.stood in (m.0, ((m.1).0 ++ es, more_behind m.0 (m.1).0 (m.1).1, (m.1).2));
-    became = becomes_through g h.lawful r.was ((now g c begun since k).slot at.table at.probe.i) ((now g c begun (since ++ es) k).slot at.table at.probe.i) r.became (state_later.words at.table at.probe.i);
+    became = becomes_through g h.lawful r.was ((now g c begun since k).slot at.table at.probe.i)
+        ((now g c begun (since ++ es) k).slot at.table at.probe.i) r.became (state_later.words at.table at.probe.i);
     had = λ e. moment_stable (Some p) (r.had e);
   }
 
@@ -107,16 +110,35 @@ module _ {K P : Type 0} (g : Setting K P) (c : Coding K P) (h : IsHashed g c) (b
   need_stable (Pair_at t x) r = (come_stable t r.0, moving_stable t x r.1)
 
   -- a claimed pair stands there, or what came of it, and its hint is its own
-  claimed_stable : (loaded : LoadedPairs P) (claimed : Claimed) → HasClaimed g c begun since k loaded claimed → HasClaimed g c begun (since ++ es) k loaded claimed
+  claimed_stable : (loaded : LoadedPairs P) (claimed : Claimed) → HasClaimed g c begun since k loaded claimed
+      → HasClaimed g c begun (since ++ es) k loaded claimed
   claimed_stable loaded claimed r = record {
     pair = r.pair;
     stands = at_stable claimed.place r.stands;
-    hint = hint_lasts g c h.coding (now g c begun since k) (now g c begun (since ++ es) k) state_later claimed.place.table claimed.place.probe.i (hint_of (c.hash k)) r.hint;
+    hint = hint_lasts g c h.coding (now g c begun since k) (now g c begun (since ++ es) k) state_later claimed.place.table claimed.place.probe.i
+        (hint_of (c.hash k)) r.hint;
   }
 
   -- the machine relies on what it relied on
   pub relies_stable : (m : Machine) (loaded : LoadedPairs P) → Relies g c begun since k m loaded → Relies g c begun (since ++ es) k m loaded
   relies_stable m loaded r =
       relies_carried g g c begun since (since ++ es) k loaded
-      (record { mode = refl; most = refl; key = λ p. refl; same = λ l l'. refl; moment = moment_stable; come = come_stable; stands = at_stable; met = met_stable; of_key = λ t x key r. key_stable g (now g c begun since k) (now g c begun (since ++ es) k) state_later t x key r; passed = λ t r. state_lasts.passed k t; leaving = leaving_stable; need = need_stable; claimed = claimed_stable loaded })
+      (record {
+        mode = refl;
+        most = refl;
+        key = λ p. refl;
+        same = λ l l'.
+            refl;
+        moment = moment_stable;
+        come = come_stable;
+        stands = at_stable;
+        met = met_stable;
+        of_key = λ t x key r.
+            key_stable g (now g c begun since k) (now g c begun (since ++ es) k) state_later t x key r;
+        passed = λ t r.
+            state_lasts.passed k t;
+        leaving = leaving_stable;
+        need = need_stable;
+        claimed = claimed_stable loaded;
+      })
       m r

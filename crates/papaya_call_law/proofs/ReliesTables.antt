@@ -27,7 +27,8 @@ use Rattle.papaya_call.specs.declared.need.Need.TheVariants.{Room, Pair as Pair_
 use Rattle.papaya_law.proofs.Hints.{hint_agrees}
 use Rattle.papaya_call.specs.declared.write.Claimed.{Claimed}
 
-module _ {K P : Type 0} (g g' : Setting K P) (c : Coding K P) (h : IsHashed g c) (begun since : List (Exchange P)) (may : AllAllowed g start (begun ++ since)) (k : K)
+module _ {K P : Type 0} (g g' : Setting K P) (c : Coding K P) (h : IsHashed g c) (begun since : List (Exchange P))
+    (may : AllAllowed g start (begun ++ since)) (k : K)
     (agrees : Agrees (IsOn (now g c begun since k).first (now g c begun since k).next) g g') where
   -- what is kept of the words
   kept : IsSound g (now g c begun since k)
@@ -54,7 +55,8 @@ module _ {K P : Type 0} (g g' : Setting K P) (c : Coding K P) (h : IsHashed g c)
   come_carries : (t : ℕ) → HasComeTo g c begun since k t → HasComeTo g' c begun since k t
   come_carries t r = record {
     some = r.some;
-    is = ⊎_elim (λ h. inl (agrees.blocking ∙ h.0, reached_carries g g' (now g c begun since k) kept agrees k t h.1)) (λ h. inr (agrees.blocking ∙ h.0, h.1)) r.is;
+    is = ⊎_elim (λ h. inl (agrees.blocking ∙ h.0, reached_carries g g' (now g c begun since k) kept agrees k t h.1))
+        (λ h. inr (agrees.blocking ∙ h.0, h.1)) r.is;
   }
 
   -- it stands at the place
@@ -88,7 +90,8 @@ module _ {K P : Type 0} (g g' : Setting K P) (c : Coding K P) (h : IsHashed g c)
     names = r.names;
     undeleted = r.undeleted;
     stood = r.stood;
-    became = becomes_carries g g' (IsOn (now g c begun since k).first (now g c begun since k).next) agrees r.was ((now g c begun since k).slot at.table at.probe.i) r.became;
+    became = becomes_carries g g' (IsOn (now g c begun since k).first (now g c begun since k).next) agrees r.was
+        ((now g c begun since k).slot at.table at.probe.i) r.became;
     had = λ e. moment_carries (Some p) (r.had (ap held (sym (view_agrees g g' (now g c begun since k) kept agrees k r.was)) ∙ e));
   }
 
@@ -97,8 +100,10 @@ module _ {K P : Type 0} (g g' : Setting K P) (c : Coding K P) (h : IsHashed g c)
   of_key_carries t x key r = (r.0, r.1, agrees.key r.0 ∙ r.2)
 
   -- a passed table of the chain
-  table_passed : (t : ℕ) → HasComeTo g c begun since k t → IsPassed g.places (look g (now g c begun since k) k) t → IsPassed g'.places (look g' (now g c begun since k) k) t
-  table_passed t r pass = passed_carries g g' (now g c begun since k) kept agrees (look g (now g c begun since k) k) (look g' (now g c begun since k) k) sees_same t (come_on g c h begun since may k t r) pass
+  table_passed : (t : ℕ) → HasComeTo g c begun since k t → IsPassed g.places (look g (now g c begun since k) k) t
+      → IsPassed g'.places (look g' (now g c begun since k) k) t
+  table_passed t r pass = passed_carries g g' (now g c begun since k) kept agrees (look g (now g c begun since k) k)
+      (look g' (now g c begun since k) k) sees_same t (come_on g c h begun since may k t r) pass
 
   -- a table from where the pair is copied
   moving_carries : (t x : ℕ) → HasComeTo g c begun since k t → IsMovingFrom g c begun since k t x → IsMovingFrom g' c begun since k t x
@@ -134,5 +139,19 @@ module _ {K P : Type 0} (g g' : Setting K P) (c : Coding K P) (h : IsHashed g c)
   pub relies_carries : (m : Machine) (loaded : LoadedPairs P) → Relies g c begun since k m loaded → Relies g' c begun since k m loaded
   relies_carries m loaded r =
       relies_carried g g' c begun since since k loaded
-      (record { mode = agrees.blocking; most = agrees.most; key = agrees.key; same = agrees.same; moment = moment_carries; come = come_carries; stands = at_carries; met = met_carries; of_key = of_key_carries; passed = table_passed; leaving = leaving_carries; need = need_carries; claimed = claimed_carries loaded })
+      (record {
+        mode = agrees.blocking;
+        most = agrees.most;
+        key = agrees.key;
+        same = agrees.same;
+        moment = moment_carries;
+        come = come_carries;
+        stands = at_carries;
+        met = met_carries;
+        of_key = of_key_carries;
+        passed = table_passed;
+        leaving = leaving_carries;
+        need = need_carries;
+        claimed = claimed_carries loaded;
+      })
       m r

@@ -7,7 +7,10 @@ use Rattle.papaya_words.specs.declared.probe.ResizeMode.{ResizeMode}
 use Rattle.papaya_ask.specs.declared.ask.Ask.{Ask}
 use Rattle.papaya_ask.specs.declared.ask.Ask.TheVariants.{Done as Ask_done}
 use Rattle.papaya_ask.specs.declared.ask.Answer.{Answer}
-use Rattle.papaya_ask.specs.declared.ask.Answer.TheVariants.{Word as Word_read, Exchanged, Found as Found_instead, Yes, Op, Size, Made as Made_number, Ok as Ok_done, Refused as Was_refused}
+use Rattle.papaya_ask.specs.declared.ask.Answer.TheVariants.{Word as Word_read, Exchanged}
+use Rattle.papaya_ask.specs.declared.ask.Answer.TheVariants.{Found as Found_instead, Yes, Op, Size}
+use Rattle.papaya_ask.specs.declared.ask.Answer.TheVariants.{Made as Made_number, Ok as Ok_done}
+use Rattle.papaya_ask.specs.declared.ask.Answer.TheVariants.{Refused as Was_refused}
 use Rattle.papaya_ask.specs.declared.ask.OpKind.{OpKind}
 use Rattle.papaya_ask.specs.declared.ask.OpKind.TheVariants as ops
 use Rattle.papaya_ask.specs.declared.call.Reply.{Reply}
@@ -23,14 +26,22 @@ use Rattle.papaya_call.specs.declared.remove.Removal.{Removal}
 use Rattle.papaya_ask.specs.declared.search.Search.TheVariants.{Sizing, Looking, Reading, Comparing}
 use Rattle.papaya_ask.specs.declared.search.Probed.{Probed}
 use Rattle.papaya_call.specs.declared.made.Made.{Made}
-use Rattle.papaya_call_law.proofs.Makings.{HoldsOfPairAsks, exchanged_leads, lost_leads, numbered_leads, pair_holds, paired_leads, refuses_leads, told_leads, write_holds}
+use Rattle.papaya_call_law.proofs.Makings.{HoldsOfPairAsks, exchanged_leads, lost_leads}
+use Rattle.papaya_call_law.proofs.Makings.{numbered_leads, pair_holds, paired_leads, refuses_leads}
+use Rattle.papaya_call_law.proofs.Makings.{told_leads, write_holds}
 use Rattle.papaya_call.specs.declared.write.Write.{Write}
 use Rattle.papaya_call.specs.declared.machine.Machine.{Machine}
 use Rattle.papaya_call.specs.declared.machine.State.{State as Stage}
-use Rattle.papaya_call.specs.declared.machine.State.TheVariants.{AtRoot, Making, Opening, Searching, Writing, Offering, Showing, Pairing, Putting, Deleting, Counting, Noting, Uncounting, Leaving, Growing, Ended}
+use Rattle.papaya_call.specs.declared.machine.State.TheVariants.{AtRoot, Making, Opening, Searching}
+use Rattle.papaya_call.specs.declared.machine.State.TheVariants.{Writing, Offering, Showing}
+use Rattle.papaya_call.specs.declared.machine.State.TheVariants.{Pairing, Putting, Deleting}
+use Rattle.papaya_call.specs.declared.machine.State.TheVariants.{Counting, Noting, Uncounting}
+use Rattle.papaya_call.specs.declared.machine.State.TheVariants.{Leaving, Growing, Ended}
 use Rattle.papaya_call.specs.Compute.{chosen, in_place_of, offered, provides}
 use Rattle.papaya_call.specs.Made.{grown, told}
-use Rattle.papaya_call.specs.Machine.{IsStanding, IsStandingState, IsComputer, IsWriter, HasClosure, after, ask_of, asks, at_root, beaten, goes_as, left, numbered, refuses, write_lost, write_told, written}
+use Rattle.papaya_call.specs.Machine.{IsStanding, IsStandingState, IsComputer, IsWriter, HasClosure}
+use Rattle.papaya_call.specs.Machine.{after, ask_of, asks, at_root, beaten, goes_as, left, numbered}
+use Rattle.papaya_call.specs.Machine.{refuses, write_lost, write_told, written}
 use Rattle.papaya_call_law.specs.Relies.{change_in}
 use Rattle.papaya_ask.specs.Search.{look as look_seen, at_size as search_sized, at_word as search_loaded, at_yes as search_compared}
 use Rattle.papaya_call_law.specs.Says.{IsSaidChange, shown_by, show}
@@ -105,16 +116,19 @@ goes_idle : (task : Task) (mode : ResizeMode) (held : Remembered) (s : Probed) �
 goes_idle task mode held s = goes_leads IsIdle leads_idle task mode held s
 
 -- a pair that was written takes the place of what its old word names
-put_change : (write : Write) (n : ℕ) (old new : Option ℕ) (Holds : Option ℕ → Option ℕ → Type 0) → Holds (shown_by write.old) (Some n) → change_in (written write n) ≡ Some (old, new) → Holds old new
+put_change : (write : Write) (n : ℕ) (old new : Option ℕ) (Holds : Option ℕ → Option ℕ → Type 0) → Holds (shown_by write.old) (Some n)
+    → change_in (written write n) ≡ Some (old, new) → Holds old new
 put_change write n old new Holds = by_old (write.old == 0)
   where
-    by_old : (b : Bool) → Holds (cond b None (Some (pair_of write.old))) (Some n) → change_in (cond b (Counting (claimed_by write n)) (Ended (Replaced (pair_of write.old) n))) ≡ Some (old, new) → Holds old new
+    by_old : (b : Bool) → Holds (cond b None (Some (pair_of write.old))) (Some n)
+        → change_in (cond b (Counting (claimed_by write n)) (Ended (Replaced (pair_of write.old) n))) ≡ Some (old, new) → Holds old new
     by_old true h e = let is : (None, Some n) ≡ (old, new) = cc e in subst (λ (c : Option ℕ × Option ℕ). Holds c.0 c.1) is h
     by_old false h e = let is : (Some (pair_of write.old), Some n) ≡ (old, new) = cc e in subst (λ (c : Option ℕ × Option ℕ). Holds c.0 c.1) is h
 
 -- and aborts nothing
 put_unaborted : (write : Write) (n : ℕ) → abort_in (written write n) ≡ None
-put_unaborted write n = cond_both (write.old == 0) (Counting (claimed_by write n)) (Ended (Replaced (pair_of write.old) n)) (λ s. abort_in s ≡ None) (λ _. refl) (λ _. refl)
+put_unaborted write n = cond_both (write.old == 0) (Counting (claimed_by write n)) (Ended (Replaced (pair_of write.old) n)) (λ s. abort_in s ≡ None)
+    (λ _. refl) (λ _. refl)
 
 module _ (m : Machine) where
   -- the machine of these
@@ -127,7 +141,8 @@ module _ (m : Machine) where
 
   -- where the answer leads from this stage, a change is what the closure said, and an abort its answer
   record IsRight (task : Task) (made : Made) (stage : Stage) (answer : Answer) (then : Stage) : Type 0 where
-    pub change : (old new : Option ℕ) → IsStandingState task stage → change_in stage ≡ None → change_in then ≡ Some (old, new) → IsSaidChange task (on task made stage) old new
+    pub change : (old new : Option ℕ) → IsStandingState task stage → change_in stage ≡ None → change_in then ≡ Some (old, new)
+        → IsSaidChange task (on task made stage) old new
     pub abort : (with : ℕ) → ((reply : Reply) → asks made m.hash stage ≡ Ask_done reply → ⊥) → abort_in then ≡ Some with → IsAbort made stage answer with
 
   -- nothing was changed or aborted
@@ -145,7 +160,8 @@ module _ (m : Machine) where
   }
 
   -- a pair that a compute put
-  put_said : (task : Task) (made : Made) (put : Put) → IsComputer task → (old new : Option ℕ) → change_in (written put.write put.pair) ≡ Some (old, new) → IsSaidChange task (on task made (Putting put)) old new
+  put_said : (task : Task) (made : Made) (put : Put) → IsComputer task → (old new : Option ℕ)
+      → change_in (written put.write put.pair) ≡ Some (old, new) → IsSaidChange task (on task made (Putting put)) old new
   put_said Get made put is old new e = absurd is
   put_said (Insert replace) made put is old new e = absurd is
   put_said RemoveIf made put is old new e = absurd is
@@ -173,7 +189,8 @@ module _ (m : Machine) where
   }
 
   -- a pair that was deleted
-  delete_change : (task : Task) (made : Made) (removal : Removal) → HasClosure task → IsSaidChange task (on task made (Deleting removal)) (Some (pair_of removal.word)) None
+  delete_change : (task : Task) (made : Made) (removal : Removal) → HasClosure task
+      → IsSaidChange task (on task made (Deleting removal)) (Some (pair_of removal.word)) None
   delete_change Get made removal is = absurd is
   delete_change (Insert replace) made removal is = absurd is
   delete_change RemoveIf made removal is = inl refl
@@ -219,7 +236,8 @@ module _ (m : Machine) where
 
   -- in each stage
   right_in : (task : Task) (made : Made) (stage : Stage) (answer : Answer) → IsRight task made stage answer (after (on task made stage) answer).state
-  right_in task made AtRoot (Word_read word) = idle task made AtRoot (Word_read word) (at_root task m.remembered.fill word) (root_leads IsIdle leads_idle task m.remembered.fill word)
+  right_in task made AtRoot (Word_read word) = idle task made AtRoot (Word_read word) (at_root task m.remembered.fill word)
+      (root_leads IsIdle leads_idle task m.remembered.fill word)
   right_in task made AtRoot answer = stable task made AtRoot answer refl
   right_in task made Making (Made_number n) = idle task made Making (Made_number n) (Opening n) (refl, refl)
   right_in task made Making (Was_refused refused) = idle task made Making (Was_refused refused) (Ended (Reply_refused refused)) (refl, refl)
@@ -228,17 +246,24 @@ module _ (m : Machine) where
   right_in task made (Opening t) (Found_instead word) = idle task made (Opening t) (Found_instead word) (Searching (Sizing word)) (refl, refl)
   right_in task made (Opening t) answer = stable task made (Opening t) answer refl
   right_in task made (Searching place) (Word_read word) =
-      idle task made (Searching place) (Word_read word) (goes_as task m.mode m.remembered (search_loaded place m.hash word)) (goes_idle task m.mode m.remembered (search_loaded place m.hash word))
+      idle task made (Searching place) (Word_read word) (goes_as task m.mode m.remembered (search_loaded place m.hash word))
+      (goes_idle task m.mode m.remembered (search_loaded place m.hash word))
   right_in task made (Searching place) (Yes same) =
-      idle task made (Searching place) (Yes same) (goes_as task m.mode m.remembered (search_compared place same)) (goes_idle task m.mode m.remembered (search_compared place same))
-  right_in task made (Searching place) (Size slots limit) = idle task made (Searching place) (Size slots limit) (Searching (search_sized place m.hash slots limit)) (refl, refl)
+      idle task made (Searching place) (Yes same) (goes_as task m.mode m.remembered (search_compared place same))
+      (goes_idle task m.mode m.remembered (search_compared place same))
+  right_in task made (Searching place) (Size slots limit) = idle task made (Searching place) (Size slots limit)
+      (Searching (search_sized place m.hash slots limit)) (refl, refl)
   right_in task made (Searching place) answer = stable task made (Searching place) answer refl
-  right_in task made (Writing write) (Word_read word) = idle task made (Writing write) (Word_read word) (write_told (serves made write) made write word) (told_leads IsIdle (refl, refl) write (refl, refl) (serves made write) made word)
+  right_in task made (Writing write) (Word_read word) = idle task made (Writing write) (Word_read word)
+      (write_told (serves made write) made write word) (told_leads IsIdle (refl, refl) write (refl, refl) (serves made write) made word)
   right_in task made (Writing write) (Found_instead word) =
       let machine : Machine = on task made (Writing write) in
-      idle task made (Writing write) (Found_instead word) (write_lost (serves made write) machine write word) (lost_leads IsIdle (refl, refl) write (refl, refl) machine word (goes_idle task m.mode m.remembered (look_seen write.place word)) (serves made write))
-  right_in task made (Writing write) Exchanged = exchanged_leads (IsRight task made (Writing write) Exchanged) write (stable task made (Writing write) Exchanged refl) (write_right task made write) (serves made write)
-  right_in task made (Writing write) (Was_refused refused) = idle task made (Writing write) (Was_refused refused) (refuses (serves made write) refused write) (refuses_leads IsIdle write refused (refl, refl) (refl, refl) (serves made write))
+      idle task made (Writing write) (Found_instead word) (write_lost (serves made write) machine write word)
+      (lost_leads IsIdle (refl, refl) write (refl, refl) machine word (goes_idle task m.mode m.remembered (look_seen write.place word)) (serves made write))
+  right_in task made (Writing write) Exchanged = exchanged_leads (IsRight task made (Writing write) Exchanged) write
+      (stable task made (Writing write) Exchanged refl) (write_right task made write) (serves made write)
+  right_in task made (Writing write) (Was_refused refused) = idle task made (Writing write) (Was_refused refused)
+      (refuses (serves made write) refused write) (refuses_leads IsIdle write refused (refl, refl) (refl, refl) (serves made write))
   right_in task made (Writing write) answer = stable task made (Writing write) answer refl
   right_in task made (Offering gap) (Op kind) = offered_right task made gap kind
   right_in task made (Offering gap) answer = stable task made (Offering gap) answer refl
@@ -252,18 +277,24 @@ module _ (m : Machine) where
   right_in (Insert replace) made (Showing removal) (Op kind) = stable (Insert replace) made (Showing removal) (Op kind) refl
   right_in RemoveIf made (Showing removal) (Op kind) = stable RemoveIf made (Showing removal) (Op kind) refl
   right_in task made (Showing removal) answer = stable task made (Showing removal) answer refl
-  right_in task made (Pairing purpose) (Made_number n) = paired_leads (IsRight task made (Pairing purpose) (Made_number n)) purpose n (stable task made (Pairing purpose) (Made_number n) refl) (provided_right task made purpose n) (grown made (in_place_of purpose))
-  right_in task made (Pairing purpose) (Word_read word) = idle task made (Pairing purpose) (Word_read word) (numbered (told made word) (Pairing purpose)) (numbered_leads IsIdle (refl, refl) (Pairing purpose) (refl, refl) (told made word))
-  right_in task made (Pairing purpose) (Found_instead word) = idle task made (Pairing purpose) (Found_instead word) (numbered (told made word) (Pairing purpose)) (numbered_leads IsIdle (refl, refl) (Pairing purpose) (refl, refl) (told made word))
-  right_in task made (Pairing purpose) (Was_refused refused) = idle task made (Pairing purpose) (Was_refused refused) (Ended (Reply_refused refused)) (refl, refl)
+  right_in task made (Pairing purpose) (Made_number n) = paired_leads (IsRight task made (Pairing purpose) (Made_number n)) purpose n
+      (stable task made (Pairing purpose) (Made_number n) refl) (provided_right task made purpose n) (grown made (in_place_of purpose))
+  right_in task made (Pairing purpose) (Word_read word) = idle task made (Pairing purpose) (Word_read word)
+      (numbered (told made word) (Pairing purpose)) (numbered_leads IsIdle (refl, refl) (Pairing purpose) (refl, refl) (told made word))
+  right_in task made (Pairing purpose) (Found_instead word) = idle task made (Pairing purpose) (Found_instead word)
+      (numbered (told made word) (Pairing purpose)) (numbered_leads IsIdle (refl, refl) (Pairing purpose) (refl, refl) (told made word))
+  right_in task made (Pairing purpose) (Was_refused refused) = idle task made (Pairing purpose) (Was_refused refused) (Ended (Reply_refused refused))
+      (refl, refl)
   right_in task made (Pairing purpose) answer = stable task made (Pairing purpose) answer refl
   right_in task made (Putting put) Exchanged = put_right task made put
   right_in task made (Putting put) (Found_instead word) =
-      idle task made (Putting put) (Found_instead word) (goes_as task m.mode m.remembered (look_seen put.write.place word)) (goes_idle task m.mode m.remembered (look_seen put.write.place word))
+      idle task made (Putting put) (Found_instead word) (goes_as task m.mode m.remembered (look_seen put.write.place word))
+      (goes_idle task m.mode m.remembered (look_seen put.write.place word))
   right_in task made (Putting put) answer = stable task made (Putting put) answer refl
   right_in task made (Deleting removal) Exchanged = delete_right task made removal
   right_in task made (Deleting removal) (Found_instead word) =
-      idle task made (Deleting removal) (Found_instead word) (beaten (on task made (Deleting removal)) removal word) (beaten_leads IsIdle leads_idle (on task made (Deleting removal)) removal word)
+      idle task made (Deleting removal) (Found_instead word) (beaten (on task made (Deleting removal)) removal word)
+      (beaten_leads IsIdle leads_idle (on task made (Deleting removal)) removal word)
   right_in task made (Deleting removal) answer = stable task made (Deleting removal) answer refl
   right_in task made (Counting n) Ok_done = record { change = λ old new is before e. absurd (cc before); abort = λ with open_still e. absurd cc }
   right_in task made (Noting n) Ok_done = record { change = λ old new is before e. absurd (cc before); abort = λ with open_still e. absurd cc }
@@ -271,7 +302,8 @@ module _ (m : Machine) where
   right_in task made (Noting n) answer = stable task made (Noting n) answer refl
   right_in task made (Uncounting n) Ok_done = record { change = λ old new is before e. absurd (cc before); abort = λ with open_still e. absurd cc }
   right_in task made (Uncounting n) answer = stable task made (Uncounting n) answer refl
-  right_in task made (Leaving t) (Word_read word) = idle task made (Leaving t) (Word_read word) (left task m.remembered.fill t word) (left_leads IsIdle leads_idle task m.remembered.fill t word)
+  right_in task made (Leaving t) (Word_read word) = idle task made (Leaving t) (Word_read word) (left task m.remembered.fill t word)
+      (left_leads IsIdle leads_idle task m.remembered.fill t word)
   right_in task made (Leaving t) answer = stable task made (Leaving t) answer refl
   right_in task made (Growing t) (Word_read word) = idle task made (Growing t) (Word_read word) (Ended (Reply_refused Capacity)) (refl, refl)
   right_in task made (Growing t) answer = stable task made (Growing t) answer refl
@@ -279,11 +311,13 @@ module _ (m : Machine) where
   right_in task made (Ended reply) answer = ended_right task made reply answer
 
   -- of the machine
-  pub machine_changed : (answer : Answer) (old new : Option ℕ) → IsStanding m → change_in m.state ≡ None → change_in (after m answer).state ≡ Some (old, new) → IsSaidChange m.task m old new
+  pub machine_changed : (answer : Answer) (old new : Option ℕ) → IsStanding m → change_in m.state ≡ None
+      → change_in (after m answer).state ≡ Some (old, new) → IsSaidChange m.task m old new
   machine_changed answer old new standing before e = (right_in m.task m.made m.state answer).change old new standing.state before e
 
   -- and aborts only where its closure did
-  pub machine_aborted : (answer : Answer) (with : ℕ) → ((reply : Reply) → ask_of m ≡ Ask_done reply → ⊥) → ask_of (after m answer) ≡ Ask_done (Aborted with) → (shown : Option ℕ) × (ask_of m ≡ show shown) × (answer ≡ Op (ops.Abort with))
+  pub machine_aborted : (answer : Answer) (with : ℕ) → ((reply : Reply) → ask_of m ≡ Ask_done reply → ⊥)
+      → ask_of (after m answer) ≡ Ask_done (Aborted with) → (shown : Option ℕ) × (ask_of m ≡ show shown) × (answer ≡ Op (ops.Abort with))
   machine_aborted answer with open_still e =
       let then : Machine = after m answer in
       (right_in m.task m.made m.state answer).abort with open_still (sym (abort_asked then.made then.hash then.state) ∙ ap abort_of e)

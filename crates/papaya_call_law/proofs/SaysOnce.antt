@@ -8,7 +8,10 @@ use Rattle.papaya_words.specs.declared.word.Kind.{Kind}
 use Rattle.papaya_words.specs.declared.word.Kind.TheVariants as word_kinds
 use Rattle.papaya_ask.specs.declared.ask.Ask.TheVariants.{ShowNone}
 use Rattle.papaya_ask.specs.declared.ask.Answer.{Answer}
-use Rattle.papaya_ask.specs.declared.ask.Answer.TheVariants.{Word as Word_read, Exchanged, Found as Found_instead, Yes, Op, Made as Made_number, Ok as Ok_done, Refused as Was_refused}
+use Rattle.papaya_ask.specs.declared.ask.Answer.TheVariants.{Word as Word_read, Exchanged}
+use Rattle.papaya_ask.specs.declared.ask.Answer.TheVariants.{Found as Found_instead, Yes, Op}
+use Rattle.papaya_ask.specs.declared.ask.Answer.TheVariants.{Made as Made_number, Ok as Ok_done}
+use Rattle.papaya_ask.specs.declared.ask.Answer.TheVariants.{Refused as Was_refused}
 use Rattle.papaya_ask.specs.declared.ask.OpKind.{OpKind}
 use Rattle.papaya_ask.specs.declared.ask.OpKind.TheVariants as ops
 use Rattle.papaya_ask.specs.declared.call.Reply.TheVariants.{Absent, Replaced}
@@ -27,16 +30,24 @@ use Rattle.papaya_ask.specs.declared.search.Search.TheVariants.{Sizing, Looking,
 use Rattle.papaya_ask.specs.declared.search.Probed.{Probed}
 use Rattle.papaya_ask.specs.declared.search.Probed.TheVariants as seen
 use Rattle.papaya_call.specs.declared.made.Made.{Made}
-use Rattle.papaya_call_law.proofs.Makings.{IsPairAsk, IsWriteAsk, exchanged_leads, lost_leads, numbered_leads, pairing_asks, refuses_leads, told_leads, write_asks}
+use Rattle.papaya_call_law.proofs.Makings.{IsPairAsk, IsWriteAsk, exchanged_leads, lost_leads}
+use Rattle.papaya_call_law.proofs.Makings.{numbered_leads, pairing_asks, refuses_leads, told_leads}
+use Rattle.papaya_call_law.proofs.Makings.{write_asks}
 use Rattle.papaya_call.specs.declared.write.Write.{Write}
 use Rattle.papaya_call.specs.declared.machine.Machine.{Machine}
 use Rattle.papaya_call.specs.declared.machine.State.{State as Stage}
-use Rattle.papaya_call.specs.declared.machine.State.TheVariants.{AtRoot, Making, Opening, Searching, Writing, Offering, Showing, Pairing, Putting, Deleting, Counting, Noting, Uncounting, Leaving, Growing, Ended}
+use Rattle.papaya_call.specs.declared.machine.State.TheVariants.{AtRoot, Making, Opening, Searching}
+use Rattle.papaya_call.specs.declared.machine.State.TheVariants.{Writing, Offering, Showing}
+use Rattle.papaya_call.specs.declared.machine.State.TheVariants.{Pairing, Putting, Deleting}
+use Rattle.papaya_call.specs.declared.machine.State.TheVariants.{Counting, Noting, Uncounting}
+use Rattle.papaya_call.specs.declared.machine.State.TheVariants.{Leaving, Growing, Ended}
 use Rattle.papaya_call.specs.declared.made.Grown.{Grown}
 use Rattle.papaya_call.specs.declared.made.Grown.TheVariants.{On, Pair}
 use Rattle.papaya_call.specs.Made.{grown, serves_at, told}
 use Rattle.papaya_call.specs.Compute.{fills, in_place_of, recalled, recalls}
-use Rattle.papaya_call.specs.Machine.{absent, after, ask_of, asks, at_root, beaten_as, beaten_by, computes, goes_as, left, paired, paired_held, removes, replaces, written}
+use Rattle.papaya_call.specs.Machine.{absent, after, ask_of, asks, at_root, beaten_as, beaten_by}
+use Rattle.papaya_call.specs.Machine.{computes, goes_as, left, paired, paired_held, removes}
+use Rattle.papaya_call.specs.Machine.{replaces, written}
 use Rattle.papaya_ask.specs.Search.{look as look_seen, at_word as search_loaded, at_yes as search_compared}
 use Rattle.papaya_call_law.specs.Says.{HasShownNone, IsFilled}
 use Rattle.papaya_call_law.proofs.Leads.{occupies_leads}
@@ -83,9 +94,11 @@ recalls_shown : (fill : Option ℕ) (choice : Option Choice) (at : Place) (word 
 recalls_shown fill None at word pair h = h
 recalls_shown fill (Some (To_replace old new)) at word pair h =
     cond_both (old == pair) (recalled new at word) (Showing (record { place = at; word = word })) (HasShownNone fill)
-    (λ _. cond_both (serves_at new at.table at.probe.i) (Putting (record { write = record { place = at; old = word }; pair = new.pair })) (Pairing (Again (record { place = at; old = word }))) (HasShownNone fill) (λ _. h) (λ _. h))
+    (λ _. cond_both (serves_at new at.table at.probe.i) (Putting (record { write = record { place = at; old = word }; pair = new.pair }))
+    (Pairing (Again (record { place = at; old = word }))) (HasShownNone fill) (λ _. h) (λ _. h))
     (λ _. h)
-recalls_shown fill (Some (To_remove old)) at word pair h = cond_both (old == pair) (Deleting (record { place = at; word = word })) (Showing (record { place = at; word = word })) (HasShownNone fill) (λ _. h) (λ _. h)
+recalls_shown fill (Some (To_remove old)) at word pair h = cond_both (old == pair) (Deleting (record { place = at; word = word }))
+    (Showing (record { place = at; word = word })) (HasShownNone fill) (λ _. h) (λ _. h)
 
 -- nor one that a compute found
 computes_shown : (kd : Kind) (held : Remembered) (at : Place) (word : ℕ) → IsFilled held.fill → HasShownNone held.fill (computes kd held at word)
@@ -138,12 +151,14 @@ goes_shown (Insert replace) mode held (seen.Over t) h = h
 root_shown : (task : Task) (fill : Option ℕ) (word : ℕ) → IsFilled fill → HasShownNone fill (at_root task fill word)
 root_shown Get fill word h = cond_both (word == 0) (Ended Absent) (Searching (Sizing word)) (HasShownNone fill) (λ _. tt) (λ _. h)
 root_shown RemoveIf fill word h = cond_both (word == 0) (Ended Absent) (Searching (Sizing word)) (HasShownNone fill) (λ _. tt) (λ _. h)
-root_shown Compute fill word h = cond_both (word == 0) (absent Compute fill NoRoot) (Searching (Sizing word)) (HasShownNone fill) (λ _. absent_shown Compute fill NoRoot h) (λ _. h)
+root_shown Compute fill word h = cond_both (word == 0) (absent Compute fill NoRoot) (Searching (Sizing word)) (HasShownNone fill)
+    (λ _. absent_shown Compute fill NoRoot h) (λ _. h)
 root_shown (Insert replace) fill word h = cond_both (word == 0) Making (Searching (Sizing word)) (HasShownNone fill) (λ _. h) (λ _. h)
 
 -- a next table
 next_shown : (task : Task) (fill : Option ℕ) (t word : ℕ) → IsFilled fill → HasShownNone fill (left task fill t word)
-next_shown task fill t word h = cond_both (word == 0) (absent task fill (After t)) (Searching (Sizing word)) (HasShownNone fill) (λ _. absent_shown task fill (After t) h) (λ _. h)
+next_shown task fill t word h = cond_both (word == 0) (absent task fill (After t)) (Searching (Sizing word)) (HasShownNone fill)
+    (λ _. absent_shown task fill (After t) h) (λ _. h)
 
 -- after a deletion that was lost
 beaten_shown : (kd : Kind) (m : Machine) (at : Place) (word : ℕ) → IsFilled m.remembered.fill → HasShownNone m.remembered.fill (beaten_by kd m at word)
@@ -156,7 +171,8 @@ beaten_shown word_kinds.Closed m at word h = goes_shown m.task m.mode m.remember
 
 -- and after a write
 written_shown : (fill : Option ℕ) (write : Write) (n : ℕ) → IsFilled fill → HasShownNone fill (written write n)
-written_shown fill write n h = cond_both (write.old == 0) (Counting (claimed_by write n)) (Ended (Replaced (pair_of write.old) n)) (HasShownNone fill) (λ _. h) (λ _. tt)
+written_shown fill write n h = cond_both (write.old == 0) (Counting (claimed_by write n)) (Ended (Replaced (pair_of write.old) n)) (HasShownNone fill)
+    (λ _. h) (λ _. tt)
 
 module _ (m : Machine) where
   -- the machine of these
@@ -164,7 +180,8 @@ module _ (m : Machine) where
   on task made stage = record m { task = task; made = made; state = stage }
 
   -- by the task
-  beaten_task_shown : (task : Task) (made : Made) (removal : Removal) (word : ℕ) → IsFilled m.remembered.fill → HasShownNone m.remembered.fill (beaten_as task (on task made (Deleting removal)) removal.place word)
+  beaten_task_shown : (task : Task) (made : Made) (removal : Removal) (word : ℕ) → IsFilled m.remembered.fill
+      → HasShownNone m.remembered.fill (beaten_as task (on task made (Deleting removal)) removal.place word)
   beaten_task_shown Get made removal word h = beaten_shown (kind_of word) (on Get made (Deleting removal)) removal.place word h
   beaten_task_shown (Insert replace) made removal word h = beaten_shown (kind_of word) (on (Insert replace) made (Deleting removal)) removal.place word h
   beaten_task_shown RemoveIf made removal word h = beaten_shown (kind_of word) (on RemoveIf made (Deleting removal)) removal.place word h
@@ -181,7 +198,8 @@ module _ (m : Machine) where
   chosen_shown made removal (ops.Abort with) h = tt
 
   -- after something was made for a compute
-  pairing_shown : (purpose : Purpose) (n : ℕ) → HasShownNone m.remembered.fill (Pairing purpose) → (G : Grown) → HasShownNone (paired_held G m.remembered purpose n).fill (paired G purpose n)
+  pairing_shown : (purpose : Purpose) (n : ℕ) → HasShownNone m.remembered.fill (Pairing purpose) → (G : Grown)
+      → HasShownNone (paired_held G m.remembered purpose n).fill (paired G purpose n)
   pairing_shown purpose n h (On next) = h
   pairing_shown (Fill gap) n h (Pair next) = fills_shown gap n
   pairing_shown (Replace write) n h (Pair next) = h
@@ -201,8 +219,10 @@ module _ (m : Machine) where
   shown_in task made (Writing write) (Word_read word) h = told_leads (HasShownNone m.remembered.fill) tt write h (serves made write) made word
   shown_in task made (Writing write) (Found_instead word) h =
       let machine : Machine = on task made (Writing write) in
-      lost_leads (HasShownNone m.remembered.fill) tt write h machine word (goes_shown task m.mode m.remembered (look_seen write.place word) h) (serves made write)
-  shown_in task made (Writing write) Exchanged h = exchanged_leads (HasShownNone m.remembered.fill) write h (λ n. written_shown m.remembered.fill write n h) (serves made write)
+      lost_leads (HasShownNone m.remembered.fill) tt write h machine word (goes_shown task m.mode m.remembered (look_seen write.place word) h)
+      (serves made write)
+  shown_in task made (Writing write) Exchanged h = exchanged_leads (HasShownNone m.remembered.fill) write h
+      (λ n. written_shown m.remembered.fill write n h) (serves made write)
   shown_in task made (Writing write) (Was_refused refused) h = refuses_leads (HasShownNone m.remembered.fill) write refused h tt (serves made write)
   shown_in task made (Writing write) answer h = h
   shown_in task made (Offering gap) answer h = absurd h
@@ -240,5 +260,6 @@ module _ (m : Machine) where
   shown_in task made (Ended reply) answer h = h
 
   -- of the machine
-  pub machine_shown : (answer : Answer) → HasShownNone m.remembered.fill m.state → (ask_of m ≡ ShowNone → ⊥) × HasShownNone (after m answer).remembered.fill (after m answer).state
+  pub machine_shown : (answer : Answer) → HasShownNone m.remembered.fill m.state → (ask_of m ≡ ShowNone → ⊥)
+      × HasShownNone (after m answer).remembered.fill (after m answer).state
   machine_shown answer h = (asks_other m.made m.hash m.remembered.fill m.state h, shown_in m.task m.made m.state answer h)

@@ -7,7 +7,10 @@ use Rattle.papaya_ask.specs.declared.ask.Answer.TheVariants.{Op}
 use Rattle.papaya_ask.specs.declared.ask.OpKind.TheVariants as ops
 use Rattle.papaya_ask.specs.declared.ask.StepKind.TheVariants as kinds
 use Rattle.papaya_ask.specs.declared.call.Reply.{Reply}
-use Rattle.papaya_ask.specs.declared.call.Reply.TheVariants.{Absent, Found, Inserted, Replaced, Occupied, Removed, Kept, Aborted, Done as Reply_done, Refused as Reply_refused}
+use Rattle.papaya_ask.specs.declared.call.Reply.TheVariants.{Absent, Found, Inserted, Replaced}
+use Rattle.papaya_ask.specs.declared.call.Reply.TheVariants.{Occupied, Removed, Kept, Aborted}
+use Rattle.papaya_ask.specs.declared.call.Reply.TheVariants.{Done as Reply_done}
+use Rattle.papaya_ask.specs.declared.call.Reply.TheVariants.{Refused as Reply_refused}
 use Rattle.papaya_ask.specs.declared.call.Task.{Task}
 use Rattle.papaya_ask.specs.declared.call.Task.TheVariants.{Compute}
 use Rattle.papaya_call.specs.declared.compute.Choice.{Choice}
@@ -32,7 +35,10 @@ use Rattle.papaya_call.specs.Made.{grown, paired as pair_done}
 use Rattle.papaya_call.specs.Write.{made_of}
 use Rattle.papaya_call.specs.Compute.{fills, in_place_of}
 use Rattle.papaya_call.specs.Machine.{IsStanding, IsStandingState, after, ask_of, asks, made_to_pair, paired, paired_held}
-use Rattle.papaya_call_law.specs.Says.{Said, Agrees, Inserts, Makes, MakesPair, Removes, IsPaired, IsSaidExchange, KeepsFill, ShowsIn, ShowsPairs, StandsOn, WasSaid, said_in, said_in_reply, said_to_choose, said_to_fill, shown_by}
+use Rattle.papaya_call_law.specs.Says.{Said, Agrees, Inserts, Makes, MakesPair, Removes, IsPaired}
+use Rattle.papaya_call_law.specs.Says.{IsSaidExchange, KeepsFill, ShowsIn, ShowsPairs, StandsOn}
+use Rattle.papaya_call_law.specs.Says.{WasSaid, said_in, said_in_reply, said_to_choose}
+use Rattle.papaya_call_law.specs.Says.{said_to_fill, shown_by}
 use Rattle.papaya_call_law.proofs.NewWords.{pair_of-live_word}
 use Rattle.papaya_call_law.proofs.SaysSaid.{shown_pair}
 
@@ -82,10 +88,12 @@ module _ (n : ℕ) (agrees : Bool) where
 
   -- so what a machine stands on that its closure agreed to, its state does
   stage_agrees : (m : Machine) → StandsOn m (Agrees n agrees) → said_in m.task m.state ≡ Some (Agrees n agrees)
-  stage_agrees m stands = ⊎_elim (λ h. h) (λ o. absurd (⊎_elim (λ h. agrees_no_fill m.remembered.fill h) (λ h. agrees_no_choice m.remembered.choice h) o)) stands
+  stage_agrees m stands = ⊎_elim (λ h. h) (λ o.
+      absurd (⊎_elim (λ h. agrees_no_fill m.remembered.fill h) (λ h. agrees_no_choice m.remembered.choice h) o)) stands
 
   -- nor does the state of one that shows a pair
-  showing_unsaid : (task : Task) (made : Made) (hash : ℕ) (stage : Stage) (shown : ℕ) → asks made hash stage ≡ ShowPair shown → said_in task stage ≡ Some (Agrees n agrees) → ⊥
+  showing_unsaid : (task : Task) (made : Made) (hash : ℕ) (stage : Stage) (shown : ℕ) → asks made hash stage ≡ ShowPair shown
+      → said_in task stage ≡ Some (Agrees n agrees) → ⊥
   showing_unsaid task made hash (Searching (Sizing t)) shown e said = cc e
   showing_unsaid task made hash (Searching (Looking at)) shown e said = cc e
   showing_unsaid task made hash (Searching (Reading at)) shown e said = cc e
@@ -97,7 +105,8 @@ module _ (n : ℕ) (agrees : Bool) where
 
 -- a compute stands on no agreement
 pub computed_unsaid : (m : Machine) (n : ℕ) (agrees : Bool) → m.task ≡ Compute → StandsOn m (Agrees n agrees) → ⊥
-computed_unsaid m n agrees is stands = agrees_no_stage n agrees m.state (subst (λ t. said_in t m.state ≡ Some (Agrees n agrees)) is (stage_agrees n agrees m stands))
+computed_unsaid m n agrees is stands = agrees_no_stage n agrees m.state
+    (subst (λ t. said_in t m.state ≡ Some (Agrees n agrees)) is (stage_agrees n agrees m stands))
 
 -- a machine that shows a pair stands on no agreement to one
 pub unsaid : (m : Machine) (shown n : ℕ) (agrees : Bool) → ask_of m ≡ ShowPair shown → StandsOn m (Agrees n agrees) → ⊥
@@ -113,13 +122,16 @@ module _ (m : Machine) where
   keeps_fill made stage said e = let made_of = fill_makes m.remembered.fill said e in (made_of.0, made_of.1, inr (inl e))
 
   -- a pair that is to be removed
-  removes_over : (made : Made) (removal : Removal) (n : ℕ) (said : Said) → pair_of removal.word ≡ n → StandsOn (after (on made (Showing removal)) (Op ops.Remove)) said → (said ≡ Removes n) ⊎ KeepsFill (on made (Showing removal)) said
+  removes_over : (made : Made) (removal : Removal) (n : ℕ) (said : Said) → pair_of removal.word ≡ n
+      → StandsOn (after (on made (Showing removal)) (Op ops.Remove)) said → (said ≡ Removes n) ⊎ KeepsFill (on made (Showing removal)) said
   removes_over made removal n said same stands =
-      let removed : Some (Removes (pair_of removal.word)) ≡ Some said → said ≡ Removes n = λ e. let is : Removes (pair_of removal.word) ≡ said = cc e in sym is ∙ ap (λ i. Removes i) same in
+      let removed : Some (Removes (pair_of removal.word)) ≡ Some said
+      → said ≡ Removes n = λ e. let is : Removes (pair_of removal.word) ≡ said = cc e in sym is ∙ ap (λ i. Removes i) same in
       ⊎_elim (λ e. inl (removed e)) (λ o. ⊎_elim (λ e. inr (keeps_fill made (Showing removal) said e)) (λ e. inl (removed e)) o) stands
 
   -- in each stage
-  removes_over_in : (made : Made) (stage : Stage) (n : ℕ) (said : Said) → asks made m.hash stage ≡ ShowPair n → StandsOn (after (on made stage) (Op ops.Remove)) said → (said ≡ Removes n) ⊎ KeepsFill (on made stage) said
+  removes_over_in : (made : Made) (stage : Stage) (n : ℕ) (said : Said) → asks made m.hash stage ≡ ShowPair n
+      → StandsOn (after (on made stage) (Op ops.Remove)) said → (said ≡ Removes n) ⊎ KeepsFill (on made stage) said
   removes_over_in made (Showing removal) n said e stands = let same : pair_of removal.word ≡ n = cc e in removes_over made removal n said same stands
   removes_over_in made (Searching (Sizing t)) n said e stands = absurd cc
   removes_over_in made (Searching (Looking at)) n said e stands = absurd cc
@@ -130,9 +142,11 @@ module _ (m : Machine) where
   removes_over_in made stage n said e stands = absurd cc
 
   -- of the machine
-  pub machine_chosen : (n : ℕ) (said : Said) → m.task ≡ Compute → ask_of m ≡ ShowPair n → StandsOn (after m (Op ops.Remove)) said → (said ≡ Removes n) ⊎ KeepsFill m said
+  pub machine_chosen : (n : ℕ) (said : Said) → m.task ≡ Compute → ask_of m ≡ ShowPair n → StandsOn (after m (Op ops.Remove)) said → (said ≡ Removes n)
+      ⊎ KeepsFill m said
   machine_chosen n said is e stands =
-      subst (λ t. StandsOn (after (record m { task = t }) (Op ops.Remove)) said → (said ≡ Removes n) ⊎ KeepsFill (record m { task = t }) said) (sym is) (removes_over_in m.made m.state n said e) stands
+      subst (λ t. StandsOn (after (record m { task = t }) (Op ops.Remove)) said → (said ≡ Removes n) ⊎ KeepsFill (record m { task = t }) said)
+      (sym is) (removes_over_in m.made m.state n said e) stands
 
   -- the parts of what a machine stands on
   abbrev IsOf : Stage → Option ℕ → Option Choice → Said → Type 0
@@ -147,7 +161,8 @@ module _ (m : Machine) where
       stands
 
   -- one in the place of another
-  replace_over : (made : Made) (purpose : Purpose) (write : Write) (n : ℕ) (said : Said) → 0 < write.old → IsOf (Putting (record { write = write; pair = n })) m.remembered.fill (Some (To_replace (pair_of write.old) (made_of write n))) said
+  replace_over : (made : Made) (purpose : Purpose) (write : Write) (n : ℕ) (said : Said) → 0 < write.old
+      → IsOf (Putting (record { write = write; pair = n })) m.remembered.fill (Some (To_replace (pair_of write.old) (made_of write n))) said
       → (said ≡ Makes (Some (pair_of write.old)) n) ⊎ KeepsFill (on made (Pairing purpose)) said
   replace_over made purpose write n said some stands =
       ⊎_elim
@@ -158,22 +173,29 @@ module _ (m : Machine) where
   -- what a compute stands on once its pair was made, where that leads here
   abbrev WasPaired : Made → Purpose → ℕ → Made → Remembered → Stage → Type 0
   WasPaired made purpose n next held stage =
-      (StandsOn (on made (Pairing purpose)) (Inserts None) × ((said : Said) → StandsOn (record m { task = Compute; made = next; remembered = held; state = stage }) said → said ≡ Makes None n))
-      ⊎ ((i : ℕ) × WasSaid (on made (Pairing purpose)) (Some i) × ((said : Said) → StandsOn (record m { task = Compute; made = next; remembered = held; state = stage }) said → (said ≡ Makes (Some i) n) ⊎ KeepsFill (on made (Pairing purpose)) said))
+      (StandsOn (on made (Pairing purpose)) (Inserts None)
+      × ((said : Said) → StandsOn (record m { task = Compute; made = next; remembered = held; state = stage }) said → said ≡ Makes None n))
+      ⊎ ((i : ℕ) × WasSaid (on made (Pairing purpose)) (Some i)
+      × ((said : Said) → StandsOn (record m { task = Compute; made = next; remembered = held; state = stage }) said → (said ≡ Makes (Some i) n)
+      ⊎ KeepsFill (on made (Pairing purpose)) said))
 
   -- by what it is made for
-  pairs_over : (made : Made) (purpose : Purpose) (n : ℕ) → (G : Grown) → grown made (in_place_of purpose) ≡ G → G ≡ Pair (pair_done made) → ShowsIn m.remembered.choice (Pairing purpose)
+  pairs_over : (made : Made) (purpose : Purpose) (n : ℕ) → (G : Grown) → grown made (in_place_of purpose) ≡ G → G ≡ Pair (pair_done made)
+      → ShowsIn m.remembered.choice (Pairing purpose)
       → WasPaired made purpose n (made_to_pair G) (paired_held G m.remembered purpose n) (paired G purpose n)
   pairs_over made purpose n (More next) is e shows = absurd cc
   pairs_over made (Fill gap) n (Pair next) is e shows = inl (inl refl, fill_over made gap n)
-  pairs_over made (Replace write) n (Pair next) is e shows = inr (pair_of write.old, inl (inl refl), λ said. replace_over made (Replace write) write n said shows)
+  pairs_over made (Replace write) n (Pair next) is e shows = inr
+      (pair_of write.old, inl (inl refl), λ said. replace_over made (Replace write) write n said shows)
   pairs_over made (Again write) n (Pair next) is e shows =
       let new = shows.1 in
       inr (pair_of write.old, inr (new.0.pair, inr (inr (ap said_to_choose new.1))), λ said. replace_over made (Again write) write n said shows.0)
 
   -- in each stage
-  pairs_over_in : (made : Made) (stage : Stage) (n : ℕ) → IsStandingState Compute stage → ShowsIn m.remembered.choice stage → MakesPair (asks made m.hash stage) → IsPaired (on made stage) n
-  pairs_over_in made (Pairing purpose) n is shows e = pairs_over made purpose n (grown made (in_place_of purpose)) refl (pair_made made (in_place_of purpose) e) shows
+  pairs_over_in : (made : Made) (stage : Stage) (n : ℕ) → IsStandingState Compute stage → ShowsIn m.remembered.choice stage
+      → MakesPair (asks made m.hash stage) → IsPaired (on made stage) n
+  pairs_over_in made (Pairing purpose) n is shows e = pairs_over made purpose n (grown made (in_place_of purpose)) refl
+      (pair_made made (in_place_of purpose) e) shows
   pairs_over_in made (Writing write) n is shows e = absurd is.0
   pairs_over_in made (Searching (Sizing t)) n is shows e = absurd e
   pairs_over_in made (Searching (Looking at)) n is shows e = absurd e
@@ -184,24 +206,29 @@ module _ (m : Machine) where
   -- of the machine
   pub machine_paired : (n : ℕ) → m.task ≡ Compute → IsStanding m → ShowsPairs m → MakesPair (ask_of m) → IsPaired m n
   machine_paired n is standing shows e =
-      subst (λ t. IsStandingState t m.state → IsPaired (record m { task = t }) n) (sym is) (λ standing'. pairs_over_in m.made m.state n standing' shows e) standing.state
+      subst (λ t. IsStandingState t m.state → IsPaired (record m { task = t }) n) (sym is)
+      (λ standing'. pairs_over_in m.made m.state n standing' shows e) standing.state
 
   -- a pair that is put was made of what the closure answered
   puts_said : (made : Made) (put : Put) → IsSaidExchange (on made (Putting put)) (pair_of put.write.old) put.pair
   puts_said made put = ⊎_elim (λ h. inl (h.0, inl h.1)) (λ h. inr (inl (h.0, inl h.1))) (by_old (put.write.old == 0))
     where
-      by_old : (b : Bool) → ((Some (cond b kinds.Claim kinds.Replace) ≡ Some kinds.Claim) × (Some (Makes (cond b None (Some (pair_of put.write.old))) put.pair) ≡ Some (Makes None put.pair)))
-          ⊎ ((Some (cond b kinds.Claim kinds.Replace) ≡ Some kinds.Replace) × (Some (Makes (cond b None (Some (pair_of put.write.old))) put.pair) ≡ Some (Makes (Some (pair_of put.write.old)) put.pair)))
+      by_old : (b : Bool) → ((Some (cond b kinds.Claim kinds.Replace) ≡ Some kinds.Claim)
+          × (Some (Makes (cond b None (Some (pair_of put.write.old))) put.pair) ≡ Some (Makes None put.pair)))
+          ⊎ ((Some (cond b kinds.Claim kinds.Replace) ≡ Some kinds.Replace)
+          × (Some (Makes (cond b None (Some (pair_of put.write.old))) put.pair) ≡ Some (Makes (Some (pair_of put.write.old)) put.pair)))
       by_old true = inl (refl, refl)
       by_old false = inr (refl, refl)
 
   -- in each stage
-  exchanges_said_in : (made : Made) (stage : Stage) (t x old new : ℕ) → m.hash < 2 ^ 64 → IsStandingState Compute stage → asks made m.hash stage ≡ Exchange (Slot t x) old new → IsSaidExchange (on made stage) (pair_of old) (pair_of new)
+  exchanges_said_in : (made : Made) (stage : Stage) (t x old new : ℕ) → m.hash < 2 ^ 64 → IsStandingState Compute stage
+      → asks made m.hash stage ≡ Exchange (Slot t x) old new → IsSaidExchange (on made stage) (pair_of old) (pair_of new)
   exchanges_said_in made (Putting put) t x old new fits is e =
       let same : put.write.old ≡ old = cc e in
       let word : live_word put.pair ≡ new = cc e in
       let number : put.pair ≡ pair_of new = sym (pair_of-live_word put.pair) ∙ ap pair_of word in
-      subst (λ o. IsSaidExchange (on made (Putting put)) o (pair_of new)) (ap pair_of same) (subst (λ n. IsSaidExchange (on made (Putting put)) (pair_of put.write.old) n) number (puts_said made put))
+      subst (λ o. IsSaidExchange (on made (Putting put)) o (pair_of new)) (ap pair_of same)
+      (subst (λ n. IsSaidExchange (on made (Putting put)) (pair_of put.write.old) n) number (puts_said made put))
   exchanges_said_in made (Deleting removal) t x old new fits is e =
       let same : removal.word ≡ old = cc e in
       inr (inr (refl, inl (ap (λ w. Some (Removes (pair_of w))) same)))
@@ -214,6 +241,8 @@ module _ (m : Machine) where
   exchanges_said_in made stage t x old new fits is e = absurd cc
 
   -- of the machine
-  pub machine_exchanges : (t x old new : ℕ) → m.task ≡ Compute → m.hash < 2 ^ 64 → IsStanding m → ask_of m ≡ Exchange (Slot t x) old new → IsSaidExchange m (pair_of old) (pair_of new)
+  pub machine_exchanges : (t x old new : ℕ) → m.task ≡ Compute → m.hash < 2 ^ 64 → IsStanding m → ask_of m ≡ Exchange (Slot t x) old new
+      → IsSaidExchange m (pair_of old) (pair_of new)
   machine_exchanges t x old new is fits standing e =
-      subst (λ t. IsStandingState t m.state → IsSaidExchange (record m { task = t }) (pair_of old) (pair_of new)) (sym is) (λ standing'. exchanges_said_in m.made m.state t x old new fits standing' e) standing.state
+      subst (λ t. IsStandingState t m.state → IsSaidExchange (record m { task = t }) (pair_of old) (pair_of new)) (sym is)
+      (λ standing'. exchanges_said_in m.made m.state t x old new fits standing' e) standing.state

@@ -9,7 +9,10 @@ use Rattle.papaya_words.specs.declared.probe.ResizeMode.TheVariants.{Incremental
 use Rattle.papaya_words.specs.declared.word.Kind.{Kind}
 use Rattle.papaya_words.specs.declared.word.Kind.TheVariants as word_kinds
 use Rattle.papaya_ask.specs.declared.ask.Answer.{Answer}
-use Rattle.papaya_ask.specs.declared.ask.Answer.TheVariants.{Word as Word_read, Exchanged, Found as Found_instead, Yes, Op, Made as Made_number, Ok as Ok_done, Refused as Was_refused}
+use Rattle.papaya_ask.specs.declared.ask.Answer.TheVariants.{Word as Word_read, Exchanged}
+use Rattle.papaya_ask.specs.declared.ask.Answer.TheVariants.{Found as Found_instead, Yes, Op}
+use Rattle.papaya_ask.specs.declared.ask.Answer.TheVariants.{Made as Made_number, Ok as Ok_done}
+use Rattle.papaya_ask.specs.declared.ask.Answer.TheVariants.{Refused as Was_refused}
 use Rattle.papaya_ask.specs.declared.ask.OpKind.{OpKind}
 use Rattle.papaya_ask.specs.declared.ask.OpKind.TheVariants as ops
 use Rattle.papaya_ask.specs.declared.call.Reply.TheVariants.{Absent, Aborted, Inserted, Removed, Replaced, Refused as Reply_refused}
@@ -32,14 +35,23 @@ use Rattle.papaya_call_law.proofs.Makings.{exchanged_leads, lost_leads, makes_pa
 use Rattle.papaya_call.specs.declared.write.Write.{Write}
 use Rattle.papaya_call.specs.declared.machine.Machine.{Machine}
 use Rattle.papaya_call.specs.declared.machine.State.{State as Stage}
-use Rattle.papaya_call.specs.declared.machine.State.TheVariants.{AtRoot, Making, Opening, Searching, Writing, Offering, Showing, Pairing, Putting, Deleting, Counting, Noting, Uncounting, Leaving, Growing, Ended}
+use Rattle.papaya_call.specs.declared.machine.State.TheVariants.{AtRoot, Making, Opening, Searching}
+use Rattle.papaya_call.specs.declared.machine.State.TheVariants.{Writing, Offering, Showing}
+use Rattle.papaya_call.specs.declared.machine.State.TheVariants.{Pairing, Putting, Deleting}
+use Rattle.papaya_call.specs.declared.machine.State.TheVariants.{Counting, Noting, Uncounting}
+use Rattle.papaya_call.specs.declared.machine.State.TheVariants.{Leaving, Growing, Ended}
 use Rattle.papaya_call.specs.declared.made.Grown.{Grown}
 use Rattle.papaya_call.specs.declared.made.Grown.TheVariants.{On, Pair}
 use Rattle.papaya_call.specs.Made.{grown, pair_ask, serves_at, told}
 use Rattle.papaya_call.specs.Compute.{chosen, fills, in_place_of, offered, provides, recalled, recalls, with_choice, with_pair}
-use Rattle.papaya_call.specs.Machine.{IsStanding, IsStandingState, IsWriter, absent, after, at_root, beaten_as, beaten_by, computes, goes_as, left, paired, paired_held, removes, replaces, written}
+use Rattle.papaya_call.specs.Machine.{IsStanding, IsStandingState, IsWriter, absent, after, at_root}
+use Rattle.papaya_call.specs.Machine.{beaten_as, beaten_by, computes, goes_as, left, paired}
+use Rattle.papaya_call.specs.Machine.{paired_held, removes, replaces, written}
 use Rattle.papaya_ask.specs.Search.{look as look_seen, at_word as search_loaded, at_yes as search_compared}
-use Rattle.papaya_call_law.specs.Says.{IsSaidBy, IsToPair, MakesPair, Said, Agrees, Inserts, Makes, Removes, ShowsIn, ShowsPairs, StandsOn, WasSaid, said_in, said_in_reply, said_to_choose, said_to_claim, said_to_fill, said_to_remove, shown_by}
+use Rattle.papaya_call_law.specs.Says.{IsSaidBy, IsToPair, MakesPair, Said, Agrees, Inserts, Makes}
+use Rattle.papaya_call_law.specs.Says.{Removes, ShowsIn, ShowsPairs, StandsOn, WasSaid, said_in}
+use Rattle.papaya_call_law.specs.Says.{said_in_reply, said_to_choose, said_to_claim, said_to_fill}
+use Rattle.papaya_call_law.specs.Says.{said_to_remove, shown_by}
 use Rattle.papaya_call_law.proofs.SaysWords.{live_is_some}
 use Rattle.papaya_call_law.proofs.Tasks.{same_task}
 use Rattle.papaya_call_law.proofs.Leads.{occupies_leads}
@@ -47,7 +59,8 @@ use Rattle.papaya_call.specs.Write.{claimed_by, serves}
 
 -- a word that is not 0 names a pair
 pub shown_pair : (word : ℕ) → 0 < word → shown_by word ≡ Some (pair_of word)
-shown_pair word some = cond_both (word == 0) None (Some (pair_of word)) (λ o. o ≡ Some (pair_of word)) (λ none. let zero : word ≡ 0 = eqb-true word 0 none in absurd (omega (arith, zero, some))) (λ _. refl)
+shown_pair word some = cond_both (word == 0) None (Some (pair_of word)) (λ o. o ≡ Some (pair_of word))
+    (λ none. let zero : word ≡ 0 = eqb-true word 0 none in absurd (omega (arith, zero, some))) (λ _. refl)
 
 -- it is remembered
 abbrev IsHeldSaid : Option ℕ → Option Choice → Said → Type 0
@@ -72,19 +85,22 @@ absent_held Compute None choice gap said e = absurd cc
 absent_held Compute (Some n) choice gap said e = fills_held Compute choice gap n said e
 
 -- an answer that is remembered was given to the pair that is met
-recalls_held : (fill : Option ℕ) (choice : Option Choice) (at : Place) (word : ℕ) → 0 < word → IsHeld Compute fill choice (recalls choice at word (pair_of word))
+recalls_held : (fill : Option ℕ) (choice : Option Choice) (at : Place) (word : ℕ) → 0 < word
+    → IsHeld Compute fill choice (recalls choice at word (pair_of word))
 recalls_held fill None at word some = λ said e. absurd cc
 recalls_held fill (Some (To_replace old new)) at word some =
     cond_both (old == pair_of word) (recalled new at word) (Showing (record { place = at; word = word })) (IsHeld Compute fill (Some (To_replace old new)))
     (λ same.
-    cond_both (serves_at new at.table at.probe.i) (Putting (record { write = record { place = at; old = word }; pair = new.pair })) (Pairing (Again (record { place = at; old = word }))) (IsHeld Compute fill (Some (To_replace old new)))
+    cond_both (serves_at new at.table at.probe.i) (Putting (record { write = record { place = at; old = word }; pair = new.pair }))
+    (Pairing (Again (record { place = at; old = word }))) (IsHeld Compute fill (Some (To_replace old new)))
     (λ _ said e.
     let shown : shown_by word ≡ Some old = shown_pair word some ∙ ap (λ n. Some n) (sym (eqb-true old (pair_of word) same)) in
     inr (ap (λ o. Some (Makes o new.pair)) (sym shown) ∙ e))
     (λ _ said e. absurd cc))
     (λ _ said e. absurd cc)
 recalls_held fill (Some (To_remove old)) at word some =
-    cond_both (old == pair_of word) (Deleting (record { place = at; word = word })) (Showing (record { place = at; word = word })) (IsHeld Compute fill (Some (To_remove old)))
+    cond_both (old == pair_of word) (Deleting (record { place = at; word = word })) (Showing (record { place = at; word = word }))
+    (IsHeld Compute fill (Some (To_remove old)))
     (λ same said e. inr (ap (λ n. Some (Removes n)) (eqb-true old (pair_of word) same) ∙ e))
     (λ _ said e. absurd cc)
 
@@ -119,7 +135,8 @@ replaces_silent word_kinds.Closed at word said e = cc e
 goes_held : (task : Task) (mode : ResizeMode) (held : Remembered) (s : Probed) → IsHeld task held.fill held.choice (goes_as task mode held s)
 goes_held task mode held (seen.On way) said e = absurd cc
 goes_held Get mode held (seen.Here at word) said e = absurd cc
-goes_held (Insert false) mode held (seen.Here at word) said e = absurd (occupies_leads (λ s. said_in (Insert false) s ≡ Some said → ⊥) (kind_of word) at word (λ is. cc is) (λ is. cc is) e)
+goes_held (Insert false) mode held (seen.Here at word) said e = absurd
+    (occupies_leads (λ s. said_in (Insert false) s ≡ Some said → ⊥) (kind_of word) at word (λ is. cc is) (λ is. cc is) e)
 goes_held (Insert true) mode held (seen.Here at word) said e = absurd (replaces_silent (kind_of word) at word said e)
 goes_held RemoveIf mode held (seen.Here at word) said e = absurd (removes_silent (kind_of word) at word said e)
 goes_held Compute mode held (seen.Here at word) said e = computes_held (kind_of word) held at word refl said e
@@ -137,14 +154,19 @@ goes_held (Insert replace) mode held (seen.Over t) said e = absurd cc
 
 -- and the words of tables
 root_held : (task : Task) (held : Remembered) (word : ℕ) → IsHeld task held.fill held.choice (at_root task held.fill word)
-root_held Get held word = cond_both (word == 0) (Ended Absent) (Searching (Sizing word)) (IsHeld Get held.fill held.choice) (λ _ said e. absurd cc) (λ _ said e. absurd cc)
-root_held RemoveIf held word = cond_both (word == 0) (Ended Absent) (Searching (Sizing word)) (IsHeld RemoveIf held.fill held.choice) (λ _ said e. absurd cc) (λ _ said e. absurd cc)
-root_held Compute held word = cond_both (word == 0) (absent Compute held.fill NoRoot) (Searching (Sizing word)) (IsHeld Compute held.fill held.choice) (λ _. absent_held Compute held.fill held.choice NoRoot) (λ _ said e. absurd cc)
-root_held (Insert replace) held word = cond_both (word == 0) Making (Searching (Sizing word)) (IsHeld (Insert replace) held.fill held.choice) (λ _ said e. absurd cc) (λ _ said e. absurd cc)
+root_held Get held word = cond_both (word == 0) (Ended Absent) (Searching (Sizing word)) (IsHeld Get held.fill held.choice) (λ _ said e. absurd cc)
+    (λ _ said e. absurd cc)
+root_held RemoveIf held word = cond_both (word == 0) (Ended Absent) (Searching (Sizing word)) (IsHeld RemoveIf held.fill held.choice)
+    (λ _ said e. absurd cc) (λ _ said e. absurd cc)
+root_held Compute held word = cond_both (word == 0) (absent Compute held.fill NoRoot) (Searching (Sizing word)) (IsHeld Compute held.fill held.choice)
+    (λ _. absent_held Compute held.fill held.choice NoRoot) (λ _ said e. absurd cc)
+root_held (Insert replace) held word = cond_both (word == 0) Making (Searching (Sizing word)) (IsHeld (Insert replace) held.fill held.choice)
+    (λ _ said e. absurd cc) (λ _ said e. absurd cc)
 
 -- a next table leads to a search, or to an absent key
 next_held : (task : Task) (held : Remembered) (t word : ℕ) → IsHeld task held.fill held.choice (left task held.fill t word)
-next_held task held t word = cond_both (word == 0) (absent task held.fill (After t)) (Searching (Sizing word)) (IsHeld task held.fill held.choice) (λ _. absent_held task held.fill held.choice (After t)) (λ _ said e. absurd cc)
+next_held task held t word = cond_both (word == 0) (absent task held.fill (After t)) (Searching (Sizing word)) (IsHeld task held.fill held.choice)
+    (λ _. absent_held task held.fill held.choice (After t)) (λ _ said e. absurd cc)
 
 -- a refusal and an abort stand on nothing
 refusal_silent : (task : Task) (refused : Refused) → said_in_reply task (Reply_refused refused) ≡ None
@@ -185,7 +207,8 @@ removal_replies Compute n = refl
 writer_silent : (task : Task) (write : Write) (n : ℕ) → IsWriter task → (said : Said) → said_in task (written write n) ≡ Some said → ⊥
 writer_silent Get write n is said = absurd is
 writer_silent (Insert replace) write n is said =
-    cond_both (write.old == 0) (Counting (claimed_by write n)) (Ended (Replaced (pair_of write.old) n)) (λ s. said_in (Insert replace) s ≡ Some said → ⊥) (λ _ e. cc e) (λ _ e. cc e)
+    cond_both (write.old == 0) (Counting (claimed_by write n)) (Ended (Replaced (pair_of write.old) n))
+    (λ s. said_in (Insert replace) s ≡ Some said → ⊥) (λ _ e. cc e) (λ _ e. cc e)
 writer_silent RemoveIf write n is said = absurd is
 writer_silent Compute write n is said = absurd is
 
@@ -193,7 +216,8 @@ writer_silent Compute write n is said = absurd is
 put_replies : (write : Write) (n : ℕ) → said_in Compute (written write n) ≡ Some (Makes (shown_by write.old) n)
 put_replies write n = by_old (write.old == 0)
   where
-    by_old : (b : Bool) → said_in Compute (cond b (Counting (claimed_by write n)) (Ended (Replaced (pair_of write.old) n))) ≡ Some (Makes (cond b None (Some (pair_of write.old))) n)
+    by_old : (b : Bool) → said_in Compute (cond b (Counting (claimed_by write n)) (Ended (Replaced (pair_of write.old) n))) ≡ Some
+        (Makes (cond b None (Some (pair_of write.old))) n)
     by_old true = refl
     by_old false = refl
 
@@ -204,10 +228,12 @@ module _ (m : Machine) (held : Remembered) where
 
   -- the answer leads to this stage, and its closure said what that stands on where the machine did not before
   abbrev IsSaidIn : Task → Made → Stage → Answer → Stage → Type 0
-  IsSaidIn task made stage answer then = (said : Said) → said_in task then ≡ Some said → StandsOn (on task made stage) said ⊎ IsSaidBy (on task made stage) answer said
+  IsSaidIn task made stage answer then = (said : Said) → said_in task then ≡ Some said → StandsOn (on task made stage) said
+      ⊎ IsSaidBy (on task made stage) answer said
 
   -- what is remembered
-  by_held : (task : Task) (made : Made) (stage : Stage) (answer : Answer) (then : Stage) → IsHeld task held.fill held.choice then → IsSaidIn task made stage answer then
+  by_held : (task : Task) (made : Made) (stage : Stage) (answer : Answer) (then : Stage) → IsHeld task held.fill held.choice then
+      → IsSaidIn task made stage answer then
   by_held task made stage answer then h said e = ⊎_elim (λ f. inl (inr (inl f))) (λ c. inl (inr (inr c))) (h said e)
 
   -- nothing
@@ -215,7 +241,8 @@ module _ (m : Machine) (held : Remembered) where
   by_silence task made stage answer then none said e = let nothing_is : None ≡ Some said = sym none ∙ e in absurd cc
 
   -- a deletion that was lost
-  beaten_held : (kd : Kind) (task : Task) (made : Made) (at : Place) (stage : Stage) (word : ℕ) → IsHeld task held.fill held.choice (beaten_by kd (on task made stage) at word)
+  beaten_held : (kd : Kind) (task : Task) (made : Made) (at : Place) (stage : Stage) (word : ℕ)
+      → IsHeld task held.fill held.choice (beaten_by kd (on task made stage) at word)
   beaten_held word_kinds.Tombstone task made at stage word = λ said e. let nothing_is : None ≡ Some said = sym (absent_silent task) ∙ e in absurd cc
   beaten_held word_kinds.Empty task made at stage word = goes_held task m.mode held (look_seen at word)
   beaten_held word_kinds.Live task made at stage word = goes_held task m.mode held (look_seen at word)
@@ -224,7 +251,8 @@ module _ (m : Machine) (held : Remembered) where
   beaten_held word_kinds.Closed task made at stage word = goes_held task m.mode held (look_seen at word)
 
   -- by the task
-  beaten_task_held : (task : Task) (made : Made) (removal : Removal) (word : ℕ) → IsHeld task held.fill held.choice (beaten_as task (on task made (Deleting removal)) removal.place word)
+  beaten_task_held : (task : Task) (made : Made) (removal : Removal) (word : ℕ)
+      → IsHeld task held.fill held.choice (beaten_as task (on task made (Deleting removal)) removal.place word)
   beaten_task_held Get made removal word = beaten_held (kind_of word) Get made removal.place (Deleting removal) word
   beaten_task_held (Insert replace) made removal word = beaten_held (kind_of word) (Insert replace) made removal.place (Deleting removal) word
   beaten_task_held RemoveIf made removal word = beaten_held (kind_of word) RemoveIf made removal.place (Deleting removal) word
@@ -235,97 +263,129 @@ module _ (m : Machine) (held : Remembered) where
   AsksPair made purpose = MakesPair (pair_ask made (in_place_of purpose))
 
   -- what a pair is made of again is remembered
-  was_said : (task : Task) (made : Made) (write : Write) → IsToPair held.choice (Again write) → WasSaid (on task made (Pairing (Again write))) (Some (pair_of write.old))
+  was_said : (task : Task) (made : Made) (write : Write) → IsToPair held.choice (Again write)
+      → WasSaid (on task made (Pairing (Again write))) (Some (pair_of write.old))
   was_said task made write shows = let new = shows.1 in inr (new.0.pair, inr (inr (ap said_to_choose new.1)))
 
   -- a pair was made of what the closure answered
-  provided : (task : Task) (made : Made) (purpose : Purpose) (n : ℕ) → AsksPair made purpose → IsToPair held.choice purpose → IsSaidIn task made (Pairing purpose) (Made_number n) (provides purpose n)
+  provided : (task : Task) (made : Made) (purpose : Purpose) (n : ℕ) → AsksPair made purpose → IsToPair held.choice purpose
+      → IsSaidIn task made (Pairing purpose) (Made_number n) (provides purpose n)
   provided task made (Fill NoRoot) n ask shows said e = absurd cc
-  provided task made (Fill (At place)) n ask shows said e = let is : Makes None n ≡ said = cc e in inr (subst (IsSaidBy (on task made (Pairing (Fill (At place)))) (Made_number n)) is (inl (inl refl), ask, refl))
+  provided task made (Fill (At place)) n ask shows said e = let is : Makes None n ≡ said = cc e in
+      inr (subst (IsSaidBy (on task made (Pairing (Fill (At place)))) (Made_number n)) is (inl (inl refl), ask, refl))
   provided task made (Fill (After t)) n ask shows said e = absurd cc
   provided task made (Replace write) n ask shows said e =
       let is : Makes (shown_by write.old) n ≡ said = cc e in
-      let stood : StandsOn (on task made (Pairing (Replace write))) (Inserts (shown_by write.old)) = inl (ap (λ o. Some (Inserts o)) (sym (shown_pair write.old shows))) in
+      let stood : StandsOn (on task made (Pairing (Replace write))) (Inserts (shown_by write.old)) = inl
+      (ap (λ o. Some (Inserts o)) (sym (shown_pair write.old shows))) in
       inr (subst (IsSaidBy (on task made (Pairing (Replace write))) (Made_number n)) is (inl stood, ask, refl))
   provided task made (Again write) n ask shows said e =
       let is : Makes (shown_by write.old) n ≡ said = cc e in
-      let stood : WasSaid (on task made (Pairing (Again write))) (shown_by write.old) = subst (WasSaid (on task made (Pairing (Again write)))) (sym (shown_pair write.old shows.0)) (was_said task made write shows) in
+      let stood : WasSaid (on task made (Pairing (Again write))) (shown_by write.old) = subst (WasSaid (on task made (Pairing (Again write))))
+      (sym (shown_pair write.old shows.0)) (was_said task made write shows) in
       inr (subst (IsSaidBy (on task made (Pairing (Again write))) (Made_number n)) is (stood, ask, refl))
 
   -- and is remembered as such
-  provided_fill : (task : Task) (made : Made) (purpose : Purpose) (n : ℕ) → AsksPair made purpose → (said : Said) → said_to_fill (with_pair held purpose n).fill ≡ Some said
+  provided_fill : (task : Task) (made : Made) (purpose : Purpose) (n : ℕ) → AsksPair made purpose → (said : Said)
+      → said_to_fill (with_pair held purpose n).fill ≡ Some said
       → StandsOn (on task made (Pairing purpose)) said ⊎ IsSaidBy (on task made (Pairing purpose)) (Made_number n) said
-  provided_fill task made (Fill gap) n ask said e = let is : Makes None n ≡ said = cc e in inr (subst (IsSaidBy (on task made (Pairing (Fill gap))) (Made_number n)) is (inl (inl refl), ask, refl))
+  provided_fill task made (Fill gap) n ask said e = let is : Makes None n ≡ said = cc e in
+      inr (subst (IsSaidBy (on task made (Pairing (Fill gap))) (Made_number n)) is (inl (inl refl), ask, refl))
   provided_fill task made (Replace write) n ask said e = inl (inr (inl e))
   provided_fill task made (Again write) n ask said e = inl (inr (inl e))
 
   -- where it is to take the place of a pair
-  provided_choice : (task : Task) (made : Made) (purpose : Purpose) (n : ℕ) → AsksPair made purpose → IsToPair held.choice purpose → (said : Said) → said_to_choose (with_pair held purpose n).choice ≡ Some said
+  provided_choice : (task : Task) (made : Made) (purpose : Purpose) (n : ℕ) → AsksPair made purpose → IsToPair held.choice purpose → (said : Said)
+      → said_to_choose (with_pair held purpose n).choice ≡ Some said
       → StandsOn (on task made (Pairing purpose)) said ⊎ IsSaidBy (on task made (Pairing purpose)) (Made_number n) said
   provided_choice task made (Fill gap) n ask shows said e = absurd cc
   provided_choice task made (Replace write) n ask shows said e =
-      let is : Makes (Some (pair_of write.old)) n ≡ said = cc e in inr (subst (IsSaidBy (on task made (Pairing (Replace write))) (Made_number n)) is (inl (inl refl), ask, refl))
+      let is : Makes (Some (pair_of write.old)) n ≡ said = cc e in
+      inr (subst (IsSaidBy (on task made (Pairing (Replace write))) (Made_number n)) is (inl (inl refl), ask, refl))
   provided_choice task made (Again write) n ask shows said e =
-      let is : Makes (Some (pair_of write.old)) n ≡ said = cc e in inr (subst (IsSaidBy (on task made (Pairing (Again write))) (Made_number n)) is (was_said task made write shows, ask, refl))
+      let is : Makes (Some (pair_of write.old)) n ≡ said = cc e in
+      inr (subst (IsSaidBy (on task made (Pairing (Again write))) (Made_number n)) is (was_said task made write shows, ask, refl))
 
   -- a closure that is shown a pair
   chosen_said : (made : Made) (removal : Removal) (kind : OpKind) → IsSaidIn Compute made (Showing removal) (Op kind) (chosen removal kind)
-  chosen_said made removal ops.Insert said e = let is : Inserts (Some (pair_of removal.word)) ≡ said = cc e in inr (subst (IsSaidBy (on Compute made (Showing removal)) (Op ops.Insert)) is (refl, refl))
-  chosen_said made removal ops.Remove said e = let is : Removes (pair_of removal.word) ≡ said = cc e in inr (subst (IsSaidBy (on Compute made (Showing removal)) (Op ops.Remove)) is (refl, refl))
+  chosen_said made removal ops.Insert said e = let is : Inserts (Some (pair_of removal.word)) ≡ said = cc e in
+      inr (subst (IsSaidBy (on Compute made (Showing removal)) (Op ops.Insert)) is (refl, refl))
+  chosen_said made removal ops.Remove said e = let is : Removes (pair_of removal.word) ≡ said = cc e in
+      inr (subst (IsSaidBy (on Compute made (Showing removal)) (Op ops.Remove)) is (refl, refl))
   chosen_said made removal (ops.Abort with) said e = absurd cc
 
   -- a removal that it answers is remembered
   chosen_choice : (made : Made) (removal : Removal) (kind : OpKind) (said : Said) → said_to_choose (with_choice held removal kind).choice ≡ Some said
       → StandsOn (on Compute made (Showing removal)) said ⊎ IsSaidBy (on Compute made (Showing removal)) (Op kind) said
   chosen_choice made removal ops.Insert said e = inl (inr (inr e))
-  chosen_choice made removal ops.Remove said e = let is : Removes (pair_of removal.word) ≡ said = cc e in inr (subst (IsSaidBy (on Compute made (Showing removal)) (Op ops.Remove)) is (refl, refl))
+  chosen_choice made removal ops.Remove said e = let is : Removes (pair_of removal.word) ≡ said = cc e in
+      inr (subst (IsSaidBy (on Compute made (Showing removal)) (Op ops.Remove)) is (refl, refl))
   chosen_choice made removal (ops.Abort with) said e = inl (inr (inr e))
 
   -- what it answered to None is remembered as before
-  chosen_fill : (made : Made) (removal : Removal) (kind : OpKind) (said : Said) → said_to_fill (with_choice held removal kind).fill ≡ Some said → StandsOn (on Compute made (Showing removal)) said
+  chosen_fill : (made : Made) (removal : Removal) (kind : OpKind) (said : Said) → said_to_fill (with_choice held removal kind).fill ≡ Some said
+      → StandsOn (on Compute made (Showing removal)) said
   chosen_fill made removal ops.Insert said e = inr (inl e)
   chosen_fill made removal ops.Remove said e = inr (inl e)
   chosen_fill made removal (ops.Abort with) said e = inr (inl e)
 
   -- a closure that is shown that there is none
   offered_said : (task : Task) (made : Made) (gap : Gap) (kind : OpKind) → IsSaidIn task made (Offering gap) (Op kind) (offered gap kind)
-  offered_said task made gap ops.Insert said e = let is : Inserts None ≡ said = cc e in inr (subst (IsSaidBy (on task made (Offering gap)) (Op ops.Insert)) is (refl, refl))
-  offered_said task made gap ops.Remove said e = by_silence task made (Offering gap) (Op ops.Remove) (Ended (Reply_refused RemoveNothing)) (refusal_silent task RemoveNothing) said e
-  offered_said task made gap (ops.Abort with) said e = by_silence task made (Offering gap) (Op (ops.Abort with)) (Ended (Aborted with)) (abort_silent task with) said e
+  offered_said task made gap ops.Insert said e = let is : Inserts None ≡ said = cc e in
+      inr (subst (IsSaidBy (on task made (Offering gap)) (Op ops.Insert)) is (refl, refl))
+  offered_said task made gap ops.Remove said e = by_silence task made (Offering gap) (Op ops.Remove) (Ended (Reply_refused RemoveNothing))
+      (refusal_silent task RemoveNothing) said e
+  offered_said task made gap (ops.Abort with) said e = by_silence task made (Offering gap) (Op (ops.Abort with)) (Ended (Aborted with))
+      (abort_silent task with) said e
 
   -- something was made for a compute
-  paired_said : (task : Task) (made : Made) (purpose : Purpose) (n : ℕ) → IsToPair held.choice purpose → (G : Grown) → grown made (in_place_of purpose) ≡ G → IsSaidIn task made (Pairing purpose) (Made_number n) (paired G purpose n)
+  paired_said : (task : Task) (made : Made) (purpose : Purpose) (n : ℕ) → IsToPair held.choice purpose → (G : Grown)
+      → grown made (in_place_of purpose) ≡ G → IsSaidIn task made (Pairing purpose) (Made_number n) (paired G purpose n)
   paired_said task made purpose n shows (On next) is said e = inl (inl e)
   paired_said task made purpose n shows (Pair next) is said e = provided task made purpose n (makes_pair made (in_place_of purpose) next is) shows said e
 
   -- in each stage
-  said_in_stage : (task : Task) (made : Made) (stage : Stage) (answer : Answer) → IsStandingState task stage → ShowsIn held.choice stage → IsSaidIn task made stage answer (after (on task made stage) answer).state
-  said_in_stage task made AtRoot (Word_read word) is shows said e = by_held task made AtRoot (Word_read word) (at_root task held.fill word) (root_held task held word) said e
+  said_in_stage : (task : Task) (made : Made) (stage : Stage) (answer : Answer) → IsStandingState task stage → ShowsIn held.choice stage
+      → IsSaidIn task made stage answer (after (on task made stage) answer).state
+  said_in_stage task made AtRoot (Word_read word) is shows said e = by_held task made AtRoot (Word_read word) (at_root task held.fill word)
+      (root_held task held word) said e
   said_in_stage task made AtRoot answer is shows said e = absurd cc
-  said_in_stage task made Making (Was_refused refused) is shows said e = by_silence task made Making (Was_refused refused) (Ended (Reply_refused refused)) (refusal_silent task refused) said e
+  said_in_stage task made Making (Was_refused refused) is shows said e = by_silence task made Making (Was_refused refused)
+      (Ended (Reply_refused refused)) (refusal_silent task refused) said e
   said_in_stage task made Making answer is shows said e = absurd cc
   said_in_stage task made (Opening t) Exchanged is shows said e = absurd cc
   said_in_stage task made (Opening t) answer is shows said e = absurd cc
   said_in_stage task made (Searching place) (Word_read word) is shows said e =
-      by_held task made (Searching place) (Word_read word) (goes_as task m.mode held (search_loaded place m.hash word)) (goes_held task m.mode held (search_loaded place m.hash word)) said e
+      by_held task made (Searching place) (Word_read word) (goes_as task m.mode held (search_loaded place m.hash word))
+      (goes_held task m.mode held (search_loaded place m.hash word)) said e
   said_in_stage task made (Searching place) (Yes same) is shows said e =
-      by_held task made (Searching place) (Yes same) (goes_as task m.mode held (search_compared place same)) (goes_held task m.mode held (search_compared place same)) said e
+      by_held task made (Searching place) (Yes same) (goes_as task m.mode held (search_compared place same))
+      (goes_held task m.mode held (search_compared place same)) said e
   said_in_stage task made (Searching place) answer is shows said e = absurd cc
-  said_in_stage task made (Writing write) (Word_read word) is shows said e = told_leads (IsSaidIn task made (Writing write) (Word_read word)) (by_silence task made (Writing write) (Word_read word) (Ended (Reply_refused Limit)) (refusal_silent task Limit)) write (λ s e'. absurd cc) (serves made write) made word said e
+  said_in_stage task made (Writing write) (Word_read word) is shows said e = told_leads (IsSaidIn task made (Writing write) (Word_read word))
+      (by_silence task made (Writing write) (Word_read word) (Ended (Reply_refused Limit)) (refusal_silent task Limit)) write (λ s e'. absurd cc)
+      (serves made write) made word said e
   said_in_stage task made (Writing write) (Found_instead word) is shows said e =
       let answer : Answer = Found_instead word in
-      lost_leads (IsSaidIn task made (Writing write) answer) (by_silence task made (Writing write) answer (Ended (Reply_refused Limit)) (refusal_silent task Limit)) write (λ s e'. absurd cc) (on task made (Writing write)) word
-      (by_held task made (Writing write) answer (goes_as task m.mode held (look_seen write.place word)) (goes_held task m.mode held (look_seen write.place word))) (serves made write) said e
-  said_in_stage task made (Writing write) Exchanged is shows said e = exchanged_leads (IsSaidIn task made (Writing write) Exchanged) write (λ s e'. absurd cc) (λ n s e'. absurd (writer_silent task write n is.0 s e')) (serves made write) said e
+      lost_leads (IsSaidIn task made (Writing write) answer)
+      (by_silence task made (Writing write) answer (Ended (Reply_refused Limit)) (refusal_silent task Limit)) write (λ s e'. absurd cc)
+      (on task made (Writing write)) word
+      (by_held task made (Writing write) answer (goes_as task m.mode held (look_seen write.place word))
+      (goes_held task m.mode held (look_seen write.place word))) (serves made write) said e
+  said_in_stage task made (Writing write) Exchanged is shows said e = exchanged_leads (IsSaidIn task made (Writing write) Exchanged) write
+      (λ s e'. absurd cc) (λ n s e'. absurd (writer_silent task write n is.0 s e')) (serves made write) said e
   said_in_stage task made (Writing write) (Was_refused refused) is shows said e =
-      refuses_leads (IsSaidIn task made (Writing write) (Was_refused refused)) write refused (λ s e'. absurd cc) (by_silence task made (Writing write) (Was_refused refused) (Ended (Reply_refused refused)) (refusal_silent task refused)) (serves made write) said e
+      refuses_leads (IsSaidIn task made (Writing write) (Was_refused refused)) write refused (λ s e'. absurd cc)
+      (by_silence task made (Writing write) (Was_refused refused) (Ended (Reply_refused refused)) (refusal_silent task refused)) (serves made write) said e
   said_in_stage task made (Writing write) answer is shows said e = absurd cc
   said_in_stage task made (Offering gap) (Op kind) is shows said e = offered_said task made gap kind said e
   said_in_stage task made (Offering gap) answer is shows said e = absurd cc
   said_in_stage RemoveIf made (Showing removal) (Yes true) is shows said e =
-      let agrees : Agrees (pair_of removal.word) true ≡ said = cc e in inr (subst (IsSaidBy (on RemoveIf made (Showing removal)) (Yes true)) agrees (refl, refl))
+      let agrees : Agrees (pair_of removal.word) true ≡ said = cc e in
+      inr (subst (IsSaidBy (on RemoveIf made (Showing removal)) (Yes true)) agrees (refl, refl))
   said_in_stage RemoveIf made (Showing removal) (Yes false) is shows said e =
-      let agrees : Agrees (pair_of removal.word) false ≡ said = cc e in inr (subst (IsSaidBy (on RemoveIf made (Showing removal)) (Yes false)) agrees (refl, refl))
+      let agrees : Agrees (pair_of removal.word) false ≡ said = cc e in
+      inr (subst (IsSaidBy (on RemoveIf made (Showing removal)) (Yes false)) agrees (refl, refl))
   said_in_stage Get made (Showing removal) (Yes same) is shows said e = absurd cc
   said_in_stage (Insert replace) made (Showing removal) (Yes same) is shows said e = absurd cc
   said_in_stage Compute made (Showing removal) (Yes same) is shows said e = absurd cc
@@ -334,22 +394,30 @@ module _ (m : Machine) (held : Remembered) where
   said_in_stage (Insert replace) made (Showing removal) (Op kind) is shows said e = absurd cc
   said_in_stage RemoveIf made (Showing removal) (Op kind) is shows said e = absurd cc
   said_in_stage task made (Showing removal) answer is shows said e = absurd cc
-  said_in_stage task made (Pairing purpose) (Made_number n) is shows said e = paired_said task made purpose n shows (grown made (in_place_of purpose)) refl said e
+  said_in_stage task made (Pairing purpose) (Made_number n) is shows said e = paired_said task made purpose n shows (grown made (in_place_of purpose))
+      refl said e
   said_in_stage task made (Pairing purpose) (Word_read word) is shows said e =
-      numbered_leads (IsSaidIn task made (Pairing purpose) (Word_read word)) (by_silence task made (Pairing purpose) (Word_read word) (Ended (Reply_refused Limit)) (refusal_silent task Limit)) (Pairing purpose) (λ s e'. inl (inl e')) (told made word) said e
+      numbered_leads (IsSaidIn task made (Pairing purpose) (Word_read word))
+      (by_silence task made (Pairing purpose) (Word_read word) (Ended (Reply_refused Limit)) (refusal_silent task Limit)) (Pairing purpose)
+      (λ s e'. inl (inl e')) (told made word) said e
   said_in_stage task made (Pairing purpose) (Found_instead word) is shows said e =
-      numbered_leads (IsSaidIn task made (Pairing purpose) (Found_instead word)) (by_silence task made (Pairing purpose) (Found_instead word) (Ended (Reply_refused Limit)) (refusal_silent task Limit)) (Pairing purpose) (λ s e'. inl (inl e')) (told made word) said e
-  said_in_stage task made (Pairing purpose) (Was_refused refused) is shows said e = by_silence task made (Pairing purpose) (Was_refused refused) (Ended (Reply_refused refused)) (refusal_silent task refused) said e
+      numbered_leads (IsSaidIn task made (Pairing purpose) (Found_instead word))
+      (by_silence task made (Pairing purpose) (Found_instead word) (Ended (Reply_refused Limit)) (refusal_silent task Limit)) (Pairing purpose)
+      (λ s e'. inl (inl e')) (told made word) said e
+  said_in_stage task made (Pairing purpose) (Was_refused refused) is shows said e = by_silence task made (Pairing purpose) (Was_refused refused)
+      (Ended (Reply_refused refused)) (refusal_silent task refused) said e
   said_in_stage task made (Pairing purpose) answer is shows said e = inl (inl e)
   said_in_stage Compute made (Putting put) Exchanged is shows said e = inl (inl (sym (put_replies put.write put.pair) ∙ e))
   said_in_stage Get made (Putting put) Exchanged is shows said e = absurd is.0
   said_in_stage (Insert replace) made (Putting put) Exchanged is shows said e = absurd is.0
   said_in_stage RemoveIf made (Putting put) Exchanged is shows said e = absurd is.0
   said_in_stage task made (Putting put) (Found_instead word) is shows said e =
-      by_held task made (Putting put) (Found_instead word) (goes_as task m.mode held (look_seen put.write.place word)) (goes_held task m.mode held (look_seen put.write.place word)) said e
+      by_held task made (Putting put) (Found_instead word) (goes_as task m.mode held (look_seen put.write.place word))
+      (goes_held task m.mode held (look_seen put.write.place word)) said e
   said_in_stage task made (Putting put) answer is shows said e = inl (inl e)
   said_in_stage task made (Deleting removal) (Found_instead word) is shows said e =
-      by_held task made (Deleting removal) (Found_instead word) (beaten_as task (on task made (Deleting removal)) removal.place word) (beaten_task_held task made removal word) said e
+      by_held task made (Deleting removal) (Found_instead word) (beaten_as task (on task made (Deleting removal)) removal.place word)
+      (beaten_task_held task made removal word) said e
   said_in_stage task made (Deleting removal) answer is shows said e = inl (inl e)
   said_in_stage task made (Counting n) Ok_done is shows said e = inl (inl e)
   said_in_stage task made (Noting n) Ok_done is shows said e = inl (inl (sym (claim_replies task n.pair) ∙ e))
@@ -357,9 +425,11 @@ module _ (m : Machine) (held : Remembered) where
   said_in_stage task made (Noting n) answer is shows said e = inl (inl e)
   said_in_stage task made (Uncounting n) Ok_done is shows said e = inl (inl (sym (removal_replies task n) ∙ e))
   said_in_stage task made (Uncounting n) answer is shows said e = inl (inl e)
-  said_in_stage task made (Leaving t) (Word_read word) is shows said e = by_held task made (Leaving t) (Word_read word) (left task held.fill t word) (next_held task held t word) said e
+  said_in_stage task made (Leaving t) (Word_read word) is shows said e = by_held task made (Leaving t) (Word_read word) (left task held.fill t word)
+      (next_held task held t word) said e
   said_in_stage task made (Leaving t) answer is shows said e = absurd cc
-  said_in_stage task made (Growing t) (Word_read word) is shows said e = by_silence task made (Growing t) (Word_read word) (Ended (Reply_refused Capacity)) (refusal_silent task Capacity) said e
+  said_in_stage task made (Growing t) (Word_read word) is shows said e = by_silence task made (Growing t) (Word_read word)
+      (Ended (Reply_refused Capacity)) (refusal_silent task Capacity) said e
   said_in_stage task made (Growing t) answer is shows said e = absurd cc
   said_in_stage task made (Ended reply) Exchanged is shows said e = inl (inl e)
   said_in_stage task made (Ended reply) answer is shows said e = inl (inl e)
@@ -368,17 +438,20 @@ module _ (m : Machine) (held : Remembered) where
   abbrev IsSaid : Task → Made → Stage → Answer → Said → Type 0
   IsSaid task made stage answer said = StandsOn (on task made stage) said ⊎ IsSaidBy (on task made stage) answer said
 
-  fill_grown : (task : Task) (made : Made) (purpose : Purpose) (n : ℕ) (G : Grown) → grown made (in_place_of purpose) ≡ G → (said : Said) → said_to_fill (paired_held G held purpose n).fill ≡ Some said → IsSaid task made (Pairing purpose) (Made_number n) said
+  fill_grown : (task : Task) (made : Made) (purpose : Purpose) (n : ℕ) (G : Grown) → grown made (in_place_of purpose) ≡ G → (said : Said)
+      → said_to_fill (paired_held G held purpose n).fill ≡ Some said → IsSaid task made (Pairing purpose) (Made_number n) said
   fill_grown task made purpose n (On next) is said e = inl (inr (inl e))
   fill_grown task made purpose n (Pair next) is said e = provided_fill task made purpose n (makes_pair made (in_place_of purpose) next is) said e
 
   -- the pair for an absent key, after a pair was made
-  fill_made : (task : Task) (made : Made) (stage : Stage) (n : ℕ) (said : Said) → said_to_fill (after (on task made stage) (Made_number n)).remembered.fill ≡ Some said → IsSaid task made stage (Made_number n) said
+  fill_made : (task : Task) (made : Made) (stage : Stage) (n : ℕ) (said : Said)
+      → said_to_fill (after (on task made stage) (Made_number n)).remembered.fill ≡ Some said → IsSaid task made stage (Made_number n) said
   fill_made task made (Pairing purpose) n said e = fill_grown task made purpose n (grown made (in_place_of purpose)) refl said e
   fill_made task made stage n said e = inl (inr (inl e))
 
   -- after an answer of a closure
-  fill_op : (task : Task) (made : Made) (stage : Stage) (kind : OpKind) (said : Said) → said_to_fill (after (on task made stage) (Op kind)).remembered.fill ≡ Some said → IsSaid task made stage (Op kind) said
+  fill_op : (task : Task) (made : Made) (stage : Stage) (kind : OpKind) (said : Said)
+      → said_to_fill (after (on task made stage) (Op kind)).remembered.fill ≡ Some said → IsSaid task made stage (Op kind) said
   fill_op Compute made (Showing removal) kind said e = inl (chosen_fill made removal kind said e)
   fill_op Get made (Showing removal) kind said e = inl (inr (inl e))
   fill_op (Insert replace) made (Showing removal) kind said e = inl (inr (inl e))
@@ -386,23 +459,28 @@ module _ (m : Machine) (held : Remembered) where
   fill_op task made stage kind said e = inl (inr (inl e))
 
   -- after any answer
-  fill_said : (task : Task) (made : Made) (stage : Stage) (answer : Answer) (said : Said) → said_to_fill (after (on task made stage) answer).remembered.fill ≡ Some said → IsSaid task made stage answer said
+  fill_said : (task : Task) (made : Made) (stage : Stage) (answer : Answer) (said : Said)
+      → said_to_fill (after (on task made stage) answer).remembered.fill ≡ Some said → IsSaid task made stage answer said
   fill_said task made stage (Made_number n) said e = fill_made task made stage n said e
   fill_said task made stage (Op kind) said e = fill_op task made stage kind said e
   fill_said task made stage answer said e = inl (inr (inl e))
 
-  choice_grown : (task : Task) (made : Made) (purpose : Purpose) (n : ℕ) → IsToPair held.choice purpose → (G : Grown) → grown made (in_place_of purpose) ≡ G → (said : Said) → said_to_choose (paired_held G held purpose n).choice ≡ Some said
+  choice_grown : (task : Task) (made : Made) (purpose : Purpose) (n : ℕ) → IsToPair held.choice purpose → (G : Grown)
+      → grown made (in_place_of purpose) ≡ G → (said : Said) → said_to_choose (paired_held G held purpose n).choice ≡ Some said
       → IsSaid task made (Pairing purpose) (Made_number n) said
   choice_grown task made purpose n shows (On next) is said e = inl (inr (inr e))
-  choice_grown task made purpose n shows (Pair next) is said e = provided_choice task made purpose n (makes_pair made (in_place_of purpose) next is) shows said e
+  choice_grown task made purpose n shows (Pair next) is said e = provided_choice task made purpose n (makes_pair made (in_place_of purpose) next is)
+      shows said e
 
   -- the answer to the pair last shown, after a pair was made
-  choice_made : (task : Task) (made : Made) (stage : Stage) (n : ℕ) → ShowsIn held.choice stage → (said : Said) → said_to_choose (after (on task made stage) (Made_number n)).remembered.choice ≡ Some said → IsSaid task made stage (Made_number n) said
+  choice_made : (task : Task) (made : Made) (stage : Stage) (n : ℕ) → ShowsIn held.choice stage → (said : Said)
+      → said_to_choose (after (on task made stage) (Made_number n)).remembered.choice ≡ Some said → IsSaid task made stage (Made_number n) said
   choice_made task made (Pairing purpose) n shows said e = choice_grown task made purpose n shows (grown made (in_place_of purpose)) refl said e
   choice_made task made stage n shows said e = inl (inr (inr e))
 
   -- after an answer of a closure
-  choice_op : (task : Task) (made : Made) (stage : Stage) (kind : OpKind) (said : Said) → said_to_choose (after (on task made stage) (Op kind)).remembered.choice ≡ Some said → IsSaid task made stage (Op kind) said
+  choice_op : (task : Task) (made : Made) (stage : Stage) (kind : OpKind) (said : Said)
+      → said_to_choose (after (on task made stage) (Op kind)).remembered.choice ≡ Some said → IsSaid task made stage (Op kind) said
   choice_op Compute made (Showing removal) kind said e = chosen_choice made removal kind said e
   choice_op Get made (Showing removal) kind said e = inl (inr (inr e))
   choice_op (Insert replace) made (Showing removal) kind said e = inl (inr (inr e))
@@ -410,16 +488,20 @@ module _ (m : Machine) (held : Remembered) where
   choice_op task made stage kind said e = inl (inr (inr e))
 
   -- after any answer
-  choice_said : (task : Task) (made : Made) (stage : Stage) (answer : Answer) → ShowsIn held.choice stage → (said : Said) → said_to_choose (after (on task made stage) answer).remembered.choice ≡ Some said → IsSaid task made stage answer said
+  choice_said : (task : Task) (made : Made) (stage : Stage) (answer : Answer) → ShowsIn held.choice stage → (said : Said)
+      → said_to_choose (after (on task made stage) answer).remembered.choice ≡ Some said → IsSaid task made stage answer said
   choice_said task made stage (Made_number n) shows said e = choice_made task made stage n shows said e
   choice_said task made stage (Op kind) shows said e = choice_op task made stage kind said e
   choice_said task made stage answer shows said e = inl (inr (inr e))
 
 -- of the machine
-pub machine_said : (m : Machine) (answer : Answer) (said : Said) → IsStanding m → ShowsPairs m → StandsOn (after m answer) said → StandsOn m said ⊎ IsSaidBy m answer said
+pub machine_said : (m : Machine) (answer : Answer) (said : Said) → IsStanding m → ShowsPairs m → StandsOn (after m answer) said → StandsOn m said
+    ⊎ IsSaidBy m answer said
 machine_said m answer said standing shows stands =
-    let stage : said_in m.task (after m answer).state ≡ Some said → StandsOn m said ⊎ IsSaidBy m answer said = λ e. said_in_stage m m.remembered m.task m.made m.state answer standing.state shows said e in
+    let stage : said_in m.task (after m answer).state ≡ Some said → StandsOn m said
+    ⊎ IsSaidBy m answer said = λ e. said_in_stage m m.remembered m.task m.made m.state answer standing.state shows said e in
     ⊎_elim
     (λ e. stage (subst (λ t. said_in t (after m answer).state ≡ Some said) (same_task m answer).0 e))
-    (λ remembered. ⊎_elim (λ e. fill_said m m.remembered m.task m.made m.state answer said e) (λ e. choice_said m m.remembered m.task m.made m.state answer shows said e) remembered)
+    (λ remembered. ⊎_elim (λ e. fill_said m m.remembered m.task m.made m.state answer said e)
+    (λ e. choice_said m m.remembered m.task m.made m.state answer shows said e) remembered)
     stands

@@ -2,7 +2,10 @@
 use Rattle.std.proofs.Common.{◌≡◌, ◌⊎◌, inl, inr, ⊎_elim, ℕ, ◌==◌, nat_lt, Bool, true, false, Option, None, Some, refl, sym, ap, ◌∙◌, subst}
 use Rattle.std.proofs.lemmas.Bool.{cond_both}
 use Rattle.papaya_ask.specs.declared.ask.Answer.{Answer}
-use Rattle.papaya_ask.specs.declared.ask.Answer.TheVariants.{Word as Word_read, Exchanged, Found as Found_instead, Yes, Op, Size, Made as Made_number, Ok as Ok_done, Refused as Was_refused}
+use Rattle.papaya_ask.specs.declared.ask.Answer.TheVariants.{Word as Word_read, Exchanged}
+use Rattle.papaya_ask.specs.declared.ask.Answer.TheVariants.{Found as Found_instead, Yes, Op, Size}
+use Rattle.papaya_ask.specs.declared.ask.Answer.TheVariants.{Made as Made_number, Ok as Ok_done}
+use Rattle.papaya_ask.specs.declared.ask.Answer.TheVariants.{Refused as Was_refused}
 use Rattle.papaya_ask.specs.declared.ask.OpKind.{OpKind}
 use Rattle.papaya_ask.specs.declared.ask.OpKind.TheVariants as ops
 use Rattle.papaya_ask.specs.declared.call.Task.{Task}
@@ -22,7 +25,11 @@ use Rattle.papaya_call.specs.declared.remove.Removal.{Removal}
 use Rattle.papaya_call.specs.declared.write.Write.{Write}
 use Rattle.papaya_call.specs.declared.machine.Machine.{Machine}
 use Rattle.papaya_call.specs.declared.machine.State.{State as Stage}
-use Rattle.papaya_call.specs.declared.machine.State.TheVariants.{AtRoot, Making, Opening, Searching, Writing, Offering, Showing, Pairing, Putting, Deleting, Counting, Noting, Uncounting, Leaving, Growing, Ended}
+use Rattle.papaya_call.specs.declared.machine.State.TheVariants.{AtRoot, Making, Opening, Searching}
+use Rattle.papaya_call.specs.declared.machine.State.TheVariants.{Writing, Offering, Showing}
+use Rattle.papaya_call.specs.declared.machine.State.TheVariants.{Pairing, Putting, Deleting}
+use Rattle.papaya_call.specs.declared.machine.State.TheVariants.{Counting, Noting, Uncounting}
+use Rattle.papaya_call.specs.declared.machine.State.TheVariants.{Leaving, Growing, Ended}
 use Rattle.papaya_call.specs.Compute.{in_place_of}
 use Rattle.papaya_call.specs.Made.{grown, grown_as, of_grown, own_grown, taken_as, told, told_as, told_limit}
 use Rattle.papaya_call.specs.Machine.{after, at_word, made_at_exchanged, made_at_word, made_to_pair, number_told, paired, paired_held, write_made, write_taken}
@@ -33,7 +40,8 @@ use Rattle.papaya_call_law.proofs.Makings.{numbered_leads}
 -- a value that was logged stays so
 limit_valued : (made : Made) → made.valued ≡ true → (limit : Option ℕ) (count : ℕ) → (number_told (told_limit made limit count) made).valued ≡ true
 limit_valued made v None count = v
-limit_valued made v (Some most) count = cond_both (nat_lt count most) (Some (record made { number = Free count })) None (λ o. (number_told o made).valued ≡ true) (λ _. v) (λ _. v)
+limit_valued made v (Some most) count = cond_both (nat_lt count most) (Some (record made { number = Free count })) None
+    (λ o. (number_told o made).valued ≡ true) (λ _. v) (λ _. v)
 
 told_valued : (made : Made) → made.valued ≡ true → (number : Number) (count : ℕ) → (number_told (told_as made number count) made).valued ≡ true
 told_valued made v Wanted count = limit_valued made v made.limit count
@@ -57,7 +65,8 @@ of_valued made v true = v
 grown_valued : (made : Made) → made.valued ≡ true → (number : Number) (old : ℕ) → (made_to_pair (grown_as number made old)).valued ≡ true
 grown_valued made v Wanted old = v
 grown_valued made v (Free n) old = v
-grown_valued made v Taken old = cond_both (old == 0) (own_grown made.keyed made.valued made) (of_grown made.valued made) (λ G. (made_to_pair G).valued ≡ true) (λ _. own_valued made v made.keyed made.valued) (λ _. of_valued made v made.valued)
+grown_valued made v Taken old = cond_both (old == 0) (own_grown made.keyed made.valued made) (of_grown made.valued made)
+    (λ G. (made_to_pair G).valued ≡ true) (λ _. own_valued made v made.keyed made.valued) (λ _. of_valued made v made.valued)
 
 -- a pair is made of a value that was logged
 own_pair_valued : (made next : Made) (keyed valued : Bool) → made.valued ≡ valued → own_grown keyed valued made ≡ Pair next → made.valued ≡ true
@@ -73,11 +82,13 @@ pair_valued : (made next : Made) (number : Number) (old : ℕ) → grown_as numb
 pair_valued made next Wanted old e = absurd cc
 pair_valued made next (Free n) old e = absurd cc
 pair_valued made next Taken old e =
-    cond_both (old == 0) (own_grown made.keyed made.valued made) (of_grown made.valued made) (λ G. G ≡ Pair next → made.valued ≡ true) (λ _ is. own_pair_valued made next made.keyed made.valued refl is) (λ _ is. of_pair_valued made next made.valued refl is) e
+    cond_both (old == 0) (own_grown made.keyed made.valued made) (of_grown made.valued made) (λ G. G ≡ Pair next → made.valued ≡ true)
+    (λ _ is. own_pair_valued made next made.keyed made.valued refl is) (λ _ is. of_pair_valued made next made.valued refl is) e
 
 write_valued : (write : Write) (n : ℕ) (G : Grown) → (made_to_pair G).valued ≡ true → (made_to_write G write n).valued ≡ true
 write_valued write n (On made) v = v
-write_valued write n (Pair made) v = cond_both (write.old == 0) (record made { own = Some n }) (record made { of = Some (made_of write n) }) (λ (m : Made). m.valued ≡ true) (λ _. v) (λ _. v)
+write_valued write n (Pair made) v = cond_both (write.old == 0) (record made { own = Some n }) (record made { of = Some (made_of write n) })
+    (λ (m : Made). m.valued ≡ true) (λ _. v) (λ _. v)
 
 module _ (m : Machine) where
   -- of the value that was logged last
@@ -139,7 +150,8 @@ module _ (m : Machine) where
     word_waits (Growing need) count a = absurd a
 
   -- what holds of a call that waits for a value's pair, or is over
-  waiting : (Holds : Stage → Type 0) → ((gap : Gap) → Holds (Pairing (Fill gap))) → ((write : Write) → Holds (Pairing (Replace write))) → ((reply : _) → Holds (Ended reply)) → (stage : Stage) → IsAnswered stage → Holds stage
+  waiting : (Holds : Stage → Type 0) → ((gap : Gap) → Holds (Pairing (Fill gap))) → ((write : Write) → Holds (Pairing (Replace write)))
+      → ((reply : _) → Holds (Ended reply)) → (stage : Stage) → IsAnswered stage → Holds stage
   waiting Holds fill replace ended (Pairing (Fill gap)) a = fill gap
   waiting Holds fill replace ended (Pairing (Replace write)) a = replace write
   waiting Holds fill replace ended (Pairing (Again write)) a = absurd a
@@ -164,14 +176,19 @@ module _ (m : Machine) where
   on made stage = record m { made = made; state = stage }
 
   -- where nothing is remembered anew
-  kept_value : (made : Made) (stage : Stage) (answer : Answer) → HasValue (on made stage) → (after (on made stage) answer).remembered ≡ m.remembered → (made.valued ≡ true → (after (on made stage) answer).made.valued ≡ true)
+  kept_value : (made : Made) (stage : Stage) (answer : Answer) → HasValue (on made stage) → (after (on made stage) answer).remembered ≡ m.remembered
+      → (made.valued ≡ true → (after (on made stage) answer).made.valued ≡ true)
       → (IsAnswered stage → Value (after (on made stage) answer).made (after (on made stage) answer).state) → HasValue (after (on made stage) answer)
   kept_value made stage answer h same valued waits old new e = ⊎_elim (λ v. inl (valued v)) waits (h old new (ap (λ (r : Remembered). r.choice) (sym same) ∙ e))
 
   -- something was made for a compute
-  paired_value : (made : Made) (purpose : Purpose) (n : ℕ) → HasValue (on made (Pairing purpose)) → (G : Grown) → grown made (in_place_of purpose) ≡ G → (old : ℕ) (new : Of) → (paired_held G m.remembered purpose n).choice ≡ Some (To_replace old new) → Value (made_to_pair G) (paired G purpose n)
-  paired_value made purpose n h (On next) is old new e = ⊎_elim (λ v. inl (subst (λ y. (made_to_pair y).valued ≡ true) is (grown_valued made v made.number (in_place_of purpose)))) (λ a. inr a) (h old new e)
-  paired_value made purpose n h (Pair next) is old new e = inl (subst (λ y. (made_to_pair y).valued ≡ true) is (grown_valued made (pair_valued made next made.number (in_place_of purpose) is) made.number (in_place_of purpose)))
+  paired_value : (made : Made) (purpose : Purpose) (n : ℕ) → HasValue (on made (Pairing purpose)) → (G : Grown) → grown made (in_place_of purpose) ≡ G
+      → (old : ℕ) (new : Of) → (paired_held G m.remembered purpose n).choice ≡ Some (To_replace old new) → Value (made_to_pair G) (paired G purpose n)
+  paired_value made purpose n h (On next) is old new e =
+      ⊎_elim (λ v. inl (subst (λ y. (made_to_pair y).valued ≡ true) is (grown_valued made v made.number (in_place_of purpose)))) (λ a. inr a) (h old new e)
+  paired_value made purpose n h (Pair next) is old new e = inl
+      (subst (λ y. (made_to_pair y).valued ≡ true) is
+      (grown_valued made (pair_valued made next made.number (in_place_of purpose) is) made.number (in_place_of purpose)))
 
   made_value : (made : Made) (stage : Stage) (n : ℕ) → HasValue (on made stage) → HasValue (after (on made stage) (Made_number n))
   made_value made (Pairing purpose) n h old new e = paired_value made purpose n h (grown made (in_place_of purpose)) refl old new e
@@ -196,7 +213,8 @@ module _ (m : Machine) where
   made_value made (Growing need) n h old new e = ⊎_elim (λ v. inl v) (λ a. absurd a) (h old new e)
 
   -- a closure answered: a value that it answered waits, and else nothing does
-  shown_value : (task : Task) (made : Made) (removal : Removal) (kind : OpKind) → HasValue (on made (Showing removal)) → HasValue (after (record m { task = task; made = made; state = Showing removal }) (Op kind))
+  shown_value : (task : Task) (made : Made) (removal : Removal) (kind : OpKind) → HasValue (on made (Showing removal))
+      → HasValue (after (record m { task = task; made = made; state = Showing removal }) (Op kind))
   shown_value Compute made removal ops.Insert h old new e = inr tt
   shown_value Compute made removal ops.Remove h old new e = absurd cc
   shown_value Compute made removal (ops.Abort t) h old new e = inr tt
@@ -226,20 +244,26 @@ module _ (m : Machine) where
 
   -- after each answer
   values_in : (made : Made) (stage : Stage) (answer : Answer) → HasValue (on made stage) → HasValue (after (on made stage) answer)
-  values_in made stage (Word_read word) h = kept_value made stage (Word_read word) h refl (word_valued made stage word) (λ a. inr (word_waits made stage word a))
-  values_in made stage Exchanged h = kept_value made stage Exchanged h refl (exchanged_valued made stage) (λ a. inr (waiting (λ s. IsAnswered (after (on made s) Exchanged).state) (λ gap. tt) (λ write. tt) (λ reply. tt) stage a))
+  values_in made stage (Word_read word) h = kept_value made stage (Word_read word) h refl (word_valued made stage word)
+      (λ a. inr (word_waits made stage word a))
+  values_in made stage Exchanged h = kept_value made stage Exchanged h refl (exchanged_valued made stage)
+      (λ a. inr (waiting (λ s. IsAnswered (after (on made s) Exchanged).state) (λ gap. tt) (λ write. tt) (λ reply. tt) stage a))
   values_in made stage (Found_instead word) h =
       kept_value made stage (Found_instead word) h refl (word_valued made stage word)
       (λ a. inr (waiting (λ s. IsAnswered (after (on made s) (Found_instead word)).state)
       (λ gap. numbered_leads IsAnswered tt (Pairing (Fill gap)) tt (told made word))
       (λ write. numbered_leads IsAnswered tt (Pairing (Replace write)) tt (told made word))
       (λ reply. tt) stage a))
-  values_in made stage (Yes same) h = kept_value made stage (Yes same) h refl (λ v. v) (λ a. inr (waiting (λ s. IsAnswered (after (on made s) (Yes same)).state) (λ gap. tt) (λ write. tt) (λ reply. tt) stage a))
+  values_in made stage (Yes same) h = kept_value made stage (Yes same) h refl (λ v. v)
+      (λ a. inr (waiting (λ s. IsAnswered (after (on made s) (Yes same)).state) (λ gap. tt) (λ write. tt) (λ reply. tt) stage a))
   values_in made stage (Op kind) h = op_value made stage kind h
-  values_in made stage (Size slots limit) h = kept_value made stage (Size slots limit) h refl (λ v. v) (λ a. inr (waiting (λ s. IsAnswered (after (on made s) (Size slots limit)).state) (λ gap. tt) (λ write. tt) (λ reply. tt) stage a))
+  values_in made stage (Size slots limit) h = kept_value made stage (Size slots limit) h refl (λ v. v)
+      (λ a. inr (waiting (λ s. IsAnswered (after (on made s) (Size slots limit)).state) (λ gap. tt) (λ write. tt) (λ reply. tt) stage a))
   values_in made stage (Made_number n) h = made_value made stage n h
-  values_in made stage Ok_done h = kept_value made stage Ok_done h refl (λ v. v) (λ a. inr (waiting (λ s. IsAnswered (after (on made s) Ok_done).state) (λ gap. tt) (λ write. tt) (λ reply. tt) stage a))
-  values_in made stage (Was_refused refused) h = kept_value made stage (Was_refused refused) h refl (λ v. v) (λ a. inr (waiting (λ s. IsAnswered (after (on made s) (Was_refused refused)).state) (λ gap. tt) (λ write. tt) (λ reply. tt) stage a))
+  values_in made stage Ok_done h = kept_value made stage Ok_done h refl (λ v. v)
+      (λ a. inr (waiting (λ s. IsAnswered (after (on made s) Ok_done).state) (λ gap. tt) (λ write. tt) (λ reply. tt) stage a))
+  values_in made stage (Was_refused refused) h = kept_value made stage (Was_refused refused) h refl (λ v. v)
+      (λ a. inr (waiting (λ s. IsAnswered (after (on made s) (Was_refused refused)).state) (λ gap. tt) (λ write. tt) (λ reply. tt) stage a))
 
   -- of the machine
   pub machine_values : (answer : Answer) → HasValue m → HasValue (after m answer)

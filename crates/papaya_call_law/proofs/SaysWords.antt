@@ -7,7 +7,10 @@ use Rattle.papaya_words.specs.declared.probe.ResizeMode.TheVariants.{Incremental
 use Rattle.papaya_words.specs.declared.word.Kind.{Kind}
 use Rattle.papaya_words.specs.declared.word.Kind.TheVariants as word_kinds
 use Rattle.papaya_ask.specs.declared.ask.Answer.{Answer}
-use Rattle.papaya_ask.specs.declared.ask.Answer.TheVariants.{Word as Word_read, Exchanged, Found as Found_instead, Yes, Op, Made as Made_number, Refused as Was_refused}
+use Rattle.papaya_ask.specs.declared.ask.Answer.TheVariants.{Word as Word_read, Exchanged}
+use Rattle.papaya_ask.specs.declared.ask.Answer.TheVariants.{Found as Found_instead, Yes, Op}
+use Rattle.papaya_ask.specs.declared.ask.Answer.TheVariants.{Made as Made_number}
+use Rattle.papaya_ask.specs.declared.ask.Answer.TheVariants.{Refused as Was_refused}
 use Rattle.papaya_ask.specs.declared.ask.OpKind.TheVariants as ops
 use Rattle.papaya_ask.specs.declared.call.Reply.TheVariants.{Absent, Replaced}
 use Rattle.papaya_ask.specs.declared.call.Task.{Task}
@@ -29,7 +32,11 @@ use Rattle.papaya_call_law.proofs.Makings.{exchanged_leads, lost_leads, numbered
 use Rattle.papaya_call.specs.declared.write.Write.{Write}
 use Rattle.papaya_call.specs.declared.machine.Machine.{Machine}
 use Rattle.papaya_call.specs.declared.machine.State.{State as Stage}
-use Rattle.papaya_call.specs.declared.machine.State.TheVariants.{AtRoot, Making, Opening, Searching, Writing, Offering, Showing, Pairing, Putting, Deleting, Counting, Noting, Uncounting, Leaving, Growing, Ended}
+use Rattle.papaya_call.specs.declared.machine.State.TheVariants.{AtRoot, Making, Opening, Searching}
+use Rattle.papaya_call.specs.declared.machine.State.TheVariants.{Writing, Offering, Showing}
+use Rattle.papaya_call.specs.declared.machine.State.TheVariants.{Pairing, Putting, Deleting}
+use Rattle.papaya_call.specs.declared.machine.State.TheVariants.{Counting, Noting, Uncounting}
+use Rattle.papaya_call.specs.declared.machine.State.TheVariants.{Leaving, Growing, Ended}
 use Rattle.papaya_call.specs.Compute.{fills, in_place_of, recalled, recalls}
 use Rattle.papaya_call.specs.declared.made.Grown.{Grown}
 use Rattle.papaya_call.specs.declared.made.Grown.TheVariants.{On, Pair}
@@ -45,7 +52,8 @@ pub live_is_some : (word : ℕ) → kind_of word ≡ word_kinds.Live → 0 < wor
 live_is_some word live =
     ⊎_elim
     (λ (some : 0 < word). some)
-    (λ (none : word ≤ 0). let zero : word ≡ 0 = omega (arith, none) in let empty : word_kinds.Empty ≡ word_kinds.Live = subst (λ w. kind_of w ≡ word_kinds.Live) zero live in absurd cc)
+    (λ (none : word ≤ 0). let zero : word ≡ 0 = omega (arith, none) in
+    let empty : word_kinds.Empty ≡ word_kinds.Live = subst (λ w. kind_of w ≡ word_kinds.Live) zero live in absurd cc)
     (cases_lt 0 word)
 
 -- nothing is shown on the way of a pair to its place
@@ -70,10 +78,12 @@ recalls_shows (Some (To_replace old new)) at word some =
     cond_both (old == pair_of word) (recalled new at word) (Showing (record { place = at; word = word })) (ShowsIn choice)
     (λ same.
     let is : choice ≡ Some (To_replace (pair_of word) new) = ap (λ n. Some (To_replace n new)) (eqb-true old (pair_of word) same) in
-    cond_both (serves_at new at.table at.probe.i) (Putting (record { write = record { place = at; old = word }; pair = new.pair })) (Pairing (Again (record { place = at; old = word }))) (ShowsIn choice) (λ _. tt) (λ _. (some, (new, is))))
+    cond_both (serves_at new at.table at.probe.i) (Putting (record { write = record { place = at; old = word }; pair = new.pair }))
+    (Pairing (Again (record { place = at; old = word }))) (ShowsIn choice) (λ _. tt) (λ _. (some, (new, is))))
     (λ _. some)
 recalls_shows (Some (To_remove old)) at word some =
-    cond_both (old == pair_of word) (Deleting (record { place = at; word = word })) (Showing (record { place = at; word = word })) (ShowsIn (Some (To_remove old))) (λ _. tt) (λ _. some)
+    cond_both (old == pair_of word) (Deleting (record { place = at; word = word })) (Showing (record { place = at; word = word }))
+    (ShowsIn (Some (To_remove old))) (λ _. tt) (λ _. some)
 
 -- nor does a compute show an empty word
 computes_shows : (kd : Kind) (held : Remembered) (at : Place) (word : ℕ) → kind_of word ≡ kd → ShowsIn held.choice (computes kd held at word)
@@ -126,12 +136,14 @@ goes_shows (Insert replace) mode held (seen.Over t) = tt
 root_shows : (choice : Option Choice) (task : Task) (fill : Option ℕ) (word : ℕ) → ShowsIn choice (at_root task fill word)
 root_shows choice Get fill word = cond_both (word == 0) (Ended Absent) (Searching (Sizing word)) (ShowsIn choice) (λ _. tt) (λ _. tt)
 root_shows choice RemoveIf fill word = cond_both (word == 0) (Ended Absent) (Searching (Sizing word)) (ShowsIn choice) (λ _. tt) (λ _. tt)
-root_shows choice Compute fill word = cond_both (word == 0) (absent Compute fill NoRoot) (Searching (Sizing word)) (ShowsIn choice) (λ _. absent_shows choice Compute fill NoRoot) (λ _. tt)
+root_shows choice Compute fill word = cond_both (word == 0) (absent Compute fill NoRoot) (Searching (Sizing word)) (ShowsIn choice)
+    (λ _. absent_shows choice Compute fill NoRoot) (λ _. tt)
 root_shows choice (Insert replace) fill word = cond_both (word == 0) Making (Searching (Sizing word)) (ShowsIn choice) (λ _. tt) (λ _. tt)
 
 -- a next table leads to a search, or to an absent key
 next_shows : (choice : Option Choice) (task : Task) (fill : Option ℕ) (t word : ℕ) → ShowsIn choice (left task fill t word)
-next_shows choice task fill t word = cond_both (word == 0) (absent task fill (After t)) (Searching (Sizing word)) (ShowsIn choice) (λ _. absent_shows choice task fill (After t)) (λ _. tt)
+next_shows choice task fill t word = cond_both (word == 0) (absent task fill (After t)) (Searching (Sizing word)) (ShowsIn choice)
+    (λ _. absent_shows choice task fill (After t)) (λ _. tt)
 
 -- and a deletion that was lost
 beaten_shows : (kd : Kind) (m : Machine) (at : Place) (word : ℕ) → ShowsIn m.remembered.choice (beaten_by kd m at word)
@@ -144,7 +156,8 @@ beaten_shows word_kinds.Closed m at word = goes_shows m.task m.mode m.remembered
 
 -- a pair that was written is no longer on its way
 written_shows : (choice : Option Choice) (write : Write) (n : ℕ) → ShowsIn choice (written write n)
-written_shows choice write n = cond_both (write.old == 0) (Counting (claimed_by write n)) (Ended (Replaced (pair_of write.old) n)) (ShowsIn choice) (λ _. tt) (λ _. tt)
+written_shows choice write n = cond_both (write.old == 0) (Counting (claimed_by write n)) (Ended (Replaced (pair_of write.old) n)) (ShowsIn choice)
+    (λ _. tt) (λ _. tt)
 
 module _ (m : Machine) where
   -- the machine of these
@@ -152,14 +165,16 @@ module _ (m : Machine) where
   on task made stage = record m { task = task; made = made; state = stage }
 
   -- by the task
-  beaten_task_shows : (task : Task) (made : Made) (removal : Removal) (word : ℕ) → ShowsIn m.remembered.choice (beaten_as task (on task made (Deleting removal)) removal.place word)
+  beaten_task_shows : (task : Task) (made : Made) (removal : Removal) (word : ℕ)
+      → ShowsIn m.remembered.choice (beaten_as task (on task made (Deleting removal)) removal.place word)
   beaten_task_shows Get made removal word = beaten_shows (kind_of word) (on Get made (Deleting removal)) removal.place word
   beaten_task_shows (Insert replace) made removal word = beaten_shows (kind_of word) (on (Insert replace) made (Deleting removal)) removal.place word
   beaten_task_shows RemoveIf made removal word = beaten_shows (kind_of word) (on RemoveIf made (Deleting removal)) removal.place word
   beaten_task_shows Compute made removal word = goes_shows Compute m.mode m.remembered (look_seen removal.place word)
 
   -- something was made for a compute
-  pairing_shows : (task : Task) (made : Made) (purpose : Purpose) (n : ℕ) → ShowsIn m.remembered.choice (Pairing purpose) → (G : Grown) → grown made (in_place_of purpose) ≡ G → ShowsIn (paired_held G m.remembered purpose n).choice (paired G purpose n)
+  pairing_shows : (task : Task) (made : Made) (purpose : Purpose) (n : ℕ) → ShowsIn m.remembered.choice (Pairing purpose) → (G : Grown)
+      → grown made (in_place_of purpose) ≡ G → ShowsIn (paired_held G m.remembered purpose n).choice (paired G purpose n)
   pairing_shows task made purpose n h (On next) is = h
   pairing_shows task made (Fill gap) n h (Pair next) is = fills_shows None gap n
   pairing_shows task made (Replace write) n h (Pair next) is = tt
@@ -180,7 +195,8 @@ module _ (m : Machine) where
   shows_in task made (Writing write) (Found_instead word) h =
       let machine : Machine = on task made (Writing write) in
       lost_leads (ShowsIn m.remembered.choice) tt write tt machine word (goes_shows task m.mode m.remembered (look_seen write.place word)) (serves made write)
-  shows_in task made (Writing write) Exchanged h = exchanged_leads (ShowsIn m.remembered.choice) write tt (written_shows m.remembered.choice write) (serves made write)
+  shows_in task made (Writing write) Exchanged h = exchanged_leads (ShowsIn m.remembered.choice) write tt (written_shows m.remembered.choice write)
+      (serves made write)
   shows_in task made (Writing write) (Was_refused refused) h = refuses_leads (ShowsIn m.remembered.choice) write refused tt tt (serves made write)
   shows_in task made (Writing write) answer h = tt
   shows_in task made (Offering gap) (Op ops.Insert) h = tt

@@ -10,7 +10,10 @@ use Rattle.papaya_words.specs.declared.word.Kind.TheVariants as word_kinds
 use Rattle.papaya_words.specs.declared.probe.ResizeMode.{ResizeMode}
 use Rattle.papaya_words.specs.declared.probe.ResizeMode.TheVariants.{Incremental, Blocking}
 use Rattle.papaya_ask.specs.declared.ask.Answer.{Answer}
-use Rattle.papaya_ask.specs.declared.ask.Answer.TheVariants.{Word as Word_read, Exchanged, Found as Found_instead, Yes, Op, Size, Made as Made_number, Ok as Ok_done, Refused as Was_refused}
+use Rattle.papaya_ask.specs.declared.ask.Answer.TheVariants.{Word as Word_read, Exchanged}
+use Rattle.papaya_ask.specs.declared.ask.Answer.TheVariants.{Found as Found_instead, Yes, Op, Size}
+use Rattle.papaya_ask.specs.declared.ask.Answer.TheVariants.{Made as Made_number, Ok as Ok_done}
+use Rattle.papaya_ask.specs.declared.ask.Answer.TheVariants.{Refused as Was_refused}
 use Rattle.papaya_ask.specs.declared.ask.OpKind.{OpKind}
 use Rattle.papaya_ask.specs.declared.ask.OpKind.TheVariants as ops
 use Rattle.papaya_ask.specs.declared.call.Reply.TheVariants.{Absent, Replaced}
@@ -33,17 +36,35 @@ use Rattle.papaya_call.specs.declared.made.Made.{Made}
 use Rattle.papaya_call_law.proofs.Makings.{HoldsOfPairAsks, exchanged_leads, lost_leads, numbered_leads, pair_holds, refuses_leads, told_leads, write_holds}
 use Rattle.papaya_call.specs.declared.machine.Machine.{Machine}
 use Rattle.papaya_call.specs.declared.machine.State.{State}
-use Rattle.papaya_call.specs.declared.machine.State.TheVariants.{AtRoot, Making, Opening, Searching, Writing, Offering, Showing, Pairing, Putting, Deleting, Counting, Noting, Uncounting, Leaving, Growing, Ended}
-use Rattle.papaya_ask.specs.Search.{IsSize, IsWithin, IsSearching, IsProbed, next_place, go_on, look_at, look, match_at, at_word as search_loaded, at_yes as search_compared, hinted}
+use Rattle.papaya_call.specs.declared.machine.State.TheVariants.{AtRoot, Making, Opening, Searching}
+use Rattle.papaya_call.specs.declared.machine.State.TheVariants.{Writing, Offering, Showing}
+use Rattle.papaya_call.specs.declared.machine.State.TheVariants.{Pairing, Putting, Deleting}
+use Rattle.papaya_call.specs.declared.machine.State.TheVariants.{Counting, Noting, Uncounting}
+use Rattle.papaya_call.specs.declared.machine.State.TheVariants.{Leaving, Growing, Ended}
+use Rattle.papaya_ask.specs.Search.{IsSize, IsWithin, IsSearching, IsProbed, next_place, go_on}
+use Rattle.papaya_ask.specs.Search.{look_at, look, match_at, at_word as search_loaded}
+use Rattle.papaya_ask.specs.Search.{at_yes as search_compared, hinted}
 use Rattle.papaya_call.specs.declared.made.Grown.{Grown}
 use Rattle.papaya_call.specs.declared.made.Grown.TheVariants.{On, Pair}
 use Rattle.papaya_call.specs.declared.made.Number.{Number}
 use Rattle.papaya_call.specs.declared.made.Number.TheVariants.{Wanted, Free, Taken}
 use Rattle.papaya_call.specs.declared.write.Write.{Write}
-use Rattle.papaya_call.specs.Made.{IsGrown, IsLimit, IsMade, IsNumber, IsTold, answered, grown, grown_as, of_grown, own_grown, serves_at, taken, taken_as, told, told_as, told_limit, wanted}
+use Rattle.papaya_call.specs.Made.{IsGrown, IsLimit, IsMade, IsNumber, IsTold, answered, grown}
+use Rattle.papaya_call.specs.Made.{grown_as, of_grown, own_grown, serves_at, taken, taken_as, told}
+use Rattle.papaya_call.specs.Made.{told_as, told_limit, wanted}
 use Rattle.papaya_call.specs.Write.{claimed_by, made_of, made_to_write, serves, with_pair_at, write_grown}
-use Rattle.papaya_call.specs.Compute.{IsChoice, IsFill, IsGap, IsPurpose, IsRemembered, chosen, fills, in_place_of, lacks, offered, provides, recalled, recalls, with_choice, with_pair}
-use Rattle.papaya_call.specs.Machine.{IsComputer, IsStanding, IsStandingState, IsWriter, MayInsert, IsFit, IsFitAsk, ask_of, asks, after, absent, at_root, beaten_as, beaten_by, computes, decided, decided_held, held_at_op, held_in, judged, left, paired, paired_held, passes, removes, replaces, goes_as, made_at_exchanged, made_at_op, made_at_word, made_decided, made_in, made_to_pair, number_told, state_in, write_made, write_taken, at_op, at_word, at_exchanged, at_found, at_yes, at_size, at_ok, at_refused, written}
+use Rattle.papaya_call.specs.Compute.{IsChoice, IsFill, IsGap, IsPurpose, IsRemembered, chosen}
+use Rattle.papaya_call.specs.Compute.{fills, in_place_of, lacks, offered, provides, recalled}
+use Rattle.papaya_call.specs.Compute.{recalls, with_choice, with_pair}
+use Rattle.papaya_call.specs.Machine.{IsComputer, IsStanding, IsStandingState, IsWriter, MayInsert}
+use Rattle.papaya_call.specs.Machine.{IsFit, IsFitAsk, ask_of, asks, after, absent, at_root}
+use Rattle.papaya_call.specs.Machine.{beaten_as, beaten_by, computes, decided, decided_held}
+use Rattle.papaya_call.specs.Machine.{held_at_op, held_in, judged, left, paired, paired_held}
+use Rattle.papaya_call.specs.Machine.{passes, removes, replaces, goes_as, made_at_exchanged}
+use Rattle.papaya_call.specs.Machine.{made_at_op, made_at_word, made_decided, made_in, made_to_pair}
+use Rattle.papaya_call.specs.Machine.{number_told, state_in, write_made, write_taken, at_op}
+use Rattle.papaya_call.specs.Machine.{at_word, at_exchanged, at_found, at_yes, at_size, at_ok}
+use Rattle.papaya_call.specs.Machine.{at_refused, written}
 use Rattle.papaya_call_law.proofs.Leads.{occupies_leads}
 
 -- a table with a size has a slot
@@ -60,7 +81,8 @@ next_within at within more = record {
 
 -- a search goes on within the table
 go_on_seen : (at : Place) → IsWithin at → IsProbed (go_on at)
-go_on_seen at within = cond_both (nat_lt at.probe.len at.limit) (seen.On (Looking (next_place at))) (seen.Over at.table) IsProbed (λ more. next_within at within (ltb-true at.probe.len at.limit more)) (λ _. tt)
+go_on_seen at within = cond_both (nat_lt at.probe.len at.limit) (seen.On (Looking (next_place at))) (seen.Over at.table) IsProbed
+    (λ more. next_within at within (ltb-true at.probe.len at.limit more)) (λ _. tt)
 
 hinted_seen : (at : Place) (hash hint : ℕ) → IsWithin at → IsProbed (hinted at hash hint)
 hinted_seen at hash hint within = cond_both (may_hold hint hash) (seen.On (Reading at)) (go_on at) IsProbed (λ _. within) (λ _. go_on_seen at within)
@@ -126,11 +148,14 @@ recalls_stands : (choice : Option Choice) (at : Place) (word n : ℕ) → IsChoi
 recalls_stands None at word n held within = (tt, within)
 recalls_stands (Some (To_replace old new)) at word n held within =
     cond_both (old == n) (recalled new at word) (Showing (record { place = at; word = word })) (IsStandingState Compute)
-    (λ _. cond_both (serves_at new at.table at.probe.i) (Putting (record { write = record { place = at; old = word }; pair = new.pair })) (Pairing (Again (record { place = at; old = word }))) (IsStandingState Compute) (λ _. (tt, record { within = within; pair = held })) (λ _. (tt, within)))
+    (λ _. cond_both (serves_at new at.table at.probe.i) (Putting (record { write = record { place = at; old = word }; pair = new.pair }))
+    (Pairing (Again (record { place = at; old = word }))) (IsStandingState Compute) (λ _. (tt, record { within = within; pair = held })) (λ _. (tt, within)))
     (λ _. (tt, within))
-recalls_stands (Some (To_remove old)) at word n held within = cond_both (old == n) (Deleting (record { place = at; word = word })) (Showing (record { place = at; word = word })) (IsStandingState Compute) (λ _. (tt, within)) (λ _. (tt, within))
+recalls_stands (Some (To_remove old)) at word n held within = cond_both (old == n) (Deleting (record { place = at; word = word }))
+    (Showing (record { place = at; word = word })) (IsStandingState Compute) (λ _. (tt, within)) (λ _. (tt, within))
 
-computes_stands : (kind : Kind) (held : Remembered) (at : Place) (word : ℕ) → IsRemembered held → IsWithin at → IsStandingState Compute (computes kind held at word)
+computes_stands : (kind : Kind) (held : Remembered) (at : Place) (word : ℕ) → IsRemembered held → IsWithin at
+    → IsStandingState Compute (computes kind held at word)
 computes_stands word_kinds.Empty held at word is within = tt
 computes_stands word_kinds.Live held at word is within = recalls_stands held.choice at word (pair_of word) is.choice within
 computes_stands word_kinds.Marked held at word is within = tt
@@ -148,7 +173,8 @@ passes_stands : (task : Task) (mode : ResizeMode) (fill : Option ℕ) (t : ℕ) 
 passes_stands task (Incremental chunk) fill t held = tt
 passes_stands task Blocking fill t held = absent_stands task fill (After t) held tt
 
-goes_stands : (task : Task) (mode : ResizeMode) (held : Remembered) (s : Probed) → IsRemembered held → IsProbed s → IsStandingState task (goes_as task mode held s)
+goes_stands : (task : Task) (mode : ResizeMode) (held : Remembered) (s : Probed) → IsRemembered held → IsProbed s
+    → IsStandingState task (goes_as task mode held s)
 goes_stands task mode held (seen.On search) is within = within
 goes_stands Get mode held (seen.Here at word) is within = tt
 goes_stands (Insert false) mode held (seen.Here at word) is within = occupies_leads (IsStandingState (Insert false)) (kind_of word) at word tt tt
@@ -167,11 +193,13 @@ goes_stands (Insert replace) mode held (seen.Over t) is within = tt
 root_stands : (task : Task) (fill : Option ℕ) (word : ℕ) → IsFill fill → IsStandingState task (at_root task fill word)
 root_stands Get fill word held = cond_both (word == 0) (Ended Absent) (Searching (Sizing word)) (IsStandingState Get) (λ _. tt) (λ _. tt)
 root_stands RemoveIf fill word held = cond_both (word == 0) (Ended Absent) (Searching (Sizing word)) (IsStandingState RemoveIf) (λ _. tt) (λ _. tt)
-root_stands Compute fill word held = cond_both (word == 0) (lacks fill NoRoot) (Searching (Sizing word)) (IsStandingState Compute) (λ _. lacks_stands fill NoRoot held tt) (λ _. tt)
+root_stands Compute fill word held = cond_both (word == 0) (lacks fill NoRoot) (Searching (Sizing word)) (IsStandingState Compute)
+    (λ _. lacks_stands fill NoRoot held tt) (λ _. tt)
 root_stands (Insert replace) fill word held = cond_both (word == 0) Making (Searching (Sizing word)) (IsStandingState (Insert replace)) (λ _. tt) (λ _. tt)
 
 next_stands : (task : Task) (fill : Option ℕ) (table word : ℕ) → IsFill fill → IsStandingState task (left task fill table word)
-next_stands task fill table word held = cond_both (word == 0) (absent task fill (After table)) (Searching (Sizing word)) (IsStandingState task) (λ _. absent_stands task fill (After table) held tt) (λ _. tt)
+next_stands task fill table word held = cond_both (word == 0) (absent task fill (After table)) (Searching (Sizing word)) (IsStandingState task)
+    (λ _. absent_stands task fill (After table) held tt) (λ _. tt)
 
 -- the closure of a compute leads it on, and what it answered is remembered
 offered_stands : (gap : Gap) (kind : OpKind) → IsGap gap → IsStandingState Compute (offered gap kind)
@@ -227,7 +255,8 @@ wanted_fits (Some most) = tt
 limit_fits : (made : Made) → IsMade made → (limit : Option ℕ) → IsLimit limit → (count : ℕ) → IsTold (told_limit made limit count)
 limit_fits made is None fit count = with_number made is Taken tt
 limit_fits made is (Some most) fit count =
-    cond_both (nat_lt count most) (Some (record made { number = Free count })) None IsTold (λ less. with_number made is (Free count) (let below : count < most = ltb-true count most less in omega (arith, below, fit))) (λ _. tt)
+    cond_both (nat_lt count most) (Some (record made { number = Free count })) None IsTold
+    (λ less. with_number made is (Free count) (let below : count < most = ltb-true count most less in omega (arith, below, fit))) (λ _. tt)
 
 told_fits_by : (made : Made) → IsMade made → (number : Number) (count : ℕ) → IsTold (told_as made number count)
 told_fits_by made is Taken count = is
@@ -261,7 +290,8 @@ of_fits made is true = with_number made is (wanted made.limit) (wanted_fits made
 grown_fits_by : (made : Made) → IsMade made → (number : Number) (old : ℕ) → IsGrown (grown_as number made old)
 grown_fits_by made is Wanted old = is
 grown_fits_by made is (Free n) old = is
-grown_fits_by made is Taken old = cond_both (old == 0) (own_grown made.keyed made.valued made) (of_grown made.valued made) IsGrown (λ _. own_fits made is made.keyed made.valued) (λ _. of_fits made is made.valued)
+grown_fits_by made is Taken old = cond_both (old == 0) (own_grown made.keyed made.valued made) (of_grown made.valued made) IsGrown
+    (λ _. own_fits made is made.keyed made.valued) (λ _. of_fits made is made.valued)
 
 grown_fits : (made : Made) → IsMade made → (old : ℕ) → IsGrown (grown made old)
 grown_fits made is old = grown_fits_by made is made.number old
@@ -287,7 +317,8 @@ write_grown_fits made is write n fit (Some i) = is
 module _ (m : Machine) (held : IsRemembered m.remembered) where
   word_stands : (word : ℕ) (state : State) → IsStandingState m.task state → IsStandingState m.task (at_word m word state)
   word_stands word AtRoot stands = root_stands m.task m.remembered.fill word held.fill
-  word_stands word (Searching search) stands = goes_stands m.task m.mode m.remembered (search_loaded search m.hash word) held (loaded_seen search m.hash word stands)
+  word_stands word (Searching search) stands = goes_stands m.task m.mode m.remembered (search_loaded search m.hash word) held
+      (loaded_seen search m.hash word stands)
   word_stands word (Leaving table) stands = next_stands m.task m.remembered.fill table word held.fill
   word_stands word (Growing table) stands = tt
   word_stands word Making stands = stands
@@ -305,7 +336,8 @@ module _ (m : Machine) (held : IsRemembered m.remembered) where
 
   exchanged_stands : (made : Made) (state : State) → IsStandingState m.task state → IsStandingState m.task (at_exchanged made state)
   exchanged_stands made (Opening table) stands = tt
-  exchanged_stands made (Writing write) stands = exchanged_leads (IsStandingState m.task) write stands (λ n. written_stands m.task write n (writer_inserts m.task stands.0)) (serves made write)
+  exchanged_stands made (Writing write) stands = exchanged_leads (IsStandingState m.task) write stands
+      (λ n. written_stands m.task write n (writer_inserts m.task stands.0)) (serves made write)
   exchanged_stands made (Putting put) stands = written_stands m.task put.write put.pair (computer_inserts m.task stands.0)
   exchanged_stands made (Deleting removal) stands = stands.0
   exchanged_stands made AtRoot stands = stands
@@ -342,7 +374,8 @@ module _ (m : Machine) (held : IsRemembered m.remembered) where
 
   found_stands : (word : ℕ) (state : State) → IsStandingState m.task state → IsStandingState m.task (at_found m word state)
   found_stands word (Opening table) stands = tt
-  found_stands word (Writing write) stands = lost_leads (IsStandingState m.task) tt write stands m word (look_goes write.place word stands.1) (serves m.made write)
+  found_stands word (Writing write) stands = lost_leads (IsStandingState m.task) tt write stands m word (look_goes write.place word stands.1)
+      (serves m.made write)
   found_stands word (Putting put) stands = look_goes put.write.place word stands.1.within
   found_stands word (Deleting removal) stands = beaten_stands_as m.task removal word stands.1
   found_stands word AtRoot stands = stands
@@ -383,7 +416,8 @@ module _ (m : Machine) (held : IsRemembered m.remembered) where
   providing_stands RemoveIf purpose n is within fit = absurd is
   providing_stands Compute purpose n is within fit = provides_stands purpose n within fit
 
-  paired_stands : (grown : Grown) (purpose : Purpose) (n : ℕ) → n < 2 ^ 48 → IsStandingState m.task (Pairing purpose) → IsStandingState m.task (paired grown purpose n)
+  paired_stands : (grown : Grown) (purpose : Purpose) (n : ℕ) → n < 2 ^ 48 → IsStandingState m.task (Pairing purpose)
+      → IsStandingState m.task (paired grown purpose n)
   paired_stands (On made) purpose n fit stands = stands
   paired_stands (Pair made) purpose n fit stands = providing_stands m.task purpose n stands.0 stands.1 fit
 
@@ -409,8 +443,10 @@ module _ (m : Machine) (held : IsRemembered m.remembered) where
   yes_stands same (Growing table) stands = stands
   yes_stands same (Ended reply) stands = stands
 
-  size_stands : (slots limit : ℕ) → IsSize slots limit → (state : State) → IsStandingState m.task state → IsStandingState m.task (at_size m.hash slots limit state)
-  size_stands slots limit size (Searching (Sizing table)) stands = record { size = size; len = omega arith; i = mod-lt (m.hash + triangular 0) (some_slots slots limit size) }
+  size_stands : (slots limit : ℕ) → IsSize slots limit → (state : State) → IsStandingState m.task state
+      → IsStandingState m.task (at_size m.hash slots limit state)
+  size_stands slots limit size (Searching (Sizing table))
+      stands = record { size = size; len = omega arith; i = mod-lt (m.hash + triangular 0) (some_slots slots limit size) }
   size_stands slots limit size (Searching (Looking at)) stands = stands
   size_stands slots limit size (Searching (Reading at)) stands = stands
   size_stands slots limit size (Searching (Comparing at word)) stands = stands
@@ -641,15 +677,44 @@ module _ (m : Machine) (held : IsRemembered m.remembered) where
 
 -- after each answer
 pub machine_stands : (m : Machine) (answer : Answer) → IsStanding m → IsFit answer → IsStanding (after m answer)
-machine_stands m (Word_read word) stands fit = record { made = word_fits m stands.remembered m.made word m.state stands.made; remembered = stands.remembered; state = word_stands m stands.remembered word m.state stands.state }
-machine_stands m Exchanged stands fit = record { made = exchange_fits m stands.remembered m.made m.state stands.made; remembered = stands.remembered; state = exchanged_stands m stands.remembered m.made m.state stands.state }
-machine_stands m (Found_instead word) stands fit = record { made = word_fits m stands.remembered m.made word m.state stands.made; remembered = stands.remembered; state = found_stands m stands.remembered word m.state stands.state }
-machine_stands m (Yes same) stands fit = record { made = stands.made; remembered = stands.remembered; state = yes_stands m stands.remembered same m.state stands.state }
-machine_stands m (Op kind) stands fit = record { made = op_made_fits m stands.remembered m.made kind m.state stands.made; remembered = op_fits m stands.remembered kind m.state; state = op_stands m stands.remembered kind m.state stands.state }
-machine_stands m (Size slots limit) stands fit = record { made = stands.made; remembered = stands.remembered; state = size_stands m stands.remembered slots limit fit m.state stands.state }
-machine_stands m (Made_number n) stands fit = record { made = made_fits m stands.remembered m.made n m.state fit stands.made; remembered = held_fits m stands.remembered n fit m.state; state = made_stands m stands.remembered n fit m.state stands.state }
+machine_stands m (Word_read word) stands
+    fit = record {
+      made = word_fits m stands.remembered m.made word m.state stands.made;
+      remembered = stands.remembered;
+      state = word_stands m
+          stands.remembered word m.state stands.state;
+    }
+machine_stands m Exchanged stands fit = record {
+  made = exchange_fits m stands.remembered m.made m.state stands.made;
+  remembered = stands.remembered;
+  state = exchanged_stands m stands.remembered m.made m.state stands.state;
+}
+machine_stands m (Found_instead word) stands
+    fit = record {
+      made = word_fits m stands.remembered m.made word m.state stands.made;
+      remembered = stands.remembered;
+      state = found_stands m
+          stands.remembered word m.state stands.state;
+    }
+machine_stands m (Yes same) stands fit =
+    record { made = stands.made; remembered = stands.remembered; state = yes_stands m stands.remembered same m.state stands.state }
+machine_stands m (Op kind) stands fit = record {
+  made = op_made_fits m stands.remembered m.made kind m.state stands.made;
+  remembered = op_fits m
+      stands.remembered kind m.state;
+  state = op_stands m stands.remembered kind m.state stands.state;
+}
+machine_stands m (Size slots limit) stands
+    fit = record { made = stands.made; remembered = stands.remembered; state = size_stands m stands.remembered slots limit fit m.state stands.state }
+machine_stands m (Made_number n) stands fit =
+    record {
+      made = made_fits m stands.remembered m.made n m.state fit stands.made;
+      remembered = held_fits m stands.remembered n fit m.state;
+      state = made_stands m stands.remembered n fit m.state stands.state;
+    }
 machine_stands m Ok_done stands fit = record { made = stands.made; remembered = stands.remembered; state = ok_stands m stands.remembered m.state stands.state }
-machine_stands m (Was_refused refused) stands fit = record { made = stands.made; remembered = stands.remembered; state = refused_stands m stands.remembered m.made refused m.state stands.state }
+machine_stands m (Was_refused refused) stands
+    fit = record { made = stands.made; remembered = stands.remembered; state = refused_stands m stands.remembered m.made refused m.state stands.state }
 
 -- what is asked for a pair makes no table
 pairs_fit : HoldsOfPairAsks IsFitAsk

@@ -41,7 +41,9 @@ use Rattle.papaya_law.specs.Class.{IsOn}
 use Rattle.papaya_law.specs.Code.{Coding, code}
 use Rattle.papaya_law.specs.Copying.{IsLinking, IsPutting, IsSettled, IsTaker, IsTarget}
 use Rattle.papaya_law.specs.Hints.{IsHint}
-use Rattle.papaya_law.specs.Exchange.{Word, Closed, Live, Marked, Copied, Setting, State, Exchange, Link as Link_to, Mark, Close, Place as Place_pair, Finish, Advance, Promote, Abort}
+use Rattle.papaya_law.specs.Exchange.{Word, Closed, Live, Marked, Copied, Setting, State, Exchange}
+use Rattle.papaya_law.specs.Exchange.{Link as Link_to, Mark, Close, Place as Place_pair, Finish}
+use Rattle.papaya_law.specs.Exchange.{Advance, Promote, Abort}
 use Rattle.papaya_law.specs.Invariant.{named}
 use Rattle.papaya_law.specs.Later.{Becomes}
 use Rattle.papaya_law.specs.View.{look, HasWord}
@@ -119,8 +121,8 @@ module _ {K P : Type 0} (g : Setting K P) (c : Coding K P) (s : State P) where
     pub was : s.was_root from ≡ true
     pub target : IsTarget g s from n
 
-  -- from was the root, and its copies go behind this table: from itself, or a table that was given
-  -- up
+  -- from was the root, and its copies go behind this table: from itself, or a table that was
+  -- given up
   pub record IsAimed (from behind : ℕ) : Type 0 where
     pub was : s.was_root from ≡ true
     pub given_up : (behind ≡ from) ⊎ ((g.blocking ≡ true) × IsTarget g s from behind
@@ -364,8 +366,8 @@ module _ {K P : Type 0} (g : Setting K P) (c : Coding K P) (s : State P)
   IsThere (Slot_word t x) = IsOn s.first s.next t × (x < g.size t)
   IsThere Made = ⊥
 
-  -- what is named in an ask is there: such words, the pair last told of, and the one that is
-  -- carried
+  -- what is named in an ask is there: such words, the pair last told of, and the one that
+  -- is carried
   abbrev pub AreThere : CopyAsk → Type 0
   AreThere (asks.Load at) = IsThere at
   AreThere (asks.Exchange at old new) = IsThere at

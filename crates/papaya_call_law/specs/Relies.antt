@@ -37,7 +37,11 @@ use Rattle.papaya_call.specs.declared.made.Number.TheVariants.{Free}
 use Rattle.papaya_call.specs.declared.made.Of.{Of}
 use Rattle.papaya_call.specs.declared.write.Write.{Write}
 use Rattle.papaya_call.specs.declared.machine.State.{State as Stage}
-use Rattle.papaya_call.specs.declared.machine.State.TheVariants.{AtRoot, Making, Opening, Searching, Writing, Offering, Showing, Pairing, Putting, Deleting, Counting, Noting, Uncounting, Leaving, Growing, Ended}
+use Rattle.papaya_call.specs.declared.machine.State.TheVariants.{AtRoot, Making, Opening, Searching}
+use Rattle.papaya_call.specs.declared.machine.State.TheVariants.{Writing, Offering, Showing}
+use Rattle.papaya_call.specs.declared.machine.State.TheVariants.{Pairing, Putting, Deleting}
+use Rattle.papaya_call.specs.declared.machine.State.TheVariants.{Counting, Noting, Uncounting}
+use Rattle.papaya_call.specs.declared.machine.State.TheVariants.{Leaving, Growing, Ended}
 use Rattle.papaya_call.specs.declared.machine.Machine.{Machine}
 use Rattle.papaya_law.specs.Exchange.{Word, Setting, State, Exchange, run, start}
 use Rattle.papaya_law.specs.View.{Leaving as View_leaving, Gone, view, look, held, beyond, IsPassed, IsReached}
@@ -308,8 +312,8 @@ change_of_kind (Some kinds.Replace) old new = Some (Some (pair_of old), Some (pa
 change_of_kind (Some kinds.Delete) old new = Some (Some (pair_of old), None)
 change_of_kind _ old new = None
 
--- the change that a call has made after one of its asks was answered so, where it had made this one
--- before
+-- the change that a call has made after one of its asks was answered so, where it had made this
+-- one before
 abbrev pub change_after : Option StepKind → Ask → Answer → Change → Change
 change_after kind (Ask_exchange at old new) Exchanged before = change_of_kind kind old new
 change_after kind _ _ before = before

@@ -21,8 +21,8 @@ use Rattle.papaya_call.specs.declared.machine.State.{State}
 use Rattle.papaya_call.specs.declared.machine.State.TheVariants.{Offering, Showing, Pairing, Putting, Deleting, Counting, Noting, Uncounting, Ended}
 use Rattle.papaya_call.specs.Machine.{after, ask_of, kind_of_ask}
 
--- What a closure said. Where its key was absent it was shown None, and else the pair of this
--- number.
+-- What a closure said. Where its key was absent it was shown None, and else the pair of
+-- this number.
 pub data Said : Type 0 where
   -- shown this pair it agreed to its removal, or it didn't
   Agrees : (n : ℕ) (agrees : Bool) → Said
@@ -145,8 +145,8 @@ show (Some n) = ShowPair n
 abbrev pub WasSaid : Machine → Option ℕ → Type 0
 WasSaid m shown = StandsOn m (Inserts shown) ⊎ ((n : ℕ) × StandsOn m (Makes shown n))
 
--- the closure says this with the answer to what the machine asks; a pair is made of what it said
--- before
+-- the closure says this with the answer to what the machine asks; a pair is made of what it
+-- said before
 abbrev pub IsSaidBy : Machine → Answer → Said → Type 0
 IsSaidBy m answer (Agrees n agrees) = (ask_of m ≡ ShowPair n) × (answer ≡ Yes agrees)
 IsSaidBy m answer (Inserts shown) = (ask_of m ≡ show shown) × (answer ≡ Op ops.Insert)

@@ -1,5 +1,6 @@
-// The cases on sets that threads share, by their calls with a guard: of the set's collector, or of another
-// one. Where the two have one number the calls answer as ever, and else each refuses and changes nothing.
+// The cases on sets that threads share, by their calls with a guard: of the set's collector, or of
+// another one. Where the two have one number the calls answer as ever, and else each refuses and
+// changes nothing.
 use crate::answers::Answer::{self, Is, Number, Walked};
 use crate::expect::{MODES, is};
 use crate::key_steps::Calls;

@@ -15,7 +15,8 @@ pub enum Step {
     Reserve(usize),
     /// Keeps the keys from this one on.
     RetainFrom(u64),
-    /// Inserts, gets or removes each key below this one. Answered is how many were new, or were there.
+    /// Inserts, gets or removes each key below this one. Answered is how many were new, or
+    /// were there.
     InsertBelow(u64),
     GetBelow(u64),
     RemoveBelow(u64),

@@ -1,4 +1,5 @@
-//! The cases of papaya's own tests as lists of calls: maps and sets, for one caller and shared by threads.
+//! The cases of papaya's own tests as lists of calls: maps and sets, for one caller and shared
+//! by threads.
 #![tactic(auto)]
 
 #[cfg(test)]

@@ -1,4 +1,5 @@
-// The cases of papaya's own tests of the map that `papaya-run` cannot say. Each begins with a new map.
+// The cases of papaya's own tests of the map that `papaya-run` cannot say. Each begins with a
+// new map.
 use crate::answers::Answer::{
     self, Aborted, Absent, Done, Is, Kept, NotMade, Number, Occupied, Pair, Removed, Updated,
     Walked,

@@ -1,5 +1,5 @@
-// Each call on one key, with each request for memory refused to it in turn, at each stage of the growth of a
-// map. What is told to refuse is the heap of `tests/refused.py`.
+// Each call on one key, with each request for memory refused to it in turn, at each stage of the
+// growth of a map. What is told to refuse is the heap of `tests/refused.py`.
 use crate::answers::Answer::{
     self, Aborted, Absent, Kept, NotMade, Number, Occupied, Pair, Updated,
 };
@@ -197,8 +197,8 @@ fn each_row<R: Wait + Abort>(rt: &R, alloc: Global, which: Which, start: Start, 
     }
 }
 
-/// So many keys of one path are there beside the old one. A table is full at the next key or not, is being
-/// copied, and with 64 in all one is given up in `Blocking`.
+/// So many keys of one path are there beside the old one. A table is full at the next key or not,
+/// is being copied, and with 64 in all one is given up in `Blocking`.
 const STAGES: [u64; 9] = [0, 24, 25, 26, 47, 62, 63, 64, 66];
 
 const MODES: [ResizeMode; 3] = [
@@ -228,8 +228,9 @@ fn calls_of_maps_that_threads_share_are_refused_memory(rt: HostRuntime) {
     each_start(&rt, rt.alloc(), Which::Together);
 }
 
-/// A mode, a capacity, how many keys are there beside the old one, and how many slots the root has with one
-/// more. In `Blocking` it is the table after one that is given up, where so many keys are on one path.
+/// A mode, a capacity, how many keys are there beside the old one, and how many slots the root has
+/// with one more. In `Blocking` it is the table after one that is given up, where so many keys are
+/// on one path.
 type Length = (ResizeMode, usize, u64, usize);
 
 const LENGTHS: [Length; 3] = [

@@ -1,5 +1,6 @@
 -- The size of a table for a number of pairs.
-use Rattle.std.proofs.Common.{◌≡◌, ◌⊎◌, inl, inr, ⊎_elim, ℕ, zero, suc, ◌*◌, ◌/◌, ◌-◌, ◌^◌, ◌<◌, ◌≤◌, nat_le, le-leb, max, None, Some, sym, ap, ◌∙◌, subst, arith}
+use Rattle.std.proofs.Common.{◌≡◌, ◌⊎◌, inl, inr, ⊎_elim, ℕ, zero, suc, ◌*◌, ◌/◌, ◌-◌, ◌^◌, ◌<◌}
+use Rattle.std.proofs.Common.{◌≤◌, nat_le, le-leb, max, None, Some, sym, ap, ◌∙◌, subst, arith}
 use Rattle.std.proofs.Math.Nat.{pow-succ'}
 use Rattle.std.proofs.Math.Pow.{pow_mono}
 use Rattle.std.proofs.lemmas.Bool.{cases_lt, cond-true, cond-false, lt-leb}
@@ -16,7 +17,8 @@ twice_log m p two few (suc k, e) above below =
     let double : 2 ^ suc k ≡ 2 * 2 ^ k = pow-succ' 2 k in
     let low : 2 ^ k ≤ m - 1 = omega (arith, e, double, below) in
     let high : m - 1 < 2 * 2 ^ k = omega (arith, e, double, above, two) in
-    let most : k ≤ 63 = ⊎_elim (λ (lt : k < 63). omega (arith, lt)) (λ (ge : 63 ≤ k). let up : 2 ^ 63 ≤ 2 ^ k = pow_mono ge in absurd (omega (arith, up, low, few))) (cases_lt k 63) in
+    let most : k ≤ 63 = ⊎_elim (λ (lt : k < 63). omega (arith, lt))
+    (λ (ge : 63 ≤ k). let up : 2 ^ 63 ≤ 2 ^ k = pow_mono ge in absurd (omega (arith, up, low, few))) (cases_lt k 63) in
     ap (λ l. 2 * 2 ^ l) (log_is 63 k (m - 1) most low high) ∙ sym (e ∙ double)
 
 -- the least power of two from 0 or 1 on is 1
@@ -46,7 +48,8 @@ log_least zero l n le below = le
 log_least (suc most) l n le below =
     ⊎_elim
     (λ (over : n < 2 ^ suc most).
-    let lt : l ≤ most = ⊎_elim (λ (a : l < suc most). omega (arith, a)) (λ (b : suc most ≤ l). let up : 2 ^ suc most ≤ 2 ^ l = pow_mono b in absurd (omega (arith, up, over, below))) (cases_lt l (suc most)) in
+    let lt : l ≤ most = ⊎_elim (λ (a : l < suc most). omega (arith, a))
+    (λ (b : suc most ≤ l). let up : 2 ^ suc most ≤ 2 ^ l = pow_mono b in absurd (omega (arith, up, over, below))) (cases_lt l (suc most)) in
     subst (λ y. l ≤ y) (sym (cond-false (nat_le (2 ^ suc most) n) (suc most) (log_upto most n) (lt-leb (2 ^ suc most) n over))) (log_least most l n lt below))
     (λ (fits : 2 ^ suc most ≤ n). subst (λ y. l ≤ y) (sym (cond-true (nat_le (2 ^ suc most) n) (suc most) (log_upto most n) (le-leb (2 ^ suc most) n fits))) le)
     (cases_lt n (2 ^ suc most))
@@ -57,10 +60,12 @@ greater n = ⊎_elim (λ (lt : n < 8). inl (omega (arith, lt))) (λ (le : 8 ≤ 
 
 -- there is no table of more than 2^32 slots
 pub no_room : (pairs : ℕ) → 2 ^ 32 < entries_of pairs → room_of pairs ≡ None
-no_room pairs long = cond-false (nat_le (entries_of pairs) (2 ^ 32)) (Some (room_of_len (max (entries_of pairs) 8))) None (lt-leb (entries_of pairs) (2 ^ 32) long)
+no_room pairs long = cond-false (nat_le (entries_of pairs) (2 ^ 32)) (Some (room_of_len (max (entries_of pairs) 8))) None
+    (lt-leb (entries_of pairs) (2 ^ 32) long)
 
 pub has_room : (pairs : ℕ) → entries_of pairs ≤ 2 ^ 32 → room_of pairs ≡ Some (room_of_len (max (entries_of pairs) 8))
-has_room pairs fits = cond-true (nat_le (entries_of pairs) (2 ^ 32)) (Some (room_of_len (max (entries_of pairs) 8))) None (le-leb (entries_of pairs) (2 ^ 32) fits)
+has_room pairs fits = cond-true (nat_le (entries_of pairs) (2 ^ 32)) (Some (room_of_len (max (entries_of pairs) 8))) None
+    (le-leb (entries_of pairs) (2 ^ 32) fits)
 
 -- nor for more pairs than 2^61
 pub too_many : (pairs : ℕ) → 2 ^ 64 ≤ pairs * 8 → room_of pairs ≡ None
@@ -68,7 +73,8 @@ too_many pairs many =
     let low : 2 ^ 40 ≤ pairs * 8 / 6 - 1 = omega (arith, many) in
     let least : 40 ≤ log_upto 63 (pairs * 8 / 6 - 1) = log_least 63 40 (pairs * 8 / 6 - 1) (omega arith) low in
     let up : 2 ^ 40 ≤ 2 ^ log_upto 63 (pairs * 8 / 6 - 1) = pow_mono least in
-    let is : entries_of pairs ≡ 2 * 2 ^ log_upto 63 (pairs * 8 / 6 - 1) = cond-false (nat_le (pairs * 8 / 6) 1) 1 (2 * 2 ^ log_upto 63 (pairs * 8 / 6 - 1)) (lt-leb (pairs * 8 / 6) 1 (omega (arith, many))) in
+    let is : entries_of pairs ≡ 2 * 2 ^ log_upto 63 (pairs * 8 / 6 - 1) = cond-false (nat_le (pairs * 8 / 6) 1) 1
+    (2 * 2 ^ log_upto 63 (pairs * 8 / 6 - 1)) (lt-leb (pairs * 8 / 6) 1 (omega (arith, many))) in
     no_room pairs (omega (arith, is, up))
 
 -- a table for so many pairs would be too long

@@ -1,5 +1,5 @@
-//! Calls that resize the map and change no pair of it: a copy of a chunk or of all, and room that is
-//! made ahead.
+//! Calls that resize the map and change no pair of it: a copy of a chunk or of all, and room that
+//! is made ahead.
 ghost use Rattle.std.specs.Prelude.{◌≡◌, ◌+◌};
 ghost use Rattle.std.specs.Int.{IsPowerOfTwo};
 ghost use Rattle.papaya_words.specs.Mode.{IsChunked};
@@ -220,8 +220,8 @@ fn linked(root: u64, linked: Linked) -> State
 
 /// A resizer under way. It is plain data, as a call is.
 ///
-/// In 0.2.5 these are `reserve`, and what `clear`, `retain` and the iterators begin with, a copy of
-/// all.
+/// In 0.2.5 these are `reserve`, and what `clear`, `retain` and the iterators begin with, a copy
+/// of all.
 #[derive(Clone, Copy)]
 pub struct Resizer {
     pub mode: ResizeMode,
@@ -313,8 +313,8 @@ impl Resizer {
         }
     }
 
-    /// What follows an answer while nothing is linked or copied. One that was not asked for leads
-    /// nowhere.
+    /// What follows an answer while nothing is linked or copied. One that was not asked for
+    /// leads nowhere.
     fn called(&self, answer: Answer) -> State
         requires standing { IsStandingIn self.now.state }
         requires fit { IsFit answer }

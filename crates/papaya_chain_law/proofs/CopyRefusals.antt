@@ -81,7 +81,8 @@ settled_by_as marked mode (carried.Unfit table) = refl
 settled_by_as marked mode (carried.Refused refused) = refl
 
 next_in_none : (chunk : Chunk) → of_stepped (step.next_in chunk) ≡ None
-next_in_none chunk = cond_both (nat_lt chunk.at chunk.end) (stepped.On (steps.Settling chunk settles.Looking)) (stepped.On (steps.Advancing chunk.cursor)) (λ y. of_stepped y ≡ None) (λ _. refl) (λ _. refl)
+next_in_none chunk = cond_both (nat_lt chunk.at chunk.end) (stepped.On (steps.Settling chunk settles.Looking))
+    (stepped.On (steps.Advancing chunk.cursor)) (λ y. of_stepped y ≡ None) (λ _. refl) (λ _. refl)
 
 settled_to_as : (chunk : Chunk) (end : Settled) → of_stepped (step.settled_to chunk end) ≡ of_settled end
 settled_to_as chunk (settled.On goes) = refl
@@ -108,13 +109,18 @@ last_none aims.Chunk table = refl
 
 all_none : (met : ℕ) (mode : ResizeMode) (root : ℕ) → of_copied (copying.all_of met mode root) ≡ None
 all_none met (Incremental chunk) root = refl
-all_none met Blocking root = cond_both (met == 0 || met == root) (copied.On (Stepping (aims.All root) (steps.Aiming root root))) (copied.Root root) (λ y. of_copied y ≡ None) (λ _. refl) (λ _. refl)
+all_none met Blocking root = cond_both (met == 0 || met == root) (copied.On (Stepping (aims.All root) (steps.Aiming root root))) (copied.Root root)
+    (λ y. of_copied y ≡ None) (λ _. refl) (λ _. refl)
 
 root_none : (aim : Aim) (mode : ResizeMode) (root : ℕ) → of_copied (copying.at_root aim mode root) ≡ None
-root_none (aims.All met) mode root = cond_both (root == 0) (copied.Root 0) (copying.all_of met mode root) (λ y. of_copied y ≡ None) (λ _. refl) (λ _. all_none met mode root)
-root_none (aims.Search table) mode root = cond_both (root == 0) (copying.over (aims.Search table)) (copied.On (Stepping (aims.Search table) (steps.Aiming root root))) (λ y. of_copied y ≡ None) (λ _. refl) (λ _. refl)
-root_none (aims.Settle slot) mode root = cond_both (root == 0) (copying.over (aims.Settle slot)) (copied.On (Stepping (aims.Settle slot) (steps.Aiming root root))) (λ y. of_copied y ≡ None) (λ _. refl) (λ _. refl)
-root_none aims.Chunk mode root = cond_both (root == 0) (copying.over aims.Chunk) (copied.On (Stepping aims.Chunk (steps.Aiming root root))) (λ y. of_copied y ≡ None) (λ _. refl) (λ _. refl)
+root_none (aims.All met) mode root = cond_both (root == 0) (copied.Root 0) (copying.all_of met mode root) (λ y. of_copied y ≡ None) (λ _. refl)
+    (λ _. all_none met mode root)
+root_none (aims.Search table) mode root = cond_both (root == 0) (copying.over (aims.Search table))
+    (copied.On (Stepping (aims.Search table) (steps.Aiming root root))) (λ y. of_copied y ≡ None) (λ _. refl) (λ _. refl)
+root_none (aims.Settle slot) mode root = cond_both (root == 0) (copying.over (aims.Settle slot))
+    (copied.On (Stepping (aims.Settle slot) (steps.Aiming root root))) (λ y. of_copied y ≡ None) (λ _. refl) (λ _. refl)
+root_none aims.Chunk mode root = cond_both (root == 0) (copying.over aims.Chunk) (copied.On (Stepping aims.Chunk (steps.Aiming root root)))
+    (λ y. of_copied y ≡ None) (λ _. refl) (λ _. refl)
 
 further_none : (aim : Aim) (chunk : Chunk) → of_copied (copying.further aim chunk) ≡ None
 further_none (aims.Search table) chunk = refl
@@ -153,10 +159,12 @@ link_found_none (links.Making behind slots limit chunks) word = refl
 
 -- nor a carry
 goes_on_none : (hash : ℕ) (at : Place) (mode : ResizeMode) → of_carried (carry.goes_on hash at mode) ≡ None
-goes_on_none hash at mode = cond_both (nat_lt at.probe.len at.limit) (carried.On (carries.Looking hash (next_place at))) (carried.On (carry.fills hash at.table mode)) (λ y. of_carried y ≡ None) (λ _. refl) (λ _. refl)
+goes_on_none hash at mode = cond_both (nat_lt at.probe.len at.limit) (carried.On (carries.Looking hash (next_place at)))
+    (carried.On (carry.fills hash at.table mode)) (λ y. of_carried y ≡ None) (λ _. refl) (λ _. refl)
 
 hinted_none : (hash : ℕ) (at : Place) (mode : ResizeMode) (hint : ℕ) → of_carried (carry.hinted hash at mode hint) ≡ None
-hinted_none hash at mode hint = cond_both (may_hold hint hash) (carried.On (carries.Reading hash at)) (carry.goes_on hash at mode) (λ y. of_carried y ≡ None) (λ _. refl) (λ _. goes_on_none hash at mode)
+hinted_none hash at mode hint = cond_both (may_hold hint hash) (carried.On (carries.Reading hash at)) (carry.goes_on hash at mode)
+    (λ y. of_carried y ≡ None) (λ _. refl) (λ _. goes_on_none hash at mode)
 
 look_none : (kind : Kind) (hash : ℕ) (at : Place) (mode : ResizeMode) (word : ℕ) → of_carried (carry.look_at kind hash at mode word) ≡ None
 look_none word_kinds.Empty hash at mode word = refl
@@ -194,11 +202,13 @@ carry_found_none (carries.Linking hash made) mode word = carried_on_as hash (lin
 carry_found_none (carries.Aborting table) mode word = refl
 carry_found_none goes mode word = refl
 
-carry_count_as : (goes : Carry) (mode : ResizeMode) (count initial : ℕ) → of_carried (carry.at_count goes mode count initial) ≡ of_link (λ made. link.at_count made mode count initial) (link_in_carry goes)
+carry_count_as : (goes : Carry) (mode : ResizeMode) (count initial : ℕ)
+    → of_carried (carry.at_count goes mode count initial) ≡ of_link (λ made. link.at_count made mode count initial) (link_in_carry goes)
 carry_count_as (carries.Linking hash made) mode count initial = carried_on_as hash (link.at_count made mode count initial)
 carry_count_as goes mode count initial = refl
 
-carry_refused_as : (goes : Carry) (refused : Refused) → of_carried (carry.at_refused goes refused) ≡ of_link (λ made. link.at_refused made refused) (link_in_carry goes)
+carry_refused_as : (goes : Carry) (refused : Refused)
+    → of_carried (carry.at_refused goes refused) ≡ of_link (λ made. link.at_refused made refused) (link_in_carry goes)
 carry_refused_as (carries.Linking hash made) refused = carried_on_as hash (link.at_refused made refused)
 carry_refused_as goes refused = refl
 
@@ -241,29 +251,38 @@ settle_found_none (settles.Marking old) slot mode word = seen_none (kind_of word
 settle_found_none (settles.Carrying marked goes) slot mode word = settled_by_as marked mode (carry.at_found goes mode word) ∙ carry_found_none goes mode word
 settle_found_none (settles.Finishing old) slot mode word = refl
 
-settle_count_as : (goes : Settle) (mode : ResizeMode) (count initial : ℕ) → of_settled (settle.at_count goes mode count initial) ≡ of_link (λ made. link.at_count made mode count initial) (link_in_settle goes)
-settle_count_as (settles.Carrying marked goes) mode count initial = settled_by_as marked mode (carry.at_count goes mode count initial) ∙ carry_count_as goes mode count initial
+settle_count_as : (goes : Settle) (mode : ResizeMode) (count initial : ℕ)
+    → of_settled (settle.at_count goes mode count initial) ≡ of_link (λ made. link.at_count made mode count initial) (link_in_settle goes)
+settle_count_as (settles.Carrying marked goes) mode count initial = settled_by_as marked mode (carry.at_count goes mode count initial)
+    ∙ carry_count_as goes mode count initial
 settle_count_as goes mode count initial = refl
 
-settle_refused_as : (goes : Settle) (mode : ResizeMode) (refused : Refused) → of_settled (settle.at_refused goes mode refused) ≡ of_link (λ made. link.at_refused made refused) (link_in_settle goes)
+settle_refused_as : (goes : Settle) (mode : ResizeMode) (refused : Refused)
+    → of_settled (settle.at_refused goes mode refused) ≡ of_link (λ made. link.at_refused made refused) (link_in_settle goes)
 settle_refused_as (settles.Carrying marked goes) mode refused = settled_by_as marked mode (carry.at_refused goes refused) ∙ carry_refused_as goes refused
 settle_refused_as goes mode refused = refl
 
 -- nor that of a chunk
 aimed_none : (from behind : ℕ) (mode : ResizeMode) (next : ℕ) → of_stepped (step.aimed from behind mode next) ≡ None
-aimed_none from behind (Incremental chunk) next = cond_both (next == 0) (stepped.Last from) (stepped.On (steps.Sizing from next)) (λ y. of_stepped y ≡ None) (λ _. refl) (λ _. refl)
-aimed_none from behind Blocking next = cond_both (next == 0) (stepped.On (steps.Linking from (links.Sizing behind from (not (behind == from))))) (stepped.On (steps.Judging from next)) (λ y. of_stepped y ≡ None) (λ _. refl) (λ _. refl)
+aimed_none from behind (Incremental chunk) next = cond_both (next == 0) (stepped.Last from) (stepped.On (steps.Sizing from next))
+    (λ y. of_stepped y ≡ None) (λ _. refl) (λ _. refl)
+aimed_none from behind Blocking next = cond_both (next == 0) (stepped.On (steps.Linking from (links.Sizing behind from (not (behind == from)))))
+    (stepped.On (steps.Judging from next)) (λ y. of_stepped y ≡ None) (λ _. refl) (λ _. refl)
 
 chunk_read_none : (cursor : Cursor) (done : ℕ) → of_stepped (step.chunk_read cursor done) ≡ None
 chunk_read_none cursor done =
-    cond_both (not (done == 0)) (stepped.On (step.next_cursor cursor)) (cond cursor.copied (stepped.Further (step.chunk_at cursor)) (stepped.On (steps.Settling (step.chunk_at cursor) settles.Looking))) (λ y. of_stepped y ≡ None) (λ _. refl)
-    (λ _. cond_both cursor.copied (stepped.Further (step.chunk_at cursor)) (stepped.On (steps.Settling (step.chunk_at cursor) settles.Looking)) (λ y. of_stepped y ≡ None) (λ _. refl) (λ _. refl))
+    cond_both (not (done == 0)) (stepped.On (step.next_cursor cursor))
+    (cond cursor.copied (stepped.Further (step.chunk_at cursor)) (stepped.On (steps.Settling (step.chunk_at cursor) settles.Looking)))
+    (λ y. of_stepped y ≡ None) (λ _. refl)
+    (λ _. cond_both cursor.copied (stepped.Further (step.chunk_at cursor)) (stepped.On (steps.Settling (step.chunk_at cursor) settles.Looking))
+    (λ y. of_stepped y ≡ None) (λ _. refl) (λ _. refl))
 
 step_word_none : (goes : Step) (mode : ResizeMode) (word : ℕ) → of_stepped (step.at_word goes mode word) ≡ None
 step_word_none steps.AtRoot mode word = refl
 step_word_none (steps.Aiming from behind) mode word = aimed_none from behind mode word
 step_word_none (steps.AtChunk cursor) mode word = chunk_read_none cursor word
-step_word_none (steps.Settling chunk goes) mode word = settled_to_as chunk (settle.at_word goes (step.slot_of chunk) mode word) ∙ settle_word_none goes (step.slot_of chunk) mode word
+step_word_none (steps.Settling chunk goes) mode word = settled_to_as chunk (settle.at_word goes (step.slot_of chunk) mode word)
+    ∙ settle_word_none goes (step.slot_of chunk) mode word
 step_word_none goes mode word = refl
 
 step_yes_none : (goes : Step) (mode : ResizeMode) (same : Bool) → of_stepped (step.at_yes goes mode same) ≡ None
@@ -272,7 +291,8 @@ step_yes_none goes mode same = refl
 
 step_exchanged_none : (goes : Step) (mode : ResizeMode) → of_stepped (step.at_exchanged goes mode) ≡ None
 step_exchanged_none (steps.Linking from made) mode = linked_to_as from (link.at_exchanged made) ∙ link_exchanged_none made
-step_exchanged_none (steps.Settling chunk goes) mode = settled_to_as chunk (settle.at_exchanged goes (step.slot_of chunk) mode) ∙ settle_exchanged_none goes (step.slot_of chunk) mode
+step_exchanged_none (steps.Settling chunk goes) mode = settled_to_as chunk (settle.at_exchanged goes (step.slot_of chunk) mode)
+    ∙ settle_exchanged_none goes (step.slot_of chunk) mode
 step_exchanged_none (steps.Advancing cursor) mode = refl
 step_exchanged_none goes mode = refl
 
@@ -282,16 +302,20 @@ step_ok_none goes mode = refl
 
 step_found_none : (goes : Step) (mode : ResizeMode) (word : ℕ) → of_stepped (step.at_found goes mode word) ≡ None
 step_found_none (steps.Linking from made) mode word = linked_to_as from (link.at_found made word) ∙ link_found_none made word
-step_found_none (steps.Settling chunk goes) mode word = settled_to_as chunk (settle.at_found goes (step.slot_of chunk) mode word) ∙ settle_found_none goes (step.slot_of chunk) mode word
+step_found_none (steps.Settling chunk goes) mode word = settled_to_as chunk (settle.at_found goes (step.slot_of chunk) mode word)
+    ∙ settle_found_none goes (step.slot_of chunk) mode word
 step_found_none (steps.Advancing cursor) mode word = refl
 step_found_none goes mode word = refl
 
-step_count_as : (goes : Step) (mode : ResizeMode) (count initial : ℕ) → of_stepped (step.at_count goes mode count initial) ≡ of_link (λ made. link.at_count made mode count initial) (link_in_step goes)
+step_count_as : (goes : Step) (mode : ResizeMode) (count initial : ℕ)
+    → of_stepped (step.at_count goes mode count initial) ≡ of_link (λ made. link.at_count made mode count initial) (link_in_step goes)
 step_count_as (steps.Linking from made) mode count initial = linked_to_as from (link.at_count made mode count initial)
-step_count_as (steps.Settling chunk goes) mode count initial = settled_to_as chunk (settle.at_count goes mode count initial) ∙ settle_count_as goes mode count initial
+step_count_as (steps.Settling chunk goes) mode count initial = settled_to_as chunk (settle.at_count goes mode count initial)
+    ∙ settle_count_as goes mode count initial
 step_count_as goes mode count initial = refl
 
-step_refused_as : (goes : Step) (mode : ResizeMode) (refused : Refused) → of_stepped (step.at_refused goes mode refused) ≡ of_link (λ made. link.at_refused made refused) (link_in_step goes)
+step_refused_as : (goes : Step) (mode : ResizeMode) (refused : Refused)
+    → of_stepped (step.at_refused goes mode refused) ≡ of_link (λ made. link.at_refused made refused) (link_in_step goes)
 step_refused_as (steps.Linking from made) mode refused = linked_to_as from (link.at_refused made refused)
 step_refused_as (steps.Settling chunk goes) mode refused = settled_to_as chunk (settle.at_refused goes mode refused) ∙ settle_refused_as goes mode refused
 step_refused_as goes mode refused = refl
@@ -318,11 +342,13 @@ copying_found_none (Stepping aim goes) mode word = leads_as aim mode (step.at_fo
 copying_found_none (Lone slot goes) mode word = lone_as slot (settle.at_found goes slot mode word) ∙ settle_found_none goes slot mode word
 
 -- after a count or a refusal it ends as the making of its table does
-pub copying_count_as : (goes : Copying) (mode : ResizeMode) (count initial : ℕ) → of_copied (copying.at_count goes mode count initial) ≡ of_link (λ made. link.at_count made mode count initial) (link_in_copying goes)
+pub copying_count_as : (goes : Copying) (mode : ResizeMode) (count initial : ℕ)
+    → of_copied (copying.at_count goes mode count initial) ≡ of_link (λ made. link.at_count made mode count initial) (link_in_copying goes)
 copying_count_as (Stepping aim goes) mode count initial = leads_as aim mode (step.at_count goes mode count initial) ∙ step_count_as goes mode count initial
 copying_count_as (Lone slot goes) mode count initial = lone_as slot (settle.at_count goes mode count initial) ∙ settle_count_as goes mode count initial
 
-pub copying_refused_as : (goes : Copying) (mode : ResizeMode) (refused : Refused) → of_copied (copying.at_refused goes mode refused) ≡ of_link (λ made. link.at_refused made refused) (link_in_copying goes)
+pub copying_refused_as : (goes : Copying) (mode : ResizeMode) (refused : Refused)
+    → of_copied (copying.at_refused goes mode refused) ≡ of_link (λ made. link.at_refused made refused) (link_in_copying goes)
 copying_refused_as (Stepping aim goes) mode refused = leads_as aim mode (step.at_refused goes mode refused) ∙ step_refused_as goes mode refused
 copying_refused_as (Lone slot goes) mode refused = lone_as slot (settle.at_refused goes mode refused) ∙ settle_refused_as goes mode refused
 

@@ -3,10 +3,16 @@ use Rattle.std.proofs.Common.{◌≡◌, ⊎_elim, ℕ, ◌<◌, ◌==◌, eqb-t
 use Rattle.std.proofs.lemmas.Bool.{eqb-false}
 use Rattle.papaya_words.specs.declared.probe.Refused.{Refused}
 use Rattle.papaya_words.specs.declared.probe.ResizeMode.{ResizeMode}
-use Rattle.papaya_ask.specs.declared.ask.Answer.TheVariants.{Word as Word_read, Exchanged, Found as Found_instead, Yes, Size, Made as Made_number, Ok as Ok_done, Refused as Was_refused}
+use Rattle.papaya_ask.specs.declared.ask.Answer.TheVariants.{Word as Word_read, Exchanged}
+use Rattle.papaya_ask.specs.declared.ask.Answer.TheVariants.{Found as Found_instead, Yes, Size}
+use Rattle.papaya_ask.specs.declared.ask.Answer.TheVariants.{Made as Made_number, Ok as Ok_done}
+use Rattle.papaya_ask.specs.declared.ask.Answer.TheVariants.{Refused as Was_refused}
 use Rattle.papaya_ask.specs.declared.ask.At.{At}
 use Rattle.papaya_ask.specs.declared.copy_ask.CopyAsk.{CopyAsk}
-use Rattle.papaya_ask.specs.declared.copy_ask.CopyAsk.TheVariants.{Load, Exchange as Ask_exchange, LoadHint, WriteHint, SizeOf, HashOf, SamePair, Count, MakeTable}
+use Rattle.papaya_ask.specs.declared.copy_ask.CopyAsk.TheVariants.{Load, Exchange as Ask_exchange}
+use Rattle.papaya_ask.specs.declared.copy_ask.CopyAsk.TheVariants.{LoadHint, WriteHint, SizeOf}
+use Rattle.papaya_ask.specs.declared.copy_ask.CopyAsk.TheVariants.{HashOf, SamePair, Count}
+use Rattle.papaya_ask.specs.declared.copy_ask.CopyAsk.TheVariants.{MakeTable}
 use Rattle.papaya_copy.specs.declared.copying.Aim.{Aim}
 use Rattle.papaya_copy.specs.declared.copying.Aim.TheVariants as aims
 use Rattle.papaya_copy.specs.declared.copying.Copying.{Copying}
@@ -18,10 +24,16 @@ use Rattle.papaya_law.specs.Allows.{AllAllowed, Allows}
 use Rattle.papaya_law.specs.Code.{Coding, IsHashed}
 use Rattle.papaya_law.specs.Exchange.{Setting, State, Exchange, run}
 use Rattle.papaya_law.specs.Invariant.{IsKeeping}
-use Rattle.papaya_call_law.specs.Copier.{AreThere, HasWords, IsCopyAsked, IsStillAimed, ReliesCopied, ReliesCopying, aim_of, last_after, link_in_copying, told_last}
+use Rattle.papaya_call_law.specs.Copier.{AreThere, HasWords, IsCopyAsked, IsStillAimed}
+use Rattle.papaya_call_law.specs.Copier.{ReliesCopied, ReliesCopying, aim_of, last_after}
+use Rattle.papaya_call_law.specs.Copier.{link_in_copying, told_last}
 use Rattle.papaya_call_law.specs.Relies.{IsCutAs, IsModeOf}
 use Rattle.papaya_call_law.specs.Told.{word_of}
-use Rattle.papaya_call_law.proofs.CopierCopies.{copying_compared, copying_counted, copying_exchanged, copying_found, copying_hashed, copying_hinted, copying_loaded, copying_made, copying_noted, copying_refused, copying_sized, copying_there}
+use Rattle.papaya_call_law.proofs.CopierCopies.{copying_compared, copying_counted}
+use Rattle.papaya_call_law.proofs.CopierCopies.{copying_exchanged, copying_found, copying_hashed}
+use Rattle.papaya_call_law.proofs.CopierCopies.{copying_hinted, copying_loaded, copying_made}
+use Rattle.papaya_call_law.proofs.CopierCopies.{copying_noted, copying_refused, copying_sized}
+use Rattle.papaya_call_law.proofs.CopierCopies.{copying_there}
 use Rattle.papaya_call_law.proofs.CopierExchange.{asked_allowed}
 use Rattle.papaya_call_law.proofs.ReliesLearn.{by_test}
 use Rattle.papaya_chain_law.specs.Told.{IsCopyTold, LoadedPairs, told_of}
@@ -33,7 +45,8 @@ same_still (aims.Search table) aim' e = e
 same_still (aims.Settle slot) aim' e = e
 same_still aims.Chunk aim' e = e
 
-module _ {K P : Type 0} (g : Setting K P) (c : Coding K P) (hashed : IsHashed g c) (s : State P) (m : K → Option P) (keeps : IsKeeping g s m) (mode : ResizeMode) (moded : IsModeOf mode g.blocking) (cut : IsCutAs mode g.chunk_of) (initial number : ℕ) (loaded : LoadedPairs P) where
+module _ {K P : Type 0} (g : Setting K P) (c : Coding K P) (hashed : IsHashed g c) (s : State P) (m : K → Option P) (keeps : IsKeeping g s m)
+    (mode : ResizeMode) (moded : IsModeOf mode g.blocking) (cut : IsCutAs mode g.chunk_of) (initial number : ℕ) (loaded : LoadedPairs P) where
   -- the pair last told of, and the one that is carried
   abbrev last : Option P
   last = loaded.call.last
@@ -43,16 +56,21 @@ module _ {K P : Type 0} (g : Setting K P) (c : Coding K P) (hashed : IsHashed g 
 
   -- what was exchanged was allowed, and the copy relies on what holds where the answer led it
   abbrev pub HasCopied : Copying → Answer → List (Exchange P) → LoadedPairs P → Type 0
-  HasCopied copying answer es loaded' = AllAllowed g s es × ReliesCopied g c (run es s) loaded'.call.last loaded'.kept (aim_of copying) (copying_after copying mode initial number answer)
+  HasCopied copying answer es loaded' = AllAllowed g s es
+      × ReliesCopied g c (run es s) loaded'.call.last loaded'.kept (aim_of copying) (copying_after copying mode initial number answer)
 
   -- by what the answer is
-  answered : (copying : Copying) (answer answer' : Answer) (es es' : List (Exchange P)) (loaded' loaded'' : LoadedPairs P) → answer ≡ answer' → es ≡ es' → loaded' ≡ loaded'' → HasCopied copying answer' es' loaded'' → HasCopied copying answer es loaded'
+  answered : (copying : Copying) (answer answer' : Answer) (es es' : List (Exchange P)) (loaded' loaded'' : LoadedPairs P) → answer ≡ answer'
+      → es ≡ es' → loaded' ≡ loaded'' → HasCopied copying answer' es' loaded'' → HasCopied copying answer es loaded'
   answered copying answer answer' es es' loaded' loaded'' a e h r =
-      subst (λ y. HasCopied copying y es loaded') (sym a) (subst (λ y. HasCopied copying answer' y loaded') (sym e) (subst (λ y. HasCopied copying answer' es' y) (sym h) r))
+      subst (λ y. HasCopied copying y es loaded') (sym a)
+      (subst (λ y. HasCopied copying answer' y loaded') (sym e) (subst (λ y. HasCopied copying answer' es' y) (sym h) r))
 
   -- where nothing was exchanged
-  quiet : (copying : Copying) (answer answer' : Answer) (es : List (Exchange P)) (loaded' loaded'' : LoadedPairs P) → answer ≡ answer' → es ≡ [] → loaded' ≡ loaded''
-      → ReliesCopied g c s loaded''.call.last loaded''.kept (aim_of copying) (copying_after copying mode initial number answer') → HasCopied copying answer es loaded'
+  quiet : (copying : Copying) (answer answer' : Answer) (es : List (Exchange P)) (loaded' loaded'' : LoadedPairs P) → answer ≡ answer' → es ≡ []
+      → loaded' ≡ loaded''
+      → ReliesCopied g c s loaded''.call.last loaded''.kept (aim_of copying) (copying_after copying mode initial number answer')
+      → HasCopied copying answer es loaded'
   quiet copying answer answer' es loaded' loaded'' a e h r = answered copying answer answer' es [] loaded' loaded'' a e h (tt, r)
 
   module _ (copying : Copying) (r : ReliesCopying g c s last kept copying) where
@@ -61,24 +79,29 @@ module _ {K P : Type 0} (g : Setting K P) (c : Coding K P) (hashed : IsHashed g 
     there ask is = subst (AreThere g c s last kept) is (copying_there g c hashed s m keeps last kept copying r)
 
     -- a word was exchanged
-    put_there : HasWords g (link_in_copying copying) → (at : At) (old new : ℕ) → copying_ask copying ≡ Ask_exchange at old new → word_of g c s at ≡ old → (e : Exchange P) → IsCopyAsked c (copying_kind copying) at new s kept e
+    put_there : HasWords g (link_in_copying copying) → (at : At) (old new : ℕ) → copying_ask copying ≡ Ask_exchange at old new
+        → word_of g c s at ≡ old → (e : Exchange P) → IsCopyAsked c (copying_kind copying) at new s kept e
         → HasCopied copying (answers.Call Exchanged) (e ∷ []) (told_of (last_after e last) loaded)
     put_there words at old new is stands e asked =
         let allows : Allows g s e = asked_allowed g c hashed s m keeps last kept copying r words at old new is stands e asked in
         ((allows, tt), copying_exchanged g c hashed s m keeps mode moded last kept e allows copying r at old new is stands asked)
 
     -- after each answer
-    learns_of : (answer : Answer) → (answer ≡ answers.Call Exchanged → HasWords g (link_in_copying copying)) → (es : List (Exchange P)) (loaded' : LoadedPairs P) (ask : CopyAsk) → copying_ask copying ≡ ask → IsCopyTold g c s (copying_kind copying) (copying_follows copying) loaded ask answer es loaded' → HasCopied copying answer es loaded'
+    learns_of : (answer : Answer) → (answer ≡ answers.Call Exchanged → HasWords g (link_in_copying copying))
+        → (es : List (Exchange P)) (loaded' : LoadedPairs P) (ask : CopyAsk) → copying_ask copying ≡ ask
+        → IsCopyTold g c s (copying_kind copying) (copying_follows copying) loaded ask answer es loaded' → HasCopied copying answer es loaded'
     learns_of answer words es loaded' (Load at) is h =
         quiet copying answer (answers.Call (Word_read (word_of g c s at))) es loaded' (told_of (told_last s at last) loaded) h.0 h.1 h.2
         (copying_loaded g c hashed s m keeps mode moded last kept copying r at is)
     learns_of answer words es loaded' (Ask_exchange at old new) is h =
         by_test (word_of g c s at == old)
-        ((answer ≡ answers.Call Exchanged) × ((e : Exchange P) × IsCopyAsked c (copying_kind copying) at new s kept e × (es ≡ e ∷ []) × (loaded' ≡ told_of (last_after e last) loaded)))
+        ((answer ≡ answers.Call Exchanged) × ((e : Exchange P) × IsCopyAsked c (copying_kind copying) at new s kept e × (es ≡ e ∷ [])
+        × (loaded' ≡ told_of (last_after e last) loaded)))
         ((answer ≡ answers.Call (Found_instead (word_of g c s at))) × (es ≡ []) × (loaded' ≡ told_of (told_last s at last) loaded))
         (HasCopied copying answer es loaded') h
         (λ stands (a, (e, asked, one, h')).
-        answered copying answer (answers.Call Exchanged) es (e ∷ []) loaded' (told_of (last_after e last) loaded) a one h' (put_there (words a) at old new is (eqb-true (word_of g c s at) old stands) e asked))
+        answered copying answer (answers.Call Exchanged) es (e ∷ []) loaded' (told_of (last_after e last) loaded) a one h'
+        (put_there (words a) at old new is (eqb-true (word_of g c s at) old stands) e asked))
         (λ other (a, none, h').
         quiet copying answer (answers.Call (Found_instead (word_of g c s at))) es loaded' (told_of (told_last s at last) loaded) a none h'
         (copying_found g c hashed s m keeps mode moded last kept copying r at old new is (eqb-false (word_of g c s at) old other)))
@@ -117,5 +140,7 @@ module _ {K P : Type 0} (g : Setting K P) (c : Coding K P) (hashed : IsHashed g 
         (same_still (aim_of copying) (aim_of (at_made copying n.0)) made.0, made.1))
         h.0
 
-    pub copying_learns : (answer : Answer) → (answer ≡ answers.Call Exchanged → HasWords g (link_in_copying copying)) → (es : List (Exchange P)) (loaded' : LoadedPairs P) → IsCopyTold g c s (copying_kind copying) (copying_follows copying) loaded (copying_ask copying) answer es loaded' → HasCopied copying answer es loaded'
+    pub copying_learns : (answer : Answer) → (answer ≡ answers.Call Exchanged → HasWords g (link_in_copying copying))
+        → (es : List (Exchange P)) (loaded' : LoadedPairs P)
+        → IsCopyTold g c s (copying_kind copying) (copying_follows copying) loaded (copying_ask copying) answer es loaded' → HasCopied copying answer es loaded'
     copying_learns answer words es loaded' h = learns_of answer words es loaded' (copying_ask copying) refl h

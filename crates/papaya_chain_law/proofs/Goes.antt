@@ -5,7 +5,10 @@ use Rattle.papaya_words.specs.declared.probe.ResizeMode.{ResizeMode}
 use Rattle.papaya_words.specs.declared.probe.ResizeMode.TheVariants.{Incremental, Blocking}
 use Rattle.papaya_words.specs.declared.probe.Refused.{Refused}
 use Rattle.papaya_ask.specs.declared.ask.Answer.{Answer as Call_answer}
-use Rattle.papaya_ask.specs.declared.ask.Answer.TheVariants.{Word as Word_read, Exchanged, Found as Found_instead, Yes, Op, Size, Made as Made_number, Ok as Ok_done, Refused as Was_refused}
+use Rattle.papaya_ask.specs.declared.ask.Answer.TheVariants.{Word as Word_read, Exchanged}
+use Rattle.papaya_ask.specs.declared.ask.Answer.TheVariants.{Found as Found_instead, Yes, Op, Size}
+use Rattle.papaya_ask.specs.declared.ask.Answer.TheVariants.{Made as Made_number, Ok as Ok_done}
+use Rattle.papaya_ask.specs.declared.ask.Answer.TheVariants.{Refused as Was_refused}
 use Rattle.papaya_ask.specs.declared.call.Task.{Task}
 use Rattle.papaya_ask.specs.declared.call.Task.TheVariants.{Get, Insert, RemoveIf, Compute}
 use Rattle.papaya_call.specs.declared.machine.State.{State as Stage}
@@ -25,7 +28,10 @@ use Rattle.papaya_chain.specs.declared.ask.Answer.TheVariants as answers
 use Rattle.papaya_chain.specs.declared.machine.Machine.{Machine}
 use Rattle.papaya_chain.specs.declared.machine.Phase.{Phase}
 use Rattle.papaya_chain.specs.declared.machine.Phase.TheVariants.{Calling, Linking, Copying as Copying_root}
-use Rattle.papaya_chain.specs.Machine.{after, after_copied, after_in, after_linked, aim_for, answered, begins_anew, called, copying_after, enters, goes_on, grows_as, leaves, link_after, onward, refuses, stepped, told_next}
+use Rattle.papaya_chain.specs.Machine.{after, after_copied, after_in, after_linked, aim_for}
+use Rattle.papaya_chain.specs.Machine.{answered, begins_anew, called, copying_after, enters}
+use Rattle.papaya_chain.specs.Machine.{goes_on, grows_as, leaves, link_after, onward, refuses}
+use Rattle.papaya_chain.specs.Machine.{stepped, told_next}
 use Rattle.papaya_chain_law.specs.Goes.{Goes, IsInOrder}
 use Rattle.papaya_chain_law.specs.Relies.{left_by}
 
@@ -70,7 +76,8 @@ module _ (m : Machine) (answer : Answer) where
   module _ (phase : m.phase ≡ Calling) (word : ℕ) (is : answer ≡ answers.Call (Word_read word)) where
     -- there is no next table, or there is one
     either_leaves : (t : ℕ) → left_by m.call.state ≡ Some t → Leaves m answer (cond (word == 0) (stepped m (Word_read word)) (onward m word))
-    either_leaves t left = cond_both (word == 0) (stepped m (Word_read word)) (onward m word) (Leaves m answer) (λ _. steps_leaves phase (Word_read word) is) (λ _. onward_leaves t left word)
+    either_leaves t left = cond_both (word == 0) (stepped m (Word_read word)) (onward m word) (Leaves m answer)
+        (λ _. steps_leaves phase (Word_read word) is) (λ _. onward_leaves t left word)
 
     leaves_leaves : (task : Task) (t : ℕ) → left_by m.call.state ≡ Some t → Leaves m answer (leaves m task word)
     leaves_leaves Get t left = steps_leaves phase (Word_read word) is
@@ -81,7 +88,8 @@ module _ (m : Machine) (answer : Answer) where
     grows_leaves : (mode : ResizeMode) (need : Need) → left_by m.call.state ≡ Some (needed need) → Leaves m answer (grows_as m mode need word)
     grows_leaves Blocking need left = inl (needed need, left, refl)
     grows_leaves (Incremental chunk) need left =
-        cond_both (word == 0) (record m { phase = Linking (links.Sizing (needed need) (needed need) false) }) (onward m word) (Leaves m answer) (λ _. inl (needed need, left, refl)) (λ _. onward_leaves (needed need) left word)
+        cond_both (word == 0) (record m { phase = Linking (links.Sizing (needed need) (needed need) false) }) (onward m word) (Leaves m answer)
+        (λ _. inl (needed need, left, refl)) (λ _. onward_leaves (needed need) left word)
 
     next_leaves : (stage : Stage) → m.call.state ≡ stage → Leaves m answer (told_next m stage word)
     next_leaves (Leaving t) e = leaves_leaves m.call.task t (ap left_by e)

@@ -39,7 +39,8 @@ own_ask m (Copying_root copying) ask e = absurd cc
 pub call_asks : (m : Machine) (ask : Call_ask) → ask_of m ≡ asks.Call ask → (m.phase ≡ Calling) × (call_machine.ask_of m.call ≡ ask)
 call_asks m ask e = own_ask m m.phase ask e
 
-module _ {K P : Type 0} (g : Setting K P) (c : Coding K P) (hashed : IsHashed g c) (begun since : List (Exchange P)) (may : AllAllowed g start (begun ++ since)) (k : K) (m : Machine) (loaded : LoadedPairs P) (r : Relies g c begun since k m loaded) where
+module _ {K P : Type 0} (g : Setting K P) (c : Coding K P) (hashed : IsHashed g c) (begun since : List (Exchange P))
+    (may : AllAllowed g start (begun ++ since)) (k : K) (m : Machine) (loaded : LoadedPairs P) (r : Relies g c begun since k m loaded) where
   -- the state after all exchanges
   abbrev now : State P
   now = run (begun ++ since) start
@@ -53,33 +54,44 @@ module _ {K P : Type 0} (g : Setting K P) (c : Coding K P) (hashed : IsHashed g 
   copy_relies copying (inr at) = at.relies
 
   -- what is named is there
-  there_in : (phase : Phase) → ReliesPhase g c begun since k m loaded phase → (ask : CopyAsk) → asks_in m.call phase ≡ asks.Copy ask → AreThere g c now loaded.call.last loaded.kept ask
+  there_in : (phase : Phase) → ReliesPhase g c begun since k m loaded phase → (ask : CopyAsk) → asks_in m.call phase ≡ asks.Copy ask
+      → AreThere g c now loaded.call.last loaded.kept ask
   there_in Calling at ask e = absurd cc
-  there_in (Linking link) at ask e = let is : link_ask link ≡ ask = cc e in subst (AreThere g c now loaded.call.last loaded.kept) is (link_there g c hashed now (map_left g (begun ++ since)) keeps loaded.call.last loaded.kept link at.relies)
-  there_in (Copying_root copying) at ask e = let is : copying_ask copying ≡ ask = cc e in subst (AreThere g c now loaded.call.last loaded.kept) is (copying_there g c hashed now (map_left g (begun ++ since)) keeps loaded.call.last loaded.kept copying (copy_relies copying at))
+  there_in (Linking link) at ask e = let is : link_ask link ≡ ask = cc e in
+      subst (AreThere g c now loaded.call.last loaded.kept) is
+      (link_there g c hashed now (map_left g (begun ++ since)) keeps loaded.call.last loaded.kept link at.relies)
+  there_in (Copying_root copying) at ask e = let is : copying_ask copying ≡ ask = cc e in
+      subst (AreThere g c now loaded.call.last loaded.kept) is
+      (copying_there g c hashed now (map_left g (begun ++ since)) keeps loaded.call.last loaded.kept copying (copy_relies copying at))
 
   pub copies_there : (ask : CopyAsk) → ask_of m ≡ asks.Copy ask → AreThere g c now loaded.call.last loaded.kept ask
   copies_there ask e = there_in m.phase r.phase ask e
 
   -- what is exchanged is allowed
   abbrev May : Option StepKind → At → (old new : ℕ) → Type 0
-  May kind at old new = word_of g c now at ≡ old → (e : Exchange P) × IsCopyAsked c kind at new now loaded.kept e × Allows g now e × IsWritten g c now at new (after now e)
+  May kind at old new = word_of g c now at ≡ old → (e : Exchange P) × IsCopyAsked c kind at new now loaded.kept e × Allows g now e
+      × IsWritten g c now at new (after now e)
 
-  may_in : (phase : Phase) → ReliesPhase g c begun since k m loaded phase → HasWords g (link_in phase) → (at : At) (old new : ℕ) → asks_in m.call phase ≡ asks.Copy (Ask_exchange at old new) → May (kind_in m.call phase) at old new
+  may_in : (phase : Phase) → ReliesPhase g c begun since k m loaded phase → HasWords g (link_in phase) → (at : At) (old new : ℕ)
+      → asks_in m.call phase ≡ asks.Copy (Ask_exchange at old new) → May (kind_in m.call phase) at old new
   may_in Calling at words place old new e = absurd cc
-  may_in (Linking link) at words place old new e = let is : link_ask link ≡ Ask_exchange place old new = cc e in link_may g c hashed now (map_left g (begun ++ since)) keeps loaded.call.last loaded.kept link at.relies words place old new is
-  may_in (Copying_root copying) at words place old new e = let is : copying_ask copying ≡ Ask_exchange place old new = cc e in copying_may g c hashed now (map_left g (begun ++ since)) keeps loaded.call.last loaded.kept copying (copy_relies copying at) words place old new is
+  may_in (Linking link) at words place old new e = let is : link_ask link ≡ Ask_exchange place old new = cc e in
+      link_may g c hashed now (map_left g (begun ++ since)) keeps loaded.call.last loaded.kept link at.relies words place old new is
+  may_in (Copying_root copying) at words place old new e = let is : copying_ask copying ≡ Ask_exchange place old new = cc e in
+      copying_may g c hashed now (map_left g (begun ++ since)) keeps loaded.call.last loaded.kept copying (copy_relies copying at) words place old new is
 
   pub copies_may : HasWords g (link_in m.phase) → (at : At) (old new : ℕ) → ask_of m ≡ asks.Copy (Ask_exchange at old new) → May (kind_of_ask m) at old new
   copies_may words at old new e = may_in m.phase r.phase words at old new e
 
   -- and a hint that is written may be there
-  may_hint_in : (phase : Phase) → ReliesPhase g c begun since k m loaded phase → (t x n : ℕ) → asks_in m.call phase ≡ asks.Copy (WriteHint t x n) → IsHint g c now t x n
+  may_hint_in : (phase : Phase) → ReliesPhase g c begun since k m loaded phase → (t x n : ℕ) → asks_in m.call phase ≡ asks.Copy (WriteHint t x n)
+      → IsHint g c now t x n
   may_hint_in Calling at t x n e = absurd cc
   may_hint_in (Linking link) at t x n e = let is : link_ask link ≡ WriteHint t x n = cc e in absurd (no_note link t x n is)
   may_hint_in (Copying_root copying) at t x n e =
       let is : copying_ask copying ≡ WriteHint t x n = cc e in
-      (copying_noted g c hashed now (map_left g (begun ++ since)) keeps m.call.mode r.call.mode loaded.call.last loaded.kept copying (copy_relies copying at) t x n is).0
+      (copying_noted g c hashed now (map_left g (begun ++ since)) keeps m.call.mode r.call.mode loaded.call.last loaded.kept copying
+      (copy_relies copying at) t x n is).0
 
   pub copies_guarantee_hint : (t x n : ℕ) → ask_of m ≡ asks.Copy (WriteHint t x n) → IsHint g c now t x n
   copies_guarantee_hint t x n e = may_hint_in m.phase r.phase t x n e

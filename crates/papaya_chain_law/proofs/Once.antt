@@ -36,7 +36,9 @@ module _ (m : Machine) (answer : Answer) (order : IsInOrder m answer m.phase) (s
     | inl waits ↦ subst HasShown (sym waits.call) shown
     | inr (inl own) ↦ subst HasShown (sym own.call) (machine_shown m.call own.told shown).1
     | inr (inr (inl enters)) ↦ subst HasShown (sym enters.call) (aside_filled m.call.remembered.fill m.call.state enters.from enters.left shown)
-    | inr (inr (inr (inl begins))) ↦ subst HasShown (sym begins.call) (machine_shown (record m.call { state = AtRoot }) (Word_read begins.root) (aside_filled m.call.remembered.fill m.call.state begins.from begins.left shown)).1
+    | inr (inr (inr (inl begins))) ↦ subst HasShown (sym begins.call)
+        (machine_shown (record m.call { state = AtRoot }) (Word_read begins.root)
+        (aside_filled m.call.remembered.fill m.call.state begins.from begins.left shown)).1
     | inr (inr (inr (inr ends))) ↦ subst HasShown (sym ends.call) tt
   ]
 
@@ -45,5 +47,7 @@ module _ (m : Machine) (answer : Answer) (order : IsInOrder m answer m.phase) (s
   chain_once = (λ asks. (machine_shown m.call (Word_read 0) shown).0 (call_asks m ShowNone asks).1, still_shown)
 
 -- once it was shown, it has
-pub chain_offered : (m : Machine) (kind : OpKind) → ask_of m ≡ asked.Call ShowNone → HasShownNone (after m (answers.Call (Op kind))).call.remembered.fill (after m (answers.Call (Op kind))).call.state
-chain_offered m kind asks = let own = call_asks m ShowNone asks in subst HasShown (ap (λ phase. (after_in m (answers.Call (Op kind)) phase).call) (sym own.0)) (machine_offered m.call kind own.1)
+pub chain_offered : (m : Machine) (kind : OpKind) → ask_of m ≡ asked.Call ShowNone
+    → HasShownNone (after m (answers.Call (Op kind))).call.remembered.fill (after m (answers.Call (Op kind))).call.state
+chain_offered m kind asks = let own = call_asks m ShowNone asks in
+    subst HasShown (ap (λ phase. (after_in m (answers.Call (Op kind)) phase).call) (sym own.0)) (machine_offered m.call kind own.1)

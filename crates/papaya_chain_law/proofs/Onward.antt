@@ -17,14 +17,18 @@ use Rattle.papaya_chain_law.specs.Relies.{Relies, left_by}
 use Rattle.papaya_chain_law.specs.Told.{LoadedPairs}
 use Rattle.papaya_chain_law.proofs.Aside.{enters_relies, met_moving}
 
-module _ {K P : Type 0} (g : Setting K P) (c : Coding K P) (hashed : IsHashed g c) (begun since : List (Exchange P)) (may : AllAllowed g start (begun ++ since)) (k : K) where
+module _ {K P : Type 0} (g : Setting K P) (c : Coding K P) (hashed : IsHashed g c) (begun since : List (Exchange P))
+    (may : AllAllowed g start (begun ++ since)) (k : K) where
   -- the state after all exchanges
   abbrev now : State P
   now = run (begun ++ since) start
 
-  module _ (inc : g.blocking ≡ false) (m : Machine) (loaded : LoadedPairs P) (cut : calls.IsCutAs m.call.mode g.chunk_of) (r : calls.Relies g c begun since k m.call loaded.call) (changes : IsChanger m.call.task) (t : ℕ) (left : left_by m.call.state ≡ Some t) (some : 0 < now.next t) where
+  module _ (inc : g.blocking ≡ false) (m : Machine) (loaded : LoadedPairs P) (cut : calls.IsCutAs m.call.mode g.chunk_of)
+      (r : calls.Relies g c begun since k m.call loaded.call) (changes : IsChanger m.call.task) (t : ℕ) (left : left_by m.call.state ≡ Some t)
+      (some : 0 < now.next t) where
     -- what the call copies for is there
-    aims_rest : (stage : Stage) → ReliesStage g c begun since k loaded.call m.call.task stage → left_by stage ≡ Some t → ReliesAim g c now loaded.call.last loaded.kept (aim_for stage (now.next t))
+    aims_rest : (stage : Stage) → ReliesStage g c begun since k loaded.call m.call.task stage → left_by stage ≡ Some t
+        → ReliesAim g c now loaded.call.last loaded.kept (aim_for stage (now.next t))
     aims_rest (Growing (Pair_at u x)) stands e =
         let same : u ≡ t = cc e in
         subst (λ y. ReliesAim g c now loaded.call.last loaded.kept (aim_for (Growing (Pair_at u x)) (now.next y))) same
@@ -37,7 +41,15 @@ module _ {K P : Type 0} (g : Setting K P) (c : Coding K P) (hashed : IsHashed g 
     helps_first = record {
       cut = cut;
       call = r;
-      phase = inl (record { mode = inc; changes = changes; table = t; left = left; next = some; aim = refl; relies = (aims_rest m.call.state r.stage left, tt) });
+      phase = inl (record {
+        mode = inc;
+        changes = changes;
+        table = t;
+        left = left;
+        next = some;
+        aim = refl;
+        relies = (aims_rest m.call.state r.stage left, tt);
+      });
     }
 
     -- the machine with its call in this state
@@ -46,19 +58,30 @@ module _ {K P : Type 0} (g : Setting K P) (c : Coding K P) (hashed : IsHashed g 
 
     -- it looks for its key in the next table
     entered : (stage : Stage) → ReliesStage g c begun since k loaded.call m.call.task stage → left_by stage ≡ Some t
-        → ((u x : ℕ) → stage ≡ Growing (Pair_at u x) → IsSettled g now (now.next t) (now.slot u x)) → Relies g c begun since k (enters (in_stage stage) (now.next t)) loaded
+        → ((u x : ℕ) → stage ≡ Growing (Pair_at u x) → IsSettled g now (now.next t) (now.slot u x))
+        → Relies g c begun since k (enters (in_stage stage) (now.next t)) loaded
     entered stage stands e settled = record {
       cut = cut;
-      call = enters_relies g c hashed begun since may k inc (record m.call { state = stage }) loaded.call (record { hash = r.hash; mode = r.mode; made = r.made; stage = stands }) t e some settled;
+      call = enters_relies g c hashed begun since may k inc (record m.call { state = stage }) loaded.call
+          (record { hash = r.hash; mode = r.mode; made = r.made; stage = stands }) t e some settled;
       phase = tt;
     }
 
     -- or, where it did so before, the slot in which it met its key's pair, or nothing
-    helps_no_more : (stage : Stage) → ReliesStage g c begun since k loaded.call m.call.task stage → left_by stage ≡ Some t → Relies g c begun since k (goes_on (in_stage stage) true (aim_for stage (now.next t)) (now.next t)) loaded
+    helps_no_more : (stage : Stage) → ReliesStage g c begun since k loaded.call m.call.task stage → left_by stage ≡ Some t
+        → Relies g c begun since k (goes_on (in_stage stage) true (aim_for stage (now.next t)) (now.next t)) loaded
     helps_no_more (Growing (Pair_at u x)) stands e = record {
       cut = cut;
       call = record { hash = r.hash; mode = r.mode; made = r.made; stage = stands };
-      phase = inl (record { mode = inc; changes = changes; table = t; left = e; next = some; aim = refl; relies = (aims_rest (Growing (Pair_at u x)) stands e, tt) });
+      phase = inl (record {
+        mode = inc;
+        changes = changes;
+        table = t;
+        left = e;
+        next = some;
+        aim = refl;
+        relies = (aims_rest (Growing (Pair_at u x)) stands e, tt);
+      });
     }
     helps_no_more (Growing (Room u)) stands e = entered (Growing (Room u)) stands e (λ v x is. absurd cc)
     helps_no_more (Leaving u) stands e = entered (Leaving u) stands e (λ v x is. absurd cc)

@@ -12,12 +12,15 @@ use Rattle.papaya_chain_law.specs.Goes.{IsInOrder}
 use Rattle.papaya_chain_law.specs.Relies.{Relies, ReliesPhase}
 use Rattle.papaya_chain_law.specs.Told.{IsTold, LoadedPairs}
 
-module _ {K P : Type 0} (g : Setting K P) (c : Coding K P) (begun since : List (Exchange P)) (k : K) (m : Machine) (loaded : LoadedPairs P) (s : State P) (answer : Answer) (es : List (Exchange P)) (loaded' : LoadedPairs P) where
-  phase_order : (phase : Phase) → ReliesPhase g c begun since k m loaded phase → (n : ℕ) → IsTold g c k s (kind_in m.call phase) n loaded (asks_in m.call phase) answer es loaded' → IsInOrder m answer phase
+module _ {K P : Type 0} (g : Setting K P) (c : Coding K P) (begun since : List (Exchange P)) (k : K) (m : Machine) (loaded : LoadedPairs P)
+    (s : State P) (answer : Answer) (es : List (Exchange P)) (loaded' : LoadedPairs P) where
+  phase_order : (phase : Phase) → ReliesPhase g c begun since k m loaded phase → (n : ℕ)
+      → IsTold g c k s (kind_in m.call phase) n loaded (asks_in m.call phase) answer es loaded' → IsInOrder m answer phase
   phase_order Calling at n h = (h.told, h.is)
   phase_order (Linking link) at n h = (follows link, at.left)
   phase_order (Copying_root copying) (inl at) n h = (at.table, at.left)
   phase_order (Copying_root copying) (inr at) n h = (at.table, at.left)
 
-  pub in_order : Relies g c begun since k m loaded → IsTold g c k s (kind_of_ask m) (follows_of m) loaded (ask_of m) answer es loaded' → IsInOrder m answer m.phase
+  pub in_order : Relies g c begun since k m loaded → IsTold g c k s (kind_of_ask m) (follows_of m) loaded (ask_of m) answer es loaded'
+      → IsInOrder m answer m.phase
   in_order r h = phase_order m.phase r.phase (follows_of m) h

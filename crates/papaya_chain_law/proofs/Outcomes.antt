@@ -50,19 +50,22 @@ not_all (Growing (Pair_at t x)) n met e = cc e
 not_all (Growing (Room t)) n met e = cc e
 not_all stage n met e = cc e
 
-module _ {K P : Type 0} (g : Setting K P) (c : Coding K P) (hashed : IsHashed g c) (begun since : List (Exchange P)) (may : AllAllowed g start (begun ++ since)) (k : K) where
+module _ {K P : Type 0} (g : Setting K P) (c : Coding K P) (hashed : IsHashed g c) (begun since : List (Exchange P))
+    (may : AllAllowed g start (begun ++ since)) (k : K) where
   -- the state after all exchanges
   abbrev now : State P
   now = run (begun ++ since) start
 
   -- a call that may change the map may be refused
-  refused_stage : (loaded : call_loaded.LoadedPairs P) (task : Task) → IsChanger task → (refused : Refused) → ReliesStage g c begun since k loaded task (Ended (Reply_refused refused))
+  refused_stage : (loaded : call_loaded.LoadedPairs P) (task : Task) → IsChanger task → (refused : Refused)
+      → ReliesStage g c begun since k loaded task (Ended (Reply_refused refused))
   refused_stage loaded Get changes refused = absurd changes
   refused_stage loaded (Insert replace) changes refused = tt
   refused_stage loaded RemoveIf changes refused = tt
   refused_stage loaded Compute changes refused = tt
 
-  module _ (m : Machine) (loaded : LoadedPairs P) (cut : calls.IsCutAs m.call.mode g.chunk_of) (r : calls.Relies g c begun since k m.call loaded.call) (changes : IsChanger m.call.task) where
+  module _ (m : Machine) (loaded : LoadedPairs P) (cut : calls.IsCutAs m.call.mode g.chunk_of) (r : calls.Relies g c begun since k m.call loaded.call)
+      (changes : IsChanger m.call.task) where
     -- a table could not be made
     refuses_relies : (refused : Refused) → Relies g c begun since k (refuses m refused) loaded
     refuses_relies refused = record {
@@ -76,13 +79,16 @@ module _ {K P : Type 0} (g : Setting K P) (c : Coding K P) (hashed : IsHashed g 
     anew_relies root is = subst (λ n. Relies g c begun since k (begins_anew m n) loaded) is
         (record {
           cut = subst (λ mode. calls.IsCutAs mode g.chunk_of) (sym (settings_stable (record m.call { state = At_root }) (Word_read now.root)).0) cut;
-          call = subst (λ l. calls.Relies g c begun l k (call_machine.after (record m.call { state = At_root }) (Word_read now.root)) loaded.call) (append-nil since)
-              (machine_learns g c hashed begun since may k (record m.call { state = At_root }) loaded.call (record { hash = r.hash; mode = r.mode; made = r.made; stage = tt }) (Word_read now.root) [] loaded.call (refl, refl, refl)).1;
+          call = subst (λ l. calls.Relies g c begun l k (call_machine.after (record m.call { state = At_root }) (Word_read now.root)) loaded.call)
+              (append-nil since)
+              (machine_learns g c hashed begun since may k (record m.call { state = At_root }) loaded.call
+              (record { hash = r.hash; mode = r.mode; made = r.made; stage = tt }) (Word_read now.root) [] loaded.call (refl, refl, refl)).1;
           phase = tt;
         })
 
     -- the copy of all led here
-    pub all_relies : g.blocking ≡ true → (t : ℕ) → left_by m.call.state ≡ Some t → (met : ℕ) (end : Copied) → ReliesCopied g c now loaded.call.last loaded.kept (aims.All met) end → Relies g c begun since k (after_copied m end) loaded
+    pub all_relies : g.blocking ≡ true → (t : ℕ) → left_by m.call.state ≡ Some t → (met : ℕ) (end : Copied)
+        → ReliesCopied g c now loaded.call.last loaded.kept (aims.All met) end → Relies g c begun since k (after_copied m end) loaded
     all_relies blocks t left met (copied.On copying) is = record {
       cut = cut;
       call = r;
@@ -93,7 +99,8 @@ module _ {K P : Type 0} (g : Setting K P) (c : Coding K P) (hashed : IsHashed g 
     all_relies blocks t left met copied.Chunk is = absurd cc
     all_relies blocks t left met (copied.Refused refused) is = refuses_relies refused
 
-  module _ (inc : g.blocking ≡ false) (m : Machine) (loaded : LoadedPairs P) (cut : calls.IsCutAs m.call.mode g.chunk_of) (r : calls.Relies g c begun since k m.call loaded.call) (changes : IsChanger m.call.task) (t : ℕ) (left : left_by m.call.state ≡ Some t) where
+  module _ (inc : g.blocking ≡ false) (m : Machine) (loaded : LoadedPairs P) (cut : calls.IsCutAs m.call.mode g.chunk_of)
+      (r : calls.Relies g c begun since k m.call loaded.call) (changes : IsChanger m.call.task) (t : ℕ) (left : left_by m.call.state ≡ Some t) where
     -- the making of the next table led here
     pub linked_relies : (end : Linked) → ReliesLinked g c now loaded.call.last loaded.kept t end → Relies g c begun since k (after_linked m end) loaded
     linked_relies (linked.On link) is = record {
@@ -108,7 +115,8 @@ module _ {K P : Type 0} (g : Setting K P) (c : Coding K P) (hashed : IsHashed g 
 
     module _ (some : 0 < now.next t) where
       -- where the call was to look on, its slot is settled
-      led_settled : (stage : Stage) (n : ℕ) → IsLedTo g c now loaded.call.last loaded.kept (aim_for stage (now.next t)) n → (u x : ℕ) → stage ≡ Growing (Pair_at u x) → IsSettled g now (now.next t) (now.slot u x)
+      led_settled : (stage : Stage) (n : ℕ) → IsLedTo g c now loaded.call.last loaded.kept (aim_for stage (now.next t)) n → (u x : ℕ)
+          → stage ≡ Growing (Pair_at u x) → IsSettled g now (now.next t) (now.slot u x)
       led_settled (Growing (Pair_at v y)) n led u x e =
           let same_table : v ≡ u = cc e in
           let same_slot : y ≡ x = cc e in
@@ -123,15 +131,30 @@ module _ {K P : Type 0} (g : Setting K P) (c : Coding K P) (hashed : IsHashed g 
       led_next stage n led = led
 
       -- the copy of the root led here
-      pub copied_relies : (end : Copied) → ReliesCopied g c now loaded.call.last loaded.kept (aim_for m.call.state (now.next t)) end → Relies g c begun since k (after_copied m end) loaded
+      pub copied_relies : (end : Copied) → ReliesCopied g c now loaded.call.last loaded.kept (aim_for m.call.state (now.next t)) end
+          → Relies g c begun since k (after_copied m end) loaded
       copied_relies (copied.On copying) is = record {
         cut = cut;
         call = r;
-        phase = inl (record { mode = inc; changes = changes; table = t; left = left; next = some; aim = same_aimed m.call.state (now.next t) (aim_of copying) is.0; relies = is.1 });
+        phase = inl (record {
+          mode = inc;
+          changes = changes;
+          table = t;
+          left = left;
+          next = some;
+          aim = same_aimed m.call.state (now.next t)
+              (aim_of copying) is.0;
+          relies = is.1;
+        });
       }
       copied_relies (copied.Search n) led =
           subst (λ y. Relies g c begun since k (enters m y) loaded) (sym (led_next m.call.state n led))
-          (record { cut = cut; call = enters_relies g c hashed begun since may k inc m.call loaded.call r t left some (led_settled m.call.state n led); phase = tt })
+          (record {
+            cut = cut;
+            call = enters_relies g c hashed begun since may k inc m.call loaded.call r t left some
+                (led_settled m.call.state n led);
+            phase = tt;
+          })
       copied_relies (copied.Root root) is = absurd (not_all m.call.state (now.next t) is.1.0 is.1.1)
       copied_relies copied.Chunk is = absurd (not_chunk m.call.state (now.next t) is)
       copied_relies (copied.Refused refused) is = refuses_relies m loaded cut r changes refused

@@ -40,7 +40,8 @@ use Rattle.papaya_words.specs.declared.probe.ResizeMode.{ResizeMode}
 use Rattle.papaya_law.specs.Hints.{IsHint}
 
 -- a word that is put into a slot is the only one that changes
-slot_written : {K P : Type 0} → (g : Setting K P) (c : Coding K P) (s : Words P) (t x : ℕ) (w : Word P) → IsWritten g c s (Slot t x) (code g c w) (slot_put s t x w)
+slot_written : {K P : Type 0} → (g : Setting K P) (c : Coding K P) (s : Words P) (t x : ℕ) (w : Word P)
+    → IsWritten g c s (Slot t x) (code g c w) (slot_put s t x w)
 slot_written g c s t x w = record { here = ap (code g c) (put_there s t x w t x (refl, refl)).0; others = others }
   where
     others : (other : At) → (other ≡ Slot t x → ⊥) → word_of g c (slot_put s t x w) other ≡ word_of g c s other
@@ -51,7 +52,8 @@ slot_written g c s t x w = record { here = ap (code g c) (put_there s t x w t x 
     others (Slot u y) different = ap (code g c) (put_elsewhere s t x w u y (λ e. different (ap (λ a. Slot a y) (sym e.0) ∙ ap (Slot t) (sym e.1))))
     others Made_word different = refl
 
-module _ {K P : Type 0} (g : Setting K P) (c : Coding K P) (hashed : IsHashed g c) (s : Words P) (m : K → Option P) (keeps : IsKeeping g s m) (since : List (Exchange P)) (may : AllAllowed g s since) where
+module _ {K P : Type 0} (g : Setting K P) (c : Coding K P) (hashed : IsHashed g c) (s : Words P) (m : K → Option P) (keeps : IsKeeping g s m)
+    (since : List (Exchange P)) (may : AllAllowed g s since) where
   -- the words after all exchanges
   abbrev now : Words P
   now = run since s
@@ -80,11 +82,13 @@ module _ {K P : Type 0} (g : Setting K P) (c : Coding K P) (hashed : IsHashed g 
     -- the table was the root, so it is on the chain, and each key's search comes to it
     pub table_on : IsOn now.first now.next table
     table_on =
-        let was : now.was_root table ≡ true = subst (λ w. w.was_root table ≡ true) now_is (was_now g hashed.lawful (run es s) (map_of g m es) keeps_then table taken.root taken.some taken.last fs may_then) in
+        let was : now.was_root table ≡ true = subst (λ w. w.was_root table ≡ true) now_is
+        (was_now g hashed.lawful (run es s) (map_of g m es) keeps_then table taken.root taken.some taken.last fs may_then) in
         ((keeping_sound g now (map_of g m since) keeps_since).was table was).0
 
     pub table_reached : (k : K) → IsReached g now k table
-    table_reached k = subst (λ w. IsReached g w k table) now_is (reached_now g hashed.lawful (run es s) (map_of g m es) keeps_then table taken.root taken.some taken.last fs may_then k)
+    table_reached k = subst (λ w. IsReached g w k table) now_is
+        (reached_now g hashed.lawful (run es s) (map_of g m es) keeps_then table taken.root taken.some taken.last fs may_then k)
 
     -- a moment since then is one of the call
     moment_of : (k : K) (v : Option P) → IsAtMoment g (map_of g m es) fs k v → IsAtMoment g m since k v
@@ -96,7 +100,8 @@ module _ {K P : Type 0} (g : Setting K P) (c : Coding K P) (hashed : IsHashed g 
     }
 
   -- a pair that was met was the map's
-  had_met : (scan : Scan) (loaded : LoadedPairs P) (spot : Spot) (word : ℕ) → IsMeeting g c s m since scan loaded spot word → HadPair g c s m since loaded (pair_of word)
+  had_met : (scan : Scan) (loaded : LoadedPairs P) (spot : Spot) (word : ℕ) → IsMeeting g c s m since scan loaded spot word
+      → HadPair g c s m since loaded (pair_of word)
   had_met scan loaded spot word r = record {
     pair = r.pair;
     told = r.told;
@@ -113,22 +118,27 @@ module _ {K P : Type 0} (g : Setting K P) (c : Coding K P) (hashed : IsHashed g 
     Named = IsNamed g c s m since loaded
 
     -- what the copy names
-    copy_named : (stage : Stage) → ReliesStage g c now loaded.copy stage → (o : Option CopyAsk) → resizers.asks_in stage ≡ o → (ask : ScanAsk) → copy_asks o ≡ Some ask → Named ask
+    copy_named : (stage : Stage) → ReliesStage g c now loaded.copy stage → (o : Option CopyAsk) → resizers.asks_in stage ≡ o → (ask : ScanAsk)
+        → copy_asks o ≡ Some ask → Named ask
     copy_named stage r None is ask e = absurd cc
-    copy_named stage r (Some a) is ask e = let same : Copy a ≡ ask = cc e in subst Named same (stage_there g c hashed now (map_of g m since) keeps_since loaded.copy stage r a is)
+    copy_named stage r (Some a) is ask e = let same : Copy a ≡ ask = cc e in
+        subst Named same (stage_there g c hashed now (map_of g m since) keeps_since loaded.copy stage r a is)
 
     -- a slot of the table
-    spot_there : (spot : Spot) → IsSpot g c s m since spot → IsOn now.first now.next spot.table → IsOn now.first now.next spot.table × (spot.slot < g.size spot.table)
+    spot_there : (spot : Spot) → IsSpot g c s m since spot → IsOn now.first now.next spot.table → IsOn now.first now.next spot.table
+        × (spot.slot < g.size spot.table)
     spot_there spot r on = (on, subst (λ n. spot.slot < n) r.0 r.1)
 
     pub state_named : (state : State) → ReliesState g c s m since scan loaded state → (ask : ScanAsk) → asks_in state ≡ Some ask → Named ask
     state_named (Copying stage) r ask e = copy_named stage r.2 (resizers.asks_in stage) refl ask e
     state_named AtRoot r ask e = let is : Copy (Load Root) ≡ ask = cc e in subst Named is tt
     state_named (Sizing table) r ask e = let v = r.1 in let is : Copy (SizeOf table) ≡ ask = cc e in subst Named is (table_on table loaded v.es v.fs v.taken)
-    state_named (Looking spot) r ask e = let v = r.1 in let is : Copy (Load (Slot spot.table spot.slot)) ≡ ask = cc e in subst Named is (spot_there spot r.0 (table_on spot.table loaded v.es v.fs v.taken))
+    state_named (Looking spot) r ask e = let v = r.1 in let is : Copy (Load (Slot spot.table spot.slot)) ≡ ask = cc e in
+        subst Named is (spot_there spot r.0 (table_on spot.table loaded v.es v.fs v.taken))
     state_named (Giving spot word) r ask e = let is : Give (pair_of word) ≡ ask = cc e in subst Named is (had_met scan loaded spot word r.2)
     state_named (Showing spot word) r ask e = let is : Show (pair_of word) ≡ ask = cc e in subst Named is (had_met scan loaded spot word r.3)
-    state_named (Deleting spot word) r ask e = let v = r.3 in let is : Copy (deletes spot word) ≡ ask = cc e in subst Named is (spot_there spot r.0 (table_on spot.table loaded v.es v.fs v.taken))
+    state_named (Deleting spot word) r ask e = let v = r.3 in let is : Copy (deletes spot word) ≡ ask = cc e in
+        subst Named is (spot_there spot r.0 (table_on spot.table loaded v.es v.fs v.taken))
     state_named (Uncounting spot) r (AddToShard by) e = tt
     state_named (Uncounting spot) r (Copy ask) e = absurd cc
     state_named (Uncounting spot) r (Show n) e = absurd cc
@@ -138,17 +148,20 @@ module _ {K P : Type 0} (g : Setting K P) (c : Coding K P) (hashed : IsHashed g 
 
     -- an exchange whose old word stands there
     abbrev May : State → At → (old new : ℕ) → Type 0
-    May state at old new = word_of g c now at ≡ old → (e : Exchange P) × IsScanAsked g c s m since scan state at new loaded e × Allows g now e × IsWritten g c now at new (state_after now e)
+    May state at old new = word_of g c now at ≡ old → (e : Exchange P) × IsScanAsked g c s m since scan state at new loaded e × Allows g now e
+        × IsWritten g c now at new (state_after now e)
 
     -- a deleted pair's word is the code of its Tombstone
     grave_code : (p : P) (word : ℕ) → code g c (Live p) ≡ word → code g c (Tombstone p) ≡ grave_word word
     grave_code p word e = ap tombstone_word (sym (code_pair g c hashed.coding (Live p) p refl)) ∙ ap grave_word e
 
     -- the pair that stands in the slot is deleted
-    pub delete_may : (spot : Spot) (word : ℕ) → ReliesState g c s m since scan loaded (Deleting spot word) → (p : P) → now.slot spot.table spot.slot ≡ Live p → Allows g now (Delete spot.table spot.slot p)
+    pub delete_may : (spot : Spot) (word : ℕ) → ReliesState g c s m since scan loaded (Deleting spot word) → (p : P)
+        → now.slot spot.table spot.slot ≡ Live p → Allows g now (Delete spot.table spot.slot p)
     delete_may spot word r p live = let v = r.3 in record { live = live; reached = table_reached spot.table loaded v.es v.fs v.taken (g.key p) }
 
-    deletes_pair : (spot : Spot) (word : ℕ) → ReliesState g c s m since scan loaded (Deleting spot word) → May (Deleting spot word) (Slot spot.table spot.slot) word (grave_word word)
+    deletes_pair : (spot : Spot) (word : ℕ) → ReliesState g c s m since scan loaded (Deleting spot word)
+        → May (Deleting spot word) (Slot spot.table spot.slot) word (grave_word word)
     deletes_pair spot word r stands =
         let t : ℕ = spot.table in
         let x : ℕ = spot.slot in
@@ -163,19 +176,23 @@ module _ {K P : Type 0} (g : Setting K P) (c : Coding K P) (hashed : IsHashed g 
         )
 
     -- the copy exchanges a word
-    copy_may : (stage : Stage) → ReliesState g c s m since scan loaded (Copying stage) → HasWords g (link_of stage) → (o : Option CopyAsk) → resizers.asks_in stage ≡ o → (at : At) (old new : ℕ) → copy_asks o ≡ Some (Copy (Ask_exchange at old new)) → May (Copying stage) at old new
+    copy_may : (stage : Stage) → ReliesState g c s m since scan loaded (Copying stage) → HasWords g (link_of stage) → (o : Option CopyAsk)
+        → resizers.asks_in stage ≡ o → (at : At) (old new : ℕ) → copy_asks o ≡ Some (Copy (Ask_exchange at old new)) → May (Copying stage) at old new
     copy_may stage r words None is at old new e = absurd cc
     copy_may stage r words (Some ask) is at old new e =
         let same : ask ≡ Ask_exchange at old new = cc e in
         stage_may g c hashed now (map_of g m since) keeps_since loaded.copy stage r.2 words at old new (is ∙ ap Some same)
 
-    pub state_may : (state : State) → ReliesState g c s m since scan loaded state → HasWords g (link_in_scan state) → (at : At) (old new : ℕ) → asks_in state ≡ Some (Copy (Ask_exchange at old new)) → May state at old new
+    pub state_may : (state : State) → ReliesState g c s m since scan loaded state → HasWords g (link_in_scan state) → (at : At) (old new : ℕ)
+        → asks_in state ≡ Some (Copy (Ask_exchange at old new)) → May state at old new
     state_may (Copying stage) r words at old new e = copy_may stage r words (resizers.asks_in stage) refl at old new e
     state_may (Deleting spot word) r words at old new e =
         let same_at : Slot spot.table spot.slot ≡ at = cc e in
         let same_old : word ≡ old = cc e in
         let same_new : grave_word word ≡ new = cc e in
-        subst (λ y. May (Deleting spot word) y old new) same_at (subst (λ y. May (Deleting spot word) (Slot spot.table spot.slot) y new) same_old (subst (May (Deleting spot word) (Slot spot.table spot.slot) word) same_new (deletes_pair spot word r)))
+        subst (λ y. May (Deleting spot word) y old new) same_at
+        (subst (λ y. May (Deleting spot word) (Slot spot.table spot.slot) y new) same_old
+        (subst (May (Deleting spot word) (Slot spot.table spot.slot) word) same_new (deletes_pair spot word r)))
     state_may AtRoot r words at old new e = absurd cc
     state_may (Sizing table) r words at old new e = absurd cc
     state_may (Looking spot) r words at old new e = absurd cc
@@ -186,13 +203,15 @@ module _ {K P : Type 0} (g : Setting K P) (c : Coding K P) (hashed : IsHashed g 
     state_may (Refused refused) r words at old new e = absurd cc
 
     -- a hint that the copy writes may be there
-    copy_hint : (stage : Stage) → ReliesState g c s m since scan loaded (Copying stage) → (mode : ResizeMode) → IsModeOf mode g.blocking → (o : Option CopyAsk) → resizers.asks_in stage ≡ o → (t x n : ℕ) → copy_asks o ≡ Some (Copy (WriteHint t x n)) → IsHint g c now t x n
+    copy_hint : (stage : Stage) → ReliesState g c s m since scan loaded (Copying stage) → (mode : ResizeMode) → IsModeOf mode g.blocking
+        → (o : Option CopyAsk) → resizers.asks_in stage ≡ o → (t x n : ℕ) → copy_asks o ≡ Some (Copy (WriteHint t x n)) → IsHint g c now t x n
     copy_hint stage r mode moded None is t x n e = absurd cc
     copy_hint stage r mode moded (Some ask) is t x n e =
         let same : ask ≡ WriteHint t x n = cc e in
         stage_may_hint g c hashed now (map_of g m since) keeps_since loaded.copy mode moded stage r.2 t x n (is ∙ ap Some same)
 
-    pub state_may_hint : (mode : ResizeMode) → IsModeOf mode g.blocking → (state : State) → ReliesState g c s m since scan loaded state → (t x n : ℕ) → asks_in state ≡ Some (Copy (WriteHint t x n)) → IsHint g c now t x n
+    pub state_may_hint : (mode : ResizeMode) → IsModeOf mode g.blocking → (state : State) → ReliesState g c s m since scan loaded state → (t x n : ℕ)
+        → asks_in state ≡ Some (Copy (WriteHint t x n)) → IsHint g c now t x n
     state_may_hint mode moded (Copying stage) r t x n e = copy_hint stage r mode moded (resizers.asks_in stage) refl t x n e
     state_may_hint mode moded (Deleting spot word) r t x n e = absurd cc
     state_may_hint mode moded AtRoot r t x n e = absurd cc

@@ -1,11 +1,15 @@
 -- What is so once each slot was scanned.
-use Rattle.std.proofs.Common.{◌≡◌, ◌⊎◌, inl, inr, ⊎_elim, ℕ, ◌<◌, ◌≤◌, true, false, Option, None, Some, List, [], ◌∷◌, ◌++◌, append-nil, refl, sym, ap, ◌∙◌, subst, arith}
+use Rattle.std.proofs.Common.{◌≡◌, ◌⊎◌, inl, inr, ⊎_elim, ℕ, ◌<◌, ◌≤◌, true, false, Option, None}
+use Rattle.std.proofs.Common.{Some, List, [], ◌∷◌, ◌++◌, append-nil, refl, sym, ap, ◌∙◌, subst}
+use Rattle.std.proofs.Common.{arith}
 use Rattle.std.proofs.lemmas.Bool.{cases_Bool, cond-false}
 use Rattle.papaya_law.specs.Allows.{AllAllowed}
 use Rattle.papaya_law.specs.Class.{IsOn, IsOwner, IsTied}
 use Rattle.papaya_law.specs.ClassBlocking.{IsRootOwner, IsRootTied}
 use Rattle.papaya_law.specs.Code.{Coding}
-use Rattle.papaya_law.specs.Exchange.{Setting, State as Words, Exchange, Open, Claim, Replace, Delete, Link, Mark, Close, Place, Finish, Advance, Promote, Abort, Take, after, run}
+use Rattle.papaya_law.specs.Exchange.{Setting, State as Words, Exchange, Open, Claim, Replace}
+use Rattle.papaya_law.specs.Exchange.{Delete, Link, Mark, Close, Place, Finish, Advance, Promote}
+use Rattle.papaya_law.specs.Exchange.{Abort, Take, after, run}
 use Rattle.papaya_law.specs.Invariant.{IsKeeping}
 use Rattle.papaya_law.specs.Meaning.{IsLawful, IsLegal, map_after, map_of}
 use Rattle.papaya_law.specs.View.{View, held, look}
@@ -35,7 +39,8 @@ module _ {K P : Type 0} (g : Setting K P) (law : IsLawful g) where
           ⊎_elim
           (λ h.
           let o : IsOwner (IsOn s.first s.next) g.places (look g s k) p = subst (IsTied (IsOn s.first s.next) g.places (look g s k)) e (h.1.class k).tied in
-          let no : IsTied (IsOn s.first s.next) g.places (look g s l) None = subst (IsTied (IsOn s.first s.next) g.places (look g s l)) none (h.1.class l).tied in
+          let no : IsTied (IsOn s.first s.next) g.places (look g s l) None = subst (IsTied (IsOn s.first s.next) g.places (look g s l)) none
+          (h.1.class l).tied in
           absurd (no o.table o.at o.within (seen o.table o.at p (held_of (look g s k o.table o.at) p o.has))))
           (λ h.
           let o : IsRootOwner g.places (look g s k) s.root p = subst (IsRootTied g.places (look g s k) s.root) e (h.1.class k).tied in
@@ -75,7 +80,8 @@ module _ {K P : Type 0} (g : Setting K P) (law : IsLawful g) where
   one_leaves s m keeps (Take n) legal k = inr (inr refl)
 
   -- where the map had a pair of the key, it was taken out, or it is there still
-  pub all_leave : (es : List (Exchange P)) (s : Words P) (m : K → Option P) → IsKeeping g s m → AllAllowed g s es → (k : K) → (m k ≡ None) ⊎ IsTakenOut g es k ⊎ (map_of g m es k ≡ m k)
+  pub all_leave : (es : List (Exchange P)) (s : Words P) (m : K → Option P) → IsKeeping g s m → AllAllowed g s es → (k : K) → (m k ≡ None)
+      ⊎ IsTakenOut g es k ⊎ (map_of g m es k ≡ m k)
   all_leave [] s m keeps may k = inr (inr refl)
   all_leave (e ∷ es) s m keeps may k =
       let step = step_keeps g law s m keeps e may.0 in
@@ -93,7 +99,8 @@ module _ {K P : Type 0} (g : Setting K P) (law : IsLawful g) where
       then'))
       (one_leaves s m keeps e step.0 k)
 
-module _ {K P : Type 0} (g : Setting K P) (c : Coding K P) (law : IsLawful g) (s : Words P) (m : K → Option P) (keeps : IsKeeping g s m) (since : List (Exchange P)) where
+module _ {K P : Type 0} (g : Setting K P) (c : Coding K P) (law : IsLawful g) (s : Words P) (m : K → Option P) (keeps : IsKeeping g s m)
+    (since : List (Exchange P)) where
   -- what is so of a key since the table was taken is so since the call began
   module _ (es fs : List (Exchange P)) (is : es ++ fs ≡ since) (may : AllAllowed g s es) (k : K) where
     -- of what was taken out
@@ -108,7 +115,8 @@ module _ {K P : Type 0} (g : Setting K P) (c : Coding K P) (law : IsLawful g) (s
     out_behind (inr taken) = inr (subst (λ l. IsTakenOut g l k) is (taken_behind g es fs k taken))
 
     -- and of what was kept
-    kept_behind : (loaded : LoadedPairs P) → (p : P) × (map_of g m es k ≡ Some p) × IsLastAnswer loaded.shown p true → (m k ≡ None) ⊎ IsTakenOut g since k ⊎ ((p : P) × (m k ≡ Some p) × IsLastAnswer loaded.shown p true)
+    kept_behind : (loaded : LoadedPairs P) → (p : P) × (map_of g m es k ≡ Some p) × IsLastAnswer loaded.shown p true → (m k ≡ None)
+        ⊎ IsTakenOut g since k ⊎ ((p : P) × (m k ≡ Some p) × IsLastAnswer loaded.shown p true)
     kept_behind loaded (p, has, answer) =
         ⊎_elim
         (λ before. inl before)
@@ -123,7 +131,8 @@ module _ {K P : Type 0} (g : Setting K P) (c : Coding K P) (law : IsLawful g) (s
     within k slot r = subst (λ x. x < g.size table) r.is (law.within k table r.at r.within)
 
     -- a whole table was scanned
-    pub table_over : (upto : ℕ) → g.size table ≤ upto → (scan : Scan) → ((k : K) → IsScannedTo g (run es s) (map_of g m es) fs table scan loaded upto k) → HasScanned g c s m since scan loaded
+    pub table_over : (upto : ℕ) → g.size table ≤ upto → (scan : Scan)
+        → ((k : K) → IsScannedTo g (run es s) (map_of g m es) fs table scan loaded upto k) → HasScanned g c s m since scan loaded
     table_over upto whole Walk each = record {
       es = es;
       fs = fs;
@@ -157,7 +166,8 @@ module _ {K P : Type 0} (g : Setting K P) (c : Coding K P) (law : IsLawful g) (s
         (each k)
 
   -- there is no root
-  pub rootless_over : AllAllowed g s since → (run since s).root ≡ 0 → (scan : Scan) (loaded : LoadedPairs P) → loaded.before ≡ since → loaded.given ≡ [] → HasScanned g c s m since scan loaded
+  pub rootless_over : AllAllowed g s since → (run since s).root ≡ 0 → (scan : Scan) (loaded : LoadedPairs P) → loaded.before ≡ since
+      → loaded.given ≡ [] → HasScanned g c s m since scan loaded
   rootless_over may zero scan loaded moment none = by_scan scan
     where
       empty : (k : K) → map_of g m since k ≡ None

@@ -1,5 +1,6 @@
 -- What an answer did to the map, and why it ended a scan refused.
-use Rattle.std.proofs.Common.{◌≡◌, ◌⊎◌, inl, inr, ⊎_elim, ℕ, ◌+◌, ◌==◌, nat_lt, Bool, true, false, Option, None, Some, List, [], ◌∷◌, ◌++◌, refl, sym, ap, ◌∙◌, subst}
+use Rattle.std.proofs.Common.{◌≡◌, ◌⊎◌, inl, inr, ⊎_elim, ℕ, ◌+◌, ◌==◌, nat_lt, Bool, true, false}
+use Rattle.std.proofs.Common.{Option, None, Some, List, [], ◌∷◌, ◌++◌, refl, sym, ap, ◌∙◌, subst}
 use Rattle.std.proofs.lemmas.Bool.{cond_both}
 use Rattle.papaya_words.specs.Word.{kind_of}
 use Rattle.papaya_words.specs.declared.probe.Refused.{Refused}
@@ -12,7 +13,9 @@ use Rattle.papaya_ask.specs.declared.ask.StepKind.{StepKind}
 use Rattle.papaya_ask.specs.declared.ask.StepKind.TheVariants as steps
 use Rattle.papaya_ask.specs.declared.call.Reply.TheVariants.{Refused as Reply_refused}
 use Rattle.papaya_ask.specs.declared.copy_ask.CopyAsk.{CopyAsk}
-use Rattle.papaya_ask.specs.declared.copy_ask.CopyAsk.TheVariants.{Load, Exchange as Ask_exchange, SizeOf, HashOf, SamePair, Count, MakeTable, LoadHint, WriteHint}
+use Rattle.papaya_ask.specs.declared.copy_ask.CopyAsk.TheVariants.{Load, Exchange as Ask_exchange}
+use Rattle.papaya_ask.specs.declared.copy_ask.CopyAsk.TheVariants.{SizeOf, HashOf, SamePair, Count}
+use Rattle.papaya_ask.specs.declared.copy_ask.CopyAsk.TheVariants.{MakeTable, LoadHint, WriteHint}
 use Rattle.papaya_chain.specs.declared.ask.Answer.{Answer}
 use Rattle.papaya_chain.specs.declared.ask.Answer.TheVariants as answers
 use Rattle.papaya_chain.specs.declared.resizer.Resize.TheVariants.{CopyAll}
@@ -31,7 +34,10 @@ use Rattle.papaya_chain_law.proofs.ResizerRefusals.{resizer_why}
 use Rattle.papaya_chain.specs.declared.scan_ask.ScanAsk.TheVariants.{Copy}
 use Rattle.papaya_chain.specs.declared.scanner.Spot.{Spot}
 use Rattle.papaya_chain.specs.declared.scanner.State.{State}
-use Rattle.papaya_chain.specs.declared.scanner.State.TheVariants.{Copying, AtRoot, Sizing, Looking, Giving, Showing, Deleting, Uncounting, Done, Refused as Ended_refused}
+use Rattle.papaya_chain.specs.declared.scanner.State.TheVariants.{Copying, AtRoot, Sizing, Looking}
+use Rattle.papaya_chain.specs.declared.scanner.State.TheVariants.{Giving, Showing, Deleting}
+use Rattle.papaya_chain.specs.declared.scanner.State.TheVariants.{Uncounting, Done}
+use Rattle.papaya_chain.specs.declared.scanner.State.TheVariants.{Refused as Ended_refused}
 use Rattle.papaya_chain.specs.declared.scanner.Scan.{Scan}
 use Rattle.papaya_chain.specs.declared.scanner.Scan.TheVariants.{Clear, Retain, Walk}
 use Rattle.papaya_chain.specs.declared.scanner.Scanner.{Scanner}
@@ -46,13 +52,15 @@ pub record GoesOn (state : State) : Type 0 where
   pub owes : owes_in state ≡ false
 
 looks_on : (spot : Spot) → GoesOn (looks spot)
-looks_on spot = cond_both (nat_lt spot.slot spot.len) (Looking spot) Done GoesOn (λ _. record { unrefused = λ refused e. absurd cc; owes = refl }) (λ _. record { unrefused = λ refused e. absurd cc; owes = refl })
+looks_on spot = cond_both (nat_lt spot.slot spot.len) (Looking spot) Done GoesOn (λ _. record { unrefused = λ refused e. absurd cc; owes = refl })
+    (λ _. record { unrefused = λ refused e. absurd cc; owes = refl })
 
 next_on : (spot : Spot) → GoesOn (next spot)
 next_on spot = looks_on (record spot { slot = spot.slot + 1 })
 
 root_on : (root : ℕ) → GoesOn (at_root root)
-root_on root = cond_both (root == 0) Done (Sizing root) GoesOn (λ _. record { unrefused = λ refused e. absurd cc; owes = refl }) (λ _. record { unrefused = λ refused e. absurd cc; owes = refl })
+root_on root = cond_both (root == 0) Done (Sizing root) GoesOn (λ _. record { unrefused = λ refused e. absurd cc; owes = refl })
+    (λ _. record { unrefused = λ refused e. absurd cc; owes = refl })
 
 copy_on : (stage : Stage) → GoesOn (Copying stage)
 copy_on stage = record { unrefused = λ refused e. absurd cc; owes = refl }
@@ -82,7 +90,8 @@ shown_on spot word true = next_on spot
 shown_on spot word false = record { unrefused = λ refused e. absurd cc; owes = refl }
 
 -- the copy of all ends the scan only where it is refused itself
-copied_ends : (from to : Stage) (refused : Refused) → reply_in (copied from to) ≡ Some (Reply_refused refused) → resizers.reply_in to ≡ Some (Reply_refused refused)
+copied_ends : (from to : Stage) (refused : Refused) → reply_in (copied from to) ≡ Some (Reply_refused refused)
+    → resizers.reply_in to ≡ Some (Reply_refused refused)
 copied_ends from stages.Done refused e = absurd ((root_on (found_by from)).unrefused refused e)
 copied_ends from (stages.Refused other) refused e = e
 copied_ends from stages.AtRoot refused e = absurd cc
@@ -109,7 +118,8 @@ copied_owes from (stages.Copying from' copying) = refl
 
 module _ {K P : Type 0} (g : Setting K P) (c : Coding K P) where
   -- an exchange of a copy leaves the map
-  copy_leaves : (kind : Option StepKind) (at : At) (new : ℕ) (s : Words P) (kept : Option P) (e : Exchange P) → IsCopyAsked c kind at new s kept e → LeavesMap g e
+  copy_leaves : (kind : Option StepKind) (at : At) (new : ℕ) (s : Words P) (kept : Option P) (e : Exchange P) → IsCopyAsked c kind at new s kept e
+      → LeavesMap g e
   copy_leaves (Some steps.Link) (Next t) new s kept e is = subst (LeavesMap g) (sym is) (λ m k. refl)
   copy_leaves (Some steps.Mark) (Slot t x) new s kept e (p, there, is) = subst (LeavesMap g) (sym is) (λ m k. refl)
   copy_leaves (Some steps.Close) (Slot t x) new s kept e is = subst (LeavesMap g) (sym is) (λ m k. refl)
@@ -124,7 +134,8 @@ module _ {K P : Type 0} (g : Setting K P) (c : Coding K P) where
   abbrev Left : List (Exchange P) → Type 0
   Left es = (es ≡ []) ⊎ ((e : Exchange P) × (es ≡ e ∷ []) × LeavesMap g e)
 
-  copy_told : (s : Words P) (kind : Option StepKind) (follows : ℕ) (loaded : copies.LoadedPairs P) (ask : CopyAsk) (answer : Answer) (es : List (Exchange P)) (loaded' : copies.LoadedPairs P) → IsCopyTold g c s kind follows loaded ask answer es loaded' → Left es
+  copy_told : (s : Words P) (kind : Option StepKind) (follows : ℕ) (loaded : copies.LoadedPairs P) (ask : CopyAsk) (answer : Answer)
+      (es : List (Exchange P)) (loaded' : copies.LoadedPairs P) → IsCopyTold g c s kind follows loaded ask answer es loaded' → Left es
   copy_told s kind follows loaded (Load at) answer es loaded' h = inl h.1
   copy_told s kind follows loaded (Ask_exchange at old new) answer es loaded' h = by_test (word_of g c s at == old) _ _ (Left es) h
       (λ _ made. let (e, asked, one, handed) = made.1 in inr (e, one, copy_leaves kind at new s loaded.kept e asked))
@@ -137,7 +148,8 @@ module _ {K P : Type 0} (g : Setting K P) (c : Coding K P) where
   copy_told s kind follows loaded Count answer es loaded' h = inl h.1.0
   copy_told s kind follows loaded (MakeTable slots limit chunks) answer es loaded' h = inl h.1.0
 
-module _ {K P : Type 0} (g : Setting K P) (c : Coding K P) (s : Words P) (m : K → Option P) (since : List (Exchange P)) (scanner : Scanner) (loaded : LoadedPairs P) (answer : Answer) (es : List (Exchange P)) (loaded' : LoadedPairs P) where
+module _ {K P : Type 0} (g : Setting K P) (c : Coding K P) (s : Words P) (m : K → Option P) (since : List (Exchange P)) (scanner : Scanner)
+    (loaded : LoadedPairs P) (answer : Answer) (es : List (Exchange P)) (loaded' : LoadedPairs P) where
   -- the words after all exchanges
   abbrev now : Words P
   now = run since s
@@ -151,7 +163,8 @@ module _ {K P : Type 0} (g : Setting K P) (c : Coding K P) (s : Words P) (m : K 
   goes_as state answer' is r = subst (λ a. GoesOn (Goes a state)) (sym is) r
 
   -- a word or a size was told
-  pub asked : (state : State) (before : List (Exchange P)) (is : CopyAsk) → asks_in state ≡ Some (Copy is) → (t : IsWordAnswer g c now since state before loaded answer es loaded') → IsCopyTold g c now None 0 loaded.copy is answer es t.copy
+  pub asked : (state : State) (before : List (Exchange P)) (is : CopyAsk) → asks_in state ≡ Some (Copy is)
+      → (t : IsWordAnswer g c now since state before loaded answer es loaded') → IsCopyTold g c now None 0 loaded.copy is answer es t.copy
   asked state before is asks t =
       let first = t.asks in
       let same : t.ask ≡ is = cc (asks, first) in
@@ -164,10 +177,12 @@ module _ {K P : Type 0} (g : Setting K P) (c : Coding K P) (s : Words P) (m : K 
 
   -- each state but the copy and a deletion that was made
   root_quiet : IsWordAnswer g c now since AtRoot (since ++ es) loaded answer es loaded' → IsQuiet AtRoot
-  root_quiet t = let h = asked AtRoot (since ++ es) (Load Root) refl t in record { none = h.1; on = goes_as AtRoot (answers.Call (Word_read now.root)) h.0 (root_on now.root) }
+  root_quiet t = let h = asked AtRoot (since ++ es) (Load Root) refl t in
+      record { none = h.1; on = goes_as AtRoot (answers.Call (Word_read now.root)) h.0 (root_on now.root) }
 
   size_quiet : (table : ℕ) → IsWordAnswer g c now since (Sizing table) loaded.before loaded answer es loaded' → IsQuiet (Sizing table)
-  size_quiet table t = let h = asked (Sizing table) loaded.before (SizeOf table) refl t in record { none = h.1.0; on = goes_as (Sizing table) (answers.Call (Size (g.size table) h.0.0)) h.0.2 (looks_on (first_in table (g.size table))) }
+  size_quiet table t = let h = asked (Sizing table) loaded.before (SizeOf table) refl t in
+      record { none = h.1.0; on = goes_as (Sizing table) (answers.Call (Size (g.size table) h.0.0)) h.0.2 (looks_on (first_in table (g.size table))) }
 
   look_quiet : (spot : Spot) → IsWordAnswer g c now since (Looking spot) loaded.before loaded answer es loaded' → IsQuiet (Looking spot)
   look_quiet spot t =
@@ -190,11 +205,13 @@ module _ {K P : Type 0} (g : Setting K P) (c : Coding K P) (s : Words P) (m : K 
 
     copy_why : (stage : Stage) → IsCopyAnswer g c now since stage loaded answer es loaded' → Why (Copying stage)
     copy_why stage t at e =
-        let why = resizer_why g c now (resizer_of scanner stage) loaded.copy answer es t.copy t.told refused (copied_ends stage (resizers.after_in CopyAll scanner.mode scanner.initial scanner.number answer stage) refused e) in
+        let why = resizer_why g c now (resizer_of scanner stage) loaded.copy answer es t.copy t.told refused
+        (copied_ends stage (resizers.after_in CopyAll scanner.mode scanner.initial scanner.number answer stage) refused e) in
         record {
           stage = stage;
           copying = at;
-          why = ⊎_elim (λ a. inl a) (⊎_elim (λ b. inr b) (λ (r : IsTooMuchRoom (resizer_of scanner stage) answer refused). let no = r.resize in absurd (cc no))) why;
+          why = ⊎_elim (λ a. inl a) (⊎_elim (λ b. inr b)
+              (λ (r : IsTooMuchRoom (resizer_of scanner stage) answer refused). let no = r.resize in absurd (cc no))) why;
         }
 
     pub state_why : (state : State) → IsScanTold g c now since state loaded answer es loaded' → Why state
@@ -202,13 +219,18 @@ module _ {K P : Type 0} (g : Setting K P) (c : Coding K P) (s : Words P) (m : K 
     state_why AtRoot told at e = never AtRoot (root_quiet told) at e
     state_why (Sizing table) told at e = never (Sizing table) (size_quiet table told) at e
     state_why (Looking spot) told at e = never (Looking spot) (look_quiet spot told) at e
-    state_why (Giving spot word) told at e = never (Giving spot word) (record { none = told.none; on = goes_as (Giving spot word) (answers.Call Ok) told.is (next_on spot) }) at e
-    state_why (Showing spot word) told at e = never (Showing spot word) (record { none = told.none; on = goes_as (Showing spot word) (answers.Call (Yes told.stays)) told.is (shown_on spot word told.stays) }) at e
+    state_why (Giving spot word) told at e = never (Giving spot word)
+        (record { none = told.none; on = goes_as (Giving spot word) (answers.Call Ok) told.is (next_on spot) }) at e
+    state_why (Showing spot word) told at e = never (Showing spot word)
+        (record { none = told.none; on = goes_as (Showing spot word) (answers.Call (Yes told.stays)) told.is (shown_on spot word told.stays) }) at e
     state_why (Deleting spot word) told at e =
-        by_test (code g c (now.slot spot.table spot.slot) == word) (IsDeleted g c now since spot loaded answer es loaded') (IsFoundThere g c now since spot loaded answer es loaded') (IsScanCause scanner answer refused) told
-        (λ _ t. let to : reply_in (Goes (answers.Call Exchanged) (Deleting spot word)) ≡ Some (Reply_refused refused) = ap (λ a. reply_in (Goes a (Deleting spot word))) (sym t.is) ∙ e in absurd (cc to))
+        by_test (code g c (now.slot spot.table spot.slot) == word) (IsDeleted g c now since spot loaded answer es loaded')
+        (IsFoundThere g c now since spot loaded answer es loaded') (IsScanCause scanner answer refused) told
+        (λ _ t. let to : reply_in (Goes (answers.Call Exchanged) (Deleting spot word)) ≡ Some (Reply_refused refused) = ap
+        (λ a. reply_in (Goes a (Deleting spot word))) (sym t.is) ∙ e in absurd (cc to))
         (λ _ t. never (Deleting spot word) (found_quiet spot word t) at e)
-    state_why (Uncounting spot) told at e = never (Uncounting spot) (record { none = told.1; on = goes_as (Uncounting spot) (answers.Call Ok) told.0 (next_on spot) }) at e
+    state_why (Uncounting spot) told at e = never (Uncounting spot)
+        (record { none = told.1; on = goes_as (Uncounting spot) (answers.Call Ok) told.0 (next_on spot) }) at e
     state_why Done told at e = let no = told.asks in absurd (cc no)
     state_why (Ended_refused other) told at e = let no = told.asks in absurd (cc no)
 
@@ -231,13 +253,19 @@ module _ {K P : Type 0} (g : Setting K P) (c : Coding K P) (s : Words P) (m : K 
   copy_done stage all t =
       ⊎_elim
       (λ none. inl (none, copied_owes stage (resizers.after_in CopyAll scanner.mode scanner.initial scanner.number answer stage)))
-      (λ h. let (e, one, leaves) = h in inr (inl (e, one, leaves, copied_owes stage (resizers.after_in CopyAll scanner.mode scanner.initial scanner.number answer stage))))
+      (λ h. let (e, one, leaves) = h in inr (inl
+      (e, one, leaves, copied_owes stage (resizers.after_in CopyAll scanner.mode scanner.initial scanner.number answer stage))))
       (left stage all t)
     where
       left : (stage : Stage) → IsOfAll g c s m since stage → IsCopyAnswer g c now since stage loaded answer es loaded' → Left g c es
-      left stages.AtRoot all t = let (ask, asks, told) = t.told in copy_told g c now (resizers.kind_in stages.AtRoot) (resizers.follows_in stages.AtRoot) loaded.copy ask answer es t.copy told
-      left (stages.Looking root len room) all t = let (ask, asks, told) = t.told in copy_told g c now (resizers.kind_in (stages.Looking root len room)) (resizers.follows_in (stages.Looking root len room)) loaded.copy ask answer es t.copy told
-      left (stages.Copying from copying) all t = let (ask, asks, told) = t.told in copy_told g c now (resizers.kind_in (stages.Copying from copying)) (resizers.follows_in (stages.Copying from copying)) loaded.copy ask answer es t.copy told
+      left stages.AtRoot all t = let (ask, asks, told) = t.told in
+          copy_told g c now (resizers.kind_in stages.AtRoot) (resizers.follows_in stages.AtRoot) loaded.copy ask answer es t.copy told
+      left (stages.Looking root len room) all t = let (ask, asks, told) = t.told in
+          copy_told g c now (resizers.kind_in (stages.Looking root len room)) (resizers.follows_in (stages.Looking root len room)) loaded.copy ask
+          answer es t.copy told
+      left (stages.Copying from copying) all t = let (ask, asks, told) = t.told in
+          copy_told g c now (resizers.kind_in (stages.Copying from copying)) (resizers.follows_in (stages.Copying from copying)) loaded.copy ask answer
+          es t.copy told
       left (stages.Making room) all t = absurd all
       left (stages.Opening table) all t = absurd all
       left (stages.Sizing root) all t = absurd all
@@ -246,17 +274,22 @@ module _ {K P : Type 0} (g : Setting K P) (c : Coding K P) (s : Words P) (m : K 
       left stages.Done all t = absurd all
       left (stages.Refused other) all t = absurd all
 
-  pub state_done : (state : State) → ReliesState g c s m since scanner.scan loaded state → IsScanTold g c now since state loaded answer es loaded' → DoneIn state
+  pub state_done : (state : State) → ReliesState g c s m since scanner.scan loaded state → IsScanTold g c now since state loaded answer es loaded'
+      → DoneIn state
   state_done (Copying stage) r told = copy_done stage r.1 told
   state_done AtRoot r told = quiet_done AtRoot (root_quiet told)
   state_done (Sizing table) r told = quiet_done (Sizing table) (size_quiet table told)
   state_done (Looking spot) r told = quiet_done (Looking spot) (look_quiet spot told)
-  state_done (Giving spot word) r told = quiet_done (Giving spot word) (record { none = told.none; on = goes_as (Giving spot word) (answers.Call Ok) told.is (next_on spot) })
-  state_done (Showing spot word) r told = quiet_done (Showing spot word) (record { none = told.none; on = goes_as (Showing spot word) (answers.Call (Yes told.stays)) told.is (shown_on spot word told.stays) })
+  state_done (Giving spot word) r told = quiet_done (Giving spot word)
+      (record { none = told.none; on = goes_as (Giving spot word) (answers.Call Ok) told.is (next_on spot) })
+  state_done (Showing spot word) r told = quiet_done (Showing spot word)
+      (record { none = told.none; on = goes_as (Showing spot word) (answers.Call (Yes told.stays)) told.is (shown_on spot word told.stays) })
   state_done (Deleting spot word) r told =
-      by_test (code g c (now.slot spot.table spot.slot) == word) (IsDeleted g c now since spot loaded answer es loaded') (IsFoundThere g c now since spot loaded answer es loaded') (DoneIn (Deleting spot word)) told
+      by_test (code g c (now.slot spot.table spot.slot) == word) (IsDeleted g c now since spot loaded answer es loaded')
+      (IsFoundThere g c now since spot loaded answer es loaded') (DoneIn (Deleting spot word)) told
       (λ _ t. inr (inr (spot.table, spot.slot, t.pair, t.one, takes_none word scanner.scan r.2, ap (λ a. owes_in (Goes a (Deleting spot word))) t.is)))
       (λ _ t. quiet_done (Deleting spot word) (found_quiet spot word t))
-  state_done (Uncounting spot) r told = quiet_done (Uncounting spot) (record { none = told.1; on = goes_as (Uncounting spot) (answers.Call Ok) told.0 (next_on spot) })
+  state_done (Uncounting spot) r told = quiet_done (Uncounting spot)
+      (record { none = told.1; on = goes_as (Uncounting spot) (answers.Call Ok) told.0 (next_on spot) })
   state_done Done r told = let no = told.asks in absurd (cc no)
   state_done (Ended_refused other) r told = let no = told.asks in absurd (cc no)

@@ -1,5 +1,7 @@
 -- What was done about each key's pair, slot by slot, since the table was taken.
-use Rattle.std.proofs.Common.{◌≡◌, ◌⊎◌, inl, inr, ⊎_elim, ℕ, suc, ◌<◌, ◌≤◌, Bool, true, false, Option, None, Some, List, [], ◌∷◌, ◌++◌, append_assoc, append-nil, refl, sym, ap, ◌∙◌, subst, arith}
+use Rattle.std.proofs.Common.{◌≡◌, ◌⊎◌, inl, inr, ⊎_elim, ℕ, suc, ◌<◌, ◌≤◌, Bool, true, false}
+use Rattle.std.proofs.Common.{Option, None, Some, List, [], ◌∷◌, ◌++◌, append_assoc, append-nil}
+use Rattle.std.proofs.Common.{refl, sym, ap, ◌∙◌, subst, arith}
 use Rattle.std.proofs.lemmas.Bool.{cases_Bool, cases_order, cond-true, cond-false}
 use Rattle.papaya_law.specs.Allows.{AllAllowed}
 use Rattle.papaya_law.specs.Class.{IsBase, IsOn}
@@ -24,8 +26,15 @@ use Rattle.papaya_chain_law.specs.Scans.{IsDealtWith, IsHeldIn, IsKept, IsMetIn,
 use Rattle.papaya_chain_law.proofs.ScanTaken.{last_taken, live_or_taken, taken_same, taken_stable, tombstone_taken}
 
 -- a moment is one for good
-pub moment_stable : {K P : Type 0} (g : Setting K P) (m : K → Option P) (fs es : List (Exchange P)) (k : K) (v : Option P) → IsAtMoment g m fs k v → IsAtMoment g m (fs ++ es) k v
-moment_stable g m fs es k v r = record { so_far = r.so_far; rest = r.rest ++ es; is = sym (append_assoc r.so_far r.rest es) ∙ ap (λ l. l ++ es) r.is; value_is = r.value_is }
+pub moment_stable : {K P : Type 0} (g : Setting K P) (m : K → Option P) (fs es : List (Exchange P)) (k : K) (v : Option P) → IsAtMoment g m fs k v
+    → IsAtMoment g m (fs ++ es) k v
+moment_stable g m fs es k v r = record {
+  so_far = r.so_far;
+  rest = r.rest ++ es;
+  is = sym (append_assoc r.so_far r.rest es)
+      ∙ ap (λ l. l ++ es) r.is;
+  value_is = r.value_is;
+}
 
 module _ {K P : Type 0} (g : Setting K P) (s : Words P) (m : K → Option P) (table : ℕ) where
   -- what is not owed any more is not owed later
@@ -37,12 +46,14 @@ module _ {K P : Type 0} (g : Setting K P) (s : Words P) (m : K → Option P) (ta
   out_stable fs es Retain k (inr taken) = inr (taken_stable g fs es k taken)
 
   -- and what was done
-  pub dealt_stable : (fs es : List (Exchange P)) (scan : Scan) (loaded : LoadedPairs P) (slot upto : ℕ) (k : K) → IsDealtWith g s m fs table scan loaded slot upto k → IsDealtWith g s m (fs ++ es) table scan loaded slot upto k
+  pub dealt_stable : (fs es : List (Exchange P)) (scan : Scan) (loaded : LoadedPairs P) (slot upto : ℕ) (k : K)
+      → IsDealtWith g s m fs table scan loaded slot upto k → IsDealtWith g s m (fs ++ es) table scan loaded slot upto k
   dealt_stable fs es Walk loaded slot upto k r = r
   dealt_stable fs es Clear loaded slot upto k r = r
   dealt_stable fs es Retain loaded slot upto k r = r
 
-  pub scanned_stable : (fs es : List (Exchange P)) (scan : Scan) (loaded : LoadedPairs P) (upto : ℕ) (k : K) → IsScannedTo g s m fs table scan loaded upto k → IsScannedTo g s m (fs ++ es) table scan loaded upto k
+  pub scanned_stable : (fs es : List (Exchange P)) (scan : Scan) (loaded : LoadedPairs P) (upto : ℕ) (k : K)
+      → IsScannedTo g s m fs table scan loaded upto k → IsScannedTo g s m (fs ++ es) table scan loaded upto k
   scanned_stable fs es scan loaded upto k (inl out) = inl (out_stable fs es scan k out)
   scanned_stable fs es scan loaded upto k (inr (slot, r, dealt)) = inr (slot, r, dealt_stable fs es scan loaded slot upto k dealt)
 
@@ -51,9 +62,11 @@ module _ {K P : Type 0} (g : Setting K P) (s : Words P) (m : K → Option P) (ta
   pair_stable fs es Clear p k r = r
   pair_stable fs es Retain p k r = r
 
-  pub met_stable : (fs es : List (Exchange P)) (scan : Scan) (loaded : LoadedPairs P) (upto : ℕ) (p : P) (k : K) → IsMetIn g s m fs table scan loaded upto p k → IsMetIn g s m (fs ++ es) table scan loaded upto p k
+  pub met_stable : (fs es : List (Exchange P)) (scan : Scan) (loaded : LoadedPairs P) (upto : ℕ) (p : P) (k : K)
+      → IsMetIn g s m fs table scan loaded upto p k → IsMetIn g s m (fs ++ es) table scan loaded upto p k
   met_stable fs es scan loaded upto p k (inl out) = inl (out_stable fs es scan k out)
-  met_stable fs es scan loaded upto p k (inr (slot, r, dealt, here, only)) = inr (slot, r, dealt_stable fs es scan loaded slot upto k dealt, (λ e. pair_stable fs es scan p k (here e)), only)
+  met_stable fs es scan loaded upto p k (inr (slot, r, dealt, here, only)) = inr
+      (slot, r, dealt_stable fs es scan loaded slot upto k dealt, (λ e. pair_stable fs es scan p k (here e)), only)
 
 -- no pair of a key is in these words: nothing stands there, or what stood there was deleted
 abbrev pub IsPast : {P : Type 0} → Word P → Type 0
@@ -64,7 +77,8 @@ IsPast _ = ⊥
 
 module _ {K P : Type 0} (g : Setting K P) (s : Words P) (m : K → Option P) (fs : List (Exchange P)) (table : ℕ) where
   -- a slot that is not the one to which the scan has come
-  dealt_on : (scan : Scan) (loaded : LoadedPairs P) (slot upto : ℕ) (k : K) → (slot ≡ upto → ⊥) → IsDealtWith g s m fs table scan loaded slot upto k → IsDealtWith g s m fs table scan loaded slot (suc upto) k
+  dealt_on : (scan : Scan) (loaded : LoadedPairs P) (slot upto : ℕ) (k : K) → (slot ≡ upto → ⊥) → IsDealtWith g s m fs table scan loaded slot upto k
+      → IsDealtWith g s m fs table scan loaded slot (suc upto) k
   dealt_on Walk loaded slot upto k other (inl (le, count)) = inl (omega (arith, le, other), count)
   dealt_on Walk loaded slot upto k other (inr (lt, count)) = inr (omega (arith, lt), count)
   dealt_on Clear loaded slot upto k other le = omega (arith, le, other)
@@ -84,7 +98,8 @@ module _ {K P : Type 0} (g : Setting K P) (s : Words P) (m : K → Option P) (fs
   dealt_first Retain loaded none slot k = inl (omega arith)
 
 -- The words were s and the map m, which the words keep, as the table was taken: it was the root and, without blocking, had no next table.
-module _ {K P : Type 0} (g : Setting K P) (law : IsLawful g) (s : Words P) (m : K → Option P) (keeps : IsKeeping g s m) (table : ℕ) (root : s.root ≡ table) (some : 0 < table) (last : g.blocking ≡ false → s.next table ≡ 0) (fs : List (Exchange P)) (may : AllAllowed g s fs) where
+module _ {K P : Type 0} (g : Setting K P) (law : IsLawful g) (s : Words P) (m : K → Option P) (keeps : IsKeeping g s m) (table : ℕ)
+    (root : s.root ≡ table) (some : 0 < table) (last : g.blocking ≡ false → s.next table ≡ 0) (fs : List (Exchange P)) (may : AllAllowed g s fs) where
   -- the words after all exchanges
   abbrev now : Words P
   now = run fs s
@@ -142,7 +157,8 @@ module _ {K P : Type 0} (g : Setting K P) (law : IsLawful g) (s : Words P) (m : 
     pub names_same : (w : Word P) → now.slot table slot ≡ w → (q : P) × (named w ≡ Some q) × (g.same k (g.key q) ≡ true)
     names_same w e = by_old was_held.0 was_held.2 was_held.1 w e
       where
-        by_old : (p : P) → g.same k (g.key p) ≡ true → Holds (s.slot table slot) p → (w : Word P) → now.slot table slot ≡ w → (q : P) × (named w ≡ Some q) × (g.same k (g.key q) ≡ true)
+        by_old : (p : P) → g.same k (g.key p) ≡ true → Holds (s.slot table slot) p → (w : Word P) → now.slot table slot ≡ w → (q : P)
+            × (named w ≡ Some q) × (g.same k (g.key q) ≡ true)
         by_old p same (inl h) Empty e = absurd (became slot (Live p) Empty h e)
         by_old p same (inl h) Closed e = absurd (became slot (Live p) Closed h e)
         by_old p same (inl h) (Live q) e = (q, refl, still p q same (became slot (Live p) (Live q) h e))
@@ -184,16 +200,19 @@ module _ {K P : Type 0} (g : Setting K P) (law : IsLawful g) (s : Words P) (m : 
     past_out scan (Copied q) e past = absurd past
 
   -- the scan goes past such a slot
-  pub scan_passes : (scan : Scan) (loaded : LoadedPairs P) (upto : ℕ) (w : Word P) → now.slot table upto ≡ w → IsPast w → (k : K) → IsScannedTo g s m fs table scan loaded upto k → IsScannedTo g s m fs table scan loaded (suc upto) k
+  pub scan_passes : (scan : Scan) (loaded : LoadedPairs P) (upto : ℕ) (w : Word P) → now.slot table upto ≡ w → IsPast w → (k : K)
+      → IsScannedTo g s m fs table scan loaded upto k → IsScannedTo g s m fs table scan loaded (suc upto) k
   scan_passes scan loaded upto w e past k (inl out) = inl out
   scan_passes scan loaded upto w e past k (inr (slot, r, dealt)) =
       ⊎_elim
       (λ (is : slot ≡ upto). inl (past_out k slot r scan w (ap (now.slot table) is ∙ e) past))
-      (λ (o : (slot < upto) ⊎ (upto < slot)). let other : (slot ≡ upto → ⊥) = (λ is. ⊎_elim (λ a. omega (arith, a, is)) (λ b. omega (arith, b, is)) o) in inr (slot, r, dealt_on g s m fs table scan loaded slot upto k other dealt))
+      (λ (o : (slot < upto) ⊎ (upto < slot)). let other : (slot ≡ upto → ⊥) = (λ is. ⊎_elim (λ a. omega (arith, a, is)) (λ b. omega (arith, b, is)) o)
+      in inr (slot, r, dealt_on g s m fs table scan loaded slot upto k other dealt))
       (cases_order slot upto)
 
   -- and past one whose pair is deleted
-  pub scan_deletes : (scan : Scan) (loaded : LoadedPairs P) (upto : ℕ) (p : P) → now.slot table upto ≡ Live p → (scan ≡ Walk → ⊥) → (k : K) → IsScannedTo g s m fs table scan loaded upto k → IsScannedTo g s m (fs ++ Delete table upto p ∷ []) table scan loaded (suc upto) k
+  pub scan_deletes : (scan : Scan) (loaded : LoadedPairs P) (upto : ℕ) (p : P) → now.slot table upto ≡ Live p → (scan ≡ Walk → ⊥) → (k : K)
+      → IsScannedTo g s m fs table scan loaded upto k → IsScannedTo g s m (fs ++ Delete table upto p ∷ []) table scan loaded (suc upto) k
   scan_deletes scan loaded upto p live takes k (inl out) = inl (out_stable g s m table fs (Delete table upto p ∷ []) scan k out)
   scan_deletes scan loaded upto p live takes k (inr (slot, r, dealt)) =
       ⊎_elim
@@ -202,7 +221,12 @@ module _ {K P : Type 0} (g : Setting K P) (law : IsLawful g) (s : Words P) (m : 
       let one : p ≡ q = cc name in
       inl (taken_out scan takes (ap (λ o. g.same k (g.key o)) one ∙ same)))
       (λ (o : (slot < upto) ⊎ (upto < slot)). let other : (slot ≡ upto → ⊥) = (λ is. ⊎_elim (λ a. omega (arith, a, is)) (λ b. omega (arith, b, is)) o) in
-      inr (slot, r, dealt_stable g s m table fs (Delete table upto p ∷ []) scan loaded slot (suc upto) k (dealt_on g s m fs table scan loaded slot upto k other dealt)))
+      inr (
+        slot,
+        r,
+        dealt_stable g s m table fs (Delete table upto p ∷ []) scan loaded slot (suc upto) k
+            (dealt_on g s m fs table scan loaded slot upto k other dealt),
+      ))
       (cases_order slot upto)
     where
       taken_out : (scan : Scan) → (scan ≡ Walk → ⊥) → g.same k (g.key p) ≡ true → IsOut g s m (fs ++ Delete table upto p ∷ []) table scan k
@@ -211,7 +235,8 @@ module _ {K P : Type 0} (g : Setting K P) (law : IsLawful g) (s : Words P) (m : 
       taken_out Retain takes same = inr (last_taken g (Delete table upto p) fs k same)
 
   -- at one moment a table has one slot in which a key's pair is, or was until it was copied
-  one_slot : (k : K) (i j : ℕ) → i < g.places table → j < g.places table → active (look g now k table i) ≡ true → active (look g now k table j) ≡ true → g.place k table i ≡ g.place k table j
+  one_slot : (k : K) (i j : ℕ) → i < g.places table → j < g.places table → active (look g now k table i) ≡ true → active (look g now k table j) ≡ true
+      → g.place k table i ≡ g.place k table j
   one_slot k i j a b x y =
       let base : IsBase (IsOn now.first now.next) g.places (g.place k) (look g now k) = ⊎_elim (λ h. (h.1.class k).base) (λ h. (h.1.class k).base) keeps_now in
       base.one table i j a b x y
@@ -262,7 +287,8 @@ module _ {K P : Type 0} (g : Setting K P) (law : IsLawful g) (s : Words P) (m : 
       (p, h, same, (means g law s m keeps k).found table r.at p (reached k) (λ b. root) r.within seen)
 
   -- a pair that is met is the key's whose pair was held in the slot
-  is_pair : (scan : Scan) (k : K) (slot : ℕ) (p : P) → IsHeldIn g s table k slot → (scan ≡ Retain → now.slot table slot ≡ Live p) → g.same k (g.key p) ≡ true → IsOut g s m fs table scan k ⊎ IsPairOf g s m fs table scan p k
+  is_pair : (scan : Scan) (k : K) (slot : ℕ) (p : P) → IsHeldIn g s table k slot → (scan ≡ Retain → now.slot table slot ≡ Live p)
+      → g.same k (g.key p) ≡ true → IsOut g s m fs table scan k ⊎ IsPairOf g s m fs table scan p k
   is_pair Walk k slot p r live same = inr same
   is_pair Clear k slot p r live same = inr same
   is_pair Retain k slot p r live same =
@@ -276,7 +302,8 @@ module _ {K P : Type 0} (g : Setting K P) (law : IsLawful g) (s : Words P) (m : 
       h
 
   -- a pair is met in the slot to which the scan has come
-  pub scan_meets : (scan : Scan) (loaded : LoadedPairs P) (upto : ℕ) (w : Word P) (p : P) → now.slot table upto ≡ w → HasPair w p → (scan ≡ Retain → w ≡ Live p) → (k : K) → IsScannedTo g s m fs table scan loaded upto k → IsMetIn g s m fs table scan loaded upto p k
+  pub scan_meets : (scan : Scan) (loaded : LoadedPairs P) (upto : ℕ) (w : Word P) (p : P) → now.slot table upto ≡ w → HasPair w p
+      → (scan ≡ Retain → w ≡ Live p) → (k : K) → IsScannedTo g s m fs table scan loaded upto k → IsMetIn g s m fs table scan loaded upto p k
   scan_meets scan loaded upto w p e has live k (inl out) = inl out
   scan_meets scan loaded upto w p e has live k (inr (slot, r, dealt)) =
       ⊎_elim
@@ -300,7 +327,8 @@ module _ {K P : Type 0} (g : Setting K P) (law : IsLawful g) (s : Words P) (m : 
       here : g.same k (g.key p) ≡ true → active (look g now k table r.at) ≡ true → slot ≡ upto
       here same there =
           let (j, within, is) = own_place g now (keeping_sound g now (map_of g m fs) keeps_now) law k table upto p same name in
-          let there' : active (look g now k table j) ≡ true = ap (λ x. active (view g k (now.slot table x))) is ∙ (ap (λ v. active (view g k v)) e ∙ pair_active k w p has same) in
+          let there' : active (look g now k table j) ≡ true = ap (λ x. active (view g k (now.slot table x))) is
+          ∙ (ap (λ v. active (view g k v)) e ∙ pair_active k w p has same) in
           sym r.is ∙ (one_slot k r.at j r.within within there there' ∙ is)
 
       apart : g.same k (g.key p) ≡ false → slot ≡ upto → ⊥
@@ -312,7 +340,8 @@ module _ {K P : Type 0} (g : Setting K P) (law : IsLawful g) (s : Words P) (m : 
           cc (other, no)
 
   -- it is given
-  pub scan_gives : (loaded : LoadedPairs P) (upto : ℕ) (p : P) (k : K) → IsMetIn g s m fs table Walk loaded upto p k → IsScannedTo g s m fs table Walk (record loaded { given = p ∷ loaded.given }) (suc upto) k
+  pub scan_gives : (loaded : LoadedPairs P) (upto : ℕ) (p : P) (k : K) → IsMetIn g s m fs table Walk loaded upto p k
+      → IsScannedTo g s m fs table Walk (record loaded { given = p ∷ loaded.given }) (suc upto) k
   scan_gives loaded upto p k (inl out) = inl out
   scan_gives loaded upto p k (inr (slot, r, dealt, mine, only)) =
       ⊎_elim
@@ -322,13 +351,15 @@ module _ {K P : Type 0} (g : Setting K P) (law : IsLawful g) (s : Words P) (m : 
         slot,
         r,
         ⊎_elim
-            (λ (a : (upto ≤ slot) × (count_of g loaded.given k ≡ 0)). inr (omega (arith, is), cond-true (g.same k (g.key p)) (suc (count_of g loaded.given k)) (count_of g loaded.given k) same ∙ ap suc a.1))
+            (λ (a : (upto ≤ slot) × (count_of g loaded.given k ≡ 0)).
+            inr (omega (arith, is), cond-true (g.same k (g.key p)) (suc (count_of g loaded.given k)) (count_of g loaded.given k) same ∙ ap suc a.1))
             (λ (b : (slot < upto) × (count_of g loaded.given k ≡ 1)). let lt = b.0 in absurd (omega (arith, is, lt)))
             dealt,
       ))
       (λ (no : g.same k (g.key p) ≡ false).
       let other : (slot ≡ upto → ⊥) = (λ is. let yes' = mine is in cc (yes', no)) in
-      let count : count_of g (p ∷ loaded.given) k ≡ count_of g loaded.given k = cond-false (g.same k (g.key p)) (suc (count_of g loaded.given k)) (count_of g loaded.given k) no in
+      let count : count_of g (p ∷ loaded.given) k ≡ count_of g loaded.given k = cond-false (g.same k (g.key p)) (suc (count_of g loaded.given k))
+      (count_of g loaded.given k) no in
       inr (
         slot,
         r,
@@ -340,7 +371,9 @@ module _ {K P : Type 0} (g : Setting K P) (law : IsLawful g) (s : Words P) (m : 
       (cases_Bool (g.same k (g.key p)))
 
   -- it is shown: an answer to another pair changes nothing
-  answered : (loaded : LoadedPairs P) (slot upto : ℕ) (p : P) (stays : Bool) (k : K) → IsHeldIn g s table k slot → (g.same k (g.key p) ≡ true → slot ≡ upto) → slot < upto → IsKept g s m fs table loaded k → IsKept g s m fs table (record loaded { shown = (p, stays) ∷ loaded.shown }) k
+  answered : (loaded : LoadedPairs P) (slot upto : ℕ) (p : P) (stays : Bool) (k : K) → IsHeldIn g s table k slot
+      → (g.same k (g.key p) ≡ true → slot ≡ upto) → slot < upto → IsKept g s m fs table loaded k
+      → IsKept g s m fs table (record loaded { shown = (p, stays) ∷ loaded.shown }) k
   answered loaded slot upto p stays k r only lt (q, had, answer) = (q, had, inr (apart, answer))
     where
       apart : p ≡ q → ⊥
@@ -351,7 +384,8 @@ module _ {K P : Type 0} (g : Setting K P) (law : IsLawful g) (s : Words P) (m : 
           omega (arith, is, lt)
 
   -- where it stays the scan goes on
-  pub scan_keeps : (loaded : LoadedPairs P) (upto : ℕ) (p : P) (k : K) → IsMetIn g s m fs table Retain loaded upto p k → IsScannedTo g s m fs table Retain (record loaded { shown = (p, true) ∷ loaded.shown }) (suc upto) k
+  pub scan_keeps : (loaded : LoadedPairs P) (upto : ℕ) (p : P) (k : K) → IsMetIn g s m fs table Retain loaded upto p k
+      → IsScannedTo g s m fs table Retain (record loaded { shown = (p, true) ∷ loaded.shown }) (suc upto) k
   scan_keeps loaded upto p k (inl out) = inl out
   scan_keeps loaded upto p k (inr (slot, r, dealt, mine, only)) =
       ⊎_elim
@@ -371,7 +405,8 @@ module _ {K P : Type 0} (g : Setting K P) (law : IsLawful g) (s : Words P) (m : 
       (cases_order slot upto)
 
   -- else it is to be deleted
-  pub scan_drops : (loaded : LoadedPairs P) (upto : ℕ) (p : P) (k : K) → IsMetIn g s m fs table Retain loaded upto p k → IsScannedTo g s m fs table Retain (record loaded { shown = (p, false) ∷ loaded.shown }) upto k
+  pub scan_drops : (loaded : LoadedPairs P) (upto : ℕ) (p : P) (k : K) → IsMetIn g s m fs table Retain loaded upto p k
+      → IsScannedTo g s m fs table Retain (record loaded { shown = (p, false) ∷ loaded.shown }) upto k
   scan_drops loaded upto p k (inl out) = inl out
   scan_drops loaded upto p k (inr (slot, r, dealt, mine, only)) =
       inr (
@@ -392,14 +427,23 @@ module _ {K P : Type 0} (g : Setting K P) (law : IsLawful g) (s : Words P) (m : 
       by_word j within (ap (now.slot table) is ∙ e) has
     where
       -- what is held is found
-      found : (j : ℕ) → j < g.places table → (look g now (g.key p) table j ≡ Here p) ⊎ (look g now (g.key p) table j ≡ Leaving p) → IsAtMoment g m fs (g.key p) (Some p)
+      found : (j : ℕ) → j < g.places table → (look g now (g.key p) table j ≡ Here p) ⊎ (look g now (g.key p) table j ≡ Leaving p)
+          → IsAtMoment g m fs (g.key p) (Some p)
       found j within h =
           ⊎_elim
-          (λ blocks. slow_found g law blocks s m (⊎_elim (λ i. absurd (let no = i.0 in cc (no, blocks))) (λ b. b.1) keeps) table root some fs may (g.key p) j p within h)
-          (λ inc. record { so_far = fs; rest = []; is = append-nil fs; value_is = (means g law now (map_of g m fs) keeps_now (g.key p)).found table j p (reached_now (g.key p)) (λ b. absurd (cc (b, inc))) within h })
+          (λ blocks. slow_found g law blocks s m (⊎_elim (λ i. absurd (let no = i.0 in cc (no, blocks))) (λ b. b.1) keeps) table root some fs may
+          (g.key p) j p within h)
+          (λ inc. record {
+            so_far = fs;
+            rest = [];
+            is = append-nil fs;
+            value_is = (means g law now (map_of g m fs) keeps_now (g.key p)).found table j
+                p (reached_now (g.key p)) (λ b. absurd (cc (b, inc))) within h;
+          })
           (cases_Bool g.blocking)
 
-      here : (j : ℕ) (u : Word P) (v : View P) → now.slot table (g.place (g.key p) table j) ≡ u → (g.same (g.key p) (g.key p) ≡ true → view g (g.key p) u ≡ v) → look g now (g.key p) table j ≡ v
+      here : (j : ℕ) (u : Word P) (v : View P) → now.slot table (g.place (g.key p) table j) ≡ u
+          → (g.same (g.key p) (g.key p) ≡ true → view g (g.key p) u ≡ v) → look g now (g.key p) table j ≡ v
       here j u v a b = ap (view g (g.key p)) a ∙ b (law.itself (g.key p))
 
       -- a table without a next one had no copied word
@@ -411,9 +455,11 @@ module _ {K P : Type 0} (g : Setting K P) (law : IsLawful g) (s : Words P) (m : 
 
       by_word : (j : ℕ) → j < g.places table → now.slot table (g.place (g.key p) table j) ≡ w → HasPair w p → IsAtMoment g m fs (g.key p) (Some p)
       by_word j within a (inl b) = found j within (inl (here j (Live p) (Here p) (a ∙ b) (λ y. cond-true (g.same (g.key p) (g.key p)) (Here p) Foreign y)))
-      by_word j within a (inr (inl b)) = found j within (inr (here j (Marked p) (Leaving p) (a ∙ b) (λ y. cond-true (g.same (g.key p) (g.key p)) (Leaving p) Foreign y)))
+      by_word j within a (inr (inl b)) = found j within
+          (inr (here j (Marked p) (Leaving p) (a ∙ b) (λ y. cond-true (g.same (g.key p) (g.key p)) (Leaving p) Foreign y)))
       by_word j within a (inr (inr b)) =
           ⊎_elim
           (λ blocks. absurd ((blocking_state g now (map_of g m fs) keeps_now blocks).copied table (g.place (g.key p) table j) p (a ∙ b)))
-          (λ inc. copied_since g law inc s m (incremental_state g s m keeps inc) (g.key p) table j p fs may (reached (g.key p)) within (not_gone inc j) (here j (Copied p) (Gone p) (a ∙ b) (λ y. cond-true (g.same (g.key p) (g.key p)) (Gone p) Foreign y)))
+          (λ inc. copied_since g law inc s m (incremental_state g s m keeps inc) (g.key p) table j p fs may (reached (g.key p)) within
+          (not_gone inc j) (here j (Copied p) (Gone p) (a ∙ b) (λ y. cond-true (g.same (g.key p) (g.key p)) (Gone p) Foreign y)))
           (cases_Bool g.blocking)

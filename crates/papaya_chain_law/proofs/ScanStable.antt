@@ -27,7 +27,8 @@ module _ {K P : Type 0} (g : Setting K P) (c : Coding K P) (s : Words P) (m : K 
   more_behind : (es fs : List (Exchange P)) → es ++ fs ≡ since → es ++ (fs ++ more) ≡ since ++ more
   more_behind es fs is = sym (append_assoc es fs more) ∙ ap (λ l. l ++ more) is
 
-  pub taking_stable : (table : ℕ) (loaded : LoadedPairs P) (es fs : List (Exchange P)) → IsTaking g c s m since table loaded es fs → IsTaking g c s m (since ++ more) table loaded es (fs ++ more)
+  pub taking_stable : (table : ℕ) (loaded : LoadedPairs P) (es fs : List (Exchange P)) → IsTaking g c s m since table loaded es fs
+      → IsTaking g c s m (since ++ more) table loaded es (fs ++ more)
   taking_stable table loaded es fs r = record {
     is = more_behind es fs r.is;
     moment = r.moment;
@@ -37,7 +38,8 @@ module _ {K P : Type 0} (g : Setting K P) (c : Coding K P) (s : Words P) (m : K 
     given = λ p one. moment_stable g (map_of g m es) fs more (g.key p) (Some p) (r.given p one);
   }
 
-  pub scanning_stable : (scan : Scan) (loaded : LoadedPairs P) (table upto : ℕ) → IsScanning g c s m since scan loaded table upto → IsScanning g c s m (since ++ more) scan loaded table upto
+  pub scanning_stable : (scan : Scan) (loaded : LoadedPairs P) (table upto : ℕ) → IsScanning g c s m since scan loaded table upto
+      → IsScanning g c s m (since ++ more) scan loaded table upto
   scanning_stable scan loaded table upto r = record {
     es = r.es;
     fs = r.fs ++ more;
@@ -45,7 +47,8 @@ module _ {K P : Type 0} (g : Setting K P) (c : Coding K P) (s : Words P) (m : K 
     each = λ k. scanned_stable g (run r.es s) (map_of g m r.es) table r.fs more scan loaded upto k (r.each k);
   }
 
-  meeting_stable : (scan : Scan) (loaded : LoadedPairs P) (spot : Spot) (word : ℕ) → IsMeeting g c s m since scan loaded spot word → IsMeeting g c s m (since ++ more) scan loaded spot word
+  meeting_stable : (scan : Scan) (loaded : LoadedPairs P) (spot : Spot) (word : ℕ) → IsMeeting g c s m since scan loaded spot word
+      → IsMeeting g c s m (since ++ more) scan loaded spot word
   meeting_stable scan loaded spot word r = record {
     es = r.es;
     fs = r.fs ++ more;
@@ -73,12 +76,16 @@ module _ {K P : Type 0} (g : Setting K P) (c : Coding K P) (s : Words P) (m : K 
 
   module _ (hashed : IsHashed g c) (keeps : IsKeeping g s m) (may : AllAllowed g s (since ++ more)) where
     -- the copy of all
-    stage_more : (stage : Stage) (loaded : LoadedPairs P) → ReliesStage g c (run since s) loaded.copy stage → ReliesStage g c (run (since ++ more) s) loaded.copy stage
-    stage_more stage loaded r = subst (λ w. ReliesStage g c w loaded.copy stage) (sym (run-append since more s)) (stage_stable g c hashed (run since s) (map_of g m since) (run_keeps g hashed.lawful since s m keeps (allowed_first g since more s may)) more (allowed_rest g since more s may) loaded.copy stage r)
+    stage_more : (stage : Stage) (loaded : LoadedPairs P) → ReliesStage g c (run since s) loaded.copy stage
+        → ReliesStage g c (run (since ++ more) s) loaded.copy stage
+    stage_more stage loaded r = subst (λ w. ReliesStage g c w loaded.copy stage) (sym (run-append since more s))
+        (stage_stable g c hashed (run since s) (map_of g m since) (run_keeps g hashed.lawful since s m keeps (allowed_first g since more s may)) more
+        (allowed_rest g since more s may) loaded.copy stage r)
 
     -- what was the root was it for good
     was_more : (table : ℕ) → (run since s).was_root table ≡ true → (run (since ++ more) s).was_root table ≡ true
-    was_more table was = subst (λ w. w.was_root table ≡ true) (sym (run-append since more s)) ((later_run g hashed.lawful more (run since s) (allowed_rest g since more s may)).was table was)
+    was_more table was = subst (λ w. w.was_root table ≡ true) (sym (run-append since more s))
+        ((later_run g hashed.lawful more (run since s) (allowed_rest g since more s may)).was table was)
 
     all_more : (stage : Stage) → IsOfAll g c s m since stage → IsOfAll g c s m (since ++ more) stage
     all_more stages.AtRoot r = tt
@@ -92,7 +99,8 @@ module _ {K P : Type 0} (g : Setting K P) (c : Coding K P) (s : Words P) (m : K 
     all_more stages.Done r = absurd r
     all_more (stages.Refused refused) r = absurd r
 
-    pub state_stable : (scan : Scan) (loaded : LoadedPairs P) (state : State) → ReliesState g c s m since scan loaded state → ReliesState g c s m (since ++ more) scan loaded state
+    pub state_stable : (scan : Scan) (loaded : LoadedPairs P) (state : State) → ReliesState g c s m since scan loaded state
+        → ReliesState g c s m (since ++ more) scan loaded state
     state_stable scan loaded (Copying stage) r = (r.0, all_more stage r.1, stage_more stage loaded r.2)
     state_stable scan loaded AtRoot r = r
     state_stable scan loaded (Sizing table) r = (r.0, scanning_stable scan loaded table 0 r.1)

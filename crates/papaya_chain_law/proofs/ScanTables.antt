@@ -5,7 +5,9 @@ use Rattle.papaya_chain.specs.declared.resizer.State.TheVariants as stages
 use Rattle.papaya_law.specs.Allows.{AllAllowed}
 use Rattle.papaya_law.specs.Class.{IsOn}
 use Rattle.papaya_law.specs.Code.{Coding, IsHashed}
-use Rattle.papaya_law.specs.Exchange.{Setting, State as Words, Exchange, Open, Claim, Replace, Delete, Link, Mark, Close, Place, Finish, Advance, Promote, Abort, Take, run}
+use Rattle.papaya_law.specs.Exchange.{Setting, State as Words, Exchange, Open, Claim, Replace}
+use Rattle.papaya_law.specs.Exchange.{Delete, Link, Mark, Close, Place, Finish, Advance, Promote}
+use Rattle.papaya_law.specs.Exchange.{Abort, Take, run}
 use Rattle.papaya_law.specs.Grows.{Agrees}
 use Rattle.papaya_law.specs.Invariant.{IsKeeping}
 use Rattle.papaya_law.specs.Meaning.{IsAtMoment, map_of}
@@ -21,7 +23,9 @@ use Rattle.papaya_chain.specs.declared.scanner.Scan.{Scan}
 use Rattle.papaya_chain.specs.declared.scanner.Scan.TheVariants.{Clear, Retain, Walk}
 use Rattle.papaya_chain_law.specs.ScanTaken.{IsTakenOut, takes_out}
 use Rattle.papaya_chain_law.specs.ScanTold.{LoadedPairs, count_of}
-use Rattle.papaya_chain_law.specs.Scans.{GivesNone, HasScanned, IsDealtWith, IsHeldIn, IsMeeting, IsMetIn, IsOfAll, IsOut, IsPairOf, IsScannedTo, IsScanning, IsSpot, IsTaking, MayTake, ReliesState, Takes}
+use Rattle.papaya_chain_law.specs.Scans.{GivesNone, HasScanned, IsDealtWith, IsHeldIn, IsMeeting}
+use Rattle.papaya_chain_law.specs.Scans.{IsMetIn, IsOfAll, IsOut, IsPairOf, IsScannedTo, IsScanning}
+use Rattle.papaya_chain_law.specs.Scans.{IsSpot, IsTaking, MayTake, ReliesState, Takes}
 use Rattle.papaya_chain_law.proofs.ScanAsks.{keeps_since, keeps_then, may_then, now_is, table_on}
 
 module _ {K P : Type 0} (g g' : Setting K P) (On : ℕ → Type 0) (agrees : Agrees On g g') where
@@ -51,20 +55,30 @@ module _ {K P : Type 0} (g g' : Setting K P) (On : ℕ → Type 0) (agrees : Agr
   -- how many pairs have a key
   count_carries : (ps : List P) (k : K) → count_of g' ps k ≡ count_of g ps k
   count_carries [] k = refl
-  count_carries (p ∷ older) k = ap (λ b. cond b (suc (count_of g' older k)) (count_of g' older k)) (same_key k p) ∙ ap (λ n. cond (g.same k (g.key p)) (suc n) n) (count_carries older k)
+  count_carries (p ∷ older) k = ap (λ b. cond b (suc (count_of g' older k)) (count_of g' older k)) (same_key k p)
+      ∙ ap (λ n. cond (g.same k (g.key p)) (suc n) n) (count_carries older k)
 
   -- a moment is one
   moment_carries : (m : K → Option P) (fs : List (Exchange P)) (k : K) (v : Option P) → IsAtMoment g m fs k v → IsAtMoment g' m fs k v
-  moment_carries m fs k v r = record { so_far = r.so_far; rest = r.rest; is = r.is; value_is = ap (λ f. f k) (map_of_carries g g' On agrees r.so_far m) ∙ r.value_is }
+  moment_carries m fs k v r = record {
+    so_far = r.so_far;
+    rest = r.rest;
+    is = r.is;
+    value_is = ap (λ f. f k)
+        (map_of_carries g g' On agrees r.so_far m) ∙ r.value_is;
+  }
 
   -- so too of the map that a list left, and of a pair's own key
-  moment_after : (m : K → Option P) (es fs : List (Exchange P)) (k : K) (v : Option P) → IsAtMoment g (map_of g m es) fs k v → IsAtMoment g' (map_of g' m es) fs k v
+  moment_after : (m : K → Option P) (es fs : List (Exchange P)) (k : K) (v : Option P) → IsAtMoment g (map_of g m es) fs k v
+      → IsAtMoment g' (map_of g' m es) fs k v
   moment_after m es fs k v r = subst (λ f. IsAtMoment g' f fs k v) (sym (map_of_carries g g' On agrees es m)) (moment_carries (map_of g m es) fs k v r)
 
-  moment_pair : (m : K → Option P) (es fs : List (Exchange P)) (p : P) → IsAtMoment g (map_of g m es) fs (g.key p) (Some p) → IsAtMoment g' (map_of g' m es) fs (g'.key p) (Some p)
+  moment_pair : (m : K → Option P) (es fs : List (Exchange P)) (p : P) → IsAtMoment g (map_of g m es) fs (g.key p) (Some p)
+      → IsAtMoment g' (map_of g' m es) fs (g'.key p) (Some p)
   moment_pair m es fs p r = subst (λ k. IsAtMoment g' (map_of g' m es) fs k (Some p)) (sym (agrees.key p)) (moment_after m es fs (g.key p) (Some p) r)
 
-  module _ (s : Words P) (m : K → Option P) (fs : List (Exchange P)) (table : ℕ) (held_carries : (k : K) (slot : ℕ) → IsHeldIn g s table k slot → IsHeldIn g' s table k slot) where
+  module _ (s : Words P) (m : K → Option P) (fs : List (Exchange P)) (table : ℕ)
+      (held_carries : (k : K) (slot : ℕ) → IsHeldIn g s table k slot → IsHeldIn g' s table k slot) where
     -- what is not owed any more
     out_carries : (scan : Scan) (k : K) → IsOut g s m fs table scan k → IsOut g' s m fs table scan k
     out_carries Walk k r = moment_carries m fs k None r
@@ -74,26 +88,31 @@ module _ {K P : Type 0} (g g' : Setting K P) (On : ℕ → Type 0) (agrees : Agr
     out_carries Retain k (inr taken) = inr (taken_carries fs k taken)
 
     -- and what was done
-    dealt_carries : (scan : Scan) (loaded : LoadedPairs P) (slot upto : ℕ) (k : K) → IsDealtWith g s m fs table scan loaded slot upto k → IsDealtWith g' s m fs table scan loaded slot upto k
+    dealt_carries : (scan : Scan) (loaded : LoadedPairs P) (slot upto : ℕ) (k : K) → IsDealtWith g s m fs table scan loaded slot upto k
+        → IsDealtWith g' s m fs table scan loaded slot upto k
     dealt_carries Walk loaded slot upto k (inl (le, count)) = inl (le, count_carries loaded.given k ∙ count)
     dealt_carries Walk loaded slot upto k (inr (lt, count)) = inr (lt, count_carries loaded.given k ∙ count)
     dealt_carries Clear loaded slot upto k r = r
     dealt_carries Retain loaded slot upto k r = r
 
-    scanned_carries : (scan : Scan) (loaded : LoadedPairs P) (upto : ℕ) (k : K) → IsScannedTo g s m fs table scan loaded upto k → IsScannedTo g' s m fs table scan loaded upto k
+    scanned_carries : (scan : Scan) (loaded : LoadedPairs P) (upto : ℕ) (k : K) → IsScannedTo g s m fs table scan loaded upto k
+        → IsScannedTo g' s m fs table scan loaded upto k
     scanned_carries scan loaded upto k (inl out) = inl (out_carries scan k out)
     scanned_carries scan loaded upto k (inr (slot, r, dealt)) = inr (slot, held_carries k slot r, dealt_carries scan loaded slot upto k dealt)
 
-    met_carries : (scan : Scan) (loaded : LoadedPairs P) (upto : ℕ) (p : P) (k : K) → IsMetIn g s m fs table scan loaded upto p k → IsMetIn g' s m fs table scan loaded upto p k
+    met_carries : (scan : Scan) (loaded : LoadedPairs P) (upto : ℕ) (p : P) (k : K) → IsMetIn g s m fs table scan loaded upto p k
+        → IsMetIn g' s m fs table scan loaded upto p k
     met_carries scan loaded upto p k (inl out) = inl (out_carries scan k out)
-    met_carries scan loaded upto p k (inr (slot, r, dealt, mine, only)) = inr (slot, held_carries k slot r, dealt_carries scan loaded slot upto k dealt, pair_carries scan mine, (λ same. only (sym (same_key k p) ∙ same)))
+    met_carries scan loaded upto p k (inr (slot, r, dealt, mine, only)) = inr
+        (slot, held_carries k slot r, dealt_carries scan loaded slot upto k dealt, pair_carries scan mine, (λ same. only (sym (same_key k p) ∙ same)))
       where
         pair_carries : (scan : Scan) → (slot ≡ upto → IsPairOf g s m fs table scan p k) → slot ≡ upto → IsPairOf g' s m fs table scan p k
         pair_carries Walk mine is = same_key k p ∙ mine is
         pair_carries Clear mine is = same_key k p ∙ mine is
         pair_carries Retain mine is = mine is
 
-module _ {K P : Type 0} (g g' : Setting K P) (c : Coding K P) (hashed : IsHashed g c) (s : Words P) (m : K → Option P) (keeps : IsKeeping g s m) (since : List (Exchange P)) (may : AllAllowed g s since)
+module _ {K P : Type 0} (g g' : Setting K P) (c : Coding K P) (hashed : IsHashed g c) (s : Words P) (m : K → Option P) (keeps : IsKeeping g s m)
+    (since : List (Exchange P)) (may : AllAllowed g s since)
     (agrees : Agrees (IsOn (run since s).first (run since s).next) g g') where
   -- the tables of the chain
   abbrev OnChain : ℕ → Type 0
@@ -111,7 +130,8 @@ module _ {K P : Type 0} (g g' : Setting K P) (c : Coding K P) (hashed : IsHashed
         later_on : (t : ℕ) → IsOn (run es s).first (run es s).next t → OnChain t
         later_on t on =
             subst (λ w. IsOn w.first w.next t) (now_is g c hashed s m keeps since may table loaded es fs taken)
-            (on_run g hashed.lawful fs (run es s) (map_of g m es) (keeps_then g c hashed s m keeps since may table loaded es fs taken) (may_then g c hashed s m keeps since may table loaded es fs taken) t on)
+            (on_run g hashed.lawful fs (run es s) (map_of g m es) (keeps_then g c hashed s m keeps since may table loaded es fs taken)
+            (may_then g c hashed s m keeps since may table loaded es fs taken) t on)
 
     -- a pair is held where it was
     held_carries : (k : K) (slot : ℕ) → IsHeldIn g (run es s) table k slot → IsHeldIn g' (run es s) table k slot
@@ -119,7 +139,8 @@ module _ {K P : Type 0} (g g' : Setting K P) (c : Coding K P) (hashed : IsHashed
       at = r.at;
       within = subst (λ n. r.at < n) (sym (agrees.places table table_there)) r.within;
       is = agrees.place k table r.at table_there ∙ r.is;
-      has = ap (λ V. held (V table r.at)) (look_agrees g g' (run es s) (keeping_sound g (run es s) (map_of g m es) (keeps_then g c hashed s m keeps since may table loaded es fs taken)) agrees_then k) ∙ r.has;
+      has = ap (λ V. held (V table r.at)) (look_agrees g g' (run es s)
+          (keeping_sound g (run es s) (map_of g m es) (keeps_then g c hashed s m keeps since may table loaded es fs taken)) agrees_then k) ∙ r.has;
     }
 
     taking_carries : IsTaking g' c s m since table loaded es fs
@@ -133,11 +154,15 @@ module _ {K P : Type 0} (g g' : Setting K P) (c : Coding K P) (hashed : IsHashed
     }
 
     -- so each key is where it was
-    each_carries : (scan : Scan) (upto : ℕ) (k : K) → IsScannedTo g (run es s) (map_of g m es) fs table scan loaded upto k → IsScannedTo g' (run es s) (map_of g' m es) fs table scan loaded upto k
-    each_carries scan upto k r = subst (λ f. IsScannedTo g' (run es s) f fs table scan loaded upto k) (sym (map_of_carries g g' OnChain agrees es m)) (scanned_carries g g' OnChain agrees (run es s) (map_of g m es) fs table held_carries scan loaded upto k r)
+    each_carries : (scan : Scan) (upto : ℕ) (k : K) → IsScannedTo g (run es s) (map_of g m es) fs table scan loaded upto k
+        → IsScannedTo g' (run es s) (map_of g' m es) fs table scan loaded upto k
+    each_carries scan upto k r = subst (λ f. IsScannedTo g' (run es s) f fs table scan loaded upto k) (sym (map_of_carries g g' OnChain agrees es m))
+        (scanned_carries g g' OnChain agrees (run es s) (map_of g m es) fs table held_carries scan loaded upto k r)
 
-    each_met : (scan : Scan) (upto : ℕ) (p : P) (k : K) → IsMetIn g (run es s) (map_of g m es) fs table scan loaded upto p k → IsMetIn g' (run es s) (map_of g' m es) fs table scan loaded upto p k
-    each_met scan upto p k r = subst (λ f. IsMetIn g' (run es s) f fs table scan loaded upto p k) (sym (map_of_carries g g' OnChain agrees es m)) (met_carries g g' OnChain agrees (run es s) (map_of g m es) fs table held_carries scan loaded upto p k r)
+    each_met : (scan : Scan) (upto : ℕ) (p : P) (k : K) → IsMetIn g (run es s) (map_of g m es) fs table scan loaded upto p k
+        → IsMetIn g' (run es s) (map_of g' m es) fs table scan loaded upto p k
+    each_met scan upto p k r = subst (λ f. IsMetIn g' (run es s) f fs table scan loaded upto p k) (sym (map_of_carries g g' OnChain agrees es m))
+        (met_carries g g' OnChain agrees (run es s) (map_of g m es) fs table held_carries scan loaded upto p k r)
 
   module _ (scan : Scan) (loaded : LoadedPairs P) where
     scanning_carries : (table upto : ℕ) → IsScanning g c s m since scan loaded table upto → IsScanning g' c s m since scan loaded table upto
@@ -175,10 +200,12 @@ module _ {K P : Type 0} (g g' : Setting K P) (c : Coding K P) (hashed : IsHashed
     moment = r.moment;
     last = λ some inc. r.last some (sym agrees.blocking ∙ inc);
     given = λ p one. moment_pair g g' OnChain agrees m r.es r.fs p (r.given p one);
-    each = λ k. ⊎_elim (λ none. inl (moment_after g g' OnChain agrees m r.es r.fs k None none)) (λ once. inr (count_carries g g' OnChain agrees loaded.given k ∙ once)) (r.each k);
+    each = λ k. ⊎_elim (λ none. inl (moment_after g g' OnChain agrees m r.es r.fs k None none))
+        (λ once. inr (count_carries g g' OnChain agrees loaded.given k ∙ once)) (r.each k);
   }
   over_carries Clear loaded r = λ k. ⊎_elim (λ none. inl none) (λ taken. inr (taken_carries g g' OnChain agrees since k taken)) (r k)
-  over_carries Retain loaded r = λ k. ⊎_elim (λ none. inl none) (⊎_elim (λ taken. inr (inl (taken_carries g g' OnChain agrees since k taken))) (λ kept. inr (inr kept))) (r k)
+  over_carries Retain loaded r = λ k. ⊎_elim (λ none. inl none)
+      (⊎_elim (λ taken. inr (inl (taken_carries g g' OnChain agrees since k taken))) (λ kept. inr (inr kept))) (r k)
 
   -- the copy of all
   all_carries : (stage : Stage) → IsOfAll g c s m since stage → IsOfAll g' c s m since stage
@@ -208,14 +235,23 @@ module _ {K P : Type 0} (g g' : Setting K P) (c : Coding K P) (hashed : IsHashed
   gives_carries Clear loaded t = t
   gives_carries Retain loaded t = t
 
-  pub state_carries : (scan : Scan) (loaded : LoadedPairs P) (state : State) → ReliesState g c s m since scan loaded state → ReliesState g' c s m since scan loaded state
-  state_carries scan loaded (Copying stage) r = (r.0, all_carries stage r.1, stage_carries g c g' (run since s) (map_of g m since) (keeps_since g c hashed s m keeps since may) agrees loaded.copy stage r.2)
+  pub state_carries : (scan : Scan) (loaded : LoadedPairs P) (state : State) → ReliesState g c s m since scan loaded state
+      → ReliesState g' c s m since scan loaded state
+  state_carries scan loaded (Copying stage)
+      r = (
+        r.0,
+        all_carries stage r.1,
+        stage_carries g c g' (run since s) (map_of g m since) (keeps_since g c hashed s m keeps since may) agrees
+            loaded.copy stage r.2,
+      )
   state_carries scan loaded AtRoot r = (r.0, agrees.blocking ∙ r.1)
   state_carries scan loaded (Sizing table) r = (r.0, scanning_carries scan loaded table 0 r.1)
   state_carries scan loaded (Looking spot) r = (spot_carries scan loaded spot spot.slot r.1 r.0, scanning_carries scan loaded spot.table spot.slot r.1)
   state_carries scan loaded (Giving spot word) r = (spot_met scan loaded spot word r.2 r.0, r.1, meeting_carries scan loaded spot word r.2)
   state_carries scan loaded (Showing spot word) r = (spot_met scan loaded spot word r.3 r.0, r.1, r.2, meeting_carries scan loaded spot word r.3)
-  state_carries scan loaded (Deleting spot word) r = (spot_carries scan loaded spot spot.slot r.3 r.0, r.1, take_carries scan loaded word r.2, scanning_carries scan loaded spot.table spot.slot r.3)
-  state_carries scan loaded (Uncounting spot) r = (spot_carries scan loaded spot (suc spot.slot) r.2 r.0, takes_carry scan r.1, scanning_carries scan loaded spot.table (suc spot.slot) r.2)
+  state_carries scan loaded (Deleting spot word)
+      r = (spot_carries scan loaded spot spot.slot r.3 r.0, r.1, take_carries scan loaded word r.2, scanning_carries scan loaded spot.table spot.slot r.3)
+  state_carries scan loaded (Uncounting spot)
+      r = (spot_carries scan loaded spot (suc spot.slot) r.2 r.0, takes_carry scan r.1, scanning_carries scan loaded spot.table (suc spot.slot) r.2)
   state_carries scan loaded Done r = over_carries scan loaded r
   state_carries scan loaded (Refused refused) r = tt

@@ -85,7 +85,8 @@ module _ {P : Type 0} (s : Words P) where
   meets_at Walk spot word at Closed = next_at spot at
   meets_at Walk spot word at (Tombstone p) = next_at spot at
 
-module _ {K P : Type 0} (g : Setting K P) (c : Coding K P) (s : Words P) (m : K → Option P) (since : List (Exchange P)) (scanner : Scanner) (loaded : LoadedPairs P) (answer : Answer) (es : List (Exchange P)) (loaded' : LoadedPairs P) where
+module _ {K P : Type 0} (g : Setting K P) (c : Coding K P) (s : Words P) (m : K → Option P) (since : List (Exchange P)) (scanner : Scanner)
+    (loaded : LoadedPairs P) (answer : Answer) (es : List (Exchange P)) (loaded' : LoadedPairs P) where
   -- the words after all exchanges
   abbrev now : Words P
   now = run since s
@@ -106,13 +107,16 @@ module _ {K P : Type 0} (g : Setting K P) (c : Coding K P) (s : Words P) (m : K 
         subst (λ w. Stands w answer state) (sym same) (calm, subst (λ a. StandsAtRoot now (Goes a state)) (sym is) r)
 
     -- the word that stands in a slot of the root
-    word_at : (spot : Spot) → now.root ≡ spot.table → StandsAtRoot now (meets scanner.scan spot (code g c (now.slot spot.table spot.slot)) (kind_of (code g c (now.slot spot.table spot.slot))))
+    word_at : (spot : Spot) → now.root ≡ spot.table
+        → StandsAtRoot now (meets scanner.scan spot (code g c (now.slot spot.table spot.slot)) (kind_of (code g c (now.slot spot.table spot.slot))))
     word_at spot at =
-        subst (λ a. StandsAtRoot now (meets scanner.scan spot (code g c (now.slot spot.table spot.slot)) a)) (sym (code_kind g c (now.slot spot.table spot.slot)))
+        subst (λ a. StandsAtRoot now (meets scanner.scan spot (code g c (now.slot spot.table spot.slot)) a))
+        (sym (code_kind g c (now.slot spot.table spot.slot)))
         (meets_at now scanner.scan spot (code g c (now.slot spot.table spot.slot)) at (now.slot spot.table spot.slot))
 
     -- the copy of all finds the root, and no next table
-    copy_at : (stage : Stage) → ReliesState g c s m since scanner.scan loaded (Copying stage) → StandsAtRoot now (Copying stage) → IsCopyAnswer g c now since stage loaded answer es loaded' → Stands (run (since ++ es) s) answer (Copying stage)
+    copy_at : (stage : Stage) → ReliesState g c s m since scanner.scan loaded (Copying stage) → StandsAtRoot now (Copying stage)
+        → IsCopyAnswer g c now since stage loaded answer es loaded' → Stands (run (since ++ es) s) answer (Copying stage)
     copy_at stages.AtRoot r at t =
         let h = told_of_ask g c now loaded.copy stages.AtRoot (Load Root) refl answer es t.copy t.told in
         quiet (Copying stages.AtRoot) (answers.Call (Word_read now.root)) h.0 h.1
@@ -132,7 +136,8 @@ module _ {K P : Type 0} (g : Setting K P) (c : Coding K P) (s : Words P) (m : K 
     copy_at (stages.Refused refused) r at t = absurd at
 
     -- in each state
-    pub state_stands : (state : State) → ReliesState g c s m since scanner.scan loaded state → StandsAtRoot now state → IsScanTold g c now since state loaded answer es loaded' → Stands (run (since ++ es) s) answer state
+    pub state_stands : (state : State) → ReliesState g c s m since scanner.scan loaded state → StandsAtRoot now state
+        → IsScanTold g c now since state loaded answer es loaded' → Stands (run (since ++ es) s) answer state
     state_stands (Copying stage) r at told = copy_at stage r at told
     state_stands AtRoot r at told =
         let h = asked g c s m since scanner loaded answer es loaded' AtRoot (since ++ es) (Load Root) refl told in
@@ -144,13 +149,16 @@ module _ {K P : Type 0} (g : Setting K P) (c : Coding K P) (s : Words P) (m : K 
         let h = asked g c s m since scanner loaded answer es loaded' (Looking spot) loaded.before (Load (Slot spot.table spot.slot)) refl told in
         quiet (Looking spot) (answers.Call (Word_read (code g c (now.slot spot.table spot.slot)))) h.0 h.1 (word_at spot at)
     state_stands (Giving spot word) r at told = quiet (Giving spot word) (answers.Call Ok) told.is told.none (next_at now spot at)
-    state_stands (Showing spot word) r at told = quiet (Showing spot word) (answers.Call (Yes told.stays)) told.is told.none (shown_at now spot word told.stays at)
+    state_stands (Showing spot word) r at told = quiet (Showing spot word) (answers.Call (Yes told.stays)) told.is told.none
+        (shown_at now spot word told.stays at)
     state_stands (Deleting spot word) r at told =
-        by_test (code g c (now.slot spot.table spot.slot) == word) (IsDeleted g c now since spot loaded answer es loaded') (IsFoundThere g c now since spot loaded answer es loaded') (Stands (run (since ++ es) s) answer (Deleting spot word)) told
+        by_test (code g c (now.slot spot.table spot.slot) == word) (IsDeleted g c now since spot loaded answer es loaded')
+        (IsFoundThere g c now since spot loaded answer es loaded') (Stands (run (since ++ es) s) answer (Deleting spot word)) told
         (λ _ t.
         let e : Exchange P = Delete spot.table spot.slot t.pair in
         let same : run (since ++ es) s ≡ run (e ∷ []) now = ap (λ l. run (since ++ l) s) t.one ∙ run-append since (e ∷ []) s in
-        subst (λ w. Stands w answer (Deleting spot word)) (sym same) (calm, subst (λ a. StandsAtRoot (run (e ∷ []) now) (Goes a (Deleting spot word))) (sym t.is) at))
+        subst (λ w. Stands w answer (Deleting spot word)) (sym same)
+        (calm, subst (λ a. StandsAtRoot (run (e ∷ []) now) (Goes a (Deleting spot word))) (sym t.is) at))
         (λ _ t. quiet (Deleting spot word) (answers.Call (Found (code g c (now.slot spot.table spot.slot)))) t.is t.none (word_at spot at))
     state_stands (Uncounting spot) r at told = quiet (Uncounting spot) (answers.Call Ok) told.0 told.1 (next_at now spot at)
     state_stands Done r at told = let no = told.asks in absurd (cc no)

@@ -25,7 +25,8 @@ use Rattle.papaya_call_law.proofs.ReliesTables.{relies_carries}
 use Rattle.papaya_chain_law.specs.Relies.{Relies, ReliesPhase, now}
 use Rattle.papaya_chain_law.specs.Told.{LoadedPairs}
 
-module _ {K P : Type 0} (g : Setting K P) (c : Coding K P) (hashed : IsHashed g c) (begun since es : List (Exchange P)) (may : AllAllowed g start (begun ++ (since ++ es))) (k : K) where
+module _ {K P : Type 0} (g : Setting K P) (c : Coding K P) (hashed : IsHashed g c) (begun since es : List (Exchange P))
+    (may : AllAllowed g start (begun ++ (since ++ es))) (k : K) where
   -- the exchanges in two lists, those of before and those since then
   split : (begun ++ since) ++ es ≡ begun ++ (since ++ es)
   split = append_assoc begun since es
@@ -67,7 +68,8 @@ module _ {K P : Type 0} (g : Setting K P) (c : Coding K P) (hashed : IsHashed g 
   next_stable = later_words.next
 
   -- what is made, or copied
-  phase_stable : (m : Machine) (loaded : LoadedPairs P) (phase : Phase) → ReliesPhase g c begun since k m loaded phase → ReliesPhase g c begun (since ++ es) k m loaded phase
+  phase_stable : (m : Machine) (loaded : LoadedPairs P) (phase : Phase) → ReliesPhase g c begun since k m loaded phase
+      → ReliesPhase g c begun (since ++ es) k m loaded phase
   phase_stable m loaded Calling r = tt
   phase_stable m loaded (Linking link) r = record {
     mode = r.mode;
@@ -104,19 +106,22 @@ module _ {K P : Type 0} (g : Setting K P) (c : Coding K P) (hashed : IsHashed g 
     phase = phase_stable m loaded m.phase r.phase;
   }
 
-module _ {K P : Type 0} (g g' : Setting K P) (c : Coding K P) (hashed : IsHashed g c) (begun since : List (Exchange P)) (may : AllAllowed g start (begun ++ since))
+module _ {K P : Type 0} (g g' : Setting K P) (c : Coding K P) (hashed : IsHashed g c) (begun since : List (Exchange P))
+    (may : AllAllowed g start (begun ++ since))
     (agrees : Agrees (IsOn (run (begun ++ since) start).first (run (begun ++ since) start).next) g g') (k : K) where
   keeps_now : IsKeeping g (now g c begun since k) (map_left g (begun ++ since))
   keeps_now = keeping g hashed.lawful (begun ++ since) may
 
   -- what is made, or copied, in the further setting
-  phase_carries : (m : Machine) (loaded : LoadedPairs P) (phase : Phase) → ReliesPhase g c begun since k m loaded phase → ReliesPhase g' c begun since k m loaded phase
+  phase_carries : (m : Machine) (loaded : LoadedPairs P) (phase : Phase) → ReliesPhase g c begun since k m loaded phase
+      → ReliesPhase g' c begun since k m loaded phase
   phase_carries m loaded Calling r = tt
   phase_carries m loaded (Linking link) r = record {
     mode = agrees.blocking ∙ r.mode;
     changes = r.changes;
     left = r.left;
-    relies = link_carries g g' c (now g c begun since k) (keeping_sound g (now g c begun since k) (map_left g (begun ++ since)) keeps_now) agrees loaded.call.last loaded.kept link r.relies;
+    relies = link_carries g g' c (now g c begun since k) (keeping_sound g (now g c begun since k) (map_left g (begun ++ since)) keeps_now) agrees
+        loaded.call.last loaded.kept link r.relies;
   }
   phase_carries m loaded (Copying copying) (inl r) = inl (record {
     mode = agrees.blocking ∙ r.mode;
@@ -125,7 +130,8 @@ module _ {K P : Type 0} (g g' : Setting K P) (c : Coding K P) (hashed : IsHashed
     left = r.left;
     next = r.next;
     aim = r.aim;
-    relies = copying_carries g g' c (now g c begun since k) (keeping_sound g (now g c begun since k) (map_left g (begun ++ since)) keeps_now) agrees loaded.call.last loaded.kept copying r.relies;
+    relies = copying_carries g g' c (now g c begun since k) (keeping_sound g (now g c begun since k) (map_left g (begun ++ since)) keeps_now) agrees
+        loaded.call.last loaded.kept copying r.relies;
   })
   phase_carries m loaded (Copying copying) (inr r) = inr (record {
     mode = agrees.blocking ∙ r.mode;
@@ -134,7 +140,8 @@ module _ {K P : Type 0} (g g' : Setting K P) (c : Coding K P) (hashed : IsHashed
     left = r.left;
     met = r.met;
     aim = r.aim;
-    relies = copying_carries g g' c (now g c begun since k) (keeping_sound g (now g c begun since k) (map_left g (begun ++ since)) keeps_now) agrees loaded.call.last loaded.kept copying r.relies;
+    relies = copying_carries g g' c (now g c begun since k) (keeping_sound g (now g c begun since k) (map_left g (begun ++ since)) keeps_now) agrees
+        loaded.call.last loaded.kept copying r.relies;
   })
 
   pub all_carries : (m : Machine) (loaded : LoadedPairs P) → Relies g c begun since k m loaded → Relies g' c begun since k m loaded

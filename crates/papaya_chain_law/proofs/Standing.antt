@@ -30,7 +30,11 @@ use Rattle.papaya_chain.specs.declared.machine.Machine.{Machine}
 use Rattle.papaya_chain.specs.declared.machine.Phase.{Phase}
 use Rattle.papaya_chain.specs.declared.machine.Phase.TheVariants.{Calling, Linking, Copying as Copying_root}
 use Rattle.papaya_call.specs.Made.{IsLimit, IsNumber, wanted}
-use Rattle.papaya_chain.specs.Machine.{IsFit, IsFitAsk, IsStanding, IsStandingPhase, after, after_copied, after_in, after_linked, aim_for, ask_of, asks_in, begins_anew, called, copying_after, enters, goes_on, grows_as, leaves, link_after, onward, refuses, started, stepped, told_next}
+use Rattle.papaya_chain.specs.Machine.{IsFit, IsFitAsk, IsStanding, IsStandingPhase, after}
+use Rattle.papaya_chain.specs.Machine.{after_copied, after_in, after_linked, aim_for, ask_of}
+use Rattle.papaya_chain.specs.Machine.{asks_in, begins_anew, called, copying_after, enters, goes_on}
+use Rattle.papaya_chain.specs.Machine.{grows_as, leaves, link_after, onward, refuses, started}
+use Rattle.papaya_chain.specs.Machine.{stepped, told_next}
 use Rattle.papaya_chain.proofs.Settings.{settings_stable}
 use Rattle.papaya_call_law.proofs.Standing.{machine_ask_fits, machine_stands}
 use Rattle.papaya_chain_law.proofs.CopyStanding.{copying_fits, copying_stands, link_fits, link_stands}
@@ -44,16 +48,38 @@ module _ (m : Machine) (stands : IsStanding m) where
   steps_stand : (told : Call_answer) → calls.IsFit told → IsStanding (stepped m told)
   steps_stand told fit =
       let same = settings_stable m.call told in
-      record { call = machine_stands m.call told stands.call fit; chunked = subst IsChunked (sym same.0) stands.chunked; initial = subst IsPowerOfTwo (sym same.1) stands.initial; phase = stands.phase }
+      record {
+        call = machine_stands m.call told stands.call fit;
+        chunked = subst IsChunked (sym same.0) stands.chunked;
+        initial = subst IsPowerOfTwo
+            (sym same.1) stands.initial;
+        phase = stands.phase;
+      }
 
   enters_stand : (table : ℕ) → IsStanding (enters m table)
-  enters_stand table = record { call = record { made = stands.call.made; remembered = stands.call.remembered; state = tt }; chunked = stands.chunked; initial = stands.initial; phase = tt }
+  enters_stand table = record {
+    call = record { made = stands.call.made; remembered = stands.call.remembered; state = tt };
+    chunked = stands.chunked;
+    initial = stands.initial;
+    phase = tt;
+  }
 
   anew_stand : (root : ℕ) → IsStanding (begins_anew m root)
-  anew_stand root = record { call = machine_stands (record m.call { state = AtRoot }) (Word_read root) (record { made = stands.call.made; remembered = stands.call.remembered; state = tt }) tt; chunked = stands.chunked; initial = stands.initial; phase = tt }
+  anew_stand root = record {
+    call = machine_stands (record m.call { state = AtRoot }) (Word_read root)
+        (record { made = stands.call.made; remembered = stands.call.remembered; state = tt }) tt;
+    chunked = stands.chunked;
+    initial = stands.initial;
+    phase = tt;
+  }
 
   refuses_stand : (refused : Refused) → IsStanding (refuses m refused)
-  refuses_stand refused = record { call = record { made = stands.call.made; remembered = stands.call.remembered; state = tt }; chunked = stands.chunked; initial = stands.initial; phase = tt }
+  refuses_stand refused = record {
+    call = record { made = stands.call.made; remembered = stands.call.remembered; state = tt };
+    chunked = stands.chunked;
+    initial = stands.initial;
+    phase = tt;
+  }
 
   -- it goes on in the next table
   goes_stand : (helped : Bool) (aim : Aim) (next : ℕ) → IsStanding (goes_on m helped aim next)
@@ -68,12 +94,14 @@ module _ (m : Machine) (stands : IsStanding m) where
 
   grows_stand : (mode : ResizeMode) (need : Need) (next : ℕ) → IsStanding (grows_as m mode need next)
   grows_stand Blocking need next = in_phase _ tt
-  grows_stand (Incremental chunk) need next = cond_both (next == 0) (record m { phase = Linking (links.Sizing (needed need) (needed need) false) }) (onward m next) IsStanding (λ _. in_phase _ tt) (λ _. onward_stand next)
+  grows_stand (Incremental chunk) need next = cond_both (next == 0) (record m { phase = Linking (links.Sizing (needed need) (needed need) false) })
+      (onward m next) IsStanding (λ _. in_phase _ tt) (λ _. onward_stand next)
 
   -- it was told the number of the next table
   leaves_stand : (task : Task) (next : ℕ) → IsStanding (leaves m task next)
   leaves_stand Get next = steps_stand (Word_read next) tt
-  leaves_stand task next = cond_both (next == 0) (stepped m (Word_read next)) (onward m next) IsStanding (λ _. steps_stand (Word_read next) tt) (λ _. onward_stand next)
+  leaves_stand task next = cond_both (next == 0) (stepped m (Word_read next)) (onward m next) IsStanding (λ _. steps_stand (Word_read next) tt)
+      (λ _. onward_stand next)
 
   next_stand : (state : State) (next : ℕ) → IsStanding (told_next m state next)
   next_stand (Leaving t) next = leaves_stand m.call.task next
@@ -101,8 +129,10 @@ module _ (m : Machine) (stands : IsStanding m) where
   after_stand (answers.Call told) fit Calling is = called_stand told fit
   after_stand (answers.Hash hash) fit Calling is = stands
   after_stand (answers.Count count) fit Calling is = stands
-  after_stand answer fit (Linking link) is = linked_stand (link_after link m.call.mode m.call.initial answer) (link_stands link m.call.mode m.call.initial answer stands.initial fit is)
-  after_stand answer fit (Copying_root copying) is = copied_stand (copying_after copying m.call.mode m.call.initial m.number answer) (copying_stands copying m.call.mode m.call.initial m.number answer stands.initial fit is)
+  after_stand answer fit (Linking link) is = linked_stand (link_after link m.call.mode m.call.initial answer)
+      (link_stands link m.call.mode m.call.initial answer stands.initial fit is)
+  after_stand answer fit (Copying_root copying) is = copied_stand (copying_after copying m.call.mode m.call.initial m.number answer)
+      (copying_stands copying m.call.mode m.call.initial m.number answer stands.initial fit is)
 
   -- it stands after an answer
   pub chain_stands : (answer : Answer) → IsFit answer → IsStanding (after m answer)
@@ -123,5 +153,16 @@ wanted_stands None = tt
 wanted_stands (Some most) = tt
 
 -- a call that begins stands
-pub started_stands : (task : Task) (hash : ℕ) (mode : ResizeMode) (initial number : ℕ) (limit : Option ℕ) → IsLimit limit → IsChunked mode → IsPowerOfTwo initial → IsStanding (started task hash mode initial number limit)
-started_stands task hash mode initial number limit fits chunked power = record { call = record { made = record { limit = fits; number = wanted_stands limit; own = tt; of = tt }; remembered = record { fill = tt; choice = tt }; state = tt }; chunked = chunked; initial = power; phase = tt }
+pub started_stands : (task : Task) (hash : ℕ) (mode : ResizeMode) (initial number : ℕ) (limit : Option ℕ) → IsLimit limit → IsChunked mode
+    → IsPowerOfTwo initial → IsStanding (started task hash mode initial number limit)
+started_stands task hash mode initial number limit fits chunked
+    power = record {
+      call = record {
+        made = record { limit = fits; number = wanted_stands limit; own = tt; of = tt };
+        remembered = record { fill = tt; choice = tt };
+        state = tt;
+      };
+      chunked = chunked;
+      initial = power;
+      phase = tt;
+    }

@@ -58,8 +58,8 @@ module _ {K P : Type 0} (g : Setting K P) (c : Coding K P) (s : State P) where
       ((answer ≡ answers.Call Exchanged) × (es ≡ Open table ∷ []) × (loaded' ≡ loaded))
       ((answer ≡ answers.Call (Found_instead s.root)) × Quiet g c loaded es loaded')
 
-  -- The answer to what a resizer asks is true of the words in s, and es has the exchange, if one was
-  -- made. It opens a table, or asks as a copy does.
+  -- The answer to what a resizer asks is true of the words in s, and es has the exchange, if one
+  -- was made. It opens a table, or asks as a copy does.
   abbrev pub IsStageTold : Stage → LoadedPairs P → Answer → List (Exchange P) → LoadedPairs P
       → Type 0
   IsStageTold (Opening table) loaded answer es loaded' = IsOpenTold table loaded answer es loaded'

@@ -3,10 +3,16 @@ use Rattle.std.specs.Prelude.{◌≡◌, ◌⊎◌, ℕ, ◌+◌, ◌<◌, ◌==
 use Rattle.papaya_words.specs.declared.probe.Refused.{Refused}
 use Rattle.papaya_ask.specs.declared.ask.Ask.{Ask as Call_ask}
 use Rattle.papaya_ask.specs.declared.ask.Answer.{Answer as Call_answer}
-use Rattle.papaya_ask.specs.declared.ask.Answer.TheVariants.{Word as Word_read, Exchanged, Found as Found_instead, Yes, Size, Made as Made_number, Ok as Ok_done, Refused as Was_refused}
+use Rattle.papaya_ask.specs.declared.ask.Answer.TheVariants.{Word as Word_read, Exchanged}
+use Rattle.papaya_ask.specs.declared.ask.Answer.TheVariants.{Found as Found_instead, Yes, Size}
+use Rattle.papaya_ask.specs.declared.ask.Answer.TheVariants.{Made as Made_number, Ok as Ok_done}
+use Rattle.papaya_ask.specs.declared.ask.Answer.TheVariants.{Refused as Was_refused}
 use Rattle.papaya_ask.specs.declared.ask.StepKind.{StepKind}
 use Rattle.papaya_ask.specs.declared.copy_ask.CopyAsk.{CopyAsk}
-use Rattle.papaya_ask.specs.declared.copy_ask.CopyAsk.TheVariants.{Load, Exchange as Ask_exchange, LoadHint, WriteHint, SizeOf, HashOf, SamePair, Count, MakeTable}
+use Rattle.papaya_ask.specs.declared.copy_ask.CopyAsk.TheVariants.{Load, Exchange as Ask_exchange}
+use Rattle.papaya_ask.specs.declared.copy_ask.CopyAsk.TheVariants.{LoadHint, WriteHint, SizeOf}
+use Rattle.papaya_ask.specs.declared.copy_ask.CopyAsk.TheVariants.{HashOf, SamePair, Count}
+use Rattle.papaya_ask.specs.declared.copy_ask.CopyAsk.TheVariants.{MakeTable}
 use Rattle.papaya_chain.specs.declared.ask.Ask.{Ask}
 use Rattle.papaya_chain.specs.declared.ask.Ask.TheVariants as asks
 use Rattle.papaya_chain.specs.declared.ask.Answer.{Answer}
@@ -36,9 +42,9 @@ module _ {K P : Type 0} (g : Setting K P) (c : Coding K P) where
   Quiet loaded es loaded' = (es ≡ []) × (loaded' ≡ loaded)
 
   -- The answer to what is asked for a copy is true of the words in s: a load and an exchange are
-  -- answered by the word that stands there, and the load of a hint by one that may be there; a table
-  -- that is made has a greater number than the one that it is to follow. es has the exchange, if one
-  -- was made.
+  -- answered by the word that stands there, and the load of a hint by one that may be there; a
+  -- table that is made has a greater number than the one that it is to follow. es has the exchange,
+  -- if one was made.
   abbrev pub IsCopyTold : State P → Option StepKind → (follows : ℕ) → LoadedPairs P → CopyAsk
       → Answer → List (Exchange P) → LoadedPairs P → Type 0
   IsCopyTold s kind follows loaded (Load at) answer es loaded' =

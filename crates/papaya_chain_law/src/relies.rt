@@ -1,5 +1,5 @@
-//! What a call over a chain of tables relies on. The functions do nothing: their contracts are the
-//! laws.
+//! What a call over a chain of tables relies on. The functions do nothing: their contracts are
+//! the laws.
 ghost use Rattle.std.specs.Prelude.{◌≡◌, ◌⊎◌, ℕ, List, [], Option, ◌++◌};
 ghost use Rattle.papaya_words.specs.declared.probe.ResizeMode.{ResizeMode};
 ghost use Rattle.papaya_ask.specs.declared.ask.Answer.TheVariants.{Exchanged};
@@ -64,9 +64,9 @@ pub fn names<K, P>()
 {}
 
 /// An exchange of a copy whose old word stands there is one of the law, allowed, and writes just
-/// its word. It is a link, a mark, a shut slot, a placed copy, a finished slot, the word of a chunk, a
-/// new root or a table that is given up, and never a change of the map. A table that is linked has
-/// to have as many words for chunks as were asked for.
+/// its word. It is a link, a mark, a shut slot, a placed copy, a finished slot, the word of a
+/// chunk, a new root or a table that is given up, and never a change of the map. A table that is
+/// linked has to have as many words for chunks as were asked for.
 pub fn copies_guarantee<K, P>()
     ensures { (g : Setting K P) (c : Coding K P) → IsHashed g c → (begun since : List (Exchange P))
         → AllAllowed g start (begun ++ since) → (k : K) (m : Machine) (loaded : LoadedPairs P)
@@ -78,8 +78,8 @@ pub fn copies_guarantee<K, P>()
         new (state_after (run (begun ++ since) start) e) }
 {}
 
-/// A hint that a copy writes may be there: a pair of its key was put into that slot, or the slot was
-/// shut.
+/// A hint that a copy writes may be there: a pair of its key was put into that slot, or the slot
+/// was shut.
 pub fn copies_guarantee_hint<K, P>()
     ensures { (g : Setting K P) (c : Coding K P) → IsHashed g c → (begun since : List (Exchange P))
         → AllAllowed g start (begun ++ since) → (k : K) (m : Machine) (loaded : LoadedPairs P)

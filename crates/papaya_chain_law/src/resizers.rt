@@ -43,11 +43,11 @@ pub fn resizers_rely<K, P>()
 {}
 
 /// A resizer names only what is there, and an exchange of it whose old word stands there is allowed
-/// and writes just its word. A hint that it writes may be there. After an answer that is true of the
-/// words it relies on what holds again, and what was exchanged was allowed. It is refused for one of
-/// three reasons: a table was refused, the next one would be longer than a table may be, or room was
-/// asked for that no table has. A table that is linked has to have as many words for chunks as were
-/// asked for.
+/// and writes just its word. A hint that it writes may be there. After an answer that is true of
+/// the words it relies on what holds again, and what was exchanged was allowed. It is refused for
+/// one of three reasons: a table was refused, the next one would be longer than a table may be, or
+/// room was asked for that no table has. A table that is linked has to have as many words for
+/// chunks as were asked for.
 pub fn resizers_go_on<K, P>()
     ensures names { (g : Setting K P) (c : Coding K P) → IsHashed g c
         → (s : State P) (m : K → Option P) → IsKeeping g s m

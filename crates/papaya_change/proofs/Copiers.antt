@@ -26,7 +26,8 @@ use Rattle.papaya_change.proofs.HelpingExchanges.{tried_link}
 use Rattle.papaya_change.proofs.HelpingPlaces.{one_table}
 
 -- a place that was reached is in its table, later too
-pub reached_low : {K V S : Type 0} (log log' : List (Event K V S)) → IsPrefix log log' → (at : At) (t x : ℕ) → at ≡ Slot t x → IsReached log at → (sheet : Sheet) → IsTable log' t sheet → x < length sheet.slots
+pub reached_low : {K V S : Type 0} (log log' : List (Event K V S)) → IsPrefix log log' → (at : At) (t x : ℕ) → at ≡ Slot t x → IsReached log at
+    → (sheet : Sheet) → IsTable log' t sheet → x < length sheet.slots
 reached_low {K} {V} {S} log log' pre at t x e reached sheet now =
     let there : (w : Where Sheet) × (table_in (steps_of log) t ≡ Some w) × (x < length w.value.slots) = subst (IsReached log) e reached in
     let here : IsTable log' t there.0.value = table_since log log' t there.0.value pre (there.0, there.1, refl) in
@@ -34,14 +35,16 @@ reached_low {K} {V} {S} log log' pre at t x e reached sheet now =
     subst (λ (z : Sheet). x < length z.slots) same there.2
 
 -- and a chunk's word is one of its table's
-pub reached_word : {K V S : Type 0} (log log' : List (Event K V S)) → IsPrefix log log' → (at : At) (t i : ℕ) → at ≡ Done t i → IsReached log at → (sheet : Sheet) → IsTable log' t sheet → i < length sheet.done
+pub reached_word : {K V S : Type 0} (log log' : List (Event K V S)) → IsPrefix log log' → (at : At) (t i : ℕ) → at ≡ Done t i → IsReached log at
+    → (sheet : Sheet) → IsTable log' t sheet → i < length sheet.done
 reached_word {K} {V} {S} log log' pre at t i e reached sheet now =
     let there : (w : Where Sheet) × (table_in (steps_of log) t ≡ Some w) × (i < length w.value.done) = subst (IsReached log) e reached in
     let here : IsTable log' t there.0.value = table_since log log' t there.0.value pre (there.0, there.1, refl) in
     let same : there.0.value ≡ sheet = one_table log' t there.0.value sheet here now in
     subst (λ (z : Sheet). i < length z.done) same there.2
 
-module _ {K V S : Type 0} (b : Begun K V S) (name : Book) (log : List (Event K V S)) (n : ℕ) (fresh : Option (Where Sheet × Pen)) (table : Where Sheet) (seal : Pen) (is : fresh ≡ Some (table, seal)) (f : IsFresh b name log n fresh) where
+module _ {K V S : Type 0} (b : Begun K V S) (name : Book) (log : List (Event K V S)) (n : ℕ) (fresh : Option (Where Sheet × Pen))
+    (table : Where Sheet) (seal : Pen) (is : fresh ≡ Some (table, seal)) (f : IsFresh b name log n fresh) where
   -- the table at hand is this one, with this seal
   pub record IsReady : Type 0 where
     pub number_is : number_of table ≡ n
@@ -62,26 +65,37 @@ module _ {K V S : Type 0} (b : Begun K V S) (name : Book) (log : List (Event K V
       }
 
   -- it was tried to be linked
-  pub joined : (eq : K → K → Bool) (hash : S → K → ℕ) (seen : List (Event K V S)) → IsPrefix log seen → (t : ℕ) (kept : Option (Stored K V)) (found : ℕ) (log' : List (Event K V S)) (state : Option (Named K V)) → IsTried eq hash b (Next t) (Some kinds.Link) 0 (table.index + 1) None (names.Table table) seen found log' state
+  pub joined : (eq : K → K → Bool) (hash : S → K → ℕ) (seen : List (Event K V S)) → IsPrefix log seen
+      → (t : ℕ) (kept : Option (Stored K V)) (found : ℕ) (log' : List (Event K V S)) (state : Option (Named K V))
+      → IsTried eq hash b (Next t) (Some kinds.Link) 0 (table.index + 1) None (names.Table table) seen found log' state
       → IsTriedFor eq hash b name (Next t) (Some kinds.Link) 0 n kept fresh log found log' None
-  joined eq hash seen pre t kept found log' state tried = subst (λ (i : ℕ). IsTriedFor eq hash b name (Next t) (Some kinds.Link) 0 i kept fresh log found log' None) ready.number_is (tried_link eq hash b name log seen pre t (table.index + 1) kept fresh table seal is found log' state tried)
+  joined eq hash seen pre t kept found log' state
+      tried = subst (λ (i : ℕ). IsTriedFor eq hash b name (Next t) (Some kinds.Link) 0 i kept fresh log found log' None) ready.number_is
+      (tried_link eq hash b name log seen pre t (table.index + 1) kept fresh table seal is found log' state tried)
 
 both_hold : (z : Bool) (A B : Type 0) → A → B → MatchBool z A B
 both_hold true A B a b = a
 both_hold false A B a b = b
 
-module _ {K V S H : Type 0} (eq : K → K → Bool) (hash : S → K → ℕ) (b : Begun K V S) (name : Book) (t new old : ℕ) (kind : Option StepKind) (log log' : List (Event K V S)) (h h' : Copier K V S H) (found : ℕ) where
+module _ {K V S H : Type 0} (eq : K → K → Bool) (hash : S → K → ℕ) (b : Begun K V S) (name : Book) (t new old : ℕ) (kind : Option StepKind)
+    (log log' : List (Event K V S)) (h h' : Copier K V S H) (found : ℕ) where
   -- a link that was tried is an exchange that was tried
-  pub linked : CanJoin eq hash b name t new log h → kind ≡ Some kinds.Link → old ≡ 0 → IsTriedFor eq hash b name (Next t) (Some kinds.Link) 0 new h.kept h.fresh log found log' None → h'.last ≡ h.last → HasTried eq hash b name (Next t) kind (old, new) h.kept h.fresh log h.last found log' h'.last
+  pub linked : CanJoin eq hash b name t new log h → kind ≡ Some kinds.Link → old ≡ 0
+      → IsTriedFor eq hash b name (Next t) (Some kinds.Link) 0 new h.kept h.fresh log found log' None → h'.last ≡ h.last
+      → HasTried eq hash b name (Next t) kind (old, new) h.kept h.fresh log h.last found log' h'.last
   linked can is none tried same = record {
     pair = None;
-    tried = subst (λ (o : Option StepKind). IsTriedFor eq hash b name (Next t) o old new h.kept h.fresh log found log' None) (sym is) (subst (λ (n : ℕ). IsTriedFor eq hash b name (Next t) (Some kinds.Link) n new h.kept h.fresh log found log' None) (sym none) tried);
-    last_is = both_hold (found == old) (h'.last ≡ marked_or kind None h.last) (h'.last ≡ h.last) (same ∙ sym (ap (λ (o : Option StepKind). marked_or o None h.last) is)) same;
+    tried = subst (λ (o : Option StepKind). IsTriedFor eq hash b name (Next t) o old new h.kept h.fresh log found log' None) (sym is)
+        (subst (λ (n : ℕ). IsTriedFor eq hash b name (Next t) (Some kinds.Link) n new h.kept h.fresh log found log' None) (sym none) tried);
+    last_is = both_hold (found == old) (h'.last ≡ marked_or kind None h.last) (h'.last ≡ h.last)
+        (same ∙ sym (ap (λ (o : Option StepKind). marked_or o None h.last) is)) same;
   }
 
-module _ {K V S H : Type 0} (eq : K → K → Bool) (hash : S → K → ℕ) (b : Begun K V S) (name : Book) (old new : ℕ) (kind : Option StepKind) (log : List (Event K V S)) (h : Copier K V S H) where
+module _ {K V S H : Type 0} (eq : K → K → Bool) (hash : S → K → ℕ) (b : Begun K V S) (name : Book) (old new : ℕ) (kind : Option StepKind)
+    (log : List (Event K V S)) (h : Copier K V S H) where
   -- an exchange of another word may be tried, where its table has come
-  pub others : (at : At) → ((t : ℕ) → at ≡ Next t → ⊥) → CanExchangeFor eq hash b name at kind old new log h → IsReached log at × CanTryFor eq hash b name at kind (old, new) h.kept log
+  pub others : (at : At) → ((t : ℕ) → at ≡ Next t → ⊥) → CanExchangeFor eq hash b name at kind old new log h → IsReached log at
+      × CanTryFor eq hash b name at kind (old, new) h.kept log
   others Root other can = can
   others (Next t) other can = absurd (other t refl)
   others (Aborted t) other can = can

@@ -1,5 +1,7 @@
 -- A compute that has the pair removed which a search has met: its machine, which nothing runs, deletes it.
-use Rattle.std.proofs.Common.{◌≡◌, inl, inr, ℕ, ◌<◌, ◌==◌, Bool, true, MatchOption, Option, None, Some, List, [], ◌∷◌, ◌++◌, append-nil, length, refl, sym, ap, ◌∙◌, subst}
+use Rattle.std.proofs.Common.{◌≡◌, inl, inr, ℕ, ◌<◌, ◌==◌, Bool, true, MatchOption, Option, None}
+use Rattle.std.proofs.Common.{Some, List, [], ◌∷◌, ◌++◌, append-nil, length, refl, sym, ap, ◌∙◌}
+use Rattle.std.proofs.Common.{subst}
 use Rattle.std.specs.Cmp.{IsEquivalence}
 use denote.Bor.{Bor}
 use Rattle.logbook.specs.Pages.{Book}
@@ -39,7 +41,8 @@ use Rattle.papaya_change.proofs.Changing.{barren, call_loaded, call_relies, quie
 use Rattle.papaya_change.proofs.Exchanging.{exchanged}
 use Rattle.papaya_change.proofs.Written.{own_query}
 
-module _ {K V S H : Type 0} (eq : K → K → Bool) (input : K → List (List ℕ)) (build : S → H) (write : H → List ℕ → H) (finish : H → ℕ) (classes : IsEquivalence eq) (respects : (x y : K) → eq x y ≡ true → input x ≡ input y)
+module _ {K V S H : Type 0} (eq : K → K → Bool) (input : K → List (List ℕ)) (build : S → H) (write : H → List ℕ → H) (finish : H → ℕ)
+    (classes : IsEquivalence eq) (respects : (x y : K) → eq x y ≡ true → input x ≡ input y)
     (b : Begun K V S) (name : Book) (key : K) (begun log : List (Event K V S)) (at : Place) (word : ℕ) (p : Stored K V) (table : Sheet) where
   abbrev hash : S → K → ℕ
   hash = hash_of input build write finish
@@ -76,48 +79,59 @@ module _ {K V S H : Type 0} (eq : K → K → Bool) (input : K → List (List �
     pub met_placed : IsPlaced b (Some name) (names.Pair p)
     met_placed = subst (λ (o : Option (Stored K V)). IsPlaced b (Some name) (pair_named o)) last_is r.4.last_placed
 
-    may : MayRemove (setting_for eq hash b (eq key) h log) (coding_for hash b.hasher h) (exchanges_of begun) r.4.since (Some key) (loaded_with r.2 None []).call (record { place = at; word = word })
+    may : MayRemove (setting_for eq hash b (eq key) h log) (coding_for hash b.hasher h) (exchanges_of begun) r.4.since (Some key)
+        (loaded_with r.2 None []).call (record { place = at; word = word })
     may = r.4.relies.call.stage.1
 
     -- it is of the call's class
     met_same : eq key (key_of p) ≡ true
-    met_same = let both : Some may.pair ≡ Some p = sym may.last ∙ last_is in let one : may.pair ≡ p = cc both in subst (λ (z : Stored K V). eq key (key_of z) ≡ true) one may.same
+    met_same = let both : Some may.pair ≡ Some p = sym may.last ∙ last_is in let one : may.pair ≡ p = cc both in
+        subst (λ (z : Stored K V). eq key (key_of z) ≡ true) one may.same
 
     -- it has the number that the word names
     met_number : p.index ≡ pair_of word
     met_number =
         let hashed = hashed_with eq input build write finish classes respects b (eq key) (input key) query log r.4.lawful in
-        let shown = machine_shows (setting_for eq hash b (eq key) h log) (coding_for hash b.hasher h) hashed (exchanges_of begun) r.4.since (Some key) (loaded_with r.2 None []).call shows.call r.4.relies.call (pair_of word) refl in
+        let shown = machine_shows (setting_for eq hash b (eq key) h log) (coding_for hash b.hasher h) hashed (exchanges_of begun) r.4.since (Some key)
+        (loaded_with r.2 None []).call shows.call r.4.relies.call (pair_of word) refl in
         let both : Some shown.0 ≡ Some p = sym shown.1 ∙ last_is in
         let one : shown.0 ≡ p = cc both in
         ap (λ (z : Stored K V). z.index) (sym one) ∙ shown.2
 
     said : IsCalling eq hash b name (eq key) h (Some key) begun log deletes (Some lent) r.2 None [] None None None
     said =
-        quiet eq input build write finish classes respects b (eq key) (input key) query (Some key) name begun log log ([], append-nil log) r.4.lawful shows (Some lent) r.2 None [] None None None r.4 (ShowPair (pair_of word)) refl (Op kinds.Remove) r.2 [] (Some lent) None
+        quiet eq input build write finish classes respects b (eq key) (input key) query (Some key) name begun log log ([], append-nil log) r.4.lawful
+        shows (Some lent) r.2 None [] None None None r.4 (ShowPair (pair_of word)) refl (Op kinds.Remove) r.2 [] (Some lent) None
         (record {
           told = (inr (inl (kinds.Remove, refl)), (refl, refl));
           same = refl;
           busy = λ z. z;
-          brings = barren eq input build write finish classes respects b (eq key) (input key) query (Some key) name begun log log ([], append-nil log) r.4.lawful shows (Some lent) r.2 None [] None None None r.4 (ShowPair (pair_of word)) refl tt (Op kinds.Remove) None;
+          brings = barren eq input build write finish classes respects b (eq key) (input key) query (Some key) name begun log log ([], append-nil log)
+              r.4.lawful shows (Some lent) r.2 None [] None None None r.4 (ShowPair (pair_of word)) refl tt (Op kinds.Remove) None;
         }) r.4.holds_table r.4.last_placed r.4.made_placed
 
     -- the slot is one of the table
     pub delete_there : IsTable log at.table table × (at.probe.i < length table.slots)
     delete_there =
         subst (λ (z : Sheet). IsTable log at.table z × (at.probe.i < length z.slots)) r.1
-        (slot_table eq input build write finish classes respects b (eq key) (input key) query (Some key) name begun log deletes (Some lent) r.2 None [] None None None said at.table at.probe.i (inr (word, grave, refl)))
+        (slot_table eq input build write finish classes respects b (eq key) (input key) query (Some key) name begun log deletes (Some lent) r.2 None
+        [] None None None said at.table at.probe.i (inr (word, grave, refl)))
 
     -- the pair may be deleted
     pub delete_can : CanExchange eq hash b (Slot at.table at.probe.i) (Some steps.Delete) word grave None names.Nothing log
     delete_can =
-        can_delete eq input build write finish classes respects b (eq key) (input key) query (Some key) (exchanges_of begun) log said.lawful deletes.call (call_loaded eq input build write finish classes respects b (eq key) (input key) query (Some key) name begun r.2 [])
-        (call_relies eq input build write finish classes respects b (eq key) (input key) query (Some key) name begun log deletes (Some lent) r.2 None [] None None None said) at.table at.probe.i word grave refl refl
+        can_delete eq input build write finish classes respects b (eq key) (input key) query (Some key) (exchanges_of begun) log said.lawful
+        deletes.call (call_loaded eq input build write finish classes respects b (eq key) (input key) query (Some key) name begun r.2 [])
+        (call_relies eq input build write finish classes respects b (eq key) (input key) query (Some key) name begun log deletes (Some lent) r.2 None
+        [] None None None said) at.table at.probe.i word grave refl refl
 
     -- it was deleted
-    module _ (log' : List (Event K V S)) (found : ℕ) (before : Option (Stored K V)) (tried : IsSlotTried eq hash b name at.table at.probe.i (Some steps.Delete) word grave None names.Nothing log found log' before) (is : (found == word) ≡ true) where
+    module _ (log' : List (Event K V S)) (found : ℕ) (before : Option (Stored K V))
+        (tried : IsSlotTried eq hash b name at.table at.probe.i (Some steps.Delete) word grave None names.Nothing log found log' before)
+        (is : (found == word) ≡ true) where
       ended : IsCalling eq hash b name (eq key) h (Some key) begun log' ends (Some lent) r.2 None [] before None None
-      ended = exchanged eq input build write finish classes respects b (eq key) (input key) query (Some key) name begun log log' deletes (Some lent) r.2 None [] None None None said at.table at.probe.i word grave found None before refl tried (λ q e. absurd (cc e)) (λ claims q e. absurd (cc e)) is
+      ended = exchanged eq input build write finish classes respects b (eq key) (input key) query (Some key) name begun log log' deletes (Some lent)
+          r.2 None [] None None None said at.table at.probe.i word grave found None before refl tried (λ q e. absurd (cc e)) (λ claims q e. absurd (cc e)) is
 
       pub delete_changed : (change : Option ℕ × Option ℕ) → change_in ends.call.state ≡ Some change → HasChanged eq (Some key) begun log' before None change
       delete_changed = ended.changed
@@ -125,7 +139,8 @@ module _ {K V S H : Type 0} (eq : K → K → Bool) (input : K → List (List �
       changed : HasChanged eq (Some key) begun log' before None (Some (pair_of word), None)
       changed = ended.changed (Some (pair_of word), None) refl
 
-      some_there : (o : Option (Stored K V)) → MatchOption o (Some (pair_of word) ≡ None) (λ z. (Some (pair_of word) ≡ Some z.index) × (changed.class ≡ key_of z)) → (z : Stored K V) × (o ≡ Some z)
+      some_there : (o : Option (Stored K V)) → MatchOption o (Some (pair_of word) ≡ None)
+          (λ z. (Some (pair_of word) ≡ Some z.index) × (changed.class ≡ key_of z)) → (z : Stored K V) × (o ≡ Some z)
       some_there None e = absurd (cc e)
       some_there (Some z) e = (z, refl)
 
@@ -138,7 +153,8 @@ module _ {K V S H : Type 0} (eq : K → K → Bool) (input : K → List (List �
 
       module _ (taken : Stored K V) (took : before ≡ Some taken) where
         taken_at : (Some (pair_of word) ≡ Some taken.index) × (changed.class ≡ key_of taken)
-        taken_at = subst (λ (w : Option (Stored K V)). MatchOption w (Some (pair_of word) ≡ None) (λ z. (Some (pair_of word) ≡ Some z.index) × (changed.class ≡ key_of z))) took changed.taken_is
+        taken_at = subst (λ (w : Option (Stored K V)).
+            MatchOption w (Some (pair_of word) ≡ None) (λ z. (Some (pair_of word) ≡ Some z.index) × (changed.class ≡ key_of z))) took changed.taken_is
 
         -- it has the number of the one that was met
         pub taken_number : p.index ≡ taken.index
@@ -151,7 +167,8 @@ module _ {K V S H : Type 0} (eq : K → K → Bool) (input : K → List (List �
               before = history_of c.before;
               change = record { class = c.class; taken = before; put = None };
               since = history_since begun c.before c.since;
-              is = ap (changes_of key_of) c.is ∙ (changes-append key_of (exchanges_of c.before) (c.by ∷ []) ∙ ap (λ (cs : List (Change K (Stored K V))). history_of c.before ++ cs) (append-nil _ ∙ c.change_is));
+              is = ap (changes_of key_of) c.is ∙ (changes-append key_of (exchanges_of c.before) (c.by ∷ [])
+                  ∙ ap (λ (cs : List (Change K (Stored K V))). history_of c.before ++ cs) (append-nil _ ∙ c.change_is));
               class_is = ap (eq key) (taken_at.1 ∙ ap (λ z. z.key.value) (sym value)) ∙ met_same;
               taken_is = took;
               put_is = refl;

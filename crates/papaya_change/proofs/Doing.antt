@@ -1,10 +1,15 @@
 -- A changing call exchanges a slot once at most, and it has changed the map then.
-use Rattle.std.proofs.Common.{◌≡◌, inl, inr, ℕ, ◌==◌, Bool, true, false, cond, MatchBool, is_some, Option, None, Some, List, [], ◌∷◌, ◌++◌, map, append-nil, refl, sym, ap, ◌∙◌, subst}
+use Rattle.std.proofs.Common.{◌≡◌, inl, inr, ℕ, ◌==◌, Bool, true, false, cond, MatchBool, is_some}
+use Rattle.std.proofs.Common.{Option, None, Some, List, [], ◌∷◌, ◌++◌, map, append-nil, refl, sym}
+use Rattle.std.proofs.Common.{ap, ◌∙◌, subst}
 use Rattle.std.proofs.lemmas.List.{map-append}
 use Rattle.papaya_ask.specs.declared.ask.Answer.{Answer}
 use Rattle.papaya_ask.specs.declared.ask.Answer.TheVariants.{Word as Word_read, Exchanged, Found as Found_instead, Yes, Op, Made as Made_number, Ok as Ok_done}
 use Rattle.papaya_ask.specs.declared.ask.Ask.{Ask}
-use Rattle.papaya_ask.specs.declared.ask.Ask.TheVariants.{Load, Exchange, LoadHint, WriteHint, SameKey, ShowNone, ShowPair, SizeOf, MakeKey, MakeValue, MakePair, MakePairOf, MakeTable, AddToShard, Done}
+use Rattle.papaya_ask.specs.declared.ask.Ask.TheVariants.{Load, Exchange, LoadHint, WriteHint}
+use Rattle.papaya_ask.specs.declared.ask.Ask.TheVariants.{SameKey, ShowNone, ShowPair, SizeOf}
+use Rattle.papaya_ask.specs.declared.ask.Ask.TheVariants.{MakeKey, MakeValue, MakePair, MakePairOf}
+use Rattle.papaya_ask.specs.declared.ask.Ask.TheVariants.{MakeTable, AddToShard, Done}
 use Rattle.papaya_ask.specs.declared.ask.At.TheVariants.{Root, Next, Aborted, Done as Done_word, Slot, Made as Made_word}
 use Rattle.papaya_ask.specs.declared.ask.OpKind.{OpKind}
 use Rattle.papaya_ask.specs.declared.ask.OpKind.TheVariants as ops
@@ -28,7 +33,11 @@ use Rattle.papaya_chain_law.specs.Relies.{left_by}
 use Rattle.papaya_chain_law.proofs.Names.{call_asks}
 use Rattle.papaya_chain_law.proofs.Replies.{aside_asks}
 use Rattle.papaya_call.specs.declared.machine.State.{State}
-use Rattle.papaya_call.specs.declared.machine.State.TheVariants.{AtRoot, Making, Opening, Searching, Writing, Offering, Showing, Pairing, Putting, Deleting, Counting, Noting, Uncounting, Leaving, Growing, Ended}
+use Rattle.papaya_call.specs.declared.machine.State.TheVariants.{AtRoot, Making, Opening, Searching}
+use Rattle.papaya_call.specs.declared.machine.State.TheVariants.{Writing, Offering, Showing}
+use Rattle.papaya_call.specs.declared.machine.State.TheVariants.{Pairing, Putting, Deleting}
+use Rattle.papaya_call.specs.declared.machine.State.TheVariants.{Counting, Noting, Uncounting}
+use Rattle.papaya_call.specs.declared.machine.State.TheVariants.{Leaving, Growing, Ended}
 use Rattle.papaya_call.specs.declared.compute.Purpose.{Purpose}
 use Rattle.papaya_call.specs.Compute.{in_place_of, offered}
 use Rattle.papaya_call.specs.Machine.{after, ask_of, asks, decided, judged}
@@ -39,7 +48,9 @@ use Rattle.papaya_law.specs.Grows.{exchanges}
 use Rattle.papaya_call_law.specs.Followed.{IsCounting}
 use Rattle.papaya_call_law.specs.Relies.{change_in, change_of_reply}
 use Rattle.papaya_call_law.proofs.Followed.{counts_after}
-use Rattle.papaya_call_law.proofs.Makings.{HoldsOfPairAsks, IsPairAsk, IsWriteAsk, pair_holds, pairing_asks, pairing_leads, unserved_leads, write_asks, write_then, write_then_is}
+use Rattle.papaya_call_law.proofs.Makings.{HoldsOfPairAsks, IsPairAsk, IsWriteAsk, pair_holds}
+use Rattle.papaya_call_law.proofs.Makings.{pairing_asks, pairing_leads, unserved_leads, write_asks}
+use Rattle.papaya_call_law.proofs.Makings.{write_then, write_then_is}
 use Rattle.papaya_call_law.proofs.Leads.{HoldsOfLeads, beaten_leads, goes_leads, left_leads, provides_leads, root_leads}
 use Rattle.papaya_book.specs.declared.keyed.Keyed as keyed
 use Rattle.papaya_book.specs.declared.rule.entry.Event.{Event}
@@ -107,7 +118,8 @@ Moves made before later = MatchBool made ((before ≡ false) × (later ≡ true)
 
 module _ (m : Machine) where
   abbrev Step_by : Made → State → Answer → Type 0
-  Step_by made s answer = Moves (exchanged (asks made m.hash s) (Some answer)) (is_some (change_in s)) (is_some (change_in (after (record m { made = made; state = s }) answer).state))
+  Step_by made s answer = Moves (exchanged (asks made m.hash s) (Some answer)) (is_some (change_in s))
+      (is_some (change_in (after (record m { made = made; state = s }) answer).state))
 
   -- what is asked for a pair exchanges no slot
   none_exchanged : (answer : Answer) → HoldsOfPairAsks (λ ask. exchanged ask (Some answer) ≡ false)
@@ -115,11 +127,13 @@ module _ (m : Machine) where
 
   -- an insertion that writes, by the pair that serves
   abbrev Writes_by : Option ℕ → Made → Write → Answer → Type 0
-  Writes_by served made write answer = Moves (exchanged (served_ask served write made) (Some answer)) false (is_some (change_in (write_then m served made write answer)))
+  Writes_by served made write answer = Moves (exchanged (served_ask served write made) (Some answer)) false
+      (is_some (change_in (write_then m served made write answer)))
 
   writing_by : (served : Option ℕ) (made : Made) (write : Write) (answer : Answer) → Writes_by served made write answer
   writing_by None made write answer =
-      subst (λ (b : Bool). Moves b false (is_some (change_in (write_then m None made write answer)))) (sym (pair_holds (λ ask. exchanged ask (Some answer) ≡ false) (none_exchanged answer) made write.old))
+      subst (λ (b : Bool). Moves b false (is_some (change_in (write_then m None made write answer))))
+      (sym (pair_holds (λ ask. exchanged ask (Some answer) ≡ false) (none_exchanged answer) made write.old))
       (unserved_leads m IsUnchanged (λ refused. refl) made write refl answer)
   writing_by (Some n) made write (Found_instead word) = goes_leads IsUnchanged leads_unchanged m.task m.mode m.remembered (look_seen write.place word)
   writing_by (Some n) made write Exchanged = (refl, written_changed (write.old == 0) (claimed_by write n) (Rattle.papaya_words.specs.Word.pair_of write.old) n)
@@ -127,12 +141,14 @@ module _ (m : Machine) where
 
   writing_step : (made : Made) (write : Write) (answer : Answer) → Step_by made (Writing write) answer
   writing_step made write answer =
-      subst (λ (s : State). Moves (exchanged (asks made m.hash (Writing write)) (Some answer)) false (is_some (change_in s))) (sym (write_then_is m made write answer)) (writing_by (serves made write) made write answer)
+      subst (λ (s : State). Moves (exchanged (asks made m.hash (Writing write)) (Some answer)) false (is_some (change_in s)))
+      (sym (write_then_is m made write answer)) (writing_by (serves made write) made write answer)
 
   -- a compute that makes a pair
   pairing_step : (made : Made) (purpose : Purpose) (answer : Answer) → Step_by made (Pairing purpose) answer
   pairing_step made purpose answer =
-      subst (λ (b : Bool). Moves b false (is_some (change_in (after (record m { made = made; state = Pairing purpose }) answer).state))) (sym (pair_holds (λ ask. exchanged ask (Some answer) ≡ false) (none_exchanged answer) made (in_place_of purpose)))
+      subst (λ (b : Bool). Moves b false (is_some (change_in (after (record m { made = made; state = Pairing purpose }) answer).state)))
+      (sym (pair_holds (λ ask. exchanged ask (Some answer) ≡ false) (none_exchanged answer) made (in_place_of purpose)))
       (pairing_leads m IsUnchanged (λ refused. refl) made purpose refl (λ n. provides_leads IsUnchanged leads_unchanged purpose n) answer)
 
   step : (made : Made) (s : State) (answer : Answer) → Step_by made s answer
@@ -145,14 +161,18 @@ module _ (m : Machine) where
   step made (Searching (Sizing t)) (Word_read word) = goes_leads IsUnchanged leads_unchanged m.task m.mode m.remembered (search_loaded (Sizing t) m.hash word)
   step made (Searching (Sizing t)) (Yes same) = goes_leads IsUnchanged leads_unchanged m.task m.mode m.remembered (search_compared (Sizing t) same)
   step made (Searching (Sizing t)) answer = refl
-  step made (Searching (Looking at)) (Word_read word) = goes_leads IsUnchanged leads_unchanged m.task m.mode m.remembered (search_loaded (Looking at) m.hash word)
+  step made (Searching (Looking at)) (Word_read word) = goes_leads IsUnchanged leads_unchanged m.task m.mode m.remembered
+      (search_loaded (Looking at) m.hash word)
   step made (Searching (Looking at)) (Yes same) = goes_leads IsUnchanged leads_unchanged m.task m.mode m.remembered (search_compared (Looking at) same)
   step made (Searching (Looking at)) answer = refl
-  step made (Searching (Reading at)) (Word_read word) = goes_leads IsUnchanged leads_unchanged m.task m.mode m.remembered (search_loaded (Reading at) m.hash word)
+  step made (Searching (Reading at)) (Word_read word) = goes_leads IsUnchanged leads_unchanged m.task m.mode m.remembered
+      (search_loaded (Reading at) m.hash word)
   step made (Searching (Reading at)) (Yes same) = goes_leads IsUnchanged leads_unchanged m.task m.mode m.remembered (search_compared (Reading at) same)
   step made (Searching (Reading at)) answer = refl
-  step made (Searching (Comparing at by)) (Word_read word) = goes_leads IsUnchanged leads_unchanged m.task m.mode m.remembered (search_loaded (Comparing at by) m.hash word)
-  step made (Searching (Comparing at by)) (Yes same) = goes_leads IsUnchanged leads_unchanged m.task m.mode m.remembered (search_compared (Comparing at by) same)
+  step made (Searching (Comparing at by)) (Word_read word) = goes_leads IsUnchanged leads_unchanged m.task m.mode m.remembered
+      (search_loaded (Comparing at by) m.hash word)
+  step made (Searching (Comparing at by)) (Yes same) = goes_leads IsUnchanged leads_unchanged m.task m.mode m.remembered
+      (search_compared (Comparing at by) same)
   step made (Searching (Comparing at by)) answer = refl
   step made (Writing write) answer = writing_step made write answer
   step made (Offering gap) (Op kind) = offered_unchanged gap kind
@@ -162,7 +182,11 @@ module _ (m : Machine) where
   step made (Showing removal) answer = refl
   step made (Pairing purpose) answer = pairing_step made purpose answer
   step made (Putting put) (Found_instead word) = goes_leads IsUnchanged leads_unchanged m.task m.mode m.remembered (look_seen put.write.place word)
-  step made (Putting put) Exchanged = (refl, written_changed (put.write.old == 0) (claimed_by put.write put.pair) (Rattle.papaya_words.specs.Word.pair_of put.write.old) put.pair)
+  step made (Putting put) Exchanged = (
+    refl,
+    written_changed (put.write.old == 0) (claimed_by put.write put.pair)
+        (Rattle.papaya_words.specs.Word.pair_of put.write.old) put.pair,
+  )
   step made (Putting put) answer = refl
   step made (Deleting removal) (Found_instead word) = beaten_leads IsUnchanged leads_unchanged (record m { made = made; state = Deleting removal }) removal word
   step made (Deleting removal) Exchanged = (refl, refl)
@@ -187,14 +211,18 @@ left_unchanged (Growing need) t e = refl
 left_unchanged s t e = absurd cc
 
 -- after an answer to a call itself
-moved : (m : Chain) → m.phase ≡ Calling → (answer : Answer) → Moves (exchanged (ask_of m.call) (Some answer)) (has_changed m) (has_changed (chains.after m (answers.Call answer)))
+moved : (m : Chain) → m.phase ≡ Calling → (answer : Answer)
+    → Moves (exchanged (ask_of m.call) (Some answer)) (has_changed m) (has_changed (chains.after m (answers.Call answer)))
 moved m calling answer = elim (own_went m calling answer) [
-  | inl h ↦ subst (λ (z : Machine). Moves (exchanged (ask_of m.call) (Some answer)) (has_changed m) (is_some (change_in z.state))) (sym h.0) (step m.call m.call.made m.call.state answer)
+  | inl h ↦ subst (λ (z : Machine). Moves (exchanged (ask_of m.call) (Some answer)) (has_changed m) (is_some (change_in z.state))) (sym h.0)
+      (step m.call m.call.made m.call.state answer)
   | inr (inl h) ↦
-      subst (λ (a : Ask). Moves (exchanged a (Some answer)) (has_changed m) (has_changed (chains.after m (answers.Call answer)))) (sym (aside_asks m.call.made m.call.hash m.call.state h.0 h.1))
+      subst (λ (a : Ask). Moves (exchanged a (Some answer)) (has_changed m) (has_changed (chains.after m (answers.Call answer))))
+      (sym (aside_asks m.call.made m.call.hash m.call.state h.0 h.1))
       (ap (λ (z : Machine). is_some (change_in z.state)) h.2)
   | inr (inr h) ↦
-      subst (λ (a : Ask). Moves (exchanged a (Some answer)) (has_changed m) (has_changed (chains.after m (answers.Call answer)))) (sym (aside_asks m.call.made m.call.hash m.call.state h.0 h.2))
+      subst (λ (a : Ask). Moves (exchanged a (Some answer)) (has_changed m) (has_changed (chains.after m (answers.Call answer))))
+      (sym (aside_asks m.call.made m.call.hash m.call.state h.0 h.2))
       (ap (λ (z : Machine). is_some (change_in z.state)) h.5 ∙ sym (left_unchanged m.call.state h.0 h.2))
 ]
 
@@ -207,9 +235,13 @@ counting : (m : Chain) → has_changed m ≡ true → IsCounting (ask_of m.call)
 counting m e = some_then (change_in m.call.state) e (λ change is. counts_after m.call change is)
 
 module _ {X : Type 0} where
-  joined : (xs ys zs l l' : List X) (before made later : Bool) → ys ≡ xs ++ last_if before l → zs ≡ ys ++ last_if made l' → Moves made before later → (before ≡ true → l' ≡ l) → zs ≡ xs ++ last_if later l'
-  joined xs ys zs l l' before true later p q mv same = q ∙ (ap (λ (z : List X). z ++ last_in l') (p ∙ (ap (λ (b : Bool). xs ++ last_if b l) mv.0 ∙ append-nil xs)) ∙ ap (λ (b : Bool). xs ++ last_if b l') (sym mv.1))
-  joined xs ys zs l l' true false later p q mv same = q ∙ (append-nil ys ∙ (p ∙ (ap (λ (z : List X). xs ++ last_in z) (sym (same refl)) ∙ ap (λ (b : Bool). xs ++ last_if b l') (sym mv))))
+  joined : (xs ys zs l l' : List X) (before made later : Bool) → ys ≡ xs ++ last_if before l → zs ≡ ys ++ last_if made l' → Moves made before later
+      → (before ≡ true → l' ≡ l) → zs ≡ xs ++ last_if later l'
+  joined xs ys zs l l' before true later p q mv same = q
+      ∙ (ap (λ (z : List X). z ++ last_in l') (p ∙ (ap (λ (b : Bool). xs ++ last_if b l) mv.0 ∙ append-nil xs))
+      ∙ ap (λ (b : Bool). xs ++ last_if b l') (sym mv.1))
+  joined xs ys zs l l' true false later p q mv same = q
+      ∙ (append-nil ys ∙ (p ∙ (ap (λ (z : List X). xs ++ last_in z) (sym (same refl)) ∙ ap (λ (b : Bool). xs ++ last_if b l') (sym mv))))
   joined xs ys zs l l' false false later p q mv same = q ∙ (append-nil ys ∙ (p ∙ ap (λ (b : Bool). xs ++ last_if b l') (sym mv)))
 
   last_snoc : (xs : List X) (x : X) → last_in (xs ++ x ∷ []) ≡ x ∷ []
@@ -302,30 +334,36 @@ module _ {K V S H : Type 0} {d : keyed.Ghosts S K H} where
   idles w w' e = ap (λ o. o.done) e ∙ sym (append-nil w.own.done)
 
   pub idle : (ask asked : Ask) → ask ≡ asked → IsIdle ask → (answer : Option Answer) (w w' : Window K V S H d) → w'.own ≡ w.own → Answers asked answer w w'
-  idle ask asked e i answer w w' same = subst (λ (a : Ask). Answers a answer w w') e (record { does = rw (idle_made ask i answer) (idles w w' same); still = λ counts. absurd (idle_busy ask i counts) })
+  idle ask asked e i answer w w' same = subst (λ (a : Ask). Answers a answer w w') e
+      (record { does = rw (idle_made ask i answer) (idles w w' same); still = λ counts. absurd (idle_busy ask i counts) })
 
   -- where the window is left alone
   pub left_alone : (ask : Ask) → IsCounting ask → (asked : Ask) → ask ≡ asked → (answer : Option Answer) (w : Window K V S H d) → Answers asked answer w w
   left_alone (AddToShard by) counts asked e answer w = subst (λ (a : Ask). Answers a answer w w) e (record { does = idles w w refl; still = λ counts. refl })
-  left_alone (WriteHint t x hint) counts asked e answer w = subst (λ (a : Ask). Answers a answer w w) e (record { does = idles w w refl; still = λ counts. refl })
+  left_alone (WriteHint t x hint) counts asked e answer w = subst (λ (a : Ask). Answers a answer w w) e
+      (record { does = idles w w refl; still = λ counts. refl })
   left_alone (Done reply) counts asked e answer w = subst (λ (a : Ask). Answers a answer w w) e (record { does = idles w w refl; still = λ counts. refl })
   left_alone _ counts asked e answer w = absurd counts
 
   -- An exchange was tried, and where it was made the call is told so.
-  pub tried : (b : Bool) (answer : Answer) (P Q : Type 0) (found : ℕ) → MatchBool b ((answer ≡ Exchanged) × P) ((answer ≡ Found_instead found) × Q) → (w w' : Window K V S H d) → Does b w w' → Does (was_made answer) w w'
+  pub tried : (b : Bool) (answer : Answer) (P Q : Type 0) (found : ℕ) → MatchBool b ((answer ≡ Exchanged) × P) ((answer ≡ Found_instead found) × Q)
+      → (w w' : Window K V S H d) → Does b w w' → Does (was_made answer) w w'
   tried true answer P Q found h w w' does = rw h.0 does
   tried false answer P Q found h w w' does = rw h.0 does
 
   -- what the call did goes on
-  pub does_on : (m : Chain) → m.phase ≡ Calling → (answer : Answer) (a w w' : Window K V S H d) → Does (has_changed m) a w → Answers (ask_of m.call) (Some answer) w w' → Does (has_changed (chains.after m (answers.Call answer))) a w'
+  pub does_on : (m : Chain) → m.phase ≡ Calling → (answer : Answer) (a w w' : Window K V S H d) → Does (has_changed m) a w
+      → Answers (ask_of m.call) (Some answer) w w' → Does (has_changed (chains.after m (answers.Call answer))) a w'
   does_on m calling answer a w w' h h' =
-      joined a.own.done w.own.done w'.own.done (steps_of w.sight.log) (steps_of w'.sight.log) (has_changed m) (exchanged (ask_of m.call) (Some answer)) (has_changed (chains.after m (answers.Call answer))) h h'.does (moved m calling answer)
+      joined a.own.done w.own.done w'.own.done (steps_of w.sight.log) (steps_of w'.sight.log) (has_changed m)
+      (exchanged (ask_of m.call) (Some answer)) (has_changed (chains.after m (answers.Call answer))) h h'.does (moved m calling answer)
       (λ e. ap steps_of (h'.still (counting m e)))
 
   -- and is what it was where there is no answer
   pub does_still : (m : Chain) (a w w' : Window K V S H d) → Does (has_changed m) a w → Answers (ask_of m.call) None w w' → Does (has_changed m) a w'
   does_still m a w w' h h' =
-      joined a.own.done w.own.done w'.own.done (steps_of w.sight.log) (steps_of w'.sight.log) (has_changed m) false (has_changed m) h (subst (λ (b : Bool). Does b w w') (unanswered (ask_of m.call)) h'.does) refl
+      joined a.own.done w.own.done w'.own.done (steps_of w.sight.log) (steps_of w'.sight.log) (has_changed m) false (has_changed m) h
+      (subst (λ (b : Bool). Does b w w') (unanswered (ask_of m.call)) h'.does) refl
       (λ e. ap steps_of (h'.still (counting m e)))
 
 -- the exchanges of a log are those of its steps
@@ -333,20 +371,24 @@ exchanges_are : {K V : Type 0} (es : List (Step K V)) → exchanges (map entry_o
 exchanges_are [] = refl
 exchanges_are (e ∷ es) = ap (λ (xs : List (Law_exchange (Stored _ _))). exchange_of e ∷ xs) (exchanges_are es)
 
-module _ {K V S : Type 0} (eq : K → K → Bool) (k : Option K) (begun log : List (Event K V S)) (taken put : Option (Stored K V)) (change : Option ℕ × Option ℕ) (h : HasChanged eq k begun log taken put change) where
+module _ {K V S : Type 0} (eq : K → K → Bool) (k : Option K) (begun log : List (Event K V S)) (taken put : Option (Stored K V))
+    (change : Option ℕ × Option ℕ) (h : HasChanged eq k begun log taken put change) where
   abbrev made : Change K (Stored K V)
   made = record { class = h.class; taken = taken; put = put }
 
   -- the last exchange of the log makes the call's change
   last_made : changes_by (last_in (steps_of log)) ≡ made ∷ []
   last_made =
-      let last : map exchange_of (last_in (steps_of log)) ≡ h.by ∷ [] = last_map exchange_of (steps_of log) ∙ (ap last_in (sym (exchanges_are (steps_of log)) ∙ h.is) ∙ last_snoc (exchanges_of h.before) h.by) in
+      let last : map exchange_of (last_in (steps_of log)) ≡ h.by ∷ [] = last_map exchange_of (steps_of log)
+      ∙ (ap last_in (sym (exchanges_are (steps_of log)) ∙ h.is) ∙ last_snoc (exchanges_of h.before) h.by) in
       ap (changes_of key_of) last ∙ (append-nil _ ∙ h.change_is)
 
   -- which is the last of the history
   last_history : last_in (history_of log) ≡ made ∷ []
   last_history =
-      ap (λ es. last_in (changes_of key_of es)) h.is ∙ (ap last_in (changes-append key_of (exchanges_of h.before) (h.by ∷ []) ∙ ap (λ (cs : List (Change K (Stored K V))). history_of h.before ++ cs) (append-nil _ ∙ h.change_is)) ∙ last_snoc (history_of h.before) made)
+      ap (λ es. last_in (changes_of key_of es)) h.is
+      ∙ (ap last_in (changes-append key_of (exchanges_of h.before) (h.by ∷ [])
+      ∙ ap (λ (cs : List (Change K (Stored K V))). history_of h.before ++ cs) (append-nil _ ∙ h.change_is)) ∙ last_snoc (history_of h.before) made)
 
   pub same_last : changes_by (last_in (steps_of log)) ≡ last_in (history_of log)
   same_last = last_made ∙ sym last_history
@@ -355,12 +397,18 @@ changes_split : {K V : Type 0} (xs ys : List (Step K V)) → changes_by (xs ++ y
 changes_split xs ys = ap (changes_of key_of) (map-append exchange_of xs ys) ∙ changes-append key_of (map exchange_of xs) (map exchange_of ys)
 
 module _ {K V S H : Type 0} {d : keyed.Ghosts S K H} (eq : K → K → Bool) (k : Option K) (begun : List (Event K V S)) (taken put : Option (Stored K V)) where
-  makes_as : (o : Option (Option ℕ × Option ℕ)) (a w : Window K V S H d) → ((change : Option ℕ × Option ℕ) → o ≡ Some change → HasChanged eq k begun w.sight.log taken put change) → Does (is_some o) a w → Makes (is_some o) (own a) (own w) (past w)
+  makes_as : (o : Option (Option ℕ × Option ℕ)) (a w : Window K V S H d)
+      → ((change : Option ℕ × Option ℕ) → o ≡ Some change → HasChanged eq k begun w.sight.log taken put change) → Does (is_some o) a w
+      → Makes (is_some o) (own a) (own w) (past w)
   makes_as None a w h does = ap changes_by does ∙ changes_split a.own.done []
-  makes_as (Some change) a w h does = ap changes_by does ∙ (changes_split a.own.done (last_in (steps_of w.sight.log)) ∙ ap (λ (cs : List (Change K (Stored K V))). own a ++ cs) (same_last eq k begun w.sight.log taken put change (h change refl)))
+  makes_as (Some change) a w h does = ap changes_by does
+      ∙ (changes_split a.own.done (last_in (steps_of w.sight.log))
+      ∙ ap (λ (cs : List (Change K (Stored K V))). own a ++ cs) (same_last eq k begun w.sight.log taken put change (h change refl)))
 
   -- what it did is its change
-  pub makes : (m : Chain) (a w : Window K V S H d) → ((change : Option ℕ × Option ℕ) → change_in m.call.state ≡ Some change → HasChanged eq k begun w.sight.log taken put change) → Does (has_changed m) a w → Makes (has_changed m) (own a) (own w) (past w)
+  pub makes : (m : Chain) (a w : Window K V S H d)
+      → ((change : Option ℕ × Option ℕ) → change_in m.call.state ≡ Some change → HasChanged eq k begun w.sight.log taken put change)
+      → Does (has_changed m) a w → Makes (has_changed m) (own a) (own w) (past w)
   makes m a w h does = makes_as (change_in m.call.state) a w h does
 
 -- what a call with this reply has changed

@@ -70,7 +70,8 @@ none_handed : {K V : Type 0} (put : Option (Stored K V)) → pair_named put ≡ 
 none_handed None is = refl
 none_handed (Some q) is = absurd (cc is)
 
-module _ {K V S H : Type 0} (eq : K → K → Bool) (input : K → List (List ℕ)) (build : S → H) (write : H → List ℕ → H) (finish : H → ℕ) (classes : IsEquivalence eq) (respects : (x y : K) → eq x y ≡ true → input x ≡ input y)
+module _ {K V S H : Type 0} (eq : K → K → Bool) (input : K → List (List ℕ)) (build : S → H) (write : H → List ℕ → H) (finish : H → ℕ)
+    (classes : IsEquivalence eq) (respects : (x y : K) → eq x y ≡ true → input x ≡ input y)
     (b : Begun K V S) where
   abbrev hash : S → K → ℕ
   hash = hash_of input build write finish
@@ -81,8 +82,10 @@ module _ {K V S H : Type 0} (eq : K → K → Bool) (input : K → List (List �
   abbrev c : Coding K (Stored K V)
   c = coding_of (hash b.hasher)
 
-  module _ (k : Option K) (begun before log : List (Event K V S)) (since : IsPrefix begun before) (l : IsLawfulLog eq hash b before) (l' : IsLawfulLog eq hash b log) (by : Step K V) (grown : exchanges_of log ≡ exchanges_of before ++ exchange_of by ∷ [])
-      (t x old new : ℕ) (stood : word_in eq hash b before (Slot t x) ≡ old) (put pair : Option (Stored K V)) (handed : comes by ≡ pair_named put) (names : named ((state_of before).slot t x) ≡ pair) where
+  module _ (k : Option K) (begun before log : List (Event K V S)) (since : IsPrefix begun before) (l : IsLawfulLog eq hash b before)
+      (l' : IsLawfulLog eq hash b log) (by : Step K V) (grown : exchanges_of log ≡ exchanges_of before ++ exchange_of by ∷ [])
+      (t x old new : ℕ) (stood : word_in eq hash b before (Slot t x) ≡ old) (put pair : Option (Stored K V)) (handed : comes by ≡ pair_named put)
+      (names : named ((state_of before).slot t x) ≡ pair) where
     abbrev e : Exchange (Stored K V)
     e = exchange_of by
 
@@ -97,23 +100,31 @@ module _ {K V S H : Type 0} (eq : K → K → Bool) (input : K → List (List �
         let there : code (plain before) c w ≡ old = ap (code (plain before) c) (sym is) ∙ stood in
         ap pair_of (sym there) ∙ (code_pair (plain before) c coding w p has)
 
-    taken_of : (change : Option ℕ × Option ℕ) (class : K) (p : Stored K V) → pair ≡ Some p → change.0 ≡ Some p.index → class ≡ key_of p → MatchOption pair (change.0 ≡ None) (λ p. (change.0 ≡ Some p.index) × (class ≡ key_of p))
-    taken_of change class p is number of = subst (λ (o : Option (Stored K V)). MatchOption o (change.0 ≡ None) (λ p. (change.0 ≡ Some p.index) × (class ≡ key_of p))) (sym is) (number, of)
+    taken_of : (change : Option ℕ × Option ℕ) (class : K) (p : Stored K V) → pair ≡ Some p → change.0 ≡ Some p.index → class ≡ key_of p
+        → MatchOption pair (change.0 ≡ None) (λ p. (change.0 ≡ Some p.index) × (class ≡ key_of p))
+    taken_of change class p is number of = subst (λ (o : Option (Stored K V)).
+        MatchOption o (change.0 ≡ None) (λ p. (change.0 ≡ Some p.index) × (class ≡ key_of p))) (sym is) (number, of)
 
-    none_taken : (change : Option ℕ × Option ℕ) (class : K) → pair ≡ None → change.0 ≡ None → MatchOption pair (change.0 ≡ None) (λ p. (change.0 ≡ Some p.index) × (class ≡ key_of p))
-    none_taken change class is none = subst (λ (o : Option (Stored K V)). MatchOption o (change.0 ≡ None) (λ p. (change.0 ≡ Some p.index) × (class ≡ key_of p))) (sym is) none
+    none_taken : (change : Option ℕ × Option ℕ) (class : K) → pair ≡ None → change.0 ≡ None
+        → MatchOption pair (change.0 ≡ None) (λ p. (change.0 ≡ Some p.index) × (class ≡ key_of p))
+    none_taken change class is none = subst (λ (o : Option (Stored K V)).
+        MatchOption o (change.0 ≡ None) (λ p. (change.0 ≡ Some p.index) × (class ≡ key_of p))) (sym is) none
 
     abbrev IsPutAs : (change : Option ℕ × Option ℕ) (class : K) → Option (Stored K V) → Type 0
     IsPutAs change class o = MatchOption o (change.1 ≡ None) (λ q. (change.1 ≡ Some q.index) × (eq class (key_of q) ≡ true) × HasItsKey eq k pair q)
 
-    put_of : (change : Option ℕ × Option ℕ) (class : K) (q : Stored K V) → put ≡ Some q → change.1 ≡ Some q.index → eq class (key_of q) ≡ true → HasItsKey eq k pair q → IsPutAs change class put
+    put_of : (change : Option ℕ × Option ℕ) (class : K) (q : Stored K V) → put ≡ Some q → change.1 ≡ Some q.index → eq class (key_of q) ≡ true
+        → HasItsKey eq k pair q → IsPutAs change class put
     put_of change class q is number of key = subst (IsPutAs change class) (sym is) (number, of, key)
 
     none_put : (change : Option ℕ × Option ℕ) (class : K) → put ≡ None → change.1 ≡ None → IsPutAs change class put
     none_put change class is none = subst (IsPutAs change class) (sym is) none
 
     -- an exchange that was asked for as a change of this kind is one, and puts in what was handed over
-    pub changes : (kind : Option StepKind) → IsCallAsked kind (Slot t x) new (state_of before) (loaded_of put) e → (kind ≡ Some kinds.Claim → (q : Stored K V) → put ≡ Some q → Some (key_of q) ≡ k) → ((q : Stored K V) → put ≡ Some q → IsOfCall eq k (key_of q)) → (change : Option ℕ × Option ℕ) → change_of_kind kind old new ≡ Some change → HasChanged eq k begun log pair put change
+    pub changes : (kind : Option StepKind) → IsCallAsked kind (Slot t x) new (state_of before) (loaded_of put) e
+        → (kind ≡ Some kinds.Claim → (q : Stored K V) → put ≡ Some q → Some (key_of q) ≡ k)
+        → ((q : Stored K V) → put ≡ Some q → IsOfCall eq k (key_of q)) → (change : Option ℕ × Option ℕ) → change_of_kind kind old new ≡ Some change
+        → HasChanged eq k begun log pair put change
     changes (Some kinds.Claim) (q, own, is) claims class change said =
         let has : put ≡ Some q = one_made put q own.made in
         let may = subst (Allows (plain log) (state_of before)) is allowed in
@@ -124,9 +135,15 @@ module _ {K V S H : Type 0} (eq : K → K → Bool) (input : K → List (List �
           by = e;
           is = grown;
           class = key_of q;
-          change_is = subst (λ (z : Exchange (Stored K V)). change_of key_of z ≡ record { class = key_of q; taken = pair; put = put } ∷ []) (sym is) (λ i. record { class = key_of q; taken = sym none i; put = sym has i } ∷ []);
+          change_is = subst (λ (z : Exchange (Stored K V)). change_of key_of z ≡ record { class = key_of q; taken = pair; put = put } ∷ []) (sym is)
+              (λ i. record { class = key_of q; taken = sym none i; put = sym has i } ∷ []);
           taken_is = none_taken change (key_of q) none (sym (ap (λ (z : Option ℕ × Option ℕ). z.0) two));
-          put_is = put_of change (key_of q) q has (sym (ap (λ (z : Option ℕ × Option ℕ). z.1) two) ∙ ap (λ n. Some n) (sym own.named)) (classes.refl (key_of q)) (record { is = subst (λ (o : Option (Stored K V)). MatchOption o (Some (key_of q) ≡ k) (λ p. key_of q ≡ key_of p)) (sym none) (claims refl q has); same = class q has });
+          put_is = put_of change (key_of q) q has (sym (ap (λ (z : Option ℕ × Option ℕ). z.1) two) ∙ ap (λ n. Some n) (sym own.named))
+              (classes.refl (key_of q)) (record {
+                is =
+                    subst (λ (o : Option (Stored K V)). MatchOption o (Some (key_of q) ≡ k) (λ p. key_of q ≡ key_of p)) (sym none) (claims refl q has);
+                same = class q has;
+              });
         }
     changes (Some kinds.Replace) (p, q, live, own, kept, is) claims class change said =
         let has : put ≡ Some q = one_made put q own.made in
@@ -138,9 +155,15 @@ module _ {K V S H : Type 0} (eq : K → K → Bool) (input : K → List (List �
           by = e;
           is = grown;
           class = key_of p;
-          change_is = subst (λ (z : Exchange (Stored K V)). change_of key_of z ≡ record { class = key_of p; taken = pair; put = put } ∷ []) (sym is) (λ i. record { class = key_of p; taken = sym some i; put = sym has i } ∷ []);
-          taken_is = taken_of change (key_of p) p some (sym (ap (λ (z : Option ℕ × Option ℕ). z.0) two) ∙ ap (λ n. Some n) (numbered (Live p) live p refl)) refl;
-          put_is = put_of change (key_of p) q has (sym (ap (λ (z : Option ℕ × Option ℕ). z.1) two) ∙ ap (λ n. Some n) (sym own.named)) may.same (record { is = subst (λ (o : Option (Stored K V)). MatchOption o (Some (key_of q) ≡ k) (λ p. key_of q ≡ key_of p)) (sym some) kept; same = class q has });
+          change_is = subst (λ (z : Exchange (Stored K V)). change_of key_of z ≡ record { class = key_of p; taken = pair; put = put } ∷ []) (sym is)
+              (λ i. record { class = key_of p; taken = sym some i; put = sym has i } ∷ []);
+          taken_is = taken_of change (key_of p) p some
+              (sym (ap (λ (z : Option ℕ × Option ℕ). z.0) two) ∙ ap (λ n. Some n) (numbered (Live p) live p refl)) refl;
+          put_is = put_of change (key_of p) q has (sym (ap (λ (z : Option ℕ × Option ℕ). z.1) two) ∙ ap (λ n. Some n) (sym own.named)) may.same
+              (record {
+                is = subst (λ (o : Option (Stored K V)). MatchOption o (Some (key_of q) ≡ k) (λ p. key_of q ≡ key_of p)) (sym some) kept;
+                same = class q has;
+              });
         }
     changes (Some kinds.Delete) (p, live, is) claims class change said =
         let some : pair ≡ Some p = sym names ∙ ap named live in
@@ -151,8 +174,10 @@ module _ {K V S H : Type 0} (eq : K → K → Bool) (input : K → List (List �
           by = e;
           is = grown;
           class = key_of p;
-          change_is = subst (λ (z : Exchange (Stored K V)). change_of key_of z ≡ record { class = key_of p; taken = pair; put = put } ∷ []) (sym is) (λ i. record { class = key_of p; taken = sym some i; put = sym no_put i } ∷ []);
-          taken_is = taken_of change (key_of p) p some (sym (ap (λ (z : Option ℕ × Option ℕ). z.0) two) ∙ ap (λ n. Some n) (numbered (Live p) live p refl)) refl;
+          change_is = subst (λ (z : Exchange (Stored K V)). change_of key_of z ≡ record { class = key_of p; taken = pair; put = put } ∷ []) (sym is)
+              (λ i. record { class = key_of p; taken = sym some i; put = sym no_put i } ∷ []);
+          taken_is = taken_of change (key_of p) p some
+              (sym (ap (λ (z : Option ℕ × Option ℕ). z.0) two) ∙ ap (λ n. Some n) (numbered (Live p) live p refl)) refl;
           put_is = none_put change (key_of p) no_put (sym (ap (λ (z : Option ℕ × Option ℕ). z.1) two));
         }
     changes None asked claims class change said = absurd asked
@@ -167,13 +192,17 @@ module _ {K V S H : Type 0} (eq : K → K → Bool) (input : K → List (List �
     changes (Some kinds.Abort) asked claims class change said = absurd asked
     changes (Some kinds.Take) asked claims class change said = absurd asked
 
-module _ {K V S H : Type 0} (eq : K → K → Bool) (input : K → List (List ℕ)) (build : S → H) (write : H → List ℕ → H) (finish : H → ℕ) (classes : IsEquivalence eq) (respects : (x y : K) → eq x y ≡ true → input x ≡ input y)
-    (b : Begun K V S) (matches : K → Bool) (query : List (List ℕ)) (lawful : IsQuery eq input matches query) (k : Option K) (name : Book) (begun : List (Event K V S)) where
+module _ {K V S H : Type 0} (eq : K → K → Bool) (input : K → List (List ℕ)) (build : S → H) (write : H → List ℕ → H) (finish : H → ℕ)
+    (classes : IsEquivalence eq) (respects : (x y : K) → eq x y ≡ true → input x ≡ input y)
+    (b : Begun K V S) (matches : K → Bool) (query : List (List ℕ)) (lawful : IsQuery eq input matches query) (k : Option K) (name : Book)
+    (begun : List (Event K V S)) where
   abbrev hash' : S → K → ℕ
   hash' = hash_of input build write finish
 
-  abbrev Under : List (Event K V S) → Machine → Option (Bor Sheet) → (last kept : Option (Stored K V)) → List (Stored K V) → (taken put : Option (Stored K V)) → Option (Where Sheet × Pen) → Type 0
-  Under log m table last kept made taken put fresh = Calling eq input build write finish classes respects b matches query lawful k name begun log m table last kept made taken put fresh
+  abbrev Under : List (Event K V S) → Machine → Option (Bor Sheet) → (last kept : Option (Stored K V)) → List (Stored K V)
+      → (taken put : Option (Stored K V)) → Option (Where Sheet × Pen) → Type 0
+  Under log m table last kept made taken put fresh = Calling eq input build write finish classes respects b matches query lawful k name begun log m
+      table last kept made taken put fresh
 
   abbrev G : List (Event K V S) → Setting (Option K) (Stored K V)
   G log = Wide eq input build write finish classes respects b matches query lawful k name begun log
@@ -194,13 +223,19 @@ module _ {K V S H : Type 0} (eq : K → K → Bool) (input : K → List (List �
   word_there log log' at = word_wide eq input build write finish classes respects b matches query lawful k (exchanges_of begun) log log' at
 
   -- An exchange of a slot was tried with what the call handed over: a pair that it made, or nothing.
-  module _ (v log : List (Event K V S)) (m : Machine) (table : Option (Bor Sheet)) (last kept : Option (Stored K V)) (made : List (Stored K V)) (taken put : Option (Stored K V)) (fresh : Option (Where Sheet × Pen)) (r : Under v m table last kept made taken put fresh) (t x old new found : ℕ) (put' pair : Option (Stored K V))
-      (asks : ask_of m ≡ Call (Ask_exchange (Slot t x) old new)) (s : IsSlotTried eq hash' b name t x (kind_of_ask m) old new put' (pair_named put') v found log pair) where
+  module _ (v log : List (Event K V S)) (m : Machine) (table : Option (Bor Sheet)) (last kept : Option (Stored K V)) (made : List (Stored K V))
+      (taken put : Option (Stored K V)) (fresh : Option (Where Sheet × Pen)) (r : Under v m table last kept made taken put fresh)
+      (t x old new found : ℕ) (put' pair : Option (Stored K V))
+      (asks : ask_of m ≡ Call (Ask_exchange (Slot t x) old new))
+      (s : IsSlotTried eq hash' b name t x (kind_of_ask m) old new put' (pair_named put') v found log pair) where
     abbrev After : Bool → Type 0
-    After z = MatchBool z ((e : Step K V) × IsMeant eq hash' (Slot t x) (kind_of_ask m) new put' (pair_named put') s.tried.before e × (log ≡ s.tried.before ++ Stepped e ∷ [])) (log ≡ s.tried.before)
+    After z = MatchBool z ((e : Step K V) × IsMeant eq hash' (Slot t x) (kind_of_ask m) new put' (pair_named put') s.tried.before e
+        × (log ≡ s.tried.before ++ Stepped e ∷ [])) (log ≡ s.tried.before)
 
     -- it was made
-    pub exchanged : ((q : Stored K V) → put' ≡ Some q → IsOneOf made q) → (kind_of_ask m ≡ Some kinds.Claim → (q : Stored K V) → put' ≡ Some q → Some (key_of q) ≡ k) → (found == old) ≡ true → Under log (after m (answers.Call Exchanged)) table last kept made pair put' fresh
+    pub exchanged : ((q : Stored K V) → put' ≡ Some q → IsOneOf made q)
+        → (kind_of_ask m ≡ Some kinds.Claim → (q : Stored K V) → put' ≡ Some q → Some (key_of q) ≡ k) → (found == old) ≡ true
+        → Under log (after m (answers.Call Exchanged)) table last kept made pair put' fresh
     exchanged own claims is =
         let done = subst After is s.tried.after in
         let e = exchange_of done.0 in
@@ -208,17 +243,25 @@ module _ {K V S H : Type 0} (eq : K → K → Bool) (input : K → List (List �
         let grown : exchanges_of log ≡ exchanges_of before ++ e ∷ [] = ap exchanges_of done.2 ∙ exchanges_of-append before (Stepped done.0 ∷ []) in
         let more : IsPrefix before log = (Stepped done.0 ∷ [], sym done.2) in
         let found_is : found ≡ old = eqb-true found old is in
-        let here : (word_of (G log) C (state_of before) (Slot t x) == old) ≡ true = ap (λ (n : ℕ). n == old) (word_there before log (Slot t x) ∙ s.tried.is) ∙ is in
+        let here : (word_of (G log) C (state_of before) (Slot t x) == old) ≡ true = ap (λ (n : ℕ). n == old)
+        (word_there before log (Slot t x) ∙ s.tried.is) ∙ is in
         let kind = kind_of_ask m in
-        let plainly = asked_by_call kind (own_kind_is m (call_asks m (Ask_exchange (Slot t x) old new) asks).0) (Slot t x) new (state_of before) put' e done.1.asked in
+        let plainly = asked_by_call kind (own_kind_is m (call_asks m (Ask_exchange (Slot t x) old new) asks).0) (Slot t x) new (state_of before) put'
+        e done.1.asked in
         let asked : IsAsked (G log) C k kind (Slot t x) new (state_of before) (loaded last made) e =
-        asked_by_made (G log) C k (λ p. refl) (λ p q same. ap (λ z. Some z) same) (loaded_of put') (loaded last made) (λ q one. own q (one_made put' q one)) kind (Slot t x) new (state_of before) e (λ claim q one. claims claim q (one_made put' q one)) plainly in
-        let told : IsTold (G log) C k (state_of before) kind (loaded last made) (Ask_exchange (Slot t x) old new) Exchanged (e ∷ []) (loaded last made) = rw here (refl, (e, asked, refl), refl) in
+        asked_by_made (G log) C k (λ p. refl) (λ p q same. ap (λ z. Some z) same) (loaded_of put') (loaded last made)
+        (λ q one. own q (one_made put' q one)) kind (Slot t x) new (state_of before) e (λ claim q one. claims claim q (one_made put' q one)) plainly in
+        let told : IsTold (G log) C k (state_of before) kind (loaded last made) (Ask_exchange (Slot t x) old new) Exchanged (e ∷ [])
+        (loaded last made) = rw here (refl, (e, asked, refl), refl) in
         let since = prefix_trans v before log s.tried.since more in
-        answered eq input build write finish classes respects b matches query lawful k name begun v before log s.tried.lawful s.tried.now s.tried.since more m table last kept made taken put fresh r (Ask_exchange (Slot t x) old new) asks Exchanged last made told table pair put' fresh
+        answered eq input build write finish classes respects b matches query lawful k name begun v before log s.tried.lawful s.tried.now
+        s.tried.since more m table last kept made taken put fresh r (Ask_exchange (Slot t x) old new) asks Exchanged last made told table pair put' fresh
         (held_later v log since r.number table r.holds_table) r.last_placed r.made_placed s.placed
-        (λ change f. changes eq input build write finish classes respects b k begun before log (prefix_trans begun v before r.seen s.tried.since) s.tried.lawful s.tried.now done.0 grown t x old new (s.tried.is ∙ found_is) put' pair done.1.with_it s.names kind plainly claims (λ q has. of_call k q (r.relies.call.made.keys q (own q has))) change f)
-        (barren eq input build write finish classes respects b matches query lawful k name begun v log since s.tried.now m table last kept made taken put fresh r (Ask_exchange (Slot t x) old new) asks tt Exchanged fresh)
+        (λ change f. changes eq input build write finish classes respects b k begun before log (prefix_trans begun v before r.seen s.tried.since)
+        s.tried.lawful s.tried.now done.0 grown t x old new (s.tried.is ∙ found_is) put' pair done.1.with_it s.names kind plainly claims
+        (λ q has. of_call k q (r.relies.call.made.keys q (own q has))) change f)
+        (barren eq input build write finish classes respects b matches query lawful k name begun v log since s.tried.now m table last kept made taken
+        put fresh r (Ask_exchange (Slot t x) old new) asks tt Exchanged fresh)
 
     -- it was lost
     pub lost : (found == old) ≡ false → Under log (after m (answers.Call (Found_instead found))) table (or_last pair last) kept made taken put fresh
@@ -230,13 +273,17 @@ module _ {K V S H : Type 0} (eq : K → K → Bool) (input : K → List (List �
         let here : word_of (G log) C (state_of log) (Slot t x) ≡ found = word_there log log (Slot t x) ∙ word in
         let differs : (word_of (G log) C (state_of log) (Slot t x) == old) ≡ false = ap (λ (n : ℕ). n == old) here ∙ is in
         let loaded_is : loaded (or_last pair last) made ≡ told_of (state_of log) (Slot t x) (loaded last made) =
-        ap (λ (z : Option (Stored K V)). loaded (or_last z last) made) (sym s.names ∙ ap (λ (z : List (Event K V S)). named ((state_of z).slot t x)) (sym same)) in
-        let told : IsTold (G log) C k (state_of log) (kind_of_ask m) (loaded last made) (Ask_exchange (Slot t x) old new) (Found_instead found) [] (loaded (or_last pair last) made) = rw differs (ap Found_instead (sym here), refl, loaded_is) in
-        quiet eq input build write finish classes respects b matches query lawful k name begun v log pre s.tried.now m table last kept made taken put fresh r (Ask_exchange (Slot t x) old new) asks (Found_instead found) (or_last pair last) made table fresh
+        ap (λ (z : Option (Stored K V)). loaded (or_last z last) made)
+        (sym s.names ∙ ap (λ (z : List (Event K V S)). named ((state_of z).slot t x)) (sym same)) in
+        let told : IsTold (G log) C k (state_of log) (kind_of_ask m) (loaded last made) (Ask_exchange (Slot t x) old new) (Found_instead found) []
+        (loaded (or_last pair last) made) = rw differs (ap Found_instead (sym here), refl, loaded_is) in
+        quiet eq input build write finish classes respects b matches query lawful k name begun v log pre s.tried.now m table last kept made taken put
+        fresh r (Ask_exchange (Slot t x) old new) asks (Found_instead found) (or_last pair last) made table fresh
         (record {
           told = told;
           same = refl;
           busy = λ z. z;
-          brings = barren eq input build write finish classes respects b matches query lawful k name begun v log pre s.tried.now m table last kept made taken put fresh r (Ask_exchange (Slot t x) old new) asks tt (Found_instead found) fresh;
+          brings = barren eq input build write finish classes respects b matches query lawful k name begun v log pre s.tried.now m table last kept
+              made taken put fresh r (Ask_exchange (Slot t x) old new) asks tt (Found_instead found) fresh;
         })
         (held_later v log pre r.number table r.holds_table) (placed_last b name pair last s.placed r.last_placed) r.made_placed

@@ -54,7 +54,8 @@ pub record IsKept (m m' : Machine) (tables : List ℕ) (given : List CapacityCau
   pub ends : (cause : Cause) → ask_of m' ≡ Call (Done (Refused cause)) → (m' ≡ m) ⊎ IsCopyEnd m'.call.initial tables given cause
 
 -- a call stands on what it remembers, where it says nothing new
-pub stands_before : (call call' : Call_machine) → call'.remembered ≡ call.remembered → said_in call'.task call'.state ≡ None → (said : Said) → StandsOn call' said → StandsOn call said
+pub stands_before : (call call' : Call_machine) → call'.remembered ≡ call.remembered → said_in call'.task call'.state ≡ None → (said : Said)
+    → StandsOn call' said → StandsOn call said
 stands_before call call' same silent said (inl e) = absurd (cc (silent, e))
 stands_before call call' same silent said (inr (inl e)) = inr (inl (ap (λ (h : Remembered). said_to_fill h.fill) (sym same) ∙ e))
 stands_before call call' same silent said (inr (inr e)) = inr (inr (ap (λ (h : Remembered). said_to_choose h.choice) (sym same) ∙ e))
@@ -82,9 +83,11 @@ refused_silent (Insert replace) refused = refl
 refused_silent RemoveIf refused = refl
 refused_silent Compute refused = refl
 
-module _ (m m' : Machine) (tables : List ℕ) (given : List CapacityCause) (t : ℕ) (left : left_by m.call.state ≡ Some t) (call : Call_machine) (is : m'.call ≡ call) where
+module _ (m m' : Machine) (tables : List ℕ) (given : List CapacityCause) (t : ℕ) (left : left_by m.call.state ≡ Some t) (call : Call_machine)
+    (is : m'.call ≡ call) where
   -- a call that was set aside, where it is this one now
-  kept_by : call.task ≡ m.call.task → call.made ≡ m.call.made → call.initial ≡ m.call.initial → call.remembered ≡ m.call.remembered → change_in call.state ≡ None → ShowsPairs call → (HasValue m.call → HasValue call) → said_in call.task call.state ≡ None
+  kept_by : call.task ≡ m.call.task → call.made ≡ m.call.made → call.initial ≡ m.call.initial → call.remembered ≡ m.call.remembered
+      → change_in call.state ≡ None → ShowsPairs call → (HasValue m.call → HasValue call) → said_in call.task call.state ≡ None
       → ((cause : Cause) → calls.ask_of call ≡ Done (Refused cause) → IsCopyEnd m.call.initial tables given cause) → IsKept m m' tables given
   kept_by task made initial remembered none shows values silent ends =
       let same_initial : m'.call.initial ≡ m.call.initial = ap (λ (z : Call_machine). z.initial) is ∙ initial in record {
@@ -95,19 +98,23 @@ module _ (m m' : Machine) (tables : List ℕ) (given : List CapacityCause) (t : 
         shows = λ _. subst ShowsPairs (sym is) shows;
         values = λ has. subst HasValue (sym is) (values has);
         stands = λ said stands. stands_before m.call call remembered silent said (subst (λ z. StandsOn z said) is stands);
-        ends = λ cause e. inr (subst (λ n. IsCopyEnd n tables given cause) (sym same_initial) (ends cause (ap (λ (z : Call_machine). calls.ask_of z) (sym is) ∙ (call_asks m' (Done (Refused cause)) e).1)));
+        ends = λ cause e. inr (subst (λ n. IsCopyEnd n tables given cause) (sym same_initial)
+            (ends cause (ap (λ (z : Call_machine). calls.ask_of z) (sym is) ∙ (call_asks m' (Done (Refused cause)) e).1)));
       }
 
 -- told of the root as one that begins, it is not refused
-anew_unrefused : (call : Call_machine) (root : ℕ) (cause : Cause) → calls.ask_of (calls.after (record call { state = AtRoot }) (Word_read root)) ≡ Done (Refused cause) → ⊥
+anew_unrefused : (call : Call_machine) (root : ℕ) (cause : Cause)
+    → calls.ask_of (calls.after (record call { state = AtRoot }) (Word_read root)) ≡ Done (Refused cause) → ⊥
 anew_unrefused call root cause e =
     ⊎_elim (λ made. let f = made.0 in cc f)
-    (λ rest. ⊎_elim (λ (full : (cause ≡ Capacity) × ((need : Need) × (AtRoot ≡ Growing need))). let f = full.1.1 in cc f) (λ others. ⊎_elim (λ over. over.2) (λ none. let f = none.1.1 in cc f) others) rest)
+    (λ rest. ⊎_elim (λ (full : (cause ≡ Capacity) × ((need : Need) × (AtRoot ≡ Growing need))). let f = full.1.1 in cc f)
+    (λ others. ⊎_elim (λ over. over.2) (λ none. let f = none.1.1 in cc f) others) rest)
     (machine_reason (record call { state = AtRoot }) cause (Word_read root) (λ reply f. cc f) e)
 
 module _ (m m' : Machine) (tables : List ℕ) (given : List CapacityCause) where
   kept_on : HasGoneOn m m' → IsKept m m' tables given
-  kept_on h = kept_by m m' tables given h.from h.left (record m.call { state = Searching (Sizing h.table) }) h.call refl refl refl refl refl tt (values_left m.call h.from h.left (Searching (Sizing h.table))) refl (λ cause e. absurd (cc e))
+  kept_on h = kept_by m m' tables given h.from h.left (record m.call { state = Searching (Sizing h.table) }) h.call refl refl refl refl refl tt
+      (values_left m.call h.from h.left (Searching (Sizing h.table))) refl (λ cause e. absurd (cc e))
 
   kept_anew : HasBegunAnew m m' → IsKept m m' tables given
   kept_anew h =
@@ -121,7 +128,8 @@ module _ (m m' : Machine) (tables : List ℕ) (given : List CapacityCause) where
 
   kept_refused : WasRefused m m' tables given → IsKept m m' tables given
   kept_refused h =
-      kept_by m m' tables given h.from h.left (record m.call { state = Ended (Refused h.refused) }) h.call refl refl refl refl refl tt (values_left m.call h.from h.left (Ended (Refused h.refused))) (refused_silent m.call.task h.refused)
+      kept_by m m' tables given h.from h.left (record m.call { state = Ended (Refused h.refused) }) h.call refl refl refl refl refl tt
+      (values_left m.call h.from h.left (Ended (Refused h.refused))) (refused_silent m.call.task h.refused)
       (λ cause e. let same : h.refused ≡ cause = cc e in subst (IsCopyEnd m.call.initial tables given) same h.cause)
 
   -- a call keeps all this while it is set aside
@@ -141,30 +149,39 @@ module _ (m m' : Machine) (tables : List ℕ) (given : List CapacityCause) where
   helped_keeps (inr (inr (inr h))) = kept_refused h
 
 -- why a call is refused that was led on so
-module _ {K V S H : Type 0} (c c' : Driver K V S H) (tables : List ℕ) (calling : c'.machine.phase ≡ Calling) (still : c.machine.phase ≡ Calling → c' ≡ c) (helped : HasHelped c.machine c'.machine tables c'.given.done) where
+module _ {K V S H : Type 0} (c c' : Driver K V S H) (tables : List ℕ) (calling : c'.machine.phase ≡ Calling)
+    (still : c.machine.phase ≡ Calling → c' ≡ c) (helped : HasHelped c.machine c'.machine tables c'.given.done) where
   -- it was refused before, or by its copy
-  ends_so : (P : Driver K V S H → Type 0) (cause : Cause) → (ask_of c.machine ≡ Call (Done (Refused cause)) → P c) → (IsCopyEnd c'.machine.call.initial tables c'.given.done cause → P c') → ask_of c'.machine ≡ Call (Done (Refused cause)) → P c'
+  ends_so : (P : Driver K V S H → Type 0) (cause : Cause) → (ask_of c.machine ≡ Call (Done (Refused cause)) → P c)
+      → (IsCopyEnd c'.machine.call.initial tables c'.given.done cause → P c') → ask_of c'.machine ≡ Call (Done (Refused cause)) → P c'
   ends_so P cause before copied e =
       ⊎_elim
       (λ same. subst P (sym (still (ap (λ (z : Machine). z.phase) (sym same) ∙ calling))) (before (ap ask_of (sym same) ∙ e)))
       copied
       ((helped_keeps c.machine c'.machine tables c'.given.done helped).ends cause e)
 
-  pub refuses_kept : ((cause : Cause) → ask_of c.machine ≡ Call (Done (Refused cause)) → IsMemoryOrCapacity cause) → (cause : Cause) → ask_of c'.machine ≡ Call (Done (Refused cause)) → IsMemoryOrCapacity cause
+  pub refuses_kept : ((cause : Cause) → ask_of c.machine ≡ Call (Done (Refused cause)) → IsMemoryOrCapacity cause) → (cause : Cause)
+      → ask_of c'.machine ≡ Call (Done (Refused cause)) → IsMemoryOrCapacity cause
   refuses_kept before cause e = ends_so (λ _. IsMemoryOrCapacity cause) cause (before cause) (λ h. ⊎_elim (λ memory. inl memory) (λ full. inr full.0) h) e
 
   -- by its copy it was not refused for the limit
-  pub limit_kept : ((cause : Cause) → ask_of c.machine ≡ Call (Done (Refused cause)) → IsMemoryCapacityOrLimit cause) → (cause : Cause) → ask_of c'.machine ≡ Call (Done (Refused cause)) → IsMemoryCapacityOrLimit cause
-  limit_kept before cause e = ends_so (λ _. IsMemoryCapacityOrLimit cause) cause (before cause) (λ h. ⊎_elim (λ memory. inl (inl memory)) (λ full. inl (inr full.0)) h) e
+  pub limit_kept : ((cause : Cause) → ask_of c.machine ≡ Call (Done (Refused cause)) → IsMemoryCapacityOrLimit cause) → (cause : Cause)
+      → ask_of c'.machine ≡ Call (Done (Refused cause)) → IsMemoryCapacityOrLimit cause
+  limit_kept before cause e = ends_so (λ _. IsMemoryCapacityOrLimit cause) cause (before cause)
+      (λ h. ⊎_elim (λ memory. inl (inl memory)) (λ full. inl (inr full.0)) h) e
 
   pub spent_kept : (Holds : Type 0) → (ask_of c.machine ≡ Call (Done (Refused Limit)) → Holds) → ask_of c'.machine ≡ Call (Done (Refused Limit)) → Holds
   spent_kept Holds was e = ends_so (λ d. Holds) Limit was (λ h. ⊎_elim (λ memory. absurd (cc memory)) (λ full. absurd (let f = full.0 in cc f)) h) e
 
-  pub room_kept : (before : List ℕ) → IsPrefix before tables → (ask_of c.machine ≡ Call (Done (Refused Capacity)) → HasNoRoom c.machine.call.initial before c.given.done) → ask_of c'.machine ≡ Call (Done (Refused Capacity)) → HasNoRoom c'.machine.call.initial tables c'.given.done
-  room_kept before pre was e = ends_so (λ d. HasNoRoom d.machine.call.initial tables d.given.done) Capacity (λ h. room_since c.machine.call.initial before tables c.given.done pre (was h)) (λ h. ⊎_elim (λ memory. absurd (cc memory)) (λ full. full.1) h) e
+  pub room_kept : (before : List ℕ) → IsPrefix before tables
+      → (ask_of c.machine ≡ Call (Done (Refused Capacity)) → HasNoRoom c.machine.call.initial before c.given.done)
+      → ask_of c'.machine ≡ Call (Done (Refused Capacity)) → HasNoRoom c'.machine.call.initial tables c'.given.done
+  room_kept before pre was e = ends_so (λ d. HasNoRoom d.machine.call.initial tables d.given.done) Capacity
+      (λ h. room_since c.machine.call.initial before tables c.given.done pre (was h)) (λ h. ⊎_elim (λ memory. absurd (cc memory)) (λ full. full.1) h) e
 
 -- what a call did goes on while it is set aside
-module _ {K V S H : Type 0} {d : keyed.Ghosts S K H} (m m' : Machine) (tables : List ℕ) (given : List CapacityCause) (calling : m'.phase ≡ Calling) (helped : HasHelped m m' tables given) (a w w' : Window K V S H d) where
+module _ {K V S H : Type 0} {d : keyed.Ghosts S K H} (m m' : Machine) (tables : List ℕ) (given : List CapacityCause) (calling : m'.phase ≡ Calling)
+    (helped : HasHelped m m' tables given) (a w w' : Window K V S H d) where
   unchanged_does : has_changed m ≡ false → w'.own ≡ w.own → Does (has_changed m) a w → Does (has_changed m') a w'
   unchanged_does none same does =
       let before : Does false a w = subst (λ (z : Bool). Does z a w) none does in
@@ -172,7 +189,8 @@ module _ {K V S H : Type 0} {d : keyed.Ghosts S K H} (m m' : Machine) (tables : 
 
   pub helped_does : (m.phase ≡ Calling → w' ≡ w) → w'.own ≡ w.own → Does (has_changed m) a w → Does (has_changed m') a w'
   helped_does still same does = elim helped [
-    | inl it ↦ let window = still (ap (λ (z : Machine). z.phase) (sym it) ∙ calling) in subst (λ (z : Machine). Does (has_changed z) a w') (sym it) (subst (λ (z : Window K V S H d). Does (has_changed m) a z) (sym window) does)
+    | inl it ↦ let window = still (ap (λ (z : Machine). z.phase) (sym it) ∙ calling) in
+        subst (λ (z : Machine). Does (has_changed z) a w') (sym it) (subst (λ (z : Window K V S H d). Does (has_changed m) a z) (sym window) does)
     | inr (inl h) ↦ unchanged_does (left_unchanged m.call.state h.from h.left) same does
     | inr (inr (inl h)) ↦ unchanged_does (left_unchanged m.call.state h.from h.left) same does
     | inr (inr (inr h)) ↦ unchanged_does (left_unchanged m.call.state h.from h.left) same does

@@ -43,8 +43,11 @@ use Rattle.papaya_change.proofs.HelpingPlaces.{chain_came}
 use Rattle.papaya_change.proofs.Sized.{counting_since}
 use Rattle.papaya_change.proofs.Relying.{ChainRelying, coded, hashed_in, relying_later, relying_may, wide}
 
-module _ {K V S H : Type 0} (eq : K → K → Bool) (input : K → List (List ℕ)) (build : S → H) (write : H → List ℕ → H) (finish : H → ℕ) (classes : IsEquivalence eq) (respects : (x y : K) → eq x y ≡ true → input x ≡ input y)
-    (b : Begun K V S) (name : Book) (matches : K → Bool) (fed : ℕ) (form : IsForm eq (hash_of input build write finish) b matches fed) (k : Option K) (begun log : List (Event K V S)) (m : Machine) (last kept : Option (Stored K V)) (made : List (Stored K V)) (taken put : Option (Stored K V)) (fresh : Option (Where Sheet × Pen))
+module _ {K V S H : Type 0} (eq : K → K → Bool) (input : K → List (List ℕ)) (build : S → H) (write : H → List ℕ → H) (finish : H → ℕ)
+    (classes : IsEquivalence eq) (respects : (x y : K) → eq x y ≡ true → input x ≡ input y)
+    (b : Begun K V S) (name : Book) (matches : K → Bool) (fed : ℕ) (form : IsForm eq (hash_of input build write finish) b matches fed) (k : Option K)
+    (begun log : List (Event K V S)) (m : Machine) (last kept : Option (Stored K V)) (made : List (Stored K V)) (taken put : Option (Stored K V))
+    (fresh : Option (Where Sheet × Pen))
     (moved : IsSetAside eq (hash_of input build write finish) b name matches fed k begun log m last kept made taken put fresh) where
   abbrev hash : S → K → ℕ
   hash = hash_of input build write finish
@@ -62,13 +65,18 @@ module _ {K V S H : Type 0} (eq : K → K → Bool) (input : K → List (List �
   pub entering_came : (n : ℕ) → IsEntering m n → HasCome log n
   entering_came n is =
       let stage = subst (ReliesStage (G log) C (exchanges_of begun) moved.since k (loaded_with last kept made).call m.call.task) is.1 moved.relies.call.stage in
-      let on = ask_named (G log) C (hashed_in eq input build write finish classes respects b matches fed form k (exchanges_of begun) log moved.lawful) (exchanges_of begun) moved.since
-      (relying_may eq input build write finish classes respects b matches fed form k (exchanges_of begun) log moved.lawful m (loaded_with last kept made) relies_now) k (loaded_with last kept made).call m.call.task m.call.hash m.call.made (Searching (Sizing n)) stage in
+      let on = ask_named (G log) C (hashed_in eq input build write finish classes respects b matches fed form k (exchanges_of begun) log moved.lawful)
+      (exchanges_of begun) moved.since
+      (relying_may eq input build write finish classes respects b matches fed form k (exchanges_of begun) log moved.lawful m
+      (loaded_with last kept made) relies_now) k (loaded_with last kept made).call m.call.task m.call.hash m.call.made (Searching (Sizing n)) stage in
       chain_came log n (subst (λ (z : List (Exchange (Stored K V))). IsOn (run z start).first (run z start).next n) moved.is on)
 
   -- before this the call was set aside
-  module _ (v : List (Event K V S)) (was : Machine) (table : Option (Bor Sheet)) (last₀ kept₀ taken₀ put₀ : Option (Stored K V)) (fresh₀ : Option (Where Sheet × Pen)) (r : IsCalling eq hash b name matches fed k begun v was table last₀ kept₀ made taken₀ put₀ fresh₀) (tables : List ℕ) (given : List CapacityCause) (leads : IsAside was m ⊎ IsLed was m tables given) (pre : IsPrefix v log)
-      (log' : List (Event K V S)) (pre' : IsPrefix log log') (l' : IsLawfulLog eq hash b log') (table' : Option (Bor Sheet)) (held : (n : ℕ) → IsEntering m n → MatchOption table' ⊥ (λ z. IsTable log' n z.now)) (still : ((n : ℕ) → IsEntering m n → ⊥) → table' ≡ table) where
+  module _ (v : List (Event K V S)) (was : Machine) (table : Option (Bor Sheet)) (last₀ kept₀ taken₀ put₀ : Option (Stored K V))
+      (fresh₀ : Option (Where Sheet × Pen)) (r : IsCalling eq hash b name matches fed k begun v was table last₀ kept₀ made taken₀ put₀ fresh₀)
+      (tables : List ℕ) (given : List CapacityCause) (leads : IsAside was m ⊎ IsLed was m tables given) (pre : IsPrefix v log)
+      (log' : List (Event K V S)) (pre' : IsPrefix log log') (l' : IsLawfulLog eq hash b log') (table' : Option (Bor Sheet))
+      (held : (n : ℕ) → IsEntering m n → MatchOption table' ⊥ (λ z. IsTable log' n z.now)) (still : ((n : ℕ) → IsEntering m n → ⊥) → table' ≡ table) where
     -- the table that it holds then
     pub record Lands : Type 0 where
       pub number : ℕ
@@ -80,12 +88,14 @@ module _ {K V S H : Type 0} (eq : K → K → Bool) (input : K → List (List �
     some_held n None h = absurd h
     some_held n (Some z) h = h
 
-    later_held : (o : Option (Bor Sheet)) → MatchOption o (r.number ≡ 0) (λ z. IsTable v r.number z.now) → MatchOption o (r.number ≡ 0) (λ z. IsTable log' r.number z.now)
+    later_held : (o : Option (Bor Sheet)) → MatchOption o (r.number ≡ 0) (λ z. IsTable v r.number z.now)
+        → MatchOption o (r.number ≡ 0) (λ z. IsTable log' r.number z.now)
     later_held None h = h
     later_held (Some z) h = table_since v log' r.number z.now (prefix_trans v log log' pre pre') h
 
     same_held : ((n : ℕ) → IsEntering m n → ⊥) → MatchOption table' (r.number ≡ 0) (λ z. IsTable log' r.number z.now)
-    same_held none = subst (λ (o : Option (Bor Sheet)). MatchOption o (r.number ≡ 0) (λ z. IsTable log' r.number z.now)) (sym (still none)) (later_held table r.holds_table)
+    same_held none = subst (λ (o : Option (Bor Sheet)). MatchOption o (r.number ≡ 0) (λ z. IsTable log' r.number z.now)) (sym (still none))
+        (later_held table r.holds_table)
 
     -- it enters a table
     enters : m.phase ≡ Calling → (n : ℕ) → m.call.state ≡ Searching (Sizing n) → Lands
@@ -93,7 +103,12 @@ module _ {K V S H : Type 0} (eq : K → K → Bool) (input : K → List (List �
 
     -- or it needs none
     needs_none : (stage : Stage) → ((n : ℕ) → stage ≡ Searching (Sizing n) → ⊥) → IsAtTable r.number stage → m.call.state ≡ stage → Lands
-    needs_none stage other at e = record { number = r.number; at_table = λ _. subst (IsAtTable r.number) (sym e) at; holds = same_held (λ n is. other n (sym e ∙ is.1)) }
+    needs_none stage other at e = record {
+      number = r.number;
+      at_table = λ _.
+          subst (IsAtTable r.number) (sym e) at;
+      holds = same_held (λ n is. other n (sym e ∙ is.1));
+    }
 
     waits : IsAside was m → Lands
     waits aside = record { number = r.number; at_table = λ calling. absurd (aside.busy calling); holds = same_held (λ n is. aside.busy is.0) }
@@ -112,7 +127,8 @@ module _ {K V S H : Type 0} (eq : K → K → Bool) (input : K → List (List �
     -- it is under way again
     pub arrived : IsCalling eq hash b name matches fed k begun log' m table' last kept made taken put fresh
     arrived =
-        let later = relying_later eq input build write finish classes respects b matches fed form k (exchanges_of begun) log moved.lawful m (loaded_with last kept made) relies_now log' l' pre' in record {
+        let later = relying_later eq input build write finish classes respects b matches fed form k (exchanges_of begun) log moved.lawful m
+        (loaded_with last kept made) relies_now log' l' pre' in record {
           lawful = l';
           seen = prefix_trans begun log log' moved.seen pre';
           since = later.since;
@@ -144,8 +160,21 @@ module _ (first m m' : Machine) (tables : List ℕ) (given : List CapacityCause)
   led_further led = record { calling = led.calling; where_to = by_end led.where_to }
     where
       by_end : HasGoneOn m m' ⊎ HasBegunAnew m m' ⊎ WasRefused m m' tables given → HasGoneOn first m' ⊎ HasBegunAnew first m' ⊎ WasRefused first m' tables given
-      by_end (inl on) = inl (record { from = on.from; left = ap (λ (d : Call_machine). left_by d.state) (sym same) ∙ on.left; table = on.table; call = on.call ∙ ap (λ (d : Call_machine). record d { state = Searching (Sizing on.table) }) same })
-      by_end (inr (inl begun)) = inr (inl (record { from = begun.from; left = ap (λ (d : Call_machine). left_by d.state) (sym same) ∙ begun.left; root = begun.root; call = begun.call ∙ ap (λ (d : Call_machine). call_machine.after (record d { state = AtRoot }) (Word_read begun.root)) same }))
+      by_end (inl on) = inl (record {
+        from = on.from;
+        left = ap (λ (d : Call_machine). left_by d.state) (sym same)
+            ∙ on.left;
+        table = on.table;
+        call = on.call ∙ ap (λ (d : Call_machine). record d { state = Searching (Sizing on.table) }) same;
+      })
+      by_end (inr (inl begun)) = inr (inl (record {
+        from = begun.from;
+        left = ap (λ (d : Call_machine). left_by d.state) (sym same)
+            ∙ begun.left;
+        root = begun.root;
+        call = begun.call
+            ∙ ap (λ (d : Call_machine). call_machine.after (record d { state = AtRoot }) (Word_read begun.root)) same;
+      }))
       by_end (inr (inr ends)) = inr (inr (record {
         from = ends.from;
         left = ap (λ (d : Call_machine). left_by d.state) (sym same) ∙ ends.left;
@@ -159,8 +188,10 @@ module _ (first m m' : Machine) (tables : List ℕ) (given : List CapacityCause)
   further (inr led) = inr (inr (led_further led))
 
 -- after each answer, to a machine whose call is where it was
-pub reached_past : (first m mid m' : Machine) (tables tables' : List ℕ) (given given' : List CapacityCause) → HasReached first m tables given → (m.phase ≡ Calling → ⊥) → mid.call ≡ m.call → IsAside mid m' ⊎ IsLed mid m' tables' given' → HasReached first m' tables' given'
-reached_past first m mid m' tables tables' given given' (inl same) busy call leads = further first mid m' tables' given' (call ∙ ap (λ (d : Machine). d.call) same) leads
+pub reached_past : (first m mid m' : Machine) (tables tables' : List ℕ) (given given' : List CapacityCause) → HasReached first m tables given
+    → (m.phase ≡ Calling → ⊥) → mid.call ≡ m.call → IsAside mid m' ⊎ IsLed mid m' tables' given' → HasReached first m' tables' given'
+reached_past first m mid m' tables tables' given given' (inl same) busy call leads = further first mid m' tables' given'
+    (call ∙ ap (λ (d : Machine). d.call) same) leads
 reached_past first m mid m' tables tables' given given' (inr (inl aside)) busy call leads = further first mid m' tables' given' (call ∙ aside.call) leads
 reached_past first m mid m' tables tables' given given' (inr (inr led)) busy call leads = absurd (busy led.calling)
 
@@ -186,7 +217,8 @@ module _ (m m' : Machine) (tables tables' : List ℕ) (given : List CapacityCaus
   reached_since (inr (inr led)) = inr (inr (record { calling = led.calling; where_to = led_since led.where_to }))
 
 -- and at the end
-pub helped : (first m : Machine) (tables : List ℕ) (given : List CapacityCause) → HasReached first m tables given → m.phase ≡ Calling → HasHelped first m tables given
+pub helped : (first m : Machine) (tables : List ℕ) (given : List CapacityCause) → HasReached first m tables given → m.phase ≡ Calling
+    → HasHelped first m tables given
 helped first m tables given (inl same) calling = inl same
 helped first m tables given (inr (inl aside)) calling = absurd (aside.busy calling)
 helped first m tables given (inr (inr led)) calling = inr led.where_to

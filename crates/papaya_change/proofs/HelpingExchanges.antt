@@ -1,5 +1,7 @@
 -- What a copy for a call exchanges may be exchanged in the book, and what was exchanged is what the copy's machine is told of.
-use Rattle.std.proofs.Common.{◌≡◌, ◌⊎◌, inl, inr, ⊎_elim, ℕ, ◌+◌, ◌<◌, ◌≤◌, ◌==◌, Bool, true, false, MatchBool, Option, None, Some, List, [], ◌∷◌, ◌++◌, length, append-nil, refl, sym, ap, ◌∙◌, subst, arith}
+use Rattle.std.proofs.Common.{◌≡◌, ◌⊎◌, inl, inr, ⊎_elim, ℕ, ◌+◌, ◌<◌, ◌≤◌, ◌==◌, Bool, true, false}
+use Rattle.std.proofs.Common.{MatchBool, Option, None, Some, List, [], ◌∷◌, ◌++◌, length}
+use Rattle.std.proofs.Common.{append-nil, refl, sym, ap, ◌∙◌, subst, arith}
 use Rattle.std.proofs.lemmas.Bool.{eqb-true}
 use Rattle.std.specs.Cmp.{IsEquivalence}
 use mathlib.Core.List.{IsPrefix}
@@ -59,7 +61,9 @@ use Rattle.papaya_change.specs.Copier.{marked_or}
 use Rattle.papaya_change.specs.Helping.{IsOwnTable, IsTriedFor, pair_at}
 use Rattle.papaya_change.proofs.HelpingFollows.{machine_rises}
 use Rattle.papaya_change.proofs.HelpingPlaces.{all_there, chain_came, relying}
-use Rattle.papaya_change.proofs.Relying.{ChainRelying, coded, hashed_in, hashed_with, may_with, plain_with, relies_with, relying_later, relying_may, wide, wide_with}
+use Rattle.papaya_change.proofs.Relying.{ChainRelying, coded, hashed_in, hashed_with, may_with}
+use Rattle.papaya_change.proofs.Relying.{plain_with, relies_with, relying_later, relying_may, wide}
+use Rattle.papaya_change.proofs.Relying.{wide_with}
 
 -- an exchange of another kind marks none
 pub unmarked : {P : Type 0} (kind : Option StepKind) (pair last : Option P) → (kind ≡ Some kinds.Mark → ⊥) → last ≡ marked_or kind pair last
@@ -89,7 +93,8 @@ module _ {K P : Type 0} (c : Coding K P) (new : ℕ) (s : State P) (kept : Optio
   of_copy other at a = absurd a
 
   -- it is told of the pair that it marked
-  pub last_marked : (kind : Option StepKind) (at : At) → IsCopyAsked c kind at new s kept e → (last : Option P) → last_after e last ≡ marked_or kind (pair_at s at) last
+  pub last_marked : (kind : Option StepKind) (at : At) → IsCopyAsked c kind at new s kept e → (last : Option P)
+      → last_after e last ≡ marked_or kind (pair_at s at) last
   last_marked (Some kinds.Link) (Next t) is last = ap (λ (z : Exchange P). last_after z last) is
   last_marked (Some kinds.Mark) (Slot t x) (p, live, is) last = ap (λ (z : Exchange P). last_after z last) is ∙ sym (ap named live)
   last_marked (Some kinds.Close) (Slot t x) is last = ap (λ (z : Exchange P). last_after z last) is
@@ -100,7 +105,8 @@ module _ {K P : Type 0} (c : Coding K P) (new : ℕ) (s : State P) (kept : Optio
   last_marked (Some kinds.Abort) (Aborted t) is last = ap (λ (z : Exchange P). last_after z last) is
   last_marked other at a last = absurd a
 
-module _ {K K' P : Type 0} (c : Coding K P) (c' : Coding K' P) (numbers : (p : P) → c.number p ≡ c'.number p) (new : ℕ) (s : State P) (kept : Option P) (e : Exchange P) where
+module _ {K K' P : Type 0} (c : Coding K P) (c' : Coding K' P) (numbers : (p : P) → c.number p ≡ c'.number p) (new : ℕ) (s : State P)
+    (kept : Option P) (e : Exchange P) where
   -- what a copy asks for depends on the pairs' numbers alone
   pub copy_alike : (kind : Option StepKind) (at : At) → IsCopyAsked c kind at new s kept e → IsCopyAsked c' kind at new s kept e
   copy_alike (Some kinds.Link) (Next t) is = is
@@ -124,7 +130,8 @@ module _ {K V : Type 0} (new : ℕ) (s : State (Stored K V)) (kept : Option (Sto
   pub step_of_copy : (kind : Option StepKind) (at : At) → IsCopyAsked Numbered kind at new s kept e → ((t : ℕ) → at ≡ Next t → ⊥) → IsStepOf kind at
   step_of_copy (Some kinds.Mark) (Slot t x) (p, live, is) other = record { step = steps.Mark t x p; is = sym is; alone = refl; asked = (p, live, refl) }
   step_of_copy (Some kinds.Close) (Slot t x) is other = record { step = steps.Close t x; is = sym is; alone = refl; asked = refl }
-  step_of_copy (Some kinds.Place) (Slot t x) (p, carried, number, is) other = record { step = steps.Place t x p; is = sym is; alone = refl; asked = (p, carried, number, refl) }
+  step_of_copy (Some kinds.Place) (Slot t x) (p, carried, number, is)
+      other = record { step = steps.Place t x p; is = sym is; alone = refl; asked = (p, carried, number, refl) }
   step_of_copy (Some kinds.Finish) (Slot t x) (p, marked, is) other = record { step = steps.Finish t x p; is = sym is; alone = refl; asked = (p, marked, refl) }
   step_of_copy (Some kinds.Advance) (Done t c) is other = record { step = steps.Advance t c; is = sym is; alone = refl; asked = refl }
   step_of_copy (Some kinds.Promote) Root is other = record { step = steps.Promote s.root new; is = sym is; alone = refl; asked = refl }
@@ -134,15 +141,19 @@ module _ {K V : Type 0} (new : ℕ) (s : State (Stored K V)) (kept : Option (Sto
 
 module _ {K V S : Type 0} (eq : K → K → Bool) (hash : S → K → ℕ) (b : Begun K V S) (name : Book) where
   -- what was exchanged was wished, and a table that came with it was at hand
-  wished_then : (at : At) (kind : Option StepKind) (new : ℕ) (made : Option (Stored K V)) (fresh : Option (Where Sheet × Pen)) (brings : Named K V) → IsOwnTable fresh brings → (before log : List (Event K V S)) (exchanged : Bool)
+  wished_then : (at : At) (kind : Option StepKind) (new : ℕ) (made : Option (Stored K V)) (fresh : Option (Where Sheet × Pen)) (brings : Named K V)
+      → IsOwnTable fresh brings → (before log : List (Event K V S)) (exchanged : Bool)
       → MatchBool exchanged ((e : Step K V) × IsMeant eq hash at kind new made brings before e × (log ≡ before ++ Stepped e ∷ [])) (log ≡ before)
-      → MatchBool exchanged ((e : Step K V) × IsWished kind at new (state_of before) made (exchange_of e) × IsOwnTable fresh (comes e) × (log ≡ before ++ Stepped e ∷ [])) (log ≡ before)
+      → MatchBool exchanged ((e : Step K V) × IsWished kind at new (state_of before) made (exchange_of e) × IsOwnTable fresh (comes e)
+      × (log ≡ before ++ Stepped e ∷ [])) (log ≡ before)
   wished_then at kind new made fresh brings own before log true (e, meant, is) = (e, meant.asked, subst (IsOwnTable fresh) (sym meant.with_it) own, is)
   wished_then at kind new made fresh brings own before log false is = is
 
-  module _ (seen₀ seen : List (Event K V S)) (pre : IsPrefix seen₀ seen) (kind : Option StepKind) (old new : ℕ) (kept : Option (Stored K V)) (fresh : Option (Where Sheet × Pen)) (found : ℕ) (log : List (Event K V S)) where
+  module _ (seen₀ seen : List (Event K V S)) (pre : IsPrefix seen₀ seen) (kind : Option StepKind) (old new : ℕ) (kept : Option (Stored K V))
+      (fresh : Option (Where Sheet × Pen)) (found : ℕ) (log : List (Event K V S)) where
     -- a slot's exchange was tried for a copy
-    pub tried_slot : (t x : ℕ) (pair : Option (Stored K V)) → IsSlotTried eq hash b name t x kind old new kept names.Nothing seen found log pair → IsTriedFor eq hash b name (Slot t x) kind old new kept fresh seen₀ found log pair
+    pub tried_slot : (t x : ℕ) (pair : Option (Stored K V)) → IsSlotTried eq hash b name t x kind old new kept names.Nothing seen found log pair
+        → IsTriedFor eq hash b name (Slot t x) kind old new kept fresh seen₀ found log pair
     tried_slot t x pair s = record {
       before = s.tried.before;
       since = prefix_trans seen₀ seen s.tried.before pre s.tried.since;
@@ -156,17 +167,23 @@ module _ {K V S : Type 0} (eq : K → K → Bool) (hash : S → K → ℕ) (b : 
 
   -- a link is wished whatever pair is carried
   wished_link : (t new : ℕ) (kept : Option (Stored K V)) (fresh : Option (Where Sheet × Pen)) (before log : List (Event K V S)) (exchanged : Bool)
-      → MatchBool exchanged ((e : Step K V) × IsWished (Some kinds.Link) (Next t) new (state_of before) None (exchange_of e) × IsOwnTable fresh (comes e) × (log ≡ before ++ Stepped e ∷ [])) (log ≡ before)
-      → MatchBool exchanged ((e : Step K V) × IsWished (Some kinds.Link) (Next t) new (state_of before) kept (exchange_of e) × IsOwnTable fresh (comes e) × (log ≡ before ++ Stepped e ∷ [])) (log ≡ before)
+      → MatchBool exchanged ((e : Step K V) × IsWished (Some kinds.Link) (Next t) new (state_of before) None (exchange_of e)
+      × IsOwnTable fresh (comes e) × (log ≡ before ++ Stepped e ∷ [])) (log ≡ before)
+      → MatchBool exchanged ((e : Step K V) × IsWished (Some kinds.Link) (Next t) new (state_of before) kept (exchange_of e)
+      × IsOwnTable fresh (comes e) × (log ≡ before ++ Stepped e ∷ [])) (log ≡ before)
   wished_link t new kept fresh before log true (e, inl asked, own, is) = absurd asked
   wished_link t new kept fresh before log true (e, inr asked, own, is) = (e, inr asked, own, is)
   wished_link t new kept fresh before log false is = is
 
   -- a table was tried to be linked for a copy
-  pub tried_link : (seen₀ seen : List (Event K V S)) → IsPrefix seen₀ seen → (t new : ℕ) (kept : Option (Stored K V)) (fresh : Option (Where Sheet × Pen)) (table : Where Sheet) (seal : Pen) → fresh ≡ Some (table, seal) → (found : ℕ) (log : List (Event K V S)) (state : Option (Named K V))
-      → IsTried eq hash b (Next t) (Some kinds.Link) 0 new None (names.Table table) seen found log state → IsTriedFor eq hash b name (Next t) (Some kinds.Link) 0 new kept fresh seen₀ found log None
+  pub tried_link : (seen₀ seen : List (Event K V S)) → IsPrefix seen₀ seen
+      → (t new : ℕ) (kept : Option (Stored K V)) (fresh : Option (Where Sheet × Pen)) (table : Where Sheet) (seal : Pen) → fresh ≡ Some (table, seal)
+      → (found : ℕ) (log : List (Event K V S)) (state : Option (Named K V))
+      → IsTried eq hash b (Next t) (Some kinds.Link) 0 new None (names.Table table) seen found log state
+      → IsTriedFor eq hash b name (Next t) (Some kinds.Link) 0 new kept fresh seen₀ found log None
   tried_link seen₀ seen pre t new kept fresh table seal at_hand found log state s =
-      let own : IsOwnTable {K = K} {V = V} fresh (names.Table table) = subst (λ (o : Option (Where Sheet × Pen)). IsOwnTable {K = K} {V = V} o (names.Table table)) (sym at_hand) refl in record {
+      let own : IsOwnTable {K = K} {V = V} fresh
+      (names.Table table) = subst (λ (o : Option (Where Sheet × Pen)). IsOwnTable {K = K} {V = V} o (names.Table table)) (sym at_hand) refl in record {
         before = s.before;
         since = prefix_trans seen₀ seen s.before pre s.since;
         lawful = s.lawful;
@@ -174,7 +191,8 @@ module _ {K V S : Type 0} (eq : K → K → Bool) (hash : S → K → ℕ) (b : 
         is = s.is;
         names = refl;
         placed = tt;
-        after = wished_link t new kept fresh s.before log (found == 0) (wished_then (Next t) (Some kinds.Link) new None fresh (names.Table table) own s.before log (found == 0) s.after);
+        after = wished_link t new kept fresh s.before log (found == 0)
+            (wished_then (Next t) (Some kinds.Link) new None fresh (names.Table table) own s.before log (found == 0) s.after);
       }
 
 -- a place is the next word of a table, or another one
@@ -187,26 +205,32 @@ next_or (Slot t x) = inr (λ u e. cc e)
 next_or Made_word = inr (λ u e. cc e)
 
 -- a setting has the words that were asked for where it has those of the table that is about to be linked
-pub words_where : {K P : Type 0} (g : Setting K P) (o : Option Link) → ((behind n chunks : ℕ) → o ≡ Some (links.Linking behind n chunks) → chunks ≤ g.chunks n) → HasWords g o
+pub words_where : {K P : Type 0} (g : Setting K P) (o : Option Link)
+    → ((behind n chunks : ℕ) → o ≡ Some (links.Linking behind n chunks) → chunks ≤ g.chunks n) → HasWords g o
 words_where g None h = tt
 words_where g (Some (links.Linking behind n chunks)) h = h behind n chunks refl
 words_where g (Some other) h = tt
 
 -- a step that links a table brings just that one
 pub link_step : {K V : Type 0} (e : Step K V) (t n : ℕ) → exchange_of e ≡ law.Link t n → (w : Where Sheet) × (e ≡ steps.Link t w) × (number_of w ≡ n)
-link_step {K} {V} (steps.Link u w) t n e = let from : u ≡ t = cc e in let to : number_of w ≡ n = cc e in let with_it : ℕ → Step K V = λ i. steps.Link i w in (w, ap with_it from, to)
+link_step {K} {V} (steps.Link u w) t n e = let from : u ≡ t = cc e in let to : number_of w ≡ n = cc e in
+    let with_it : ℕ → Step K V = λ i. steps.Link i w in (w, ap with_it from, to)
 link_step other t n e = absurd (cc e)
 
 pub eq_le : {m n : ℕ} → m ≡ n → n ≤ m
 eq_le e = omega arith
 
 -- the table at hand has so many words
-pub own_words : (K V : Type 0) (o : Option (Where Sheet × Pen)) (w : Where Sheet) (chunks : ℕ) → IsOwnTable {K = K} {V = V} o (names.Table w) → HasChunks o chunks → length w.value.done ≡ chunks
+pub own_words : (K V : Type 0) (o : Option (Where Sheet × Pen)) (w : Where Sheet) (chunks : ℕ) → IsOwnTable {K = K} {V = V} o (names.Table w)
+    → HasChunks o chunks → length w.value.done ≡ chunks
 own_words K V None w chunks own has = absurd has
 own_words K V (Some f) w chunks own has = ap (λ (z : Where Sheet). length z.value.done) (sym own) ∙ has
 
-module _ {K V S H : Type 0} (eq : K → K → Bool) (input : K → List (List ℕ)) (build : S → H) (write : H → List ℕ → H) (finish : H → ℕ) (classes : IsEquivalence eq) (respects : (x y : K) → eq x y ≡ true → input x ≡ input y)
-    (b : Begun K V S) (name : Book) (matches : K → Bool) (fed : ℕ) (form : IsForm eq (hash_of input build write finish) b matches fed) (k : Option K) (begun v : List (Event K V S)) (m : Machine) (table : Option (Bor Sheet)) (last kept : Option (Stored K V)) (made : List (Stored K V)) (taken put : Option (Stored K V)) (fresh : Option (Where Sheet × Pen))
+module _ {K V S H : Type 0} (eq : K → K → Bool) (input : K → List (List ℕ)) (build : S → H) (write : H → List ℕ → H) (finish : H → ℕ)
+    (classes : IsEquivalence eq) (respects : (x y : K) → eq x y ≡ true → input x ≡ input y)
+    (b : Begun K V S) (name : Book) (matches : K → Bool) (fed : ℕ) (form : IsForm eq (hash_of input build write finish) b matches fed) (k : Option K)
+    (begun v : List (Event K V S)) (m : Machine) (table : Option (Bor Sheet)) (last kept : Option (Stored K V)) (made : List (Stored K V))
+    (taken put : Option (Stored K V)) (fresh : Option (Where Sheet × Pen))
     (r : IsCalling eq (hash_of input build write finish) b name matches fed k begun v m table last kept made taken put fresh) where
   abbrev hash : S → K → ℕ
   hash = hash_of input build write finish
@@ -233,7 +257,8 @@ module _ {K V S H : Type 0} (eq : K → K → Bool) (input : K → List (List �
     rest = relying eq input build write finish classes respects b name matches fed form k begun v m table last kept made taken put fresh r
 
     there : IsOn (state_of v).first (state_of v).next t
-    there = all_there eq input build write finish classes respects b name matches fed form k begun v m table last kept made taken put fresh r (Ask_exchange (Next t) 0 n) (machine_linking m t n chunks about).0
+    there = all_there eq input build write finish classes respects b name matches fed form k begun v m table last kept made taken put fresh r
+        (Ask_exchange (Next t) 0 n) (machine_linking m t n chunks about).0
 
     rises : t < n
     rises = machine_rises (G v) C t n chunks (exchanges_of begun) rest.since k m (loaded_with last kept made) rest.relies about
@@ -242,7 +267,8 @@ module _ {K V S H : Type 0} (eq : K → K → Bool) (input : K → List (List �
     not_come log pre l stands =
         let came = chain_came v t there in
         let here = table_since v log t came.0.value pre (came.0, came.1, refl) in
-        last_came eq hash b log (is_hashed eq input build write finish classes respects b log l).lawful l (table_in (steps_of log) n) t n refl there.0 (here.0, here.1) stands rises
+        last_came eq hash b log (is_hashed eq input build write finish classes respects b log l).lawful l (table_in (steps_of log) n) t n refl there.0
+        (here.0, here.1) stands rises
 
   module _ (at : At) (old new : ℕ) (asked : ask_of m ≡ asks.Copy (Ask_exchange at old new)) where
     -- an exchange of the copy that may be made after a longer log
@@ -258,18 +284,25 @@ module _ {K V S H : Type 0} (eq : K → K → Bool) (input : K → List (List �
         let same : asks.Copy (Ask_exchange at old new) ≡ asks.Copy (Ask_exchange (Next behind) 0 n) = sym asked ∙ (machine_linking m behind n chunks e).0 in
         let place : at ≡ Next behind = cc same in other behind place
 
-    pub granted : ((t : ℕ) → at ≡ Next t → ⊥) → (log : List (Event K V S)) → IsPrefix v log → IsLawfulLog eq hash b log → word_in eq hash b log at ≡ old → IsGranted log
+    pub granted : ((t : ℕ) → at ≡ Next t → ⊥) → (log : List (Event K V S)) → IsPrefix v log → IsLawfulLog eq hash b log
+        → word_in eq hash b log at ≡ old → IsGranted log
     granted other log pre l stands =
         let now : ChainRelying eq input build write finish classes respects b matches fed form k (exchanges_of begun) log m (loaded_with last kept made) =
-        relying_later eq input build write finish classes respects b matches fed form k (exchanges_of begun) v r.lawful m (loaded_with last kept made) (relying eq input build write finish classes respects b name matches fed form k begun v m table last kept made taken put fresh r) log l pre in
+        relying_later eq input build write finish classes respects b matches fed form k (exchanges_of begun) v r.lawful m (loaded_with last kept made)
+        (relying eq input build write finish classes respects b name matches fed form k begun v m table last kept made taken put fresh r) log l pre in
         let may = relying_may eq input build write finish classes respects b matches fed form k (exchanges_of begun) log l m (loaded_with last kept made) now in
         let there : word_of (G log) C (run (exchanges_of begun ++ now.since) start) at ≡ old =
         subst (λ (z : List (Exchange (Stored K V))). word_of (G log) C (run z start) at ≡ old) (sym now.is) (word_there log log at ∙ stands) in
-        let done = copies_may (G log) C (hashed_in eq input build write finish classes respects b matches fed form k (exchanges_of begun) log l) (exchanges_of begun) now.since may k m (loaded_with last kept made) now.relies (words_where (G log) (link_in m.phase) (λ behind n chunks e. absurd (unlinked other behind n chunks e))) at old new asked there in
+        let done = copies_may (G log) C (hashed_in eq input build write finish classes respects b matches fed form k (exchanges_of begun) log l)
+        (exchanges_of begun) now.since may k m (loaded_with last kept made) now.relies
+        (words_where (G log) (link_in m.phase) (λ behind n chunks e. absurd (unlinked other behind n chunks e))) at old new asked there in
         let by = done.0 in
-        let wide_asked : IsCopyAsked C (kind_of_ask m) at new (state_of log) kept by = subst (λ (z : List (Exchange (Stored K V))). IsCopyAsked C (kind_of_ask m) at new (run z start) kept by) now.is done.1 in
+        let wide_asked : IsCopyAsked C (kind_of_ask m) at new (state_of log) kept
+        by = subst (λ (z : List (Exchange (Stored K V))). IsCopyAsked C (kind_of_ask m) at new (run z start) kept by) now.is done.1 in
         let wide_allows : Allows (G log) (state_of log) by = subst (λ (z : List (Exchange (Stored K V))). Allows (G log) (run z start) by) now.is done.2 in
-        let written : IsWritten (G log) C (state_of log) at new (after_exchange (state_of log) by) = subst (λ (z : List (Exchange (Stored K V))). IsWritten (G log) C (run z start) at new (after_exchange (run z start) by)) now.is done.3 in
+        let written : IsWritten (G log) C (state_of log) at new
+        (after_exchange (state_of log) by) = subst (λ (z : List (Exchange (Stored K V))).
+        IsWritten (G log) C (run z start) at new (after_exchange (run z start) by)) now.is done.3 in
         let same = λ (s : State (Stored K V)). λ (at' : At). key_word (plain log) matches fed p s at' in record {
           by = by;
           wished = copy_alike C Numbered (λ z. refl) new (state_of log) kept by (kind_of_ask m) at wide_asked;
@@ -291,7 +324,8 @@ module _ {K V S H : Type 0} (eq : K → K → Bool) (input : K → List (List �
         }
 
     -- a copy may try what it asks for, but a link
-    pub can_copy : ((t : ℕ) → at ≡ Next t → ⊥) → (log : List (Event K V S)) → IsPrefix v log → CanExchange eq hash b at (kind_of_ask m) old new kept names.Nothing log
+    pub can_copy : ((t : ℕ) → at ≡ Next t → ⊥) → (log : List (Event K V S)) → IsPrefix v log
+        → CanExchange eq hash b at (kind_of_ask m) old new kept names.Nothing log
     can_copy other log pre longer pre' l stands = may_copy other longer (granted other longer (prefix_trans v log longer pre pre') l stands)
 
     -- the exchange is of a copy's kind
@@ -305,23 +339,30 @@ module _ {K V S H : Type 0} (eq : K → K → Bool) (input : K → List (List �
         (next_or at)
 
     -- An exchange that was wished for this copy is one of the copy.
-    copied_by : (s : List (Event K V S)) → IsPrefix v s → IsLawfulLog eq hash b s → word_in eq hash b s at ≡ old → (e : Exchange (Stored K V)) → IsWished (kind_of_ask m) at new (state_of s) kept e → IsCopyAsked Numbered (kind_of_ask m) at new (state_of s) kept e
+    copied_by : (s : List (Event K V S)) → IsPrefix v s → IsLawfulLog eq hash b s → word_in eq hash b s at ≡ old → (e : Exchange (Stored K V))
+        → IsWished (kind_of_ask m) at new (state_of s) kept e → IsCopyAsked Numbered (kind_of_ask m) at new (state_of s) kept e
     copied_by s pre l stands e wished = copy_wished at new (state_of s) kept e (kind_of_ask m) (kind_copies s pre l stands) wished
 
-    module _ (found : ℕ) (log : List (Event K V S)) (pair : Option (Stored K V)) (t : IsTriedFor eq hash b name at (kind_of_ask m) old new kept fresh v found log pair) where
+    module _ (found : ℕ) (log : List (Event K V S)) (pair : Option (Stored K V))
+        (t : IsTriedFor eq hash b name at (kind_of_ask m) old new kept fresh v found log pair) where
       abbrev After : Bool → Type 0
-      After z = MatchBool z ((e : Step K V) × IsWished (kind_of_ask m) at new (state_of t.before) kept (exchange_of e) × IsOwnTable fresh (comes e) × (log ≡ t.before ++ Stepped e ∷ [])) (log ≡ t.before)
+      After z = MatchBool z ((e : Step K V) × IsWished (kind_of_ask m) at new (state_of t.before) kept (exchange_of e) × IsOwnTable fresh (comes e)
+          × (log ≡ t.before ++ Stepped e ∷ [])) (log ≡ t.before)
 
       -- the log goes on from what was there before
-      pub grown : (found == old) ≡ true → (pre : IsPrefix t.before log) × IsCopyTold (G log) C (state_of t.before) (kind_of_ask m) (follows_of m) (loaded_with last kept made) (Ask_exchange at old new) (answers.Call Exchanged) (exchanges_of pre.0) (loaded_with (marked_or (kind_of_ask m) pair last) kept made)
+      pub grown : (found == old) ≡ true → (pre : IsPrefix t.before log)
+          × IsCopyTold (G log) C (state_of t.before) (kind_of_ask m) (follows_of m) (loaded_with last kept made) (Ask_exchange at old new)
+          (answers.Call Exchanged) (exchanges_of pre.0) (loaded_with (marked_or (kind_of_ask m) pair last) kept made)
       grown is =
           let done = subst After is t.after in
           let e = exchange_of done.0 in
           let stands : word_in eq hash b t.before at ≡ old = t.is ∙ eqb-true found old is in
           let asked' = copied_by t.before t.since t.lawful stands e done.1 in
           let here : (word_of (G log) C (state_of t.before) at == old) ≡ true = ap (λ (n : ℕ). n == old) (word_there t.before log at ∙ t.is) ∙ is in
-          let wide_asked : IsCopyAsked C (kind_of_ask m) at new (state_of t.before) kept e = copy_alike Numbered C (λ z. refl) new (state_of t.before) kept e (kind_of_ask m) at asked' in
-          let told : last_after e last ≡ marked_or (kind_of_ask m) pair last = last_marked Numbered new (state_of t.before) kept e (kind_of_ask m) at asked' last ∙ ap (λ (z : Option (Stored K V)). marked_or (kind_of_ask m) z last) t.names in
+          let wide_asked : IsCopyAsked C (kind_of_ask m) at new (state_of t.before) kept e = copy_alike Numbered C (λ z. refl) new (state_of t.before)
+          kept e (kind_of_ask m) at asked' in
+          let told : last_after e last ≡ marked_or (kind_of_ask m) pair last = last_marked Numbered new (state_of t.before) kept e (kind_of_ask m) at
+          asked' last ∙ ap (λ (z : Option (Stored K V)). marked_or (kind_of_ask m) z last) t.names in
           ((Stepped done.0 ∷ [], sym done.3), rw here (refl, (e, wide_asked, refl, ap (λ (z : Option (Stored K V)). loaded_with z kept made) (sym told))))
 
       -- where a table was linked, the setting has its words by now
@@ -335,23 +376,35 @@ module _ {K V S H : Type 0} (eq : K → K → Bool) (input : K → List (List �
           let done = subst After is t.after in
           let stands : word_in eq hash b t.before at ≡ old = t.is ∙ eqb-true found old is in
           let asked' = copied_by t.before t.since t.lawful stands (exchange_of done.0) done.1 in
-          let by : exchange_of done.0 ≡ law.Link behind new = subst (λ (z : Option StepKind). IsCopyAsked Numbered z (Next behind) new (state_of t.before) kept (exchange_of done.0)) links_it.1 (subst (λ (a : At). IsCopyAsked Numbered (kind_of_ask m) a new (state_of t.before) kept (exchange_of done.0)) place asked') in
+          let by : exchange_of done.0 ≡ law.Link behind
+          new = subst (λ (z : Option StepKind). IsCopyAsked Numbered z (Next behind) new (state_of t.before) kept (exchange_of done.0)) links_it.1
+          (subst (λ (a : At). IsCopyAsked Numbered (kind_of_ask m) a new (state_of t.before) kept (exchange_of done.0)) place asked') in
           let step = link_step done.0 behind n (by ∙ ap (law.Link behind) number) in
           let own : IsOwnTable {K = K} {V = V} fresh (names.Table step.0) = subst (λ (x : Step K V). IsOwnTable fresh (comes x)) step.1 done.2 in
           let many = own_words K V fresh step.0 chunks own (r.words behind n chunks e) in
           let none = not_come behind n chunks e t.before t.since t.lawful (subst (λ (a : At). word_in eq hash b t.before a ≡ 0) place (stands ∙ zero)) in
-          let came : table_in (steps_of log) n ≡ Some step.0 = subst (λ (i : ℕ). table_in (steps_of log) i ≡ Some step.0) step.2 (link_words t.before log behind step.0 (done.3 ∙ ap (λ (x : Step K V). t.before ++ Stepped x ∷ []) step.1) (ap (table_in (steps_of t.before)) step.2 ∙ none)) in
+          let came : table_in (steps_of log) n ≡ Some step.0 = subst (λ (i : ℕ). table_in (steps_of log) i ≡ Some step.0) step.2
+          (link_words t.before log behind step.0 (done.3 ∙ ap (λ (x : Step K V). t.before ++ Stepped x ∷ []) step.1)
+          (ap (table_in (steps_of t.before)) step.2 ∙ none)) in
           eq_le (words_of (steps_of log) n step.0 came ∙ many))
 
-      pub lost : (found == old) ≡ false → (pre : IsPrefix t.before log) × IsCopyTold (G log) C (state_of t.before) (kind_of_ask m) (follows_of m) (loaded_with last kept made) (Ask_exchange at old new) (answers.Call (Found_instead found)) (exchanges_of pre.0) (loaded_with (or_last pair last) kept made)
+      pub lost : (found == old) ≡ false → (pre : IsPrefix t.before log)
+          × IsCopyTold (G log) C (state_of t.before) (kind_of_ask m) (follows_of m) (loaded_with last kept made) (Ask_exchange at old new)
+          (answers.Call (Found_instead found)) (exchanges_of pre.0) (loaded_with (or_last pair last) kept made)
       lost is =
           let same = subst After is t.after in
           let word : word_of (G log) C (state_of t.before) at ≡ found = word_there t.before log at ∙ t.is in
           let differs : (word_of (G log) C (state_of t.before) at == old) ≡ false = ap (λ (n : ℕ). n == old) word ∙ is in
-          let told : told_last (state_of t.before) at last ≡ or_last pair last = told_pair (state_of t.before) at last ∙ ap (λ (z : Option (Stored K V)). or_last z last) t.names in
-          (([], append-nil t.before ∙ sym same), rw differs (ap (λ (n : ℕ). answers.Call (Found_instead n)) (sym word), refl, ap (λ (z : Option (Stored K V)). loaded_with z kept made) (sym told)))
+          let told : told_last (state_of t.before) at last ≡ or_last pair last = told_pair (state_of t.before) at last
+          ∙ ap (λ (z : Option (Stored K V)). or_last z last) t.names in (
+            ([], append-nil t.before ∙ sym same),
+            rw differs
+                (ap (λ (n : ℕ). answers.Call (Found_instead n)) (sym word), refl, ap (λ (z : Option (Stored K V)). loaded_with z kept made) (sym told)),
+          )
 
-  module _ (t old new : ℕ) (asked : ask_of m ≡ asks.Copy (Ask_exchange (Next t) old new)) (kind : kind_of_ask m ≡ Some kinds.Link) (none : old ≡ 0) (chunks : ℕ) (about : link_in m.phase ≡ Some (links.Linking t new chunks)) (words : HasChunks fresh chunks) (w : Where Sheet) (seal : Pen) (is : fresh ≡ Some (w, seal)) (number : number_of w ≡ new) where
+  module _ (t old new : ℕ) (asked : ask_of m ≡ asks.Copy (Ask_exchange (Next t) old new)) (kind : kind_of_ask m ≡ Some kinds.Link) (none : old ≡ 0)
+      (chunks : ℕ) (about : link_in m.phase ≡ Some (links.Linking t new chunks)) (words : HasChunks fresh chunks) (w : Where Sheet) (seal : Pen)
+      (is : fresh ≡ Some (w, seal)) (number : number_of w ≡ new) where
     module _ (longer : List (Event K V S)) (pre : IsPrefix v longer) (l : IsLawfulLog eq hash b longer) (stands : word_in eq hash b longer (Next t) ≡ 0) where
       absent : table_in (steps_of longer) (number_of w) ≡ None
       absent = ap (table_in (steps_of longer)) number ∙ not_come t new chunks about longer pre l stands
@@ -363,29 +416,38 @@ module _ {K V S H : Type 0} (eq : K → K → Bool) (input : K → List (List �
       wide' = wide_with eq input build write finish classes respects b matches fed form k (exchanges_of begun) w longer l absent
 
       now : ChainRelying eq input build write finish classes respects b matches fed form k (exchanges_of begun) longer m (loaded_with last kept made)
-      now = relying_later eq input build write finish classes respects b matches fed form k (exchanges_of begun) v r.lawful m (loaded_with last kept made) (relying eq input build write finish classes respects b name matches fed form k begun v m table last kept made taken put fresh r) longer l pre
+      now = relying_later eq input build write finish classes respects b matches fed form k (exchanges_of begun) v r.lawful m
+          (loaded_with last kept made) (relying eq input build write finish classes respects b name matches fed form k begun v m table last kept made
+          taken put fresh r) longer l pre
 
       -- it has the words that were asked for
       has_words : HasWords wide' (link_in m.phase)
       has_words =
           let many : length w.value.done ≡ chunks = subst (λ (o : Option (Where Sheet × Pen)). HasChunks o chunks) is words in
-          subst (HasWords wide') (sym about) (eq_le (ap wide'.chunks (sym number) ∙ (with_chunks eq input build write finish classes respects b longer l w ∙ many)))
+          subst (HasWords wide') (sym about) (eq_le
+          (ap wide'.chunks (sym number) ∙ (with_chunks eq input build write finish classes respects b longer l w ∙ many)))
 
       there_now : word_of wide' C (run (exchanges_of begun ++ now.since) start) (Next t) ≡ old
       there_now = subst (λ (z : List (Exchange (Stored K V))). word_of wide' C (run z start) (Next t) ≡ old) (sym now.is) (stands ∙ sym none)
 
-      done_with : (e : Exchange (Stored K V)) × IsCopyAsked C (kind_of_ask m) (Next t) new (state_of longer) kept e × Allows wide' (state_of longer) e × IsWritten wide' C (state_of longer) (Next t) new (after_exchange (state_of longer) e)
+      done_with : (e : Exchange (Stored K V)) × IsCopyAsked C (kind_of_ask m) (Next t) new (state_of longer) kept e × Allows wide' (state_of longer) e
+          × IsWritten wide' C (state_of longer) (Next t) new (after_exchange (state_of longer) e)
       done_with =
-          subst (λ (z : List (Exchange (Stored K V))). (e : Exchange (Stored K V)) × IsCopyAsked C (kind_of_ask m) (Next t) new (run z start) kept e × Allows wide' (run z start) e × IsWritten wide' C (run z start) (Next t) new (after_exchange (run z start) e)) now.is
-          (copies_may wide' C (hashed_with eq input build write finish classes respects b matches fed form k (exchanges_of begun) w longer l absent) (exchanges_of begun) now.since
-          (may_with eq input build write finish classes respects b matches fed form k (exchanges_of begun) w longer l absent m (loaded_with last kept made) now) k m (loaded_with last kept made)
-          (relies_with eq input build write finish classes respects b matches fed form k (exchanges_of begun) w longer l absent m (loaded_with last kept made) now) has_words (Next t) old new asked there_now)
+          subst (λ (z : List (Exchange (Stored K V))). (e : Exchange (Stored K V)) × IsCopyAsked C (kind_of_ask m) (Next t) new (run z start) kept e
+          × Allows wide' (run z start) e × IsWritten wide' C (run z start) (Next t) new (after_exchange (run z start) e)) now.is
+          (copies_may wide' C (hashed_with eq input build write finish classes respects b matches fed form k (exchanges_of begun) w longer l absent)
+          (exchanges_of begun) now.since
+          (may_with eq input build write finish classes respects b matches fed form k (exchanges_of begun) w longer l absent m
+          (loaded_with last kept made) now) k m (loaded_with last kept made)
+          (relies_with eq input build write finish classes respects b matches fed form k (exchanges_of begun) w longer l absent m
+          (loaded_with last kept made) now) has_words (Next t) old new asked there_now)
 
       by : done_with.0 ≡ law.Link t (number_of w)
       by = subst (λ (z : Option StepKind). IsCopyAsked C z (Next t) new (state_of longer) kept done_with.0) kind done_with.1 ∙ ap (law.Link t) (sym number)
 
       allowed : Allows plain' (state_of longer) (law.Link t (number_of w))
-      allowed = subst (Allows plain' (state_of longer)) by (allows_alike wide' plain' (alike_back plain' wide' (key_alike plain' matches fed)) (state_of longer) done_with.0 done_with.2)
+      allowed = subst (Allows plain' (state_of longer)) by
+          (allows_alike wide' plain' (alike_back plain' wide' (key_alike plain' matches fed)) (state_of longer) done_with.0 done_with.2)
 
       written : IsWritten (plain longer) p (state_of longer) (Next t) (number_of w) (after_exchange (state_of longer) (law.Link t (number_of w)))
       written =
@@ -393,7 +455,8 @@ module _ {K V S H : Type 0} (eq : K → K → Bool) (input : K → List (List �
           (subst (λ (e : Exchange (Stored K V)). IsWritten (plain longer) p (state_of longer) (Next t) new (after_exchange (state_of longer) e)) by
           (record {
             here = sym (same (after_exchange (state_of longer) done_with.0) (Next t)) ∙ done_with.3.here;
-            others = λ other differs. sym (same (after_exchange (state_of longer) done_with.0) other) ∙ (done_with.3.others other differs ∙ same (state_of longer) other);
+            others = λ other differs. sym (same (after_exchange (state_of longer) done_with.0) other)
+                ∙ (done_with.3.others other differs ∙ same (state_of longer) other);
           }))
         where
           same : (s : State (Stored K V)) (at' : At) → word_of wide' C s at' ≡ word_of (plain longer) p s at'

@@ -27,15 +27,19 @@ use Rattle.papaya_chain_law.specs.Told.{LoadedPairs}
 use Rattle.papaya_law.specs.Class.{IsOn}
 use Rattle.papaya_law.specs.Code.{Coding}
 use Rattle.papaya_law.specs.Exchange.{Exchange, Setting, State, run, start}
-use Rattle.papaya_call_law.specs.Copier.{ReliesCarry, ReliesCopying, ReliesSettle, ReliesStep, Rises_to, link_in_carry, link_in_copying, link_in_settle, link_in_step}
+use Rattle.papaya_call_law.specs.Copier.{ReliesCarry, ReliesCopying, ReliesSettle, ReliesStep}
+use Rattle.papaya_call_law.specs.Copier.{Rises_to, link_in_carry, link_in_copying, link_in_settle}
+use Rattle.papaya_call_law.specs.Copier.{link_in_step}
 
 module _ {K P : Type 0} (g : Setting K P) (c : Coding K P) (slots limit chunks : ℕ) where
   module _ (s : State P) (last kept : Option P) where
-    carry_on : (slot : Slot) (p : P) (word : ℕ) (carry : Carry) → ReliesCarry g c s last kept slot p carry → carry_ask carry word ≡ MakeTable slots limit chunks → IsOn s.first s.next (carry_follows carry)
+    carry_on : (slot : Slot) (p : P) (word : ℕ) (carry : Carry) → ReliesCarry g c s last kept slot p carry
+        → carry_ask carry word ≡ MakeTable slots limit chunks → IsOn s.first s.next (carry_follows carry)
     carry_on slot p word (carries.Linking hash link) r e = r.4.on
     carry_on slot p word other r e = absurd cc
 
-    settle_on : (slot : Slot) (settle : Settle) → ReliesSettle g c s last kept slot settle → settle_ask settle slot ≡ MakeTable slots limit chunks → IsOn s.first s.next (settle_follows settle)
+    settle_on : (slot : Slot) (settle : Settle) → ReliesSettle g c s last kept slot settle → settle_ask settle slot ≡ MakeTable slots limit chunks
+        → IsOn s.first s.next (settle_follows settle)
     settle_on slot (settles.Carrying word carry) r e = carry_on slot r.pair word carry r.relies e
     settle_on slot other r e = absurd cc
 
@@ -44,7 +48,8 @@ module _ {K P : Type 0} (g : Setting K P) (c : Coding K P) (slots limit chunks :
     step_on (steps.Settling chunk settle) r e = settle_on (slot_of chunk) settle r.1 e
     step_on other r e = absurd cc
 
-    pub copying_on : (copying : Copying) → ReliesCopying g c s last kept copying → copying_ask copying ≡ MakeTable slots limit chunks → IsOn s.first s.next (copying_follows copying)
+    pub copying_on : (copying : Copying) → ReliesCopying g c s last kept copying → copying_ask copying ≡ MakeTable slots limit chunks
+        → IsOn s.first s.next (copying_follows copying)
     copying_on (Stepping aim step) r e = step_on step r.1 e
     copying_on (Lone slot settle) r e = settle_on slot settle r.1 e
 
@@ -52,7 +57,8 @@ module _ {K P : Type 0} (g : Setting K P) (c : Coding K P) (slots limit chunks :
     abbrev now : State P
     now = run (begun ++ since) start
 
-    phase_on : (phase : Phase) → ReliesPhase g c begun since k m loaded phase → asks_in m.call phase ≡ asks.Copy (MakeTable slots limit chunks) → IsOn now.first now.next (follows_in phase)
+    phase_on : (phase : Phase) → ReliesPhase g c begun since k m loaded phase → asks_in m.call phase ≡ asks.Copy (MakeTable slots limit chunks)
+        → IsOn now.first now.next (follows_in phase)
     phase_on Calling r e = absurd cc
     phase_on (Linking link) r e = r.relies.on
     phase_on (Copying_root copying) (inl r) e = copying_on now loaded.call.last loaded.kept copying r.relies cc
@@ -64,11 +70,13 @@ module _ {K P : Type 0} (g : Setting K P) (c : Coding K P) (slots limit chunks :
 -- The table that it is about to link has a greater number than the one before.
 module _ {K P : Type 0} (g : Setting K P) (c : Coding K P) (behind n chunks : ℕ) where
   module _ (s : State P) (last kept : Option P) where
-    carry_rises : (slot : Slot) (p : P) (carry : Carry) → ReliesCarry g c s last kept slot p carry → link_in_carry carry ≡ Some (links.Linking behind n chunks) → behind < n
+    carry_rises : (slot : Slot) (p : P) (carry : Carry) → ReliesCarry g c s last kept slot p carry
+        → link_in_carry carry ≡ Some (links.Linking behind n chunks) → behind < n
     carry_rises slot p (carries.Linking hash link) r e = let is : link ≡ links.Linking behind n chunks = cc e in subst Rises_to is r.4.rises
     carry_rises slot p other r e = absurd cc
 
-    settle_rises : (slot : Slot) (settle : Settle) → ReliesSettle g c s last kept slot settle → link_in_settle settle ≡ Some (links.Linking behind n chunks) → behind < n
+    settle_rises : (slot : Slot) (settle : Settle) → ReliesSettle g c s last kept slot settle
+        → link_in_settle settle ≡ Some (links.Linking behind n chunks) → behind < n
     settle_rises slot (settles.Carrying word carry) r e = carry_rises slot r.pair carry r.relies e
     settle_rises slot other r e = absurd cc
 
@@ -77,7 +85,8 @@ module _ {K P : Type 0} (g : Setting K P) (c : Coding K P) (behind n chunks : �
     step_rises (steps.Settling chunk settle) r e = settle_rises (slot_of chunk) settle r.1 e
     step_rises other r e = absurd cc
 
-    pub copying_rises : (copying : Copying) → ReliesCopying g c s last kept copying → link_in_copying copying ≡ Some (links.Linking behind n chunks) → behind < n
+    pub copying_rises : (copying : Copying) → ReliesCopying g c s last kept copying → link_in_copying copying ≡ Some (links.Linking behind n chunks)
+        → behind < n
     copying_rises (Stepping aim step) r e = step_rises step r.1 e
     copying_rises (Lone slot settle) r e = settle_rises slot settle r.1 e
 

@@ -23,7 +23,10 @@ use Rattle.papaya_chain.specs.declared.ask.Answer.TheVariants as answers
 use Rattle.papaya_chain.specs.declared.machine.Machine.{Machine}
 use Rattle.papaya_chain.specs.declared.machine.Phase.{Phase}
 use Rattle.papaya_chain.specs.declared.machine.Phase.TheVariants.{Calling, Linking, Copying as Copying_root}
-use Rattle.papaya_chain.specs.Machine.{IsStanding, IsStandingPhase, after, after_copied, after_in, after_linked, aim_for, ask_of, asks_in, copying_after, follows_in, follows_of, goes_on, kind_in, kind_of_ask, link_after, onward, refuses}
+use Rattle.papaya_chain.specs.Machine.{IsStanding, IsStandingPhase, after, after_copied, after_in}
+use Rattle.papaya_chain.specs.Machine.{after_linked, aim_for, ask_of, asks_in, copying_after}
+use Rattle.papaya_chain.specs.Machine.{follows_in, follows_of, goes_on, kind_in, kind_of_ask}
+use Rattle.papaya_chain.specs.Machine.{link_after, onward, refuses}
 use Rattle.papaya_law.specs.Allows.{AllAllowed}
 use Rattle.papaya_law.specs.Code.{Coding, IsHashed}
 use Rattle.papaya_law.specs.Exchange.{Exchange, Setting, State, run, start}
@@ -51,8 +54,12 @@ not_calling m (Copying_root copying) ask is e = cc is
 pub busy : (m : Machine) (ask : CopyAsk) → ask_of m ≡ asks.Copy ask → m.phase ≡ Calling → ⊥
 busy m ask e is = not_calling m m.phase ask is e
 
-module _ {K P : Type 0} (g : Setting K P) (c : Coding K P) (hashed : IsHashed g c) (begun since : List (Exchange P)) (may : AllAllowed g start (begun ++ since)) (k : K) (m : Machine) (loaded : LoadedPairs P) (r : Relies g c begun since k m loaded) (standing : IsStanding m)
-    (ask : CopyAsk) (asked : ask_of m ≡ asks.Copy ask) (answer : Answer) (words : answer ≡ answers.Call Exchanged → HasWords g (link_in m.phase)) (es : List (Exchange P)) (loaded' : LoadedPairs P) (told : IsTold g c k (run (begun ++ since) start) (kind_of_ask m) (follows_of m) loaded (ask_of m) answer es loaded') (tables : List ℕ) (counts : IsCountingOf tables m) (given : List CapacityCause) (by : IsGivenBy answer given) where
+module _ {K P : Type 0} (g : Setting K P) (c : Coding K P) (hashed : IsHashed g c) (begun since : List (Exchange P))
+    (may : AllAllowed g start (begun ++ since)) (k : K) (m : Machine) (loaded : LoadedPairs P) (r : Relies g c begun since k m loaded) (standing : IsStanding m)
+    (ask : CopyAsk) (asked : ask_of m ≡ asks.Copy ask) (answer : Answer) (words : answer ≡ answers.Call Exchanged → HasWords g (link_in m.phase))
+    (es : List (Exchange P)) (loaded' : LoadedPairs P)
+    (told : IsTold g c k (run (begun ++ since) start) (kind_of_ask m) (follows_of m) loaded (ask_of m) answer es loaded') (tables : List ℕ)
+    (counts : IsCountingOf tables m) (given : List CapacityCause) (by : IsGivenBy answer given) where
   -- the state after all exchanges
   abbrev now : State P
   now = run (begun ++ since) start
@@ -75,10 +82,11 @@ module _ {K P : Type 0} (g : Setting K P) (c : Coding K P) (hashed : IsHashed g 
   IsWhy refused = (refused ≡ Memory) ⊎ ((refused ≡ Capacity) × HasNoRoom m.call.initial tables given)
 
   why : (refused : Refused) → after m answer ≡ refuses m refused → IsWhy refused
-  why refused e = elim (chain_refused g c k now m answer refused loaded es loaded' told (in_order g c begun since k m loaded now answer es loaded' r told) not_replied (ap ask_of e)) [
-    | inl own ↦ absurd (busy m ask asked own.own.phase)
-    | inr table ↦ of_table table.why
-  ]
+  why refused e = elim (chain_refused g c k now m answer refused loaded es loaded' told
+      (in_order g c begun since k m loaded now answer es loaded' r told) not_replied (ap ask_of e)) [
+        | inl own ↦ absurd (busy m ask asked own.own.phase)
+        | inr table ↦ of_table table.why
+      ]
     where
       of_table : WasNotMade m answer refused ⊎ WouldBeTooLong m answer refused → IsWhy refused
       of_table (inl unmade) = ⊎_elim (λ memory. inl memory) (λ full. inr (full.0, inl full.1)) (subst (λ (a : Answer). IsGivenBy a given) unmade.is by)
@@ -108,7 +116,11 @@ module _ {K P : Type 0} (g : Setting K P) (c : Coding K P) (hashed : IsHashed g 
   begins_on root = inr (record { calling = refl; where_to = inr (inl (record { from = left_from.0; left = left_from.1; root = root; call = refl })) })
 
   refused_on : (refused : Refused) → after m answer ≡ refuses m refused → Left (refuses m refused)
-  refused_on refused e = inr (record { calling = refl; where_to = inr (inr (record { from = left_from.0; left = left_from.1; refused = refused; call = refl; cause = why refused e })) })
+  refused_on refused e = inr (record {
+    calling = refl;
+    where_to = inr
+        (inr (record { from = left_from.0; left = left_from.1; refused = refused; call = refl; cause = why refused e }));
+  })
 
   goes_left : (helped : Bool) (aim : Aim) (n : ℕ) → m.helped ≡ helped → Left (goes_on m helped aim n)
   goes_left false aim n e = stays (Copying_root (Stepping aim steps.AtRoot)) (λ f. cc f) true
@@ -130,7 +142,8 @@ module _ {K P : Type 0} (g : Setting K P) (c : Coding K P) (hashed : IsHashed g 
   copied_left (copied.Refused refused) more e = refused_on refused e
 
   -- no call copies a chunk for its own sake
-  more_than : (copying : Copying) (end : Copied) → (aim_of copying ≡ aims.Chunk → ⊥) → ReliesCopied g c (run es now) loaded'.call.last loaded'.kept (aim_of copying) end → end ≡ copied.Chunk → ⊥
+  more_than : (copying : Copying) (end : Copied) → (aim_of copying ≡ aims.Chunk → ⊥)
+      → ReliesCopied g c (run es now) loaded'.call.last loaded'.kept (aim_of copying) end → end ≡ copied.Chunk → ⊥
   more_than copying end not_only is e = not_only (subst (ReliesCopied g c (run es now) loaded'.call.last loaded'.kept (aim_of copying)) e is)
 
   aimed : (copying : Copying) → ReliesPhase g c begun since k m loaded (Copying_root copying) → aim_of copying ≡ aims.Chunk → ⊥
@@ -141,13 +154,15 @@ module _ {K P : Type 0} (g : Setting K P) (c : Coding K P) (hashed : IsHashed g 
   copies copying (inl at) = at.relies
   copies copying (inr at) = at.relies
 
-  left_for : (phase : Phase) → m.phase ≡ phase → ReliesPhase g c begun since k m loaded phase → IsTold g c k now (kind_in m.call phase) (follows_in phase) loaded (asks_in m.call phase) answer es loaded' → Left (after_in m answer phase)
+  left_for : (phase : Phase) → m.phase ≡ phase → ReliesPhase g c begun since k m loaded phase
+      → IsTold g c k now (kind_in m.call phase) (follows_in phase) loaded (asks_in m.call phase) answer es loaded' → Left (after_in m answer phase)
   left_for Calling e at h = absurd (busy m ask asked e)
   left_for (Linking link) e at h = linked_left (link_after link m.call.mode m.call.initial answer) (ap (after_in m answer) e)
   left_for (Copying_root copying) e at h =
       copied_left (copying_after copying m.call.mode m.call.initial m.number answer)
       (more_than copying (copying_after copying m.call.mode m.call.initial m.number answer) (aimed copying at)
-      (copying_learns g c hashed now (map_left g (begun ++ since)) (keeping g hashed.lawful (begun ++ since) may) m.call.mode r.call.mode r.cut m.call.initial m.number loaded copying (copies copying at) answer (λ x. subst (λ (z : Phase). HasWords g (link_in z)) e (words x)) es loaded' h).1)
+      (copying_learns g c hashed now (map_left g (begun ++ since)) (keeping g hashed.lawful (begun ++ since) may) m.call.mode r.call.mode r.cut
+      m.call.initial m.number loaded copying (copies copying at) answer (λ x. subst (λ (z : Phase). HasWords g (link_in z)) e (words x)) es loaded' h).1)
       (ap (after_in m answer) e)
 
   pub leaves : Left (after m answer)

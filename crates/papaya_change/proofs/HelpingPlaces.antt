@@ -35,14 +35,18 @@ use Rattle.papaya_change.proofs.Relying.{ChainRelying, coded, hashed_in, relying
 module _ {K V S : Type 0} where
   -- one number, one table
   pub one_table : (log : List (Event K V S)) (t : ℕ) (sheet sheet' : Sheet) → IsTable log t sheet → IsTable log t sheet' → sheet ≡ sheet'
-  one_table log t sheet sheet' here there = let same : here.0 ≡ there.0 = (let e : Some here.0 ≡ Some there.0 = sym here.1 ∙ there.1 in cc e) in sym here.2 ∙ (ap (λ (w : Where Sheet). w.value) same ∙ there.2)
+  one_table log t sheet sheet' here there = let same : here.0 ≡ there.0 = (let e : Some here.0 ≡ Some there.0 = sym here.1 ∙ there.1 in cc e) in
+      sym here.2 ∙ (ap (λ (w : Where Sheet). w.value) same ∙ there.2)
 
   -- a table on the chain has come
   pub chain_came : (log : List (Event K V S)) (t : ℕ) → IsOn (state_of log).first (state_of log).next t → HasCome log t
   chain_came log t on = on_came (steps_of log) t on
 
-module _ {K V S H : Type 0} (eq : K → K → Bool) (input : K → List (List ℕ)) (build : S → H) (write : H → List ℕ → H) (finish : H → ℕ) (classes : IsEquivalence eq) (respects : (x y : K) → eq x y ≡ true → input x ≡ input y)
-    (b : Begun K V S) (name : Book) (matches : K → Bool) (fed : ℕ) (form : IsForm eq (hash_of input build write finish) b matches fed) (k : Option K) (begun log : List (Event K V S)) (m : Machine) (table : Option (Bor Sheet)) (last kept : Option (Stored K V)) (made : List (Stored K V)) (taken put : Option (Stored K V)) (fresh : Option (Where Sheet × Pen))
+module _ {K V S H : Type 0} (eq : K → K → Bool) (input : K → List (List ℕ)) (build : S → H) (write : H → List ℕ → H) (finish : H → ℕ)
+    (classes : IsEquivalence eq) (respects : (x y : K) → eq x y ≡ true → input x ≡ input y)
+    (b : Begun K V S) (name : Book) (matches : K → Bool) (fed : ℕ) (form : IsForm eq (hash_of input build write finish) b matches fed) (k : Option K)
+    (begun log : List (Event K V S)) (m : Machine) (table : Option (Bor Sheet)) (last kept : Option (Stored K V)) (made : List (Stored K V))
+    (taken put : Option (Stored K V)) (fresh : Option (Where Sheet × Pen))
     (r : IsCalling eq (hash_of input build write finish) b name matches fed k begun log m table last kept made taken put fresh) where
   -- what the call relies on
   abbrev pub relying : ChainRelying eq input build write finish classes respects b matches fed form k (exchanges_of begun) log m (loaded_with last kept made)
@@ -58,15 +62,19 @@ module _ {K V S H : Type 0} (eq : K → K → Bool) (input : K → List (List �
   pub all_there : (ask : CopyAsk) → ask_of m ≡ asks.Copy ask → AreThere g c (state_of log) last kept ask
   all_there ask e =
       subst (λ (z : List (Exchange (Stored K V))). AreThere g c (run z start) last kept ask) r.is
-      (copies_there g c (hashed_in eq input build write finish classes respects b matches fed form k (exchanges_of begun) log r.lawful) (exchanges_of begun) r.since
-      (relying_may eq input build write finish classes respects b matches fed form k (exchanges_of begun) log r.lawful m (loaded_with last kept made) relying) k m (loaded_with last kept made) r.relies ask e)
+      (copies_there g c (hashed_in eq input build write finish classes respects b matches fed form k (exchanges_of begun) log r.lawful)
+      (exchanges_of begun) r.since
+      (relying_may eq input build write finish classes respects b matches fed form k (exchanges_of begun) log r.lawful m (loaded_with last kept made)
+      relying) k m (loaded_with last kept made) r.relies ask e)
 
   -- and a hint that it writes may be there
   pub may_note : (t x n : ℕ) → ask_of m ≡ asks.Copy (copies.WriteHint t x n) → IsSlotHint eq (hash_of input build write finish) b t x n log
   may_note t x n e =
       let hash = hash_of input build write finish b.hasher in
-      let wide_hint = copies_guarantee_hint g c (hashed_in eq input build write finish classes respects b matches fed form k (exchanges_of begun) log r.lawful) (exchanges_of begun) r.since
-      (relying_may eq input build write finish classes respects b matches fed form k (exchanges_of begun) log r.lawful m (loaded_with last kept made) relying) k m (loaded_with last kept made) r.relies t x n e in
+      let wide_hint = copies_guarantee_hint g c
+      (hashed_in eq input build write finish classes respects b matches fed form k (exchanges_of begun) log r.lawful) (exchanges_of begun) r.since
+      (relying_may eq input build write finish classes respects b matches fed form k (exchanges_of begun) log r.lawful m (loaded_with last kept made)
+      relying) k m (loaded_with last kept made) r.relies t x n e in
       let here : IsHint g c (state_of log) t x n = subst (λ (z : List (Exchange (Stored K V))). IsHint g c (run z start) t x n) r.is wide_hint in
       record { lawful = r.lawful; is = hint_without (setting_of eq hash b.mode b.limit log) (coding_of hash) matches fed ((state_of log).slot t x) n here }
 
@@ -88,7 +96,8 @@ module _ {K V S H : Type 0} (eq : K → K → Bool) (input : K → List (List �
   came_for Made_word there = tt
 
   -- and has the slot, later too
-  pub slot_within : (t x : ℕ) → IsThere g c (state_of log) last kept (Slot t x) → (log' : List (Event K V S)) → IsPrefix log log' → (sheet : Sheet) → IsTable log' t sheet → x < length sheet.slots
+  pub slot_within : (t x : ℕ) → IsThere g c (state_of log) last kept (Slot t x) → (log' : List (Event K V S)) → IsPrefix log log' → (sheet : Sheet)
+      → IsTable log' t sheet → x < length sheet.slots
   slot_within t x there log' pre sheet now =
       let came = chain_came log t there.0 in
       let here : IsTable log' t came.0.value = table_since log log' t came.0.value pre (came.0, came.1, refl) in

@@ -32,11 +32,13 @@ use Rattle.papaya_book.proofs.Logs.{prefix_trans}
 use Rattle.papaya_lookup.proofs.Readings.{IsQuery}
 
 -- the key that a pair has that comes
-pub its_key : {K V : Type 0} (key : K) (taken : Option (Stored K V)) (q : Stored K V) → MatchOption taken (Some (key_of q) ≡ Some key) (λ p. key_of q ≡ key_of p) → key_of q ≡ key_kept taken key
+pub its_key : {K V : Type 0} (key : K) (taken : Option (Stored K V)) (q : Stored K V)
+    → MatchOption taken (Some (key_of q) ≡ Some key) (λ p. key_of q ≡ key_of p) → key_of q ≡ key_kept taken key
 its_key key None q is = cc is
 its_key key (Some p) q is = is
 
-module _ {K V S H : Type 0} (eq : K → K → Bool) (input : K → List (List ℕ)) (build : S → H) (write : H → List ℕ → H) (finish : H → ℕ) (classes : IsEquivalence eq) (respects : (x y : K) → eq x y ≡ true → input x ≡ input y)
+module _ {K V S H : Type 0} (eq : K → K → Bool) (input : K → List (List ℕ)) (build : S → H) (write : H → List ℕ → H) (finish : H → ℕ)
+    (classes : IsEquivalence eq) (respects : (x y : K) → eq x y ≡ true → input x ≡ input y)
     (b : Begun K V S) (name : Book) (key : K) (value : V) (begun : List (Event K V S)) where
   abbrev hash : S → K → ℕ
   hash = hash_of input build write finish
@@ -56,17 +58,23 @@ module _ {K V S H : Type 0} (eq : K → K → Bool) (input : K → List (List �
     loaded = record { last = x.writer.call.last; made = r.made }
 
     -- a change that puts in a number puts in a pair
-    some_put : (class : K) (change : Option ℕ × Option ℕ) (n : ℕ) → change.1 ≡ Some n → (put : Option (Stored K V)) → MatchOption put (change.1 ≡ None) (λ q. (change.1 ≡ Some q.index) × (eq class (key_of q) ≡ true) × HasItsKey eq (Some key) x.writer.call.taken q) → (q : Stored K V) × (put ≡ Some q) × (eq class (key_of q) ≡ true) × HasItsKey eq (Some key) x.writer.call.taken q
+    some_put : (class : K) (change : Option ℕ × Option ℕ) (n : ℕ) → change.1 ≡ Some n → (put : Option (Stored K V))
+        → MatchOption put (change.1 ≡ None) (λ q. (change.1 ≡ Some q.index) × (eq class (key_of q) ≡ true)
+        × HasItsKey eq (Some key) x.writer.call.taken q) → (q : Stored K V) × (put ≡ Some q) × (eq class (key_of q) ≡ true)
+        × HasItsKey eq (Some key) x.writer.call.taken q
     some_put class change n puts None is = let none : Some n ≡ None = sym puts ∙ is in absurd (cc none)
     some_put class change n puts (Some q) is = (q, refl, is.1, is.2)
 
     -- its change, with the value of the pair that went
-    put_changed : (change : Option ℕ × Option ℕ) (n : ℕ) → change.1 ≡ Some n → change_in x.writer.call.machine.call.state ≡ Some change → (answer : Option (Bor V)) → MatchOption answer (x.writer.call.taken ≡ None) (λ v. (p : Stored K V) × (x.writer.call.taken ≡ Some p) × (v.now ≡ p.value.value)) → IsPut eq key value (history_of begun) (history_of log) answer
+    put_changed : (change : Option ℕ × Option ℕ) (n : ℕ) → change.1 ≡ Some n → change_in x.writer.call.machine.call.state ≡ Some change
+        → (answer : Option (Bor V)) → MatchOption answer (x.writer.call.taken ≡ None)
+        (λ v. (p : Stored K V) × (x.writer.call.taken ≡ Some p) × (v.now ≡ p.value.value)) → IsPut eq key value (history_of begun) (history_of log) answer
     put_changed change n puts e answer taken =
         let h = r.writing.calling.changed change e in
         let q = some_put h.class change n puts x.writer.call.put h.put_is in
         let is : history_of log ≡ history_of h.before ++ record { class = h.class; taken = x.writer.call.taken; put = x.writer.call.put } ∷ [] =
-        ap (changes_of key_of) h.is ∙ (changes-append key_of (exchanges_of h.before) (h.by ∷ []) ∙ ap (λ (cs : List (Change K (Stored K V))). history_of h.before ++ cs) (Rattle.std.proofs.lemmas.List.append-nil _ ∙ h.change_is)) in record {
+        ap (changes_of key_of) h.is ∙ (changes-append key_of (exchanges_of h.before) (h.by ∷ [])
+        ∙ ap (λ (cs : List (Change K (Stored K V))). history_of h.before ++ cs) (Rattle.std.proofs.lemmas.List.append-nil _ ∙ h.change_is)) in record {
           before = history_of h.before;
           change = record { class = h.class; taken = x.writer.call.taken; put = x.writer.call.put };
           since = history_since begun h.before h.since;
@@ -77,7 +85,9 @@ module _ {K V S H : Type 0} (eq : K → K → Bool) (input : K → List (List �
         }
 
     -- a reply that is no refusal is a change
-    put_reply : (reply : Reply) → IsReply (Wide eq input build write finish classes respects b (eq key) (input key) query (Some key) name begun log) (Coded eq input build write finish classes respects b (eq key) (input key) query (Some key) name begun) (exchanges_of begun) r.writing.calling.since (Some key) loaded (Insert true) reply
+    put_reply : (reply : Reply) → IsReply (Wide eq input build write finish classes respects b (eq key) (input key) query (Some key) name begun log)
+        (Coded eq input build write finish classes respects b (eq key) (input key) query (Some key) name begun) (exchanges_of begun)
+        r.writing.calling.since (Some key) loaded (Insert true) reply
         → ((refused : _) → reply ≡ Refused refused → ⊥) → (change : Option ℕ × Option ℕ) × (n : ℕ) × (change.1 ≡ Some n) × (change_of_reply reply ≡ Some change)
     put_reply Absent fits some = absurd fits
     put_reply (Found n) fits some = absurd fits
@@ -90,34 +100,43 @@ module _ {K V S H : Type 0} (eq : K → K → Bool) (input : K → List (List �
     put_reply Reply_done fits some = absurd fits
     put_reply (Refused refused) fits some = absurd (some refused refl)
 
-    pub put_replied : (reply : Reply) → ask_of x.writer.call.machine ≡ Call (Done reply) → ((refused : _) → reply ≡ Refused refused → ⊥) → (answer : Option (Bor V)) → MatchOption answer (x.writer.call.taken ≡ None) (λ v. (p : Stored K V) × (x.writer.call.taken ≡ Some p) × (v.now ≡ p.value.value)) → IsPut eq key value (history_of begun) (history_of log) answer
+    pub put_replied : (reply : Reply) → ask_of x.writer.call.machine ≡ Call (Done reply) → ((refused : _) → reply ≡ Refused refused → ⊥)
+        → (answer : Option (Bor V)) → MatchOption answer (x.writer.call.taken ≡ None)
+        (λ v. (p : Stored K V) × (x.writer.call.taken ≡ Some p) × (v.now ≡ p.value.value)) → IsPut eq key value (history_of begun) (history_of log) answer
     put_replied reply asks some answer taken =
         let g = Wide eq input build write finish classes respects b (eq key) (input key) query (Some key) name begun log in
         let c = Coded eq input build write finish classes respects b (eq key) (input key) query (Some key) name begun in
-        let all = machine_replies g c (exchanges_of begun) r.writing.calling.since (Some key) loaded x.writer.call.machine.call r.writing.calling.relies.call reply (call_asks x.writer.call.machine (Done reply) asks).1 in
+        let all = machine_replies g c (exchanges_of begun) r.writing.calling.since (Some key) loaded x.writer.call.machine.call
+        r.writing.calling.relies.call reply (call_asks x.writer.call.machine (Done reply) asks).1 in
         let fits = subst (λ (z : Task). IsReply g c (exchanges_of begun) r.writing.calling.since (Some key) loaded z reply) r.task_is all.0 in
         let done = put_reply reply fits some in
         put_changed done.0 done.1 done.2 (all.1 ∙ done.3) answer taken
 
     -- and has changed the map
-    pub has_put : (reply : Reply) → ask_of x.writer.call.machine ≡ Call (Done reply) → ((refused : _) → reply ≡ Refused refused → ⊥) → has_changed x.writer.call.machine ≡ true
+    pub has_put : (reply : Reply) → ask_of x.writer.call.machine ≡ Call (Done reply) → ((refused : _) → reply ≡ Refused refused → ⊥)
+        → has_changed x.writer.call.machine ≡ true
     has_put reply asks some =
         let g = Wide eq input build write finish classes respects b (eq key) (input key) query (Some key) name begun log in
         let c = Coded eq input build write finish classes respects b (eq key) (input key) query (Some key) name begun in
-        let all = machine_replies g c (exchanges_of begun) r.writing.calling.since (Some key) loaded x.writer.call.machine.call r.writing.calling.relies.call reply (call_asks x.writer.call.machine (Done reply) asks).1 in
+        let all = machine_replies g c (exchanges_of begun) r.writing.calling.since (Some key) loaded x.writer.call.machine.call
+        r.writing.calling.relies.call reply (call_asks x.writer.call.machine (Done reply) asks).1 in
         let fits = subst (λ (z : Task). IsReply g c (exchanges_of begun) r.writing.calling.since (Some key) loaded z reply) r.task_is all.0 in
         ap is_some (all.1 ∙ (put_reply reply fits some).3)
 
     -- it took out this pair
-    pub replaced : (reply : Reply) → ask_of x.writer.call.machine ≡ Call (Done reply) → ((refused : _) → reply ≡ Refused refused → ⊥) → (lent : Bor V) (p : Stored K V) → x.writer.call.taken ≡ Some p → lent.now ≡ p.value.value → IsPut eq key value (history_of begun) (history_of log) (Some lent)
+    pub replaced : (reply : Reply) → ask_of x.writer.call.machine ≡ Call (Done reply) → ((refused : _) → reply ≡ Refused refused → ⊥)
+        → (lent : Bor V) (p : Stored K V) → x.writer.call.taken ≡ Some p → lent.now ≡ p.value.value
+        → IsPut eq key value (history_of begun) (history_of log) (Some lent)
     replaced reply asks some lent p is now = put_replied reply asks some (Some lent) (p, is, now)
 
     -- or none
-    pub inserted : (reply : Reply) → ask_of x.writer.call.machine ≡ Call (Done reply) → ((refused : _) → reply ≡ Refused refused → ⊥) → x.writer.call.taken ≡ None → IsPut {V = V} eq key value (history_of begun) (history_of log) None
+    pub inserted : (reply : Reply) → ask_of x.writer.call.machine ≡ Call (Done reply) → ((refused : _) → reply ≡ Refused refused → ⊥)
+        → x.writer.call.taken ≡ None → IsPut {V = V} eq key value (history_of begun) (history_of log) None
     inserted reply asks some is = put_replied reply asks some None is
 
 -- what was seen before the call began was seen before its change
-pub put_since : {K V S : Type 0} (eq : K → K → Bool) (key : K) (value : V) (old begun log : List (Event K V S)) (answer : Option (Bor V)) → IsPrefix old begun → IsPut eq key value (history_of begun) (history_of log) answer → IsPut eq key value (history_of old) (history_of log) answer
+pub put_since : {K V S : Type 0} (eq : K → K → Bool) (key : K) (value : V) (old begun log : List (Event K V S)) (answer : Option (Bor V))
+    → IsPrefix old begun → IsPut eq key value (history_of begun) (history_of log) answer → IsPut eq key value (history_of old) (history_of log) answer
 put_since eq key value old begun log answer pre p = record {
   before = p.before;
   change = p.change;

@@ -31,7 +31,8 @@ use Rattle.papaya_change.specs.Seeking.{insertion_at}
 use Rattle.papaya_change.specs.Writing.{HasKey, HasKeyAt, HasValue, held_value}
 use Rattle.papaya_change.proofs.Changing.{begins as begins_calling}
 
-module _ {K V S : Type 0} (eq : K → K → Bool) (hash : S → K → ℕ) (b : Begun K V S) (name : Book) (key : K) (q : Stored K V) (placed : IsPlaced b (Some name) (names.Pair q)) (class : eq key (key_of q) ≡ true) where
+module _ {K V S : Type 0} (eq : K → K → Bool) (hash : S → K → ℕ) (b : Begun K V S) (name : Book) (key : K) (q : Stored K V)
+    (placed : IsPlaced b (Some name) (names.Pair q)) (class : eq key (key_of q) ≡ true) where
   own_pair : (p : Stored K V) → IsOneOf (q ∷ []) p → p ≡ q
   own_pair p one = ⊎_elim (λ is. is) (λ other. absurd other) one
 
@@ -49,45 +50,50 @@ module _ {K V S : Type 0} (eq : K → K → Bool) (hash : S → K → ℕ) (b : 
   loaded = record { last = None; made = q ∷ [] }
 
   -- its call, which has made the pair
-  calls : (log : List (Event K V S)) → IsLawfulLog eq hash b log → (initial : ℕ) (own : Option ℕ) (of : Option Of) → ReliesFill (g log) c (exchanges_of log) [] (Some key) loaded own → ReliesOf (g log) c (exchanges_of log) [] (Some key) loaded of
-      → IsCalling eq hash b name (eq key) (hash b.hasher key) (Some key) log log (insertion_at (hash b.hasher key) b.mode initial (made_with own of) AtRoot) None None None (q ∷ []) None None None
-  calls log l initial own of own_is of_is = let r = begins_calling eq hash b name (eq key) (hash b.hasher key) (Some key) refl log l (Insert true) initial in record {
-    lawful = l;
-    seen = r.seen;
-    since = [];
-    is = append-nil (exchanges_of log);
-    relies = record {
-      cut = λ x. refl;
-      call = record {
-        hash = refl;
-        mode = r.relies.call.mode;
-        made = record {
-          keys = λ p one. subst (λ (z : Stored K V). eq key (key_of z) ≡ true) (sym (own_pair p one)) class;
-          limit = refl;
-          number_is = r.relies.call.made.number_is;
-          own_is = own_is;
-          of_is = of_is;
-          fill_is = tt;
-          choice_is = tt;
+  calls : (log : List (Event K V S)) → IsLawfulLog eq hash b log → (initial : ℕ) (own : Option ℕ) (of : Option Of)
+      → ReliesFill (g log) c (exchanges_of log) [] (Some key) loaded own → ReliesOf (g log) c (exchanges_of log) [] (Some key) loaded of
+      → IsCalling eq hash b name (eq key) (hash b.hasher key) (Some key) log log
+      (insertion_at (hash b.hasher key) b.mode initial (made_with own of) AtRoot) None None None (q ∷ []) None None None
+  calls log l initial own of own_is of_is = let r = begins_calling eq hash b name (eq key) (hash b.hasher key) (Some key) refl log l (Insert true)
+      initial in record {
+        lawful = l;
+        seen = r.seen;
+        since = [];
+        is = append-nil (exchanges_of log);
+        relies = record {
+          cut = λ x. refl;
+          call = record {
+            hash = refl;
+            mode = r.relies.call.mode;
+            made = record {
+              keys = λ p one. subst (λ (z : Stored K V). eq key (key_of z) ≡ true) (sym (own_pair p one)) class;
+              limit = refl;
+              number_is = r.relies.call.made.number_is;
+              own_is = own_is;
+              of_is = of_is;
+              fill_is = tt;
+              choice_is = tt;
+            };
+            stage = tt;
+          };
+          phase = tt;
         };
-        stage = tt;
-      };
-      phase = tt;
-    };
-    number = 0;
-    at_table = λ still. tt;
-    holds_table = refl;
-    last_placed = tt;
-    kept_placed = tt;
-    made_placed = λ p one. subst (λ (z : Stored K V). IsPlaced b (Some name) (names.Pair z)) (sym (own_pair p one)) placed;
-    taken_placed = tt;
-    changed = λ change e. absurd (cc e);
-    brings = λ n e. absurd e;
-    words = λ behind n chunks e. absurd (cc e);
-    counts = tt;
-  }
+        number = 0;
+        at_table = λ still. tt;
+        holds_table = refl;
+        last_placed = tt;
+        kept_placed = tt;
+        made_placed = λ p one. subst (λ (z : Stored K V). IsPlaced b (Some name) (names.Pair z)) (sym (own_pair p one)) placed;
+        taken_placed = tt;
+        changed = λ change e. absurd (cc e);
+        brings = λ n e. absurd e;
+        words = λ behind n chunks e. absurd (cc e);
+        counts = tt;
+      }
 
-  module _ {H : Type 0} (log : List (Event K V S)) (x : Insertion K V S H) (l : IsLawfulLog eq hash b log) (initial : ℕ) (table : (x.writer.call.table ≡ None) × (x.writer.call.fresh ≡ None)) (pairs : (x.writer.call.last ≡ None) × (x.writer.call.kept ≡ None) × (x.writer.call.taken ≡ None) × (x.writer.call.put ≡ None))
+  module _ {H : Type 0} (log : List (Event K V S)) (x : Insertion K V S H) (l : IsLawfulLog eq hash b log) (initial : ℕ)
+      (table : (x.writer.call.table ≡ None) × (x.writer.call.fresh ≡ None))
+      (pairs : (x.writer.call.last ≡ None) × (x.writer.call.kept ≡ None) × (x.writer.call.taken ≡ None) × (x.writer.call.put ≡ None))
       (has_key : HasKey b name key x.writer.key) (has_value : HasValue b name x.writer.value) (value_is : held_value x.writer.value ≡ Some q.value.value) where
     abbrev IsAt : Option ℕ → Option Of → Type 0
     IsAt own of = x.writer.call.machine ≡ insertion_at (hash b.hasher key) b.mode initial (made_with own of) AtRoot
@@ -97,7 +103,8 @@ module _ {K V S : Type 0} (eq : K → K → Bool) (hash : S → K → ℕ) (b : 
     begins_logged key_is machine own of = record {
       made = q ∷ [];
       writing = record {
-        calling = rw (machine, table.0, table.1, pairs.0, pairs.1, pairs.2, pairs.3) (calls log l initial (Some q.index) None (q, inl refl, refl, ap (λ z. Some z) key_is) tt);
+        calling = rw (machine, table.0, table.1, pairs.0, pairs.1, pairs.2, pairs.3)
+            (calls log l initial (Some q.index) None (q, inl refl, refl, ap (λ z. Some z) key_is) tt);
         keyed = has_key;
         valued = has_value;
         put_placed = rw pairs.3 tt;
@@ -106,9 +113,14 @@ module _ {K V S : Type 0} (eq : K → K → Bool) (hash : S → K → ℕ) (b : 
       value_is = λ v e. let f = sym value_is ∙ e in let one : q.value.value ≡ v = cc f in sym one;
       own_is = record {
         there = λ n e. let f = sym (ap (λ (z : Machine). z.call.made.own) machine) ∙ e in let one : q.index ≡ n = cc f in (q, own, one);
-        is = λ p e. let f = sym own ∙ e in let one : q ≡ p = cc f in subst (λ (z : Stored K V). IsOneOf (q ∷ []) z × (key_of z ≡ key) × (z.value.value ≡ q.value.value)) one (inl refl, key_is, refl);
+        is = λ p e. let f = sym own ∙ e in let one : q ≡ p = cc f in
+            subst (λ (z : Stored K V). IsOneOf (q ∷ []) z × (key_of z ≡ key) × (z.value.value ≡ q.value.value)) one (inl refl, key_is, refl);
       };
-      of_is = record { there = λ new e. let f = sym (ap (λ (z : Machine). z.call.made.of) machine) ∙ e in absurd (cc f); is = λ p e. let f = sym of ∙ e in absurd (cc f) };
+      of_is = record {
+        there = λ new e. let f = sym (ap (λ (z : Machine). z.call.made.of) machine) ∙ e in
+            absurd (cc f);
+        is = λ p e. let f = sym of ∙ e in absurd (cc f);
+      };
       put_is = λ p e. let f = sym pairs.3 ∙ e in absurd (cc f);
       refuses = λ cause e. let f = sym (ap ask_of machine) ∙ e in absurd (cc f);
       crowded = λ e. let f = sym (ap ask_of machine) ∙ e in absurd (cc f);
@@ -116,23 +128,36 @@ module _ {K V S : Type 0} (eq : K → K → Bool) (hash : S → K → ℕ) (b : 
     }
 
     -- and one that has made it of the key that is in a slot
-    pub begins_met : (t i : ℕ) → HasKeyAt log t i (key_of q) → IsAt None (Some (record { pair = q.index; table = t; index = i })) → x.own ≡ None → x.of ≡ Some q → IsInserting eq hash b name key q.value.value log log x
+    pub begins_met : (t i : ℕ) → HasKeyAt log t i (key_of q) → IsAt None (Some (record { pair = q.index; table = t; index = i })) → x.own ≡ None
+        → x.of ≡ Some q → IsInserting eq hash b name key q.value.value log log x
     begins_met t i met machine own of = record {
       made = q ∷ [];
       writing = record {
-        calling = rw (machine, table.0, table.1, pairs.0, pairs.1, pairs.2, pairs.3) (calls log l initial None (Some (record { pair = q.index; table = t; index = i })) tt (q, inl refl, refl, subst (λ (es : List (Exchange (Stored K V))). IsOfKey (g log) ((run es start).slot t i) (Some (key_of q))) (sym (append-nil (exchanges_of log))) (met.0, met.1, ap (λ z. Some z) met.2)));
+        calling = rw (machine, table.0, table.1, pairs.0, pairs.1, pairs.2, pairs.3)
+            (calls log l initial None (Some (record { pair = q.index; table = t; index = i })) tt (
+              q,
+              inl refl,
+              refl,
+              subst (λ (es : List (Exchange (Stored K V))). IsOfKey (g log) ((run es start).slot t i) (Some (key_of q)))
+                  (sym (append-nil (exchanges_of log))) (met.0, met.1, ap (λ z. Some z) met.2),
+            ));
         keyed = has_key;
         valued = has_value;
         put_placed = rw pairs.3 tt;
       };
       task_is = ap (λ (z : Machine). z.call.task) machine;
       value_is = λ v e. let f = sym value_is ∙ e in let one : q.value.value ≡ v = cc f in sym one;
-      own_is = record { there = λ n e. let f = sym (ap (λ (z : Machine). z.call.made.own) machine) ∙ e in absurd (cc f); is = λ p e. let f = sym own ∙ e in absurd (cc f) };
+      own_is = record {
+        there = λ n e. let f = sym (ap (λ (z : Machine). z.call.made.own) machine) ∙ e in
+            absurd (cc f);
+        is = λ p e. let f = sym own ∙ e in absurd (cc f);
+      };
       of_is = record {
         there = λ new e.
             let f = sym (ap (λ (z : Machine). z.call.made.of) machine) ∙ e in let one : record { pair = q.index; table = t; index = i } ≡ new = cc f in
             (q, of, ap (λ (z : Of). z.pair) one, subst (λ (z : Of). HasKeyAt log z.table z.index (key_of q)) one met);
-        is = λ p e. let f = sym of ∙ e in let one : q ≡ p = cc f in subst (λ (z : Stored K V). IsOneOf (q ∷ []) z × (z.value.value ≡ q.value.value)) one (inl refl, refl);
+        is = λ p e. let f = sym of ∙ e in let one : q ≡ p = cc f in
+            subst (λ (z : Stored K V). IsOneOf (q ∷ []) z × (z.value.value ≡ q.value.value)) one (inl refl, refl);
       };
       put_is = λ p e. let f = sym pairs.3 ∙ e in absurd (cc f);
       refuses = λ cause e. let f = sym (ap ask_of machine) ∙ e in absurd (cc f);
@@ -142,7 +167,8 @@ module _ {K V S : Type 0} (eq : K → K → Bool) (hash : S → K → ℕ) (b : 
 
 module _ {K V S H : Type 0} {d : keyed.Ghosts S K H} where
   -- what is made after nothing was done is all that is made
-  pub makes_since : (changed : Bool) (a w w' : Window K V S H d) → Does false a w → Makes changed (own w) (own w') (past w') → Makes changed (own a) (own w') (past w')
+  pub makes_since : (changed : Bool) (a w w' : Window K V S H d) → Does false a w → Makes changed (own w) (own w') (past w')
+      → Makes changed (own a) (own w') (past w')
   makes_since changed a w w' none m = subst (λ (z : List _). Makes changed (changes_by z) (own w') (past w')) (none ∙ append-nil a.own.done) m
 
   -- nothing is made where nothing is done

@@ -3,7 +3,10 @@ use Rattle.std.proofs.Common.{◌≡◌, ⊎_elim, ℕ, ◌==◌, nat_lt, Bool, 
 use Rattle.std.proofs.lemmas.Bool.{cond_both}
 use Rattle.papaya_words.specs.Word.{pair_of}
 use Rattle.papaya_ask.specs.declared.ask.Answer.{Answer}
-use Rattle.papaya_ask.specs.declared.ask.Answer.TheVariants.{Word as Word_read, Exchanged, Found as Found_instead, Yes, Op, Size, Made as Made_number, Ok as Ok_done, Refused as Was_refused}
+use Rattle.papaya_ask.specs.declared.ask.Answer.TheVariants.{Word as Word_read, Exchanged}
+use Rattle.papaya_ask.specs.declared.ask.Answer.TheVariants.{Found as Found_instead, Yes, Op, Size}
+use Rattle.papaya_ask.specs.declared.ask.Answer.TheVariants.{Made as Made_number, Ok as Ok_done}
+use Rattle.papaya_ask.specs.declared.ask.Answer.TheVariants.{Refused as Was_refused}
 use Rattle.papaya_ask.specs.declared.ask.Ask.TheVariants.{MakePair, MakePairOf}
 use Rattle.papaya_ask.specs.declared.ask.OpKind.{OpKind}
 use Rattle.papaya_ask.specs.declared.ask.OpKind.TheVariants as ops
@@ -17,11 +20,18 @@ use Rattle.papaya_call.specs.declared.made.Number.{Number}
 use Rattle.papaya_call.specs.declared.made.Number.TheVariants.{Wanted, Free, Taken}
 use Rattle.papaya_call.specs.declared.machine.Machine.{Machine}
 use Rattle.papaya_call.specs.declared.machine.State.{State as Stage}
-use Rattle.papaya_call.specs.declared.machine.State.TheVariants.{AtRoot, Making, Opening, Searching, Writing, Offering, Showing, Pairing, Putting, Deleting, Counting, Noting, Uncounting, Leaving, Growing, Ended}
+use Rattle.papaya_call.specs.declared.machine.State.TheVariants.{AtRoot, Making, Opening, Searching}
+use Rattle.papaya_call.specs.declared.machine.State.TheVariants.{Writing, Offering, Showing}
+use Rattle.papaya_call.specs.declared.machine.State.TheVariants.{Pairing, Putting, Deleting}
+use Rattle.papaya_call.specs.declared.machine.State.TheVariants.{Counting, Noting, Uncounting}
+use Rattle.papaya_call.specs.declared.machine.State.TheVariants.{Leaving, Growing, Ended}
 use Rattle.papaya_call.specs.declared.write.Write.{Write}
 use Rattle.papaya_call.specs.Compute.{in_place_of}
-use Rattle.papaya_call.specs.Made.{answered, grown, grown_as, number_ask, of_ask, of_grown, own_ask, own_grown, pair_ask, paired, taken_as, told, told_as, told_limit}
-use Rattle.papaya_call.specs.Machine.{after, ask_of, asks, made_at_exchanged, made_at_op, made_at_word, made_decided, made_in, made_to_pair, number_told, write_made, write_taken}
+use Rattle.papaya_call.specs.Made.{answered, grown, grown_as, number_ask, of_ask, of_grown, own_ask}
+use Rattle.papaya_call.specs.Made.{own_grown, pair_ask, paired, taken_as, told, told_as, told_limit}
+use Rattle.papaya_call.specs.Machine.{after, ask_of, asks, made_at_exchanged, made_at_op}
+use Rattle.papaya_call.specs.Machine.{made_at_word, made_decided, made_in, made_to_pair}
+use Rattle.papaya_call.specs.Machine.{number_told, write_made, write_taken}
 use Rattle.papaya_call.specs.Write.{made_of, made_to_write, served_ask, serves, write_grown}
 use Rattle.papaya_chain.specs.declared.ask.Answer.TheVariants as answers
 use Rattle.papaya_chain.specs.declared.machine.Machine.{Machine as Chain}
@@ -50,7 +60,8 @@ KeepsIn made (Some next) = Keeps made next
 
 limit_keeps : (made : Made) (limit : Option ℕ) (count : ℕ) → KeepsIn made (told_limit made limit count)
 limit_keeps made None count = record { own = refl; of = refl }
-limit_keeps made (Some most) count = cond_both (nat_lt count most) (Some (record made { number = Free count })) None (KeepsIn made) (λ _. record { own = refl; of = refl }) (λ _. tt)
+limit_keeps made (Some most) count = cond_both (nat_lt count most) (Some (record made { number = Free count })) None (KeepsIn made)
+    (λ _. record { own = refl; of = refl }) (λ _. tt)
 
 told_keeps : (made : Made) (number : Number) (count : ℕ) → KeepsIn made (told_as made number count)
 told_keeps made Taken count = same made
@@ -83,7 +94,8 @@ of_keeps true made = record { own = refl; of = refl }
 grown_keeps : (number : Number) (made : Made) (old : ℕ) → KeepsGrown made (grown_as number made old)
 grown_keeps Wanted made old = same made
 grown_keeps (Free n) made old = same made
-grown_keeps Taken made old = cond_both (old == 0) (own_grown made.keyed made.valued made) (of_grown made.valued made) (KeepsGrown made) (λ _. own_keeps made.keyed made.valued made) (λ _. of_keeps made.valued made)
+grown_keeps Taken made old = cond_both (old == 0) (own_grown made.keyed made.valued made) (of_grown made.valued made) (KeepsGrown made)
+    (λ _. own_keeps made.keyed made.valued made) (λ _. of_keeps made.valued made)
 
 paired_keeps : (made : Made) (g : Grown) → KeepsGrown made g → Keeps made (made_to_pair g)
 paired_keeps made (On next) h = h
@@ -110,11 +122,13 @@ write_taken_keeps None made = taken_keeps made made.number
 write_taken_keeps (Some n) made = same made
 
 -- where no pair was asked for
-unpaired_keeps : (made : Made) (write : Write) (n : ℕ) (g : Grown) → grown made write.old ≡ g → KeepsGrown made g → (MakesPair (pair_ask made write.old) → ⊥) → Keeps made (made_to_write g write n)
+unpaired_keeps : (made : Made) (write : Write) (n : ℕ) (g : Grown) → grown made write.old ≡ g → KeepsGrown made g
+    → (MakesPair (pair_ask made write.old) → ⊥) → Keeps made (made_to_write g write n)
 unpaired_keeps made write n (On next) e h none = h
 unpaired_keeps made write n (Pair next) e h none = absurd (none (makes_pair made write.old next e))
 
-write_grown_keeps : (served : Option ℕ) (made : Made) (write : Write) (n : ℕ) → (MakesPair (served_ask served write made) → ⊥) → Keeps made (write_grown served made write n)
+write_grown_keeps : (served : Option ℕ) (made : Made) (write : Write) (n : ℕ) → (MakesPair (served_ask served write made) → ⊥)
+    → Keeps made (write_grown served made write n)
 write_grown_keeps None made write n none = unpaired_keeps made write n (grown made write.old) refl (grown_keeps made.number made write.old) none
 write_grown_keeps (Some i) made write n none = same made
 
@@ -182,20 +196,26 @@ module _ (hash : ℕ) where
         let empty = number_own made.number made write.old e in
         let grows = pair_made made write.old (subst MakesPair (sym e) tt) in
         subst (λ (g : Grown). ((made_to_write g write n).own ≡ Some n) × ((made_to_write g write n).of ≡ made.of)) (sym grows)
-        (subst (λ (b : Bool). ((cond b (record (paired made) { own = Some n }) (record (paired made) { of = Some (made_of write n) })).own ≡ Some n) × ((cond b (record (paired made) { own = Some n }) (record (paired made) { of = Some (made_of write n) })).of ≡ made.of)) (sym empty) (refl, refl))
+        (subst (λ (b : Bool). ((cond b (record (paired made) { own = Some n }) (record (paired made) { of = Some (made_of write n) })).own ≡ Some n)
+        × ((cond b (record (paired made) { own = Some n }) (record (paired made) { of = Some (made_of write n) })).of ≡ made.of)) (sym empty) (refl, refl))
 
-    grown_of : (served : Option ℕ) (i : ℕ) → served_ask served write made ≡ MakePairOf i → (Next served).own ≡ made.own × ((Next served).of ≡ Some (made_of write n)) × ((write.old == 0) ≡ false)
+    grown_of : (served : Option ℕ) (i : ℕ) → served_ask served write made ≡ MakePairOf i → (Next served).own ≡ made.own
+        × ((Next served).of ≡ Some (made_of write n)) × ((write.old == 0) ≡ false)
     grown_of (Some j) i e = absurd (cc e)
     grown_of None i e =
         let full = number_of made.number made write.old i e in
         let grows = pair_made made write.old (subst MakesPair (sym e) tt) in
-        subst (λ (g : Grown). ((made_to_write g write n).own ≡ made.own) × ((made_to_write g write n).of ≡ Some (made_of write n)) × ((write.old == 0) ≡ false)) (sym grows)
-        (subst (λ (b : Bool). ((cond b (record (paired made) { own = Some n }) (record (paired made) { of = Some (made_of write n) })).own ≡ made.own) × ((cond b (record (paired made) { own = Some n }) (record (paired made) { of = Some (made_of write n) })).of ≡ Some (made_of write n)) × (b ≡ false)) (sym full.0) (refl, refl, refl))
+        subst (λ (g : Grown). ((made_to_write g write n).own ≡ made.own) × ((made_to_write g write n).of ≡ Some (made_of write n))
+        × ((write.old == 0) ≡ false)) (sym grows)
+        (subst (λ (b : Bool). ((cond b (record (paired made) { own = Some n }) (record (paired made) { of = Some (made_of write n) })).own ≡ made.own)
+        × ((cond b (record (paired made) { own = Some n }) (record (paired made) { of = Some (made_of write n) })).of ≡ Some (made_of write n))
+        × (b ≡ false)) (sym full.0) (refl, refl, refl))
 
     pub own_made : asks made hash (Writing write) ≡ MakePair → ((made_in made n (Writing write)).own ≡ Some n) × ((made_in made n (Writing write)).of ≡ made.of)
     own_made e = grown_own (serves made write) e
 
-    pub of_made : (i : ℕ) → asks made hash (Writing write) ≡ MakePairOf i → ((made_in made n (Writing write)).own ≡ made.own) × ((made_in made n (Writing write)).of ≡ Some (made_of write n)) × ((write.old == 0) ≡ false)
+    pub of_made : (i : ℕ) → asks made hash (Writing write) ≡ MakePairOf i → ((made_in made n (Writing write)).own ≡ made.own)
+        × ((made_in made n (Writing write)).of ≡ Some (made_of write n)) × ((write.old == 0) ≡ false)
     of_made i e = grown_of (serves made write) i e
 
 -- each answer leaves the pairs that were made, where none was asked for
@@ -211,12 +231,15 @@ keeps m Ok_done none = same m.made
 keeps m (Was_refused refused) none = same m.made
 
 -- of a machine over a chain, after an answer to the call itself
-pub keeps_then : (m : Chain) → m.phase ≡ Calling → (answer : Answer) → ((n : ℕ) → answer ≡ Made_number n → MakesPair (ask_of m.call) → ⊥) → Keeps m.call.made (chains.after m (answers.Call answer)).call.made
-keeps_then m calling answer none = ⊎_elim (λ own. subst (Keeps m.call.made) (sym own) (keeps m.call answer none)) (λ still. subst (Keeps m.call.made) (sym still) (same m.call.made)) (own_settings m calling answer).1
+pub keeps_then : (m : Chain) → m.phase ≡ Calling → (answer : Answer) → ((n : ℕ) → answer ≡ Made_number n → MakesPair (ask_of m.call) → ⊥)
+    → Keeps m.call.made (chains.after m (answers.Call answer)).call.made
+keeps_then m calling answer none = ⊎_elim (λ own. subst (Keeps m.call.made) (sym own) (keeps m.call answer none))
+    (λ still. subst (Keeps m.call.made) (sym still) (same m.call.made)) (own_settings m calling answer).1
 
 module _ {K P : Type 0} (g : Setting K P) (c : Coding K P) (begun since : List (Exchange P)) (k : K) (loaded : LoadedPairs P) (replace : Bool) (hash : ℕ) where
   -- an insertion that asks for a pair writes it next
-  pub pairs_write : (made : Made) (s : Stage) → ReliesStage g c begun since k loaded (Insert replace) s → MakesPair (asks made hash s) → (write : Write) × (s ≡ Writing write)
+  pub pairs_write : (made : Made) (s : Stage) → ReliesStage g c begun since k loaded (Insert replace) s → MakesPair (asks made hash s)
+      → (write : Write) × (s ≡ Writing write)
   pairs_write made AtRoot r makes = absurd makes
   pairs_write made Making r makes = absurd makes
   pairs_write made (Opening t) r makes = absurd makes

@@ -29,11 +29,13 @@ use Rattle.papaya_chain_law.specs.Goes.{link_in}
 use Rattle.papaya_chain_law.specs.Resizers.{link_of}
 
 module _ (behind slots limit chunks : ℕ) where
-  carry_asks : (goes : Carry) (marked : ℕ) → link_in_carry goes ≡ Some (links.Making behind slots limit chunks) → carry_ask goes marked ≡ MakeTable slots limit chunks
+  carry_asks : (goes : Carry) (marked : ℕ) → link_in_carry goes ≡ Some (links.Making behind slots limit chunks)
+      → carry_ask goes marked ≡ MakeTable slots limit chunks
   carry_asks (carries.Linking hash made) marked e = let is : made ≡ links.Making behind slots limit chunks = cc e in rw is refl
   carry_asks other marked e = absurd cc
 
-  settle_asks : (goes : Settle) (slot : Slot) → link_in_settle goes ≡ Some (links.Making behind slots limit chunks) → settle_ask goes slot ≡ MakeTable slots limit chunks
+  settle_asks : (goes : Settle) (slot : Slot) → link_in_settle goes ≡ Some (links.Making behind slots limit chunks)
+      → settle_ask goes slot ≡ MakeTable slots limit chunks
   settle_asks (settles.Carrying marked goes) slot e = carry_asks goes marked e
   settle_asks other slot e = absurd cc
 
@@ -46,17 +48,21 @@ module _ (behind slots limit chunks : ℕ) where
   copying_asks (Stepping aim goes) e = step_asks goes e
   copying_asks (Lone slot goes) e = settle_asks goes slot e
 
-  phase_asks : (m : Machine) (phase : Phase) → link_in phase ≡ Some (links.Making behind slots limit chunks) → asks_in m.call phase ≡ asks.Copy (MakeTable slots limit chunks)
+  phase_asks : (m : Machine) (phase : Phase) → link_in phase ≡ Some (links.Making behind slots limit chunks)
+      → asks_in m.call phase ≡ asks.Copy (MakeTable slots limit chunks)
   phase_asks m Calling e = absurd cc
   phase_asks m (Linking made) e = let is : made ≡ links.Making behind slots limit chunks = cc e in rw is refl
   phase_asks m (Copying_root goes) e = ap asks.Copy (copying_asks goes e)
 
 -- a machine
-pub making_asks : (m : Machine) (behind slots limit chunks : ℕ) → link_in m.phase ≡ Some (links.Making behind slots limit chunks) → (ask : CopyAsk) → ask_of m ≡ asks.Copy ask → MakeTable slots limit chunks ≡ ask
-making_asks m behind slots limit chunks e ask asked = let same : asks.Copy (MakeTable slots limit chunks) ≡ asks.Copy ask = sym (phase_asks behind slots limit chunks m m.phase e) ∙ asked in cc same
+pub making_asks : (m : Machine) (behind slots limit chunks : ℕ) → link_in m.phase ≡ Some (links.Making behind slots limit chunks) → (ask : CopyAsk)
+    → ask_of m ≡ asks.Copy ask → MakeTable slots limit chunks ≡ ask
+making_asks m behind slots limit chunks e ask asked = let same : asks.Copy (MakeTable slots limit chunks) ≡ asks.Copy ask = sym
+    (phase_asks behind slots limit chunks m m.phase e) ∙ asked in cc same
 
 -- and a call that resizes
-pub stage_making : (stage : Stage) (behind slots limit chunks : ℕ) → link_of stage ≡ Some (links.Making behind slots limit chunks) → resizers.asks_in stage ≡ Some (MakeTable slots limit chunks)
+pub stage_making : (stage : Stage) (behind slots limit chunks : ℕ) → link_of stage ≡ Some (links.Making behind slots limit chunks)
+    → resizers.asks_in stage ≡ Some (MakeTable slots limit chunks)
 stage_making (stages.Linking made) behind slots limit chunks e = let is : made ≡ links.Making behind slots limit chunks = cc e in rw is refl
 stage_making (stages.Copying from goes) behind slots limit chunks e = ap (λ (a : CopyAsk). Some a) (copying_asks behind slots limit chunks goes e)
 stage_making other behind slots limit chunks e = absurd cc

@@ -32,8 +32,10 @@ module _ {K P : Type 0} (g : Setting K P) (c : Coding K P) (begun since : List (
   phase_numbered : (phase : Phase) → ReliesPhase g c begun since k m loaded phase → ReliesPhase g c begun since k (with_number m n) loaded phase
   phase_numbered Calling at = tt
   phase_numbered (Linking link) at = record { mode = at.mode; changes = at.changes; left = at.left; relies = at.relies }
-  phase_numbered (Copying_root copying) (inl at) = inl (record { mode = at.mode; changes = at.changes; table = at.table; left = at.left; next = at.next; aim = at.aim; relies = at.relies })
-  phase_numbered (Copying_root copying) (inr at) = inr (record { mode = at.mode; changes = at.changes; table = at.table; left = at.left; met = at.met; aim = at.aim; relies = at.relies })
+  phase_numbered (Copying_root copying) (inl at) = inl
+      (record { mode = at.mode; changes = at.changes; table = at.table; left = at.left; next = at.next; aim = at.aim; relies = at.relies })
+  phase_numbered (Copying_root copying) (inr at) = inr
+      (record { mode = at.mode; changes = at.changes; table = at.table; left = at.left; met = at.met; aim = at.aim; relies = at.relies })
 
   relies_numbered : Relies g c begun since k m loaded → Relies g c begun since k (with_number m n) loaded
   relies_numbered r = record { cut = r.cut; call = r.call; phase = phase_numbered m.phase r.phase }
@@ -46,7 +48,8 @@ module _ {K P : Type 0} (g : Setting K P) (c : Coding K P) (begun since : List (
   left_in (Copying_root copying) (inr at) aside = (at.table, at.left)
 
 module _ {K V S : Type 0} (eq : K → K → Bool) (hash : S → K → ℕ) (b : Begun K V S) (name : Book) where
-  module _ (matches : K → Bool) (fed : ℕ) (k : Option K) (begun log : List (Event K V S)) (m : Machine) (table : Option (Bor Sheet)) (last kept : Option (Stored K V)) (made : List (Stored K V)) (taken put : Option (Stored K V)) (fresh : Option (Where Sheet × Pen))
+  module _ (matches : K → Bool) (fed : ℕ) (k : Option K) (begun log : List (Event K V S)) (m : Machine) (table : Option (Bor Sheet))
+      (last kept : Option (Stored K V)) (made : List (Stored K V)) (taken put : Option (Stored K V)) (fresh : Option (Where Sheet × Pen))
       (r : IsCalling eq hash b name matches fed k begun log m table last kept made taken put fresh) (n : ℕ) where
     calling_numbered : IsCalling eq hash b name matches fed k begun log (with_number m n) table last kept made taken put fresh
     calling_numbered = record {
@@ -54,7 +57,8 @@ module _ {K V S : Type 0} (eq : K → K → Bool) (hash : S → K → ℕ) (b : 
       seen = r.seen;
       since = r.since;
       is = r.is;
-      relies = relies_numbered (setting_for eq hash b matches fed log) (coding_for hash b.hasher fed) (exchanges_of begun) r.since k m (loaded_with last kept made) n r.relies;
+      relies = relies_numbered (setting_for eq hash b matches fed log) (coding_for hash b.hasher fed) (exchanges_of begun) r.since k m
+          (loaded_with last kept made) n r.relies;
       number = r.number;
       at_table = r.at_table;
       holds_table = r.holds_table;
@@ -77,5 +81,6 @@ module _ {K V S : Type 0} (eq : K → K → Bool) (hash : S → K → ℕ) (b : 
     pub aside_numbered : CanGoOn eq hash b name log c → (c.machine.phase ≡ Calling → ⊥) → IsAside c.machine (with_number c.machine n)
     aside_numbered can aside =
         let r = can.6 in
-        let left = left_in (setting_for eq hash b can.0 can.1 log) (coding_for hash b.hasher can.1) (exchanges_of can.4) r.since can.3 c.machine (loaded_with c.last c.kept can.5) n c.machine.phase r.relies.phase aside in
+        let left = left_in (setting_for eq hash b can.0 can.1 log) (coding_for hash b.hasher can.1) (exchanges_of can.4) r.since can.3 c.machine
+        (loaded_with c.last c.kept can.5) n c.machine.phase r.relies.phase aside in
         record { from = left.0; left = left.1; call = refl; busy = aside }

@@ -18,9 +18,11 @@ use Rattle.papaya_change.specs.Inserting.{IsInserting}
 use Rattle.papaya_change.specs.Seeking.{IsInsertingAt, insertion_at}
 use Rattle.papaya_change.specs.Writing.{HasKey, HasValue, held_value}
 
-module _ {K V S : Type 0} (eq : K → K → Bool) (hash : S → K → ℕ) (b : Begun K V S) (name : Book) (key : K) (begun log : List (Event K V S)) (n : ℕ) (table : Bor Sheet) (r : IsInsertingAt eq hash b name key begun log (Growing (Room n)) None table.now) where
+module _ {K V S : Type 0} (eq : K → K → Bool) (hash : S → K → ℕ) (b : Begun K V S) (name : Book) (key : K) (begun log : List (Event K V S)) (n : ℕ)
+    (table : Bor Sheet) (r : IsInsertingAt eq hash b name key begun log (Growing (Room n)) None table.now) where
   -- its call, in a map of any initial capacity, which was told of no pair
-  onward : (initial : ℕ) → IsCalling eq hash b name (eq key) (hash b.hasher key) (Some key) begun log (insertion_at (hash b.hasher key) b.mode initial (nothing_made b.limit) (Growing (Room n))) (Some table) None None [] None None None
+  onward : (initial : ℕ) → IsCalling eq hash b name (eq key) (hash b.hasher key) (Some key) begun log
+      (insertion_at (hash b.hasher key) b.mode initial (nothing_made b.limit) (Growing (Room n))) (Some table) None None [] None None None
   onward initial = let it = r.4 in let relies = it.relies in record {
     lawful = it.lawful;
     seen = it.seen;
@@ -57,8 +59,12 @@ module _ {K V S : Type 0} (eq : K → K → Bool) (hash : S → K → ℕ) (b : 
     counts = tt;
   }
 
-  module _ {H : Type 0} (value : V) (x : Insertion K V S H) (initial : ℕ) (held : x.writer.call.table ≡ Some table) (fresh : x.writer.call.fresh ≡ None) (pairs : (x.writer.call.last ≡ None) × (x.writer.call.kept ≡ None) × (x.writer.call.taken ≡ None) × (x.writer.call.put ≡ None))
-      (has_key : HasKey b name key x.writer.key) (has_value : HasValue b name x.writer.value) (value_is : held_value x.writer.value ≡ Some value) (machine : x.writer.call.machine ≡ insertion_at (hash b.hasher key) b.mode initial (nothing_made b.limit) (Growing (Room n))) (own : x.own ≡ None) (of : x.of ≡ None) where
+  module _ {H : Type 0} (value : V) (x : Insertion K V S H) (initial : ℕ) (held : x.writer.call.table ≡ Some table)
+      (fresh : x.writer.call.fresh ≡ None) (pairs : (x.writer.call.last ≡ None) × (x.writer.call.kept ≡ None) × (x.writer.call.taken ≡ None)
+      × (x.writer.call.put ≡ None))
+      (has_key : HasKey b name key x.writer.key) (has_value : HasValue b name x.writer.value) (value_is : held_value x.writer.value ≡ Some value)
+      (machine : x.writer.call.machine ≡ insertion_at (hash b.hasher key) b.mode initial (nothing_made b.limit) (Growing (Room n)))
+      (own : x.own ≡ None) (of : x.of ≡ None) where
     pub begins_onward : IsInserting eq hash b name key value begun log x
     begins_onward = record {
       made = [];
@@ -74,7 +80,11 @@ module _ {K V S : Type 0} (eq : K → K → Bool) (hash : S → K → ℕ) (b : 
         there = λ i e. let f = sym (ap (λ (z : Machine). z.call.made.own) machine) ∙ e in absurd (cc f);
         is = λ p e. let f = sym own ∙ e in absurd (cc f);
       };
-      of_is = record { there = λ new e. let f = sym (ap (λ (z : Machine). z.call.made.of) machine) ∙ e in absurd (cc f); is = λ p e. let f = sym of ∙ e in absurd (cc f) };
+      of_is = record {
+        there = λ new e. let f = sym (ap (λ (z : Machine). z.call.made.of) machine) ∙ e in
+            absurd (cc f);
+        is = λ p e. let f = sym of ∙ e in absurd (cc f);
+      };
       put_is = λ p e. let f = sym pairs.3 ∙ e in absurd (cc f);
       refuses = λ cause e. let f = sym (ap ask_of machine) ∙ e in absurd (cc f);
       crowded = λ e. let f = sym (ap ask_of machine) ∙ e in absurd (cc f);

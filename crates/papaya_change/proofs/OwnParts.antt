@@ -26,10 +26,13 @@ module _ {K V S H : Type 0} (book : Book K V S H) (name : Name) where
   value_in_book (values.Of p) h = (h.0, h.2)
 
 -- the key of a pair that was logged with a call's key
-pub own_key : {K V S : Type 0} (b : Begun K V S) (name : Name) (key : K) (own : Option (KeyPart K V)) → HasKey b name key own → (q : Stored K V) → ((part : KeyPart K V) → own ≡ Some part → key_of q ≡ key_in part) → key_of q ≡ key
+pub own_key : {K V S : Type 0} (b : Begun K V S) (name : Name) (key : K) (own : Option (KeyPart K V)) → HasKey b name key own → (q : Stored K V)
+    → ((part : KeyPart K V) → own ≡ Some part → key_of q ≡ key_in part) → key_of q ≡ key
 own_key b name key None h q is = absurd h
 own_key b name key (Some part) h q is = is part refl ∙ h.0
 
 -- where no pair was logged, none was made
 pub unlogged_unmade : {X : Type 0} (answer : Answer) → IsUnlogged answer → (n : ℕ) → answer ≡ Made n → X → ⊥
-unlogged_unmade answer unlogged n e x = ⊎_elim (λ refused. ⊎_elim (λ memory. let f = sym memory ∙ e in cc f) (λ full. let f = sym full ∙ e in cc f) refused) (λ none. let f = sym none ∙ e in cc f) unlogged
+unlogged_unmade answer unlogged n e x = ⊎_elim
+    (λ refused. ⊎_elim (λ memory. let f = sym memory ∙ e in cc f) (λ full. let f = sym full ∙ e in cc f) refused)
+    (λ none. let f = sym none ∙ e in cc f) unlogged

@@ -32,15 +32,19 @@ module _ (m : Machine) (calling : m.phase ≡ Calling) where
   ]
 
   -- what it stands on, it stood on before
-  pub own_stood : (answer : Answer) → IsSilent (calls.ask_of m.call) → IsStanding m → ShowsPairs m.call → (said : Said) → StandsOn (after m (answers.Call answer)).call said → StandsOn m.call said
+  pub own_stood : (answer : Answer) → IsSilent (calls.ask_of m.call) → IsStanding m → ShowsPairs m.call → (said : Said)
+      → StandsOn (after m (answers.Call answer)).call said → StandsOn m.call said
   own_stood answer silent standing shows said stands = elim (own_went m calling answer) [
     | inl h ↦ stood_before m.call answer silent standing.call shows said (subst (λ (z : Call_machine). StandsOn z said) h.0 stands)
     | inr (inl h) ↦ subst (λ (z : Call_machine). StandsOn z said) h.2 stands
-    | inr (inr h) ↦ stands_before m.call (record m.call { state = Searching (Sizing h.1) }) refl refl said (subst (λ (z : Call_machine). StandsOn z said) h.5 stands)
+    | inr (inr h) ↦ stands_before m.call (record m.call { state = Searching (Sizing h.1) }) refl refl said
+        (subst (λ (z : Call_machine). StandsOn z said) h.5 stands)
   ]
 
   -- where its closure agreed, or not, it stands on that or on what it stood on
-  pub own_said : (agreed : Bool) → IsStanding m → ShowsPairs m.call → (said : Said) → StandsOn (after m (answers.Call (Yes agreed))).call said → StandsOn m.call said ⊎ IsSaidBy m.call (Yes agreed) said
+  pub own_said : (agreed : Bool) → IsStanding m → ShowsPairs m.call → (said : Said) → StandsOn (after m (answers.Call (Yes agreed))).call said
+      → StandsOn m.call said ⊎ IsSaidBy m.call (Yes agreed) said
   own_said agreed standing shows said stands =
-      let same : (after m (answers.Call (Yes agreed))).call ≡ calls.after m.call (Yes agreed) = ap (λ p. (after_in m (answers.Call (Yes agreed)) p).call) calling in
+      let same : (after m (answers.Call (Yes agreed))).call ≡ calls.after m.call (Yes agreed) = ap
+      (λ p. (after_in m (answers.Call (Yes agreed)) p).call) calling in
       machine_said m.call (Yes agreed) said standing.call shows (subst (λ (z : Call_machine). StandsOn z said) same stands)

@@ -3,7 +3,10 @@ use Rattle.std.proofs.Common.{◌≡◌, ◌⊎◌, inl, inr, ⊎_elim, ℕ, Opt
 use Rattle.papaya_words.specs.declared.probe.Refused.{Refused as Cause}
 use Rattle.papaya_words.specs.declared.probe.Refused.TheVariants.{Capacity, Limit, RemoveNothing}
 use Rattle.papaya_ask.specs.declared.ask.Answer.{Answer}
-use Rattle.papaya_ask.specs.declared.ask.Answer.TheVariants.{Word as Word_read, Exchanged, Found as Found_instead, Yes, Op, Size, Made as Made_number, Ok as Ok_done, Refused as Was_refused}
+use Rattle.papaya_ask.specs.declared.ask.Answer.TheVariants.{Word as Word_read, Exchanged}
+use Rattle.papaya_ask.specs.declared.ask.Answer.TheVariants.{Found as Found_instead, Yes, Op, Size}
+use Rattle.papaya_ask.specs.declared.ask.Answer.TheVariants.{Made as Made_number, Ok as Ok_done}
+use Rattle.papaya_ask.specs.declared.ask.Answer.TheVariants.{Refused as Was_refused}
 use Rattle.papaya_ask.specs.declared.ask.Ask.{Ask}
 use Rattle.papaya_ask.specs.declared.ask.Ask.TheVariants.{Load, Exchange, Done, ShowNone}
 use Rattle.papaya_ask.specs.declared.ask.At.TheVariants.{Made as Made_word}
@@ -47,7 +50,8 @@ pub limit_inserts : (m : Machine) → IsStanding m → (answer : Answer) → IsA
 limit_inserts m standing answer over = number_inserts m.call.task (calls.kind_of_ask m.call) (calls.ask_of m.call) over.4 (asked_of_task m.call standing.call)
 
 -- a call that needs a next table is not ended by another answer than the number of one
-grown_stays : (m : Call_machine) (made : Made) (need : Need) (answer : Answer) (reply : Reply) → calls.ask_of (calls.after (record m { made = made; state = Growing need }) answer) ≡ Done reply → (word : ℕ) × (answer ≡ Word_read word)
+grown_stays : (m : Call_machine) (made : Made) (need : Need) (answer : Answer) (reply : Reply)
+    → calls.ask_of (calls.after (record m { made = made; state = Growing need }) answer) ≡ Done reply → (word : ℕ) × (answer ≡ Word_read word)
 grown_stays m made need (Word_read word) reply e = (word, refl)
 grown_stays m made need Exchanged reply e = absurd cc
 grown_stays m made need (Found_instead word) reply e = absurd cc
@@ -63,11 +67,14 @@ module _ (m : Machine) (calling : m.phase ≡ Calling) (answer : Answer) where
   m' = after m (answers.Call answer)
 
   -- one that needs a next table is not ended by an answer of its own
-  grown_goes : (need : Need) → m.call.state ≡ Growing need → (reply : Reply) → calls.ask_of (calls.after m.call answer) ≡ Done reply → ask_of m' ≡ Call (Done reply) → ⊥
+  grown_goes : (need : Need) → m.call.state ≡ Growing need → (reply : Reply) → calls.ask_of (calls.after m.call answer) ≡ Done reply
+      → ask_of m' ≡ Call (Done reply) → ⊥
   grown_goes need grows reply ended e =
-      let word = grown_stays m.call m.call.made need answer reply (subst (λ s. calls.ask_of (calls.after (record m.call { state = s }) answer) ≡ Done reply) grows ended) in
+      let word = grown_stays m.call m.call.made need answer reply
+      (subst (λ s. calls.ask_of (calls.after (record m.call { state = s }) answer) ≡ Done reply) grows ended) in
       let left = grown_leaves m calling need grows word.0 in
-      let e' : ask_of (after m (answers.Call (Word_read word.0))) ≡ Call (Done reply) = subst (λ a. ask_of (after m (answers.Call a)) ≡ Call (Done reply)) word.1 e in
+      let e' : ask_of (after m (answers.Call (Word_read word.0))) ≡ Call
+      (Done reply) = subst (λ a. ask_of (after m (answers.Call a)) ≡ Call (Done reply)) word.1 e in
       let then : Machine = after m (answers.Call (Word_read word.0)) in
       elim left [
         | inl h ↦ aside_asks_none then.call then.phase h.3 (Done reply) e'
@@ -76,31 +83,40 @@ module _ (m : Machine) (calling : m.phase ≡ Calling) (answer : Answer) where
 
   -- it was answered so, it was told that no number is left, or it showed that its key is absent
   abbrev pub IsOwnEnd : Cause → Type 0
-  IsOwnEnd cause = (answer ≡ Was_refused cause) ⊎ ((cause ≡ Limit) × IsAtLimit m.call answer) ⊎ ((cause ≡ RemoveNothing) × (ask_of m ≡ Call ShowNone) × (answer ≡ Op Remove))
+  IsOwnEnd cause = (answer ≡ Was_refused cause) ⊎ ((cause ≡ Limit) × IsAtLimit m.call answer)
+      ⊎ ((cause ≡ RemoveNothing) × (ask_of m ≡ Call ShowNone) × (answer ≡ Op Remove))
 
   pub own_refused : ((reply : Reply) → ask_of m ≡ Call (Done reply) → ⊥) → (cause : Cause) → ask_of m' ≡ Call (Done (Refused cause)) → IsOwnEnd cause
   own_refused open_still cause e = elim (own_went m calling answer) [
     | inl h ↦
-        let ended : calls.ask_of (calls.after m.call answer) ≡ Done (Refused cause) = ap (λ (z : Call_machine). calls.ask_of z) (sym h.0) ∙ (call_asks m' (Done (Refused cause)) e).1 in
-        let open_call : (reply : Reply) → calls.ask_of m.call ≡ Done reply → ⊥ = λ reply done. open_still reply (calling_asks m calling ∙ ap (λ a. Call a) done) in
+        let ended : calls.ask_of (calls.after m.call answer) ≡ Done (Refused cause) = ap (λ (z : Call_machine). calls.ask_of z) (sym h.0)
+        ∙ (call_asks m' (Done (Refused cause)) e).1 in
+        let open_call : (reply : Reply) → calls.ask_of m.call ≡ Done reply
+        → ⊥ = λ reply done. open_still reply (calling_asks m calling ∙ ap (λ a. Call a) done) in
         ⊎_elim (λ made. inl made.0)
         (λ rest. ⊎_elim
         (λ (full : (cause ≡ Capacity) × ((need : Need) × (m.call.state ≡ Growing need))). absurd (grown_goes full.1.0 full.1.1 (Refused cause) ended e))
-        (λ others. ⊎_elim (λ over. inr (inl (over.0, over.1))) (λ none. inr (inr (none.0, calling_asks m calling ∙ ap (λ s. Call (calls.asks m.call.made m.call.hash s)) none.1.1, none.2))) others) rest)
+        (λ others. ⊎_elim (λ over. inr (inl (over.0, over.1)))
+        (λ none. inr (inr (none.0, calling_asks m calling ∙ ap (λ s. Call (calls.asks m.call.made m.call.hash s)) none.1.1, none.2))) others) rest)
         (machine_reason m.call cause answer open_call ended)
     | inr (inl h) ↦ absurd (aside_asks_none m'.call m'.phase h.3 (Done (Refused cause)) e)
     | inr (inr h) ↦ let asks = calling_asks m' h.6 ∙ ap (λ (z : Call_machine). Call (calls.ask_of z)) h.5 in let f = sym asks ∙ e in absurd (cc f)
   ]
 
   -- what holds of what an answer says holds of why a call is refused after it that showed no absence
-  pub refused_for : (holds : Cause → Type 0) → (ask_of m ≡ Call ShowNone → ⊥) → ((reply : Reply) → ask_of m ≡ Call (Done reply) → ⊥) → ((cause : Cause) → answer ≡ Was_refused cause → holds cause) → (IsAtLimit m.call answer → holds Limit) → (cause : Cause) → ask_of m' ≡ Call (Done (Refused cause)) → holds cause
+  pub refused_for : (holds : Cause → Type 0) → (ask_of m ≡ Call ShowNone → ⊥) → ((reply : Reply) → ask_of m ≡ Call (Done reply) → ⊥)
+      → ((cause : Cause) → answer ≡ Was_refused cause → holds cause) → (IsAtLimit m.call answer → holds Limit) → (cause : Cause)
+      → ask_of m' ≡ Call (Done (Refused cause)) → holds cause
   refused_for holds never open_still told spent cause e =
-      ⊎_elim (told cause) (λ others. ⊎_elim (λ over. subst holds (sym over.0) (spent over.1)) (λ none. absurd (never none.1)) others) (own_refused open_still cause e)
+      ⊎_elim (told cause) (λ others. ⊎_elim (λ over. subst holds (sym over.0) (spent over.1)) (λ none. absurd (never none.1)) others)
+      (own_refused open_still cause e)
 
 -- where no closure had a part in it, there was no memory, or no number left
-pub unsaid_cause : (given : List CapacityCause) (answer : Answer) → IsUnsaid given answer → (cause : Cause) → answer ≡ Was_refused cause → IsMemoryOrCapacity cause
+pub unsaid_cause : (given : List CapacityCause) (answer : Answer) → IsUnsaid given answer → (cause : Cause) → answer ≡ Was_refused cause
+    → IsMemoryOrCapacity cause
 unsaid_cause given answer unsaid cause e = ⊎_elim (λ memory. inl memory) (λ full. inr full.0) (unsaid cause e)
 
 -- and a log is full, where there was room for no more
-pub unsaid_room : (initial : ℕ) (tables : List ℕ) (given : List CapacityCause) (answer : Answer) → IsUnsaid given answer → (cause : Cause) → answer ≡ Was_refused cause → cause ≡ Capacity → HasNoRoom initial tables given
+pub unsaid_room : (initial : ℕ) (tables : List ℕ) (given : List CapacityCause) (answer : Answer) → IsUnsaid given answer → (cause : Cause)
+    → answer ≡ Was_refused cause → cause ≡ Capacity → HasNoRoom initial tables given
 unsaid_room initial tables given answer unsaid cause e full = ⊎_elim (λ memory. let f = sym memory ∙ full in absurd (cc f)) (λ h. inl h.1) (unsaid cause e)

@@ -36,8 +36,11 @@ use Rattle.papaya_book.proofs.Settings.{agrees_later, is_hashed}
 use Rattle.papaya_book.proofs.TableSizes.{some_slot}
 use Rattle.papaya_lookup.specs.Lookups.{coding_for, setting_for}
 
-module _ {K V S H : Type 0} (eq : K → K → Bool) (input : K → List (List ℕ)) (build : S → H) (write : H → List ℕ → H) (finish : H → ℕ) (classes : IsEquivalence eq) (respects : (x y : K) → eq x y ≡ true → input x ≡ input y)
-    (b : Begun K V S) (matches : K → Bool) (by : ℕ) (key : IsLawfulKey (setting_of {V = V} {S = S} eq (hash_of input build write finish b.hasher) b.mode b.limit []) (coding_of {V = V} (hash_of input build write finish b.hasher)) matches by) (k : Option K) (begun : List (Exchange (Stored K V))) where
+module _ {K V S H : Type 0} (eq : K → K → Bool) (input : K → List (List ℕ)) (build : S → H) (write : H → List ℕ → H) (finish : H → ℕ)
+    (classes : IsEquivalence eq) (respects : (x y : K) → eq x y ≡ true → input x ≡ input y)
+    (b : Begun K V S) (matches : K → Bool) (by : ℕ)
+    (key : IsLawfulKey (setting_of {V = V} {S = S} eq (hash_of input build write finish b.hasher) b.mode b.limit [])
+    (coding_of {V = V} (hash_of input build write finish b.hasher)) matches by) (k : Option K) (begun : List (Exchange (Stored K V))) where
   abbrev hash : S → K → ℕ
   hash = hash_of input build write finish
 
@@ -55,7 +58,8 @@ module _ {K V S H : Type 0} (eq : K → K → Bool) (input : K → List (List �
   key_in log = record { class = key.class; hash_is = key.hash_is; hash_fits = key.hash_fits }
 
   pub hashed_in : (log : List (Event K V S)) → IsLawfulLog eq hash b log → IsHashed (wide log) coded
-  hashed_in log l = key_lawful (plain log) matches by (coding_of (hash b.hasher)) (is_hashed eq input build write finish classes respects b log l) (key_in log) (some_slot (entries_of log) l.sized)
+  hashed_in log l = key_lawful (plain log) matches by (coding_of (hash b.hasher)) (is_hashed eq input build write finish classes respects b log l)
+      (key_in log) (some_slot (entries_of log) l.sized)
 
   pub allowed_in : (log : List (Event K V S)) → IsLawfulLog eq hash b log → AllAllowed (wide log) start (exchanges_of log)
   allowed_in log l = all_alike (plain log) (wide log) (key_alike (plain log) matches by) (exchanges_of log) start l.allowed
@@ -80,33 +84,40 @@ module _ {K V S H : Type 0} (eq : K → K → Bool) (input : K → List (List �
     wide_with = with_key plain_with matches by
 
     pub hashed_with : IsHashed wide_with coded
-    hashed_with = key_lawful plain_with matches by (coding_of (hash b.hasher)) (with_hashed eq input build write finish classes respects b log l w) (record { class = key.class; hash_is = key.hash_is; hash_fits = key.hash_fits }) (some_slot (entries_of log) l.sized)
+    hashed_with = key_lawful plain_with matches by (coding_of (hash b.hasher)) (with_hashed eq input build write finish classes respects b log l w)
+        (record { class = key.class; hash_is = key.hash_is; hash_fits = key.hash_fits }) (some_slot (entries_of log) l.sized)
 
     module _ (m : Machine) (loaded : LoadedPairs (Stored K V)) (r : ChainRelying log m loaded) where
       pub may_with : AllAllowed wide_with start (begun ++ r.since)
-      may_with = subst (AllAllowed wide_with start) (sym r.is) (all_alike plain_with wide_with (key_alike plain_with matches by) (exchanges_of log) start (with_allowed eq input build write finish classes respects b log l w none))
+      may_with = subst (AllAllowed wide_with start) (sym r.is)
+          (all_alike plain_with wide_with (key_alike plain_with matches by) (exchanges_of log) start
+          (with_allowed eq input build write finish classes respects b log l w none))
 
       pub relies_with : Relies wide_with coded begun r.since k m loaded
       relies_with =
           let On = IsOn (state_of log).first (state_of log).next in
-          let agree : Agrees On (wide log) wide_with = key_agrees On (plain log) plain_with (with_agrees eq input build write finish classes respects b log l w none) matches by in
+          let agree : Agrees On (wide log) wide_with = key_agrees On (plain log) plain_with
+          (with_agrees eq input build write finish classes respects b log l w none) matches by in
           let agree' : Agrees (IsOn (run (begun ++ r.since) start).first (run (begun ++ r.since) start).next) (wide log) wide_with =
           subst (λ (z : List (Exchange (Stored K V))). Agrees (IsOn (run z start).first (run z start).next) (wide log) wide_with) (sym r.is) agree in
           all_carries (wide log) wide_with coded (hashed_in log l) begun r.since (relying_may log l m loaded r) agree' k m loaded r.relies
 
-  module _ (log : List (Event K V S)) (l : IsLawfulLog eq hash b log) (m : Machine) (loaded : LoadedPairs (Stored K V)) (r : ChainRelying log m loaded) (log' : List (Event K V S)) (l' : IsLawfulLog eq hash b log') (pre : IsPrefix log log') where
+  module _ (log : List (Event K V S)) (l : IsLawfulLog eq hash b log) (m : Machine) (loaded : LoadedPairs (Stored K V))
+      (r : ChainRelying log m loaded) (log' : List (Event K V S)) (l' : IsLawfulLog eq hash b log') (pre : IsPrefix log log') where
     -- what has come since
     abbrev more : List (Exchange (Stored K V))
     more = exchanges_of pre.0
 
     longer : begun ++ (r.since ++ more) ≡ exchanges_of log'
-    longer = sym (append_assoc begun r.since more) ∙ (ap (λ (z : List (Exchange (Stored K V))). z ++ more) r.is ∙ (sym (exchanges_of-append log pre.0) ∙ ap exchanges_of pre.1))
+    longer = sym (append_assoc begun r.since more)
+        ∙ (ap (λ (z : List (Exchange (Stored K V))). z ++ more) r.is ∙ (sym (exchanges_of-append log pre.0) ∙ ap exchanges_of pre.1))
 
     -- the longer log's tables are no matter
     pub carried : Relies (wide log') coded begun r.since k m loaded
     carried =
         let On = IsOn (state_of log).first (state_of log).next in
-        let agree : Agrees On (wide log) (wide log') = key_agrees On (plain log) (plain log') (agrees_later eq input build write finish classes respects b log l log' pre) matches by in
+        let agree : Agrees On (wide log) (wide log') = key_agrees On (plain log) (plain log')
+        (agrees_later eq input build write finish classes respects b log l log' pre) matches by in
         let agree' : Agrees (IsOn (run (begun ++ r.since) start).first (run (begun ++ r.since) start).next) (wide log) (wide log') =
         subst (λ (z : List (Exchange (Stored K V))). Agrees (IsOn (run z start).first (run z start).next) (wide log) (wide log')) (sym r.is) agree in
         all_carries (wide log) (wide log') coded (hashed_in log l) begun r.since (relying_may log l m loaded r) agree' k m loaded r.relies
@@ -116,7 +127,8 @@ module _ {K V S H : Type 0} (eq : K → K → Bool) (input : K → List (List �
 
     -- what was exchanged before was allowed in the longer log's setting
     pub may_first : AllAllowed (wide log') start (begun ++ r.since)
-    may_first = allowed_first (wide log') (begun ++ r.since) more start (subst (AllAllowed (wide log') start) (sym (append_assoc begun r.since more)) may_longer)
+    may_first = allowed_first (wide log') (begun ++ r.since) more start
+        (subst (AllAllowed (wide log') start) (sym (append_assoc begun r.since more)) may_longer)
 
     -- it relies on the longer log too
     pub relying_later : ChainRelying log' m loaded
@@ -127,12 +139,17 @@ module _ {K V S H : Type 0} (eq : K → K → Bool) (input : K → List (List �
     }
 
     -- what was true of the words of the first log was so where the call relies on what holds
-    pub told_then : (answer : Answer) (es : List (Exchange (Stored K V))) (loaded' : LoadedPairs (Stored K V)) → IsTold (wide log') coded k (state_of log) (kind_of_ask m) (follows_of m) loaded (ask_of m) answer es loaded'
+    pub told_then : (answer : Answer) (es : List (Exchange (Stored K V))) (loaded' : LoadedPairs (Stored K V))
+        → IsTold (wide log') coded k (state_of log) (kind_of_ask m) (follows_of m) loaded (ask_of m) answer es loaded'
         → IsTold (wide log') coded k (run (begun ++ r.since) start) (kind_of_ask m) (follows_of m) loaded (ask_of m) answer es loaded'
-    told_then answer es loaded' told = subst (λ (z : List (Exchange (Stored K V))). IsTold (wide log') coded k (run z start) (kind_of_ask m) (follows_of m) loaded (ask_of m) answer es loaded') (sym r.is) told
+    told_then answer es loaded' told = subst (λ (z : List (Exchange (Stored K V))).
+        IsTold (wide log') coded k (run z start) (kind_of_ask m) (follows_of m) loaded (ask_of m) answer es loaded') (sym r.is) told
 
     -- it is told of the log's words, with which the log grew
-    pub relying_told : (answer : Answer) → (answer ≡ answers.Call Exchanged → HasWords (wide log') (link_in m.phase)) → (loaded' : LoadedPairs (Stored K V)) → IsTold (wide log') coded k (state_of log) (kind_of_ask m) (follows_of m) loaded (ask_of m) answer more loaded' → ChainRelying log' (after m answer) loaded'
+    pub relying_told : (answer : Answer) → (answer ≡ answers.Call Exchanged → HasWords (wide log') (link_in m.phase))
+        → (loaded' : LoadedPairs (Stored K V)) → IsTold (wide log') coded k (state_of log) (kind_of_ask m) (follows_of m) loaded (ask_of m) answer more
+        loaded' → ChainRelying log' (after m answer) loaded'
     relying_told answer words loaded' told =
-        let all = all_learns (wide log') coded (hashed_in log' l') begun r.since may_first k m loaded carried answer words more loaded' (told_then answer more loaded' told) in
+        let all = all_learns (wide log') coded (hashed_in log' l') begun r.since may_first k m loaded carried answer words more loaded'
+        (told_then answer more loaded' told) in
         record { since = r.since ++ more; is = longer; relies = all.1 }

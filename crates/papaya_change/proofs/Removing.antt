@@ -1,5 +1,7 @@
 -- After each answer a removal relies on what holds again, and what its machine stands on was said of the pair shown last.
-use Rattle.std.proofs.Common.{◌≡◌, inl, inr, ⊎_elim, ℕ, ◌==◌, Bool, true, false, MatchBool, MatchOption, Option, None, Some, List, [], ◌∷◌, length, append-nil, refl, sym, ap, ◌∙◌, subst}
+use Rattle.std.proofs.Common.{◌≡◌, inl, inr, ⊎_elim, ℕ, ◌==◌, Bool, true, false, MatchBool}
+use Rattle.std.proofs.Common.{MatchOption, Option, None, Some, List, [], ◌∷◌, length, append-nil}
+use Rattle.std.proofs.Common.{refl, sym, ap, ◌∙◌, subst}
 use Rattle.std.proofs.lemmas.Bool.{cases_Bool}
 use Rattle.std.specs.Cmp.{IsEquivalence}
 use mathlib.Core.List.{IsPrefix}
@@ -14,7 +16,9 @@ use Rattle.papaya_ask.specs.declared.ask.Ask.TheVariants.{Load, Exchange as Ask_
 use Rattle.papaya_ask.specs.declared.ask.StepKind.{StepKind}
 use Rattle.papaya_ask.specs.declared.ask.StepKind.TheVariants as kinds
 use Rattle.papaya_ask.specs.declared.ask.Answer.{Answer}
-use Rattle.papaya_ask.specs.declared.ask.Answer.TheVariants.{Word as Word_read, Exchanged, Found as Found_instead, Size, Yes, Ok as Ok_done, Refused as Was_refused}
+use Rattle.papaya_ask.specs.declared.ask.Answer.TheVariants.{Word as Word_read, Exchanged}
+use Rattle.papaya_ask.specs.declared.ask.Answer.TheVariants.{Found as Found_instead, Size, Yes}
+use Rattle.papaya_ask.specs.declared.ask.Answer.TheVariants.{Ok as Ok_done, Refused as Was_refused}
 use Rattle.papaya_ask.specs.declared.call.Reply.{Reply}
 use Rattle.papaya_ask.specs.declared.call.Reply.TheVariants.{Refused}
 use Rattle.papaya_ask.specs.declared.call.Task.{Task}
@@ -55,7 +59,9 @@ use Rattle.papaya_book.specs.Logs.{Stored, exchanges_of, pair_named}
 use Rattle.papaya_change.specs.Removing.{IsRemoving, IsRemovingOn}
 use Rattle.papaya_book.specs.Rule.{IsPlaced}
 use Rattle.papaya_change.specs.Showings.{WasHeld}
-use Rattle.papaya_change.proofs.Changing.{Coded, Wide, barren, call_loaded, call_relies, counted, compared, hint_table, hinted, load_table, loaded_lawful, loads, quiet, size_table, sized, slot_table}
+use Rattle.papaya_change.proofs.Changing.{Coded, Wide, barren, call_loaded, call_relies, counted}
+use Rattle.papaya_change.proofs.Changing.{compared, hint_table, hinted, load_table, loaded_lawful}
+use Rattle.papaya_change.proofs.Changing.{loads, quiet, size_table, sized, slot_table}
 use Rattle.papaya_change.proofs.OwnSays.{own_said, own_shows, own_stood}
 use Rattle.papaya_change.proofs.StepsOfOwn.{own_kind, own_order}
 use Rattle.papaya_call.specs.Machine.{MayInsert}
@@ -67,8 +73,10 @@ use Rattle.papaya_lookup.proofs.Histories.{history_since}
 use Rattle.papaya_lookup.proofs.Readings.{IsQuery, fed, hashed_with}
 use Rattle.papaya_change.proofs.Showings.{all_shown, held_then, held_wider}
 
-module _ {K V S H F : Type 0} (eq : K → K → Bool) (input : K → List (List ℕ)) (build : S → H) (write : H → List ℕ → H) (finish : H → ℕ) (classes : IsEquivalence eq) (respects : (x y : K) → eq x y ≡ true → input x ≡ input y)
-    (b : Begun K V S) (name : Book) (matches : K → Bool) (query : List (List ℕ)) (lawful : IsQuery eq input matches query) (judges : F → Stored K V → Bool → F → Type 0) (first : F) (begun : List (Event K V S)) where
+module _ {K V S H F : Type 0} (eq : K → K → Bool) (input : K → List (List ℕ)) (build : S → H) (write : H → List ℕ → H) (finish : H → ℕ)
+    (classes : IsEquivalence eq) (respects : (x y : K) → eq x y ≡ true → input x ≡ input y)
+    (b : Begun K V S) (name : Book) (matches : K → Bool) (query : List (List ℕ)) (lawful : IsQuery eq input matches query)
+    (judges : F → Stored K V → Bool → F → Type 0) (first : F) (begun : List (Event K V S)) where
   abbrev hash : S → K → ℕ
   hash = hash_of input build write finish
 
@@ -90,7 +98,8 @@ module _ {K V S H F : Type 0} (eq : K → K → Bool) (input : K → List (List 
     HeldOn log' p = WasHeld eq matches (history_of begun) (history_of log') (Some p)
 
     held_later : (log' : List (Event K V S)) → IsPrefix log log' → (p : Stored K V) → HeldOn log p → HeldOn log' p
-    held_later log' pre p h = held_wider eq matches (history_of begun) (history_of begun) (history_of log) (history_of log') ([], append-nil (history_of begun)) (history_since log log' pre) (Some p) h
+    held_later log' pre p h = held_wider eq matches (history_of begun) (history_of begun) (history_of log) (history_of log')
+        ([], append-nil (history_of begun)) (history_since log log' pre) (Some p) h
 
     -- the pairs that its call was told of
     abbrev loaded : LoadedPairs (Stored K V)
@@ -98,18 +107,25 @@ module _ {K V S H F : Type 0} (eq : K → K → Bool) (input : K → List (List 
 
     module _ (standing : IsStanding m) where
       -- no answer of its own has it refused: it asks for nothing to be made
-      not_refused : (ask : Ask) → ask_of m ≡ Call ask → ((reply : Reply) → ask ≡ Done reply → ⊥) → (answer : Answer) → ((cause : Cause) → answer ≡ Was_refused cause → ⊥) → (cause : Cause) → ask_of (after m (answers.Call answer)) ≡ Call (Done (Refused cause)) → ⊥
+      not_refused : (ask : Ask) → ask_of m ≡ Call ask → ((reply : Reply) → ask ≡ Done reply → ⊥) → (answer : Answer)
+          → ((cause : Cause) → answer ≡ Was_refused cause → ⊥) → (cause : Cause) → ask_of (after m (answers.Call answer)) ≡ Call (Done (Refused cause)) → ⊥
       not_refused ask asks open_still answer unrefused cause e =
-          refused_for m (call_asks m ask asks).0 answer (λ _. ⊥) (λ none. subst IsComputer r.task_is (shows_none m standing none)) (λ reply done. open_still reply (let f = sym asks ∙ done in cc f)) unrefused (λ over. subst MayInsert r.task_is (limit_inserts m standing answer over)) cause e
+          refused_for m (call_asks m ask asks).0 answer (λ _. ⊥) (λ none. subst IsComputer r.task_is (shows_none m standing none))
+          (λ reply done. open_still reply (let f = sym asks ∙ done in cc f)) unrefused
+          (λ over. subst MayInsert r.task_is (limit_inserts m standing answer over)) cause e
 
       -- it goes on after an answer that shows nothing
-      pub goes_on : (log' : List (Event K V S)) → IsPrefix log log' → (y : Driver K V S H) (answer : Answer) → y.machine ≡ m → IsFit answer → ((cause : Cause) → answer ≡ Was_refused cause → ⊥) → (ask : Ask) → ask_of m ≡ Call ask → IsSilent ask
-          → IsDriven eq hash b name matches fed_to None begun log' [] (record y { machine = after m (answers.Call answer) }) → RemovingOn log' (record x { call = y }) f (Some answer)
+      pub goes_on : (log' : List (Event K V S)) → IsPrefix log log' → (y : Driver K V S H) (answer : Answer) → y.machine ≡ m → IsFit answer
+          → ((cause : Cause) → answer ≡ Was_refused cause → ⊥) → (ask : Ask) → ask_of m ≡ Call ask → IsSilent ask
+          → IsDriven eq hash b name matches fed_to None begun log' [] (record y { machine = after m (answers.Call answer) })
+          → RemovingOn log' (record x { call = y }) f (Some answer)
       goes_on log' pre y answer machine fit unrefused ask asks silent calling =
           let own = call_asks m ask asks in
           let silent_call = subst IsSilent (sym own.1) silent in
-          let never : (cause : Cause) → ask_of (after m (answers.Call answer)) ≡ Call (Done (Refused cause)) → ⊥ = not_refused ask asks (λ reply e. not_done m.call answer silent_call reply (own.1 ∙ e)) answer unrefused in
-          let same : after m (answers.Call answer) ≡ after y.machine (answers.Call answer) = ap (λ (z : Machine). after z (answers.Call answer)) (sym machine) in (
+          let never : (cause : Cause) → ask_of (after m (answers.Call answer)) ≡ Call (Done (Refused cause))
+          → ⊥ = not_refused ask asks (λ reply e. not_done m.call answer silent_call reply (own.1 ∙ e)) answer unrefused in
+          let same : after m (answers.Call answer) ≡ after y.machine (answers.Call answer) = ap (λ (z : Machine). after z (answers.Call answer))
+          (sym machine) in (
             record {
               calling = subst (λ (z : Machine). IsDriven eq hash b name matches fed_to None begun log' [] (record y { machine = z })) same calling;
               task_is = ap (λ (z : Machine). z.call.task) (sym same) ∙ ((chain_task m (answers.Call answer) (own_order m own.0 answer)).0 ∙ r.task_is);
@@ -118,7 +134,9 @@ module _ {K V S H F : Type 0} (eq : K → K → Bool) (input : K → List (List 
               said = r.said;
               has_said = r.has_said;
               held = all_shown (HeldOn log) (HeldOn log') (held_later log' pre) r.said r.held;
-              stood = λ n agrees stands. r.stood n agrees (own_stood m own.0 answer silent_call standing r.words (Agrees n agrees) (subst (λ (z : Machine). StandsOn z.call (Agrees n agrees)) (sym same) stands));
+              stood = λ n agrees stands. r.stood n agrees
+                  (own_stood m own.0 answer silent_call standing r.words (Agrees n agrees)
+                  (subst (λ (z : Machine). StandsOn z.call (Agrees n agrees)) (sym same) stands));
               refuses = λ cause e. absurd (never cause (ap ask_of same ∙ e));
               crowded = λ e. absurd (never Capacity (ap ask_of same ∙ e));
             },
@@ -128,35 +146,47 @@ module _ {K V S H F : Type 0} (eq : K → K → Bool) (input : K → List (List 
       -- the word at a place may be loaded
       pub load_held : (at : At) → ask_of m ≡ Call (Load at) → IsHeldAt at log x.call.table
       load_held at asks =
-          load_table eq input build write finish classes respects b matches query lawful None name begun log m x.call.table x.call.last x.call.kept [] x.call.taken x.call.put x.call.fresh r.calling at asks
+          load_table eq input build write finish classes respects b matches query lawful None name begun log m x.call.table x.call.last x.call.kept []
+          x.call.taken x.call.put x.call.fresh r.calling at asks
           (subst (λ (a : Ask). MayAsk m.call.task (calls.kind_of_ask m.call) a) (call_asks m (Load at) asks).1 (asked_of_task m.call standing.call))
 
       -- and was loaded
-      pub loaded_as : (log' : List (Event K V S)) → IsPrefix log log' → (at : At) (word : ℕ) (y : Driver K V S H) → y ≡ record x.call { table = y.table; last = y.last } → ask_of m ≡ Call (Load at) → IsLoaded eq hash b name at word log' x.call.table y.table x.call.last y.last → RemovingOn log' (record x { call = y }) f (Some (Word_read word))
+      pub loaded_as : (log' : List (Event K V S)) → IsPrefix log log' → (at : At) (word : ℕ) (y : Driver K V S H)
+          → y ≡ record x.call { table = y.table; last = y.last } → ask_of m ≡ Call (Load at)
+          → IsLoaded eq hash b name at word log' x.call.table y.table x.call.last y.last → RemovingOn log' (record x { call = y }) f (Some (Word_read word))
       loaded_as log' pre at word y rest asks is =
-          let calling = loads eq input build write finish classes respects b matches query lawful None name begun log log' pre (loaded_lawful eq hash b name log' at word x.call.table y.table x.call.last y.last is) m x.call.table x.call.last x.call.kept [] x.call.taken x.call.put x.call.fresh r.calling at word y.table y.last asks is in
+          let calling = loads eq input build write finish classes respects b matches query lawful None name begun log log' pre
+          (loaded_lawful eq hash b name log' at word x.call.table y.table x.call.last y.last is) m x.call.table x.call.last x.call.kept []
+          x.call.taken x.call.put x.call.fresh r.calling at word y.table y.last asks is in
           subst (λ (z : Driver K V S H). RemovingOn log' (record x { call = z }) f (Some (Word_read word))) (sym rest)
           (goes_on log' pre (record x.call { table = y.table; last = y.last }) (Word_read word) refl tt (λ cause e. cc e) (Load at) asks tt calling)
 
       -- a table whose size is asked for is held
       pub size_held : (t : ℕ) → ask_of m ≡ Call (SizeOf t) → x.call.table ≡ None → ⊥
-      size_held t asks none = subst (λ (o : Option (Bor Sheet)). MatchOption o ⊥ (λ z. IsTable log t z.now)) none (size_table eq input build write finish classes respects b matches query lawful None name begun log m x.call.table x.call.last x.call.kept [] x.call.taken x.call.put x.call.fresh r.calling t asks)
+      size_held t asks none = subst (λ (o : Option (Bor Sheet)). MatchOption o ⊥ (λ z. IsTable log t z.now)) none
+          (size_table eq input build write finish classes respects b matches query lawful None name begun log m x.call.table x.call.last x.call.kept []
+          x.call.taken x.call.put x.call.fresh r.calling t asks)
 
       -- its size was told
-      pub sized_on : (t : ℕ) (lent : Bor Sheet) → x.call.table ≡ Some lent → (slots limit : ℕ) → slots ≡ length lent.now.slots → limit ≡ lent.now.limit → IsSize slots limit → ask_of m ≡ Call (SizeOf t) → RemovingOn log x f (Some (Size slots limit))
+      pub sized_on : (t : ℕ) (lent : Bor Sheet) → x.call.table ≡ Some lent → (slots limit : ℕ) → slots ≡ length lent.now.slots
+          → limit ≡ lent.now.limit → IsSize slots limit → ask_of m ≡ Call (SizeOf t) → RemovingOn log x f (Some (Size slots limit))
       sized_on t lent has slots limit slots_is limit_is size asks =
           goes_on log ([], append-nil log) x.call (Size slots limit) refl size (λ cause e. cc e) (SizeOf t) asks tt
-          (sized eq input build write finish classes respects b matches query lawful None name begun log m x.call.table x.call.last x.call.kept [] x.call.taken x.call.put x.call.fresh r.calling t lent has slots limit slots_is limit_is asks)
+          (sized eq input build write finish classes respects b matches query lawful None name begun log m x.call.table x.call.last x.call.kept []
+          x.call.taken x.call.put x.call.fresh r.calling t lent has slots limit slots_is limit_is asks)
 
       -- a slot whose hint is loaded is one of the table that is held
       pub hint_held : (t i : ℕ) → ask_of m ≡ Call (LoadHint t i) → IsHeldAt (Slot t i) log x.call.table
-      hint_held t i asks = hint_table eq input build write finish classes respects b matches query lawful None name begun log m x.call.table x.call.last x.call.kept [] x.call.taken x.call.put x.call.fresh r.calling t i (inl asks)
+      hint_held t i asks = hint_table eq input build write finish classes respects b matches query lawful None name begun log m x.call.table
+          x.call.last x.call.kept [] x.call.taken x.call.put x.call.fresh r.calling t i (inl asks)
 
       -- its hint was loaded
-      pub hinted_on : (log' : List (Event K V S)) → IsPrefix log log' → (t i n : ℕ) → ask_of m ≡ Call (LoadHint t i) → IsSlotHint eq hash b t i n log' → RemovingOn log' x f (Some (Word_read n))
+      pub hinted_on : (log' : List (Event K V S)) → IsPrefix log log' → (t i n : ℕ) → ask_of m ≡ Call (LoadHint t i) → IsSlotHint eq hash b t i n log'
+          → RemovingOn log' x f (Some (Word_read n))
       hinted_on log' pre t i n asks is =
           goes_on log' pre x.call (Word_read n) refl tt (λ cause e. cc e) (LoadHint t i) asks tt
-          (hinted eq input build write finish classes respects b matches query lawful None name begun log log' pre is.lawful m x.call.table x.call.last x.call.kept [] x.call.taken x.call.put x.call.fresh r.calling t i n asks is)
+          (hinted eq input build write finish classes respects b matches query lawful None name begun log log' pre is.lawful m x.call.table
+          x.call.last x.call.kept [] x.call.taken x.call.put x.call.fresh r.calling t i n asks is)
 
       -- a pair that was told of last
       abbrev Told : Type 0
@@ -179,48 +209,63 @@ module _ {K V S H F : Type 0} (eq : K → K → Bool) (input : K → List (List 
           let s = Wide eq input build write finish classes respects b matches query lawful None name begun log in
           let c = Coded eq input build write finish classes respects b matches query lawful None name begun in
           let hashed = hashed_with eq input build write finish classes respects b matches query lawful log r.calling.lawful in
-          let shows = held.machine_shows s c hashed (exchanges_of begun) r.calling.since None loaded m.call r.calling.relies.call n (call_asks m (ShowPair n) asks).1 in
+          let shows = held.machine_shows s c hashed (exchanges_of begun) r.calling.since None loaded m.call r.calling.relies.call n
+          (call_asks m (ShowPair n) asks).1 in
           told_of shows.0 shows.1
 
       -- the pair last told of was compared
-      pub compared_on : (n : ℕ) (same : Bool) → ((p : Stored K V) → x.call.last ≡ Some p → same ≡ matches (key_of p)) → ask_of m ≡ Call (SameKey n) → RemovingOn log x f (Some (Yes same))
+      pub compared_on : (n : ℕ) (same : Bool) → ((p : Stored K V) → x.call.last ≡ Some p → same ≡ matches (key_of p)) → ask_of m ≡ Call (SameKey n)
+          → RemovingOn log x f (Some (Yes same))
       compared_on n same is asks =
           goes_on log ([], append-nil log) x.call (Yes same) refl tt (λ cause e. cc e) (SameKey n) asks tt
-          (compared eq input build write finish classes respects b matches query lawful None name begun log m x.call.table x.call.last x.call.kept [] x.call.taken x.call.put x.call.fresh r.calling n same is asks)
+          (compared eq input build write finish classes respects b matches query lawful None name begun log m x.call.table x.call.last x.call.kept []
+          x.call.taken x.call.put x.call.fresh r.calling n same is asks)
 
       -- the change was counted
       pub counted_on : (by : _) → ask_of m ≡ Call (AddToShard by) → RemovingOn log x f (Some Ok_done)
       counted_on by asks =
           goes_on log ([], append-nil log) x.call Ok_done refl tt (λ cause e. cc e) (AddToShard by) asks tt
-          (counted eq input build write finish classes respects b matches query lawful None name begun log m x.call.table x.call.last x.call.kept [] x.call.taken x.call.put x.call.fresh r.calling by asks)
+          (counted eq input build write finish classes respects b matches query lawful None name begun log m x.call.table x.call.last x.call.kept []
+          x.call.taken x.call.put x.call.fresh r.calling by asks)
 
       -- the pair last told of was shown
-      pub shown_on : (n : ℕ) (p : Stored K V) (agreed : Bool) (g : F) → x.call.last ≡ Some p → judges f p agreed g → ask_of m ≡ Call (ShowPair n) → RemovingOn log (record x { shown = Some p }) g (Some (Yes agreed))
+      pub shown_on : (n : ℕ) (p : Stored K V) (agreed : Bool) (g : F) → x.call.last ≡ Some p → judges f p agreed g → ask_of m ≡ Call (ShowPair n)
+          → RemovingOn log (record x { shown = Some p }) g (Some (Yes agreed))
       shown_on n p agreed g last judged showing =
           let own = call_asks m (ShowPair n) showing in
           let s = Wide eq input build write finish classes respects b matches query lawful None name begun log in
           let c = Coded eq input build write finish classes respects b matches query lawful None name begun in
           let hashed = hashed_with eq input build write finish classes respects b matches query lawful log r.calling.lawful in
-          let shows : (i : ℕ) → calls.ask_of m.call ≡ ShowPair i → IsShowing s c hashed (exchanges_of begun) r.calling.since None loaded i = λ i e. held.machine_shows s c hashed (exchanges_of begun) r.calling.since None loaded m.call r.calling.relies.call i e in
-          let is : (i : ℕ) → calls.ask_of m.call ≡ ShowPair i → p.index ≡ i = λ i e. let one : (shows i e).0 ≡ p = cc ((shows i e).1, last) in ap (λ (z : Stored K V). z.index) (sym one) ∙ (shows i e).2 in
+          let shows : (i : ℕ) → calls.ask_of m.call ≡ ShowPair i
+          → IsShowing s c hashed (exchanges_of begun) r.calling.since None loaded i = λ i e.
+          held.machine_shows s c hashed (exchanges_of begun) r.calling.since None loaded m.call r.calling.relies.call i e in
+          let is : (i : ℕ) → calls.ask_of m.call ≡ ShowPair i → p.index ≡ i = λ i e. let one : (shows i e).0 ≡ p = cc ((shows i e).1, last) in
+          ap (λ (z : Stored K V). z.index) (sym one) ∙ (shows i e).2 in
           let one : (shows n own.1).0 ≡ p = cc ((shows n own.1).1, last) in
           let was = subst (λ (z : Stored K V). WasAtMoment s c (exchanges_of begun) r.calling.since None (Some z)) one (shows n own.1).4 in
           let never = not_refused (ShowPair n) showing (λ reply h. cc h) (Yes agreed) (λ cause e. cc e) in (
             record {
-              calling = quiet eq input build write finish classes respects b matches query lawful None name begun log log ([], append-nil log) r.calling.lawful m x.call.table x.call.last x.call.kept [] x.call.taken x.call.put x.call.fresh r.calling
+              calling = quiet eq input build write finish classes respects b matches query lawful None name begun log log ([], append-nil log)
+                  r.calling.lawful m x.call.table x.call.last x.call.kept [] x.call.taken x.call.put x.call.fresh r.calling
                   (ShowPair n) showing (Yes agreed) x.call.last [] x.call.table x.call.fresh
                   (record {
                     told = (inl (agreed, refl), (refl, refl));
                     same = refl;
                     busy = λ z. z;
-                    brings = barren eq input build write finish classes respects b matches query lawful None name begun log log ([], append-nil log) r.calling.lawful m x.call.table x.call.last x.call.kept [] x.call.taken x.call.put x.call.fresh r.calling (ShowPair n) showing tt (Yes agreed) x.call.fresh;
+                    brings = barren eq input build write finish classes respects b matches query lawful None name begun log log ([], append-nil log)
+                        r.calling.lawful m x.call.table x.call.last x.call.kept [] x.call.taken x.call.put x.call.fresh r.calling (ShowPair n) showing
+                        tt (Yes agreed) x.call.fresh;
                   }) r.calling.holds_table r.calling.last_placed r.calling.made_placed;
               task_is = (chain_task m (answers.Call (Yes agreed)) (own_order m own.0 (Yes agreed))).0 ∙ r.task_is;
               words = own_shows m own.0 (Yes agreed) r.words;
               shown_placed = subst (λ (o : Option (Stored K V)). IsPlaced b (Some name) (pair_named o)) last r.calling.last_placed;
               said = (p, agreed) ∷ r.said;
               has_said = (f, r.has_said, judged);
-              held = (held_then eq input build write finish classes respects b matches query lawful begun log r.calling.lawful r.calling.since r.calling.is (Some p) was, r.held);
+              held = (
+                held_then eq input build write finish classes respects b matches query lawful begun log r.calling.lawful r.calling.since
+                    r.calling.is (Some p) was,
+                r.held,
+              );
               stood = λ i agrees stands. ⊎_elim
                   (λ h. absurd (unsaid m.call n i agrees own.1 h))
                   (λ h. let e = h.1 in let same : agreed ≡ agrees = cc e in (p, refl, is i h.0, inl (ap (λ (z : Bool). (p, z)) (sym same))))
@@ -234,7 +279,8 @@ module _ {K V S H F : Type 0} (eq : K → K → Bool) (input : K → List (List 
       module _ (t i old new : ℕ) (tries : ask_of m ≡ Call (Ask_exchange (Slot t i) old new)) where
         -- the slot is one of the table that is held
         pub delete_held : IsHeldAt (Slot t i) log x.call.table
-        delete_held = slot_table eq input build write finish classes respects b matches query lawful None name begun log m x.call.table x.call.last x.call.kept [] x.call.taken x.call.put x.call.fresh r.calling t i (inr (old, new, tries))
+        delete_held = slot_table eq input build write finish classes respects b matches query lawful None name begun log m x.call.table x.call.last
+            x.call.kept [] x.call.taken x.call.put x.call.fresh r.calling t i (inr (old, new, tries))
 
         -- a removal's exchange of a slot deletes
         its_own : (m.phase ≡ Calling) × (calls.ask_of m.call ≡ Ask_exchange (Slot t i) old new)
@@ -242,31 +288,45 @@ module _ {K V S H F : Type 0} (eq : K → K → Bool) (input : K → List (List 
 
         delete_kind : calls.kind_of_ask m.call ≡ Some kinds.Delete
         delete_kind =
-            ⊎_elim (λ h. absurd (h.0)) (λ h. h.1) (subst (λ (a : Ask). MayAsk RemoveIf (calls.kind_of_ask m.call) a) its_own.1 (subst (λ (z : Task). MayAsk z (calls.kind_of_ask m.call) (calls.ask_of m.call)) r.task_is (asked_of_task m.call standing.call)))
+            ⊎_elim (λ h. absurd (h.0)) (λ h. h.1) (subst (λ (a : Ask). MayAsk RemoveIf (calls.kind_of_ask m.call) a) its_own.1
+            (subst (λ (z : Task). MayAsk z (calls.kind_of_ask m.call) (calls.ask_of m.call)) r.task_is (asked_of_task m.call standing.call)))
 
         pub delete_can : CanExchange eq hash b (Slot t i) (kind_of_ask m) old new None names.Nothing log
         delete_can =
             subst (λ (z : Option StepKind). CanExchange eq hash b (Slot t i) z old new None names.Nothing log) (sym (own_kind m its_own.0))
-            (can_delete eq input build write finish classes respects b matches query lawful None (exchanges_of begun) log r.calling.lawful m.call loaded (call_relies eq input build write finish classes respects b matches query lawful None name begun log m x.call.table x.call.last x.call.kept [] x.call.taken x.call.put x.call.fresh r.calling) t i old new its_own.1 delete_kind)
+            (can_delete eq input build write finish classes respects b matches query lawful None (exchanges_of begun) log r.calling.lawful m.call
+            loaded (call_relies eq input build write finish classes respects b matches query lawful None name begun log m x.call.table x.call.last
+            x.call.kept [] x.call.taken x.call.put x.call.fresh r.calling) t i old new its_own.1 delete_kind)
 
-        module _ (log' : List (Event K V S)) (pre : IsPrefix log log') (found : ℕ) (pair : Option (Stored K V)) (s : IsSlotTried eq hash b name t i (kind_of_ask m) old new None names.Nothing log found log' pair) where
+        module _ (log' : List (Event K V S)) (pre : IsPrefix log log') (found : ℕ) (pair : Option (Stored K V))
+            (s : IsSlotTried eq hash b name t i (kind_of_ask m) old new None names.Nothing log found log' pair) where
           -- it was deleted
           tombstone : (found == old) ≡ true → RemovingOn log' (record x { call = record x.call { taken = pair; put = None } }) f (Some Exchanged)
-          tombstone is = goes_on log' pre (record x.call { taken = pair; put = None }) Exchanged refl tt (λ cause e. cc e) (Ask_exchange (Slot t i) old new) tries tt
-              (exchanged eq input build write finish classes respects b matches query lawful None name begun log log' m x.call.table x.call.last x.call.kept [] x.call.taken x.call.put x.call.fresh r.calling t i old new found None pair tries s (λ q none. absurd (cc none)) (λ claim q none. absurd (cc none)) is)
+          tombstone is = goes_on log' pre (record x.call { taken = pair; put = None }) Exchanged refl tt (λ cause e. cc e)
+              (Ask_exchange (Slot t i) old new) tries tt
+              (exchanged eq input build write finish classes respects b matches query lawful None name begun log log' m x.call.table x.call.last
+              x.call.kept [] x.call.taken x.call.put x.call.fresh r.calling t i old new found None pair tries s (λ q none. absurd (cc none))
+              (λ claim q none. absurd (cc none)) is)
 
           -- it was not
-          not_tombstone : (found == old) ≡ false → RemovingOn log' (record x { call = record x.call { last = or_last pair x.call.last } }) f (Some (Found_instead found))
-          not_tombstone is = goes_on log' pre (record x.call { last = or_last pair x.call.last }) (Found_instead found) refl tt (λ cause e. cc e) (Ask_exchange (Slot t i) old new) tries tt
-              (lost eq input build write finish classes respects b matches query lawful None name begun log log' m x.call.table x.call.last x.call.kept [] x.call.taken x.call.put x.call.fresh r.calling t i old new found None pair tries s is)
+          not_tombstone : (found == old) ≡ false → RemovingOn log' (record x { call = record x.call { last = or_last pair x.call.last } }) f
+              (Some (Found_instead found))
+          not_tombstone is = goes_on log' pre (record x.call { last = or_last pair x.call.last }) (Found_instead found) refl tt (λ cause e. cc e)
+              (Ask_exchange (Slot t i) old new) tries tt
+              (lost eq input build write finish classes respects b matches query lawful None name begun log log' m x.call.table x.call.last
+              x.call.kept [] x.call.taken x.call.put x.call.fresh r.calling t i old new found None pair tries s is)
 
           -- as the call holds it afterwards
           abbrev AfterDelete : Bool → Driver K V S H → Answer → Type 0
-          AfterDelete z y answer = MatchBool z ((answer ≡ Exchanged) × (y ≡ record x.call { taken = pair; put = None })) ((answer ≡ Found_instead found) × (y ≡ record x.call { last = or_last pair x.call.last }))
+          AfterDelete z y answer = MatchBool z ((answer ≡ Exchanged) × (y ≡ record x.call { taken = pair; put = None }))
+              ((answer ≡ Found_instead found) × (y ≡ record x.call { last = or_last pair x.call.last }))
 
           pub delete_on : (y : Driver K V S H) (answer : Answer) → AfterDelete (found == old) y answer → RemovingOn log' (record x { call = y }) f (Some answer)
           delete_on y answer h =
               ⊎_elim
-              (λ is. let g = subst (λ (z : Bool). AfterDelete z y answer) is h in subst (λ (z : Driver K V S H × Answer). RemovingOn log' (record x { call = z.0 }) f (Some z.1)) (λ j. (sym g.1 j, sym g.0 j)) (tombstone is))
-              (λ is. let g = subst (λ (z : Bool). AfterDelete z y answer) is h in subst (λ (z : Driver K V S H × Answer). RemovingOn log' (record x { call = z.0 }) f (Some z.1)) (λ j. (sym g.1 j, sym g.0 j)) (not_tombstone is))
+              (λ is. let g = subst (λ (z : Bool). AfterDelete z y answer) is h in
+              subst (λ (z : Driver K V S H × Answer). RemovingOn log' (record x { call = z.0 }) f (Some z.1)) (λ j. (sym g.1 j, sym g.0 j)) (tombstone is))
+              (λ is. let g = subst (λ (z : Bool). AfterDelete z y answer) is h in
+              subst (λ (z : Driver K V S H × Answer). RemovingOn log' (record x { call = z.0 }) f (Some z.1)) (λ j. (sym g.1 j, sym g.0 j))
+              (not_tombstone is))
               (cases_Bool (found == old))

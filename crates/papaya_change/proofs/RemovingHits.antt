@@ -1,5 +1,7 @@
 -- A removal that is made at once: its machine, which nothing runs, stands where the lookup's search met the pair.
-use Rattle.std.proofs.Common.{◌≡◌, inl, inr, ℕ, zero, suc, ◌<◌, ◌==◌, Bool, true, false, MatchBool, Option, None, Some, Result, Ok, Err, List, [], ◌∷◌, ◌++◌, append-nil, length, refl, sym, ap, ◌∙◌, subst, arith}
+use Rattle.std.proofs.Common.{◌≡◌, inl, inr, ℕ, zero, suc, ◌<◌, ◌==◌, Bool, true, false, MatchBool}
+use Rattle.std.proofs.Common.{Option, None, Some, Result, Ok, Err, List, [], ◌∷◌, ◌++◌, append-nil}
+use Rattle.std.proofs.Common.{length, refl, sym, ap, ◌∙◌, subst, arith}
 use Rattle.std.specs.Cmp.{IsEquivalence}
 use mathlib.Core.List.{IsPrefix}
 use denote.Bor.{Bor}
@@ -75,15 +77,18 @@ live_some : (word : ℕ) → kind_of word ≡ Live → 0 < word
 live_some zero live = absurd (cc live)
 live_some (suc n) live = omega arith
 
-module _ {K V S H F : Type 0} (eq : K → K → Bool) (input : K → List (List ℕ)) (build : S → H) (write : H → List ℕ → H) (finish : H → ℕ) (classes : IsEquivalence eq) (respects : (x y : K) → eq x y ≡ true → input x ≡ input y)
-    (b : Begun K V S) (name : Book) (matches : K → Bool) (query : List (List ℕ)) (lawful : IsQuery eq input matches query) (judges : F → Stored K V → Bool → F → Type 0) (first : F) (begun log : List (Event K V S)) where
+module _ {K V S H F : Type 0} (eq : K → K → Bool) (input : K → List (List ℕ)) (build : S → H) (write : H → List ℕ → H) (finish : H → ℕ)
+    (classes : IsEquivalence eq) (respects : (x y : K) → eq x y ≡ true → input x ≡ input y)
+    (b : Begun K V S) (name : Book) (matches : K → Bool) (query : List (List ℕ)) (lawful : IsQuery eq input matches query)
+    (judges : F → Stored K V → Bool → F → Type 0) (first : F) (begun log : List (Event K V S)) where
   abbrev hash : S → K → ℕ
   hash = hash_of input build write finish
 
   abbrev by : ℕ
   by = fed eq input build write finish classes respects b matches query lawful
 
-  module _ (seen : IsPrefix begun log) (chunked : IsChunked b.mode) (limited : IsLimit b.limit) (lent : Bor Sheet) (met : Met K V) (hit : HasHit eq hash b name matches by (exchanges_of begun) log lent.now met) (live : kind_of met.word ≡ Live) where
+  module _ (seen : IsPrefix begun log) (chunked : IsChunked b.mode) (limited : IsLimit b.limit) (lent : Bor Sheet) (met : Met K V)
+      (hit : HasHit eq hash b name matches by (exchanges_of begun) log lent.now met) (live : kind_of met.word ≡ Live) where
     abbrev p : Stored K V
     p = met.stored
 
@@ -105,7 +110,16 @@ module _ {K V S H F : Type 0} (eq : K → K → Bool) (input : K → List (List 
         call = record {
           hash = refl;
           mode = mode_is b.mode;
-          made = record { keys = λ q none. absurd none; limit = refl; number_is = wanted_relies (setting_for eq hash b matches by log) (coding_for hash b.hasher by) (exchanges_of begun) hit.since None b.limit; own_is = tt; of_is = tt; fill_is = tt; choice_is = tt };
+          made = record {
+            keys = λ q none. absurd none;
+            limit = refl;
+            number_is = wanted_relies (setting_for eq hash b matches by log)
+                (coding_for hash b.hasher by) (exchanges_of begun) hit.since None b.limit;
+            own_is = tt;
+            of_is = tt;
+            fill_is = tt;
+            choice_is = tt;
+          };
           stage = (tt, record { pair = p; last = refl; met = hit.met; live = live; same = hit.same });
         };
         phase = tt;
@@ -157,7 +171,11 @@ module _ {K V S H F : Type 0} (eq : K → K → Bool) (input : K → List (List 
 
     standing : (state : State) → IsStandingState RemoveIf state → IsStanding (removal_at by b.mode b.limit state)
     standing state stands = record {
-      call = record { made = record { limit = limited; number = wanted_stands b.limit; own = tt; of = tt }; remembered = record { fill = tt; choice = tt }; state = stands };
+      call = record {
+        made = record { limit = limited; number = wanted_stands b.limit; own = tt; of = tt };
+        remembered = record { fill = tt; choice = tt };
+        state = stands;
+      };
       chunked = chunked;
       initial = (0, refl);
       phase = tt;
@@ -169,12 +187,15 @@ module _ {K V S H F : Type 0} (eq : K → K → Bool) (input : K → List (List 
       asked = removal_with (after (removal_at by b.mode b.limit (Showing place)) (answers.Call (Yes agreed))) (Some p) None
 
       said : Goes log asked g
-      said = (shown_on eq input build write finish classes respects b name matches query lawful judges first begun log showing first shows (standing (Showing place) (tt, hit.within)) (pair_of met.word) p agreed g refl judged refl).0
+      said = (shown_on eq input build write finish classes respects b name matches query lawful judges first begun log showing first shows
+          (standing (Showing place) (tt, hit.within)) (pair_of met.word) p agreed g refl judged refl).0
 
     -- it does not agree
-    pub stays : (g : F) → judges first p false g → (entry : Bor K × Bor V) → AreOf entry p → IsRemovalBy eq matches (history_of begun) (history_of log) judges first (Ok (Err entry))
+    pub stays : (g : F) → judges first p false g → (entry : Bor K × Bor V) → AreOf entry p
+        → IsRemovalBy eq matches (history_of begun) (history_of log) judges first (Ok (Err entry))
     stays g judged entry are =
-        answered eq input build write finish classes respects b name matches query lawful judges first begun log (asked false g judged) g (said false g judged) (Kept (pair_of met.word)) refl (Ok (Err entry)) (p, entry, refl, are, refl)
+        answered eq input build write finish classes respects b name matches query lawful judges first begun log (asked false g judged) g
+        (said false g judged) (Kept (pair_of met.word)) refl (Ok (Err entry)) (p, entry, refl, are, refl)
 
     -- it agrees
     module _ (g : F) (judged : judges first p true g) where
@@ -192,11 +213,13 @@ module _ {K V S H F : Type 0} (eq : K → K → Bool) (input : K → List (List 
 
       -- the pair may be deleted
       pub hit_can : CanExchange eq hash b (Slot t i) (Some steps.Delete) met.word (grave_word met.word) None names.Nothing log
-      hit_can = delete_can eq input build write finish classes respects b name matches query lawful judges first begun log deletes g (said true g judged) stands t i met.word (grave_word met.word) refl
+      hit_can = delete_can eq input build write finish classes respects b name matches query lawful judges first begun log deletes g
+          (said true g judged) stands t i met.word (grave_word met.word) refl
 
       -- the table has its slot
       pub hit_held : IsTable log t lent.now × (i < length lent.now.slots)
-      hit_held = delete_held eq input build write finish classes respects b name matches query lawful judges first begun log deletes g (said true g judged) stands t i met.word (grave_word met.word) refl
+      hit_held = delete_held eq input build write finish classes respects b name matches query lawful judges first begun log deletes g
+          (said true g judged) stands t i met.word (grave_word met.word) refl
 
       -- it was held since the search began
       pub hit_was : WasHeld eq matches (history_of begun) (history_of log) (Some p)
@@ -204,31 +227,42 @@ module _ {K V S H F : Type 0} (eq : K → K → Bool) (input : K → List (List 
           let r = said true g judged in
           let s = r.stood (pair_of met.word) true (inl refl) in
           let one : s.0 ≡ p = let same = sym s.1 in cc same in
-          subst (λ (z : Stored K V). WasHeld eq matches (history_of begun) (history_of log) (Some z)) one (shown_each (λ q. WasHeld eq matches (history_of begun) (history_of log) (Some q)) r.said r.held s.0 true s.3)
+          subst (λ (z : Stored K V). WasHeld eq matches (history_of begun) (history_of log) (Some z)) one
+          (shown_each (λ q. WasHeld eq matches (history_of begun) (history_of log) (Some q)) r.said r.held s.0 true s.3)
 
       -- it was deleted
-      module _ (log' : List (Event K V S)) (pre : IsPrefix log log') (found : ℕ) (pair : Option (Stored K V)) (s : IsSlotTried eq hash b name t i (Some steps.Delete) met.word (grave_word met.word) None names.Nothing log found log' pair) (is : (found == met.word) ≡ true) where
+      module _ (log' : List (Event K V S)) (pre : IsPrefix log log') (found : ℕ) (pair : Option (Stored K V))
+          (s : IsSlotTried eq hash b name t i (Some steps.Delete) met.word (grave_word met.word) None names.Nothing log found log' pair)
+          (is : (found == met.word) ≡ true) where
         abbrev tombstone : Removal K V S H
         tombstone = removal_with (after deletes.call.machine (answers.Call Exchanged)) (Some p) pair
 
         went : Goes log' tombstone g
-        went = (delete_on eq input build write finish classes respects b name matches query lawful judges first begun log deletes g (said true g judged) stands t i met.word (grave_word met.word) refl log' pre found pair s (record deletes.call { taken = pair; put = None }) Exchanged
-            (subst (λ (z : Bool). MatchBool z ((Exchanged ≡ Exchanged) × (record deletes.call { taken = pair; put = None } ≡ record deletes.call { taken = pair; put = None })) ((Exchanged ≡ Found_instead found) × (record deletes.call { taken = pair; put = None } ≡ record deletes.call { last = or_last pair (Some p) }))) (sym is) (refl, refl))).0
+        went = (delete_on eq input build write finish classes respects b name matches query lawful judges first begun log deletes g
+            (said true g judged) stands t i met.word (grave_word met.word) refl log' pre found pair s (record deletes.call { taken = pair; put = None }) Exchanged
+            (subst (λ (z : Bool). MatchBool z ((Exchanged ≡ Exchanged)
+            × (record deletes.call { taken = pair; put = None } ≡ record deletes.call { taken = pair; put = None }))
+            ((Exchanged ≡ Found_instead found) × (record deletes.call { taken = pair; put = None }
+            ≡ record deletes.call { last = or_last pair (Some p) }))) (sym is) (refl, refl))).0
 
         abbrev pub ended : Removal K V S H
         ended = removal_with (after tombstone.call.machine (answers.Call Ok_done)) (Some p) pair
 
         counted : Goes log' ended g
-        counted = (counted_on eq input build write finish classes respects b name matches query lawful judges first begun log' tombstone g went (standing (Uncounting (pair_of met.word)) tt) _ refl).0
+        counted = (counted_on eq input build write finish classes respects b name matches query lawful judges first begun log' tombstone g went
+            (standing (Uncounting (pair_of met.word)) tt) _ refl).0
 
         -- which is the call's change
-        pub hit_changed : (change : Option ℕ × Option ℕ) → change_in ended.call.machine.call.state ≡ Some change → HasChanged eq None begun log' pair None change
+        pub hit_changed : (change : Option ℕ × Option ℕ) → change_in ended.call.machine.call.state ≡ Some change
+            → HasChanged eq None begun log' pair None change
         hit_changed = counted.calling.changed
 
         -- the pair that went is the one that was met
-        pub hit_went : (taken : Stored K V) → pair ≡ Some taken → p.value ≡ taken.value → (entry : Bor K × Bor V) → AreOf entry p → IsRemovalBy eq matches (history_of begun) (history_of log') judges first (Ok (Ok (Some entry)))
+        pub hit_went : (taken : Stored K V) → pair ≡ Some taken → p.value ≡ taken.value → (entry : Bor K × Bor V) → AreOf entry p
+            → IsRemovalBy eq matches (history_of begun) (history_of log') judges first (Ok (Ok (Some entry)))
         hit_went taken took value entry are =
-            answered eq input build write finish classes respects b name matches query lawful judges first begun log' ended g counted (Removed (pair_of met.word)) refl (Ok (Ok (Some entry)))
+            answered eq input build write finish classes respects b name matches query lawful judges first begun log' ended g counted
+            (Removed (pair_of met.word)) refl (Ok (Ok (Some entry)))
             (p, taken, entry, refl, took, value, (are.0 ∙ ap (λ z. z.key.value) value, are.1 ∙ ap (λ z. z.value) value), refl)
 
 -- A closure was shown pairs before a removal began.
@@ -250,27 +284,34 @@ module _ {K V F : Type 0} (eq : K → K → Bool) (matches : K → Bool) (judges
     member_on x (last ∷ rest) (inl is) = inl is
     member_on x (last ∷ rest) (inr m) = inr (member_on x rest m)
 
-    judged_on : (old new : List (Change K (Stored K V))) (shown : Shows) (answer : Result (Result (Option (Bor K × Bor V)) (Bor K × Bor V)) Refused) → IsJudged eq matches old new shown answer → IsJudged eq matches old new (shown ++ before) answer
+    judged_on : (old new : List (Change K (Stored K V))) (shown : Shows) (answer : Result (Result (Option (Bor K × Bor V)) (Bor K × Bor V)) Refused)
+        → IsJudged eq matches old new shown answer → IsJudged eq matches old new (shown ++ before) answer
     judged_on old new shown (Ok (Ok None)) h = h
     judged_on old new shown (Ok (Ok (Some entry))) h = (h.0, h.1, (h.2.0, h.2.1, member_on (h.2.0, true) shown h.2.2), h.3)
     judged_on old new shown (Ok (Err entry)) h = (h.0, member_on (h.0, false) shown h.1, h.2)
     judged_on old new shown (Err cause) h = h
 
-  pub removal_shown : (older old new : List (Change K (Stored K V))) → IsPrefix older old → IsPrefix old new → HasShown eq matches older old judges first g → (answer : Result (Result (Option (Bor K × Bor V)) (Bor K × Bor V)) Refused) → IsRemovalBy eq matches old new judges g answer → IsRemovalBy eq matches older new judges first answer
+  pub removal_shown : (older old new : List (Change K (Stored K V))) → IsPrefix older old → IsPrefix old new
+      → HasShown eq matches older old judges first g → (answer : Result (Result (Option (Bor K × Bor V)) (Bor K × Bor V)) Refused)
+      → IsRemovalBy eq matches old new judges g answer → IsRemovalBy eq matches older new judges first answer
   removal_shown older old new pre more s answer r =
       let w = removal_since eq matches older old new pre judges g answer r in
-      let wider : (p : Stored K V) → WasHeld eq matches older old (Some p) → WasHeld eq matches older new (Some p) = λ p h. held_wider eq matches older older old new ([], append-nil older) more (Some p) h in record {
+      let wider : (p : Stored K V) → WasHeld eq matches older old (Some p)
+      → WasHeld eq matches older new (Some p) = λ p h. held_wider eq matches older older old new ([], append-nil older) more (Some p) h in record {
         said = w.said ++ s.said;
         left = w.left;
         has_said = said_first s.said s.has_said w.said w.left w.has_said;
-        held = shown_all s.said s.has_said (λ q. WasHeld eq matches older new (Some q)) (all_shown (λ q. WasHeld eq matches older old (Some q)) (λ q. WasHeld eq matches older new (Some q)) wider s.said s.held) w.said w.held;
+        held = shown_all s.said s.has_said (λ q. WasHeld eq matches older new (Some q))
+            (all_shown (λ q. WasHeld eq matches older old (Some q)) (λ q. WasHeld eq matches older new (Some q)) wider s.said s.held) w.said w.held;
         answered = judged_on s.said s.has_said older new w.said answer w.answered;
       }
 
 -- what a removal that was tried at once told, while more was seen since then and before
-module _ {K V F : Type 0} (eq : K → K → Bool) (matches : K → Bool) (older old new : List (Change K (Stored K V))) (judges : F → Stored K V → Bool → F → Type 0) (first left : F) where
+module _ {K V F : Type 0} (eq : K → K → Bool) (matches : K → Bool) (older old new : List (Change K (Stored K V)))
+    (judges : F → Stored K V → Bool → F → Type 0) (first left : F) where
   -- it has shown one pair
-  pub one_shown : (p : Stored K V) (agreed : Bool) → judges first p agreed left → WasHeld eq matches old new (Some p) → IsPrefix older old → HasShown eq matches older new judges first left
+  pub one_shown : (p : Stored K V) (agreed : Bool) → judges first p agreed left → WasHeld eq matches old new (Some p) → IsPrefix older old
+      → HasShown eq matches older new judges first left
   one_shown p agreed judged held pre = record {
     said = (p, agreed) ∷ [];
     has_said = (first, refl, judged);

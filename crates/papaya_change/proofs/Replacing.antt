@@ -1,5 +1,7 @@
 -- An insertion that is made at once in place of a pair: one of that pair's key is logged and put in, and its machine, which nothing runs, goes on so.
-use Rattle.std.proofs.Common.{◌≡◌, inl, inr, ⊎_elim, ℕ, ◌<◌, ◌==◌, ◌&&◌, eq-eqb, Bool, true, false, if◌then◌else◌, MatchOption, Option, None, Some, List, [], ◌∷◌, ◌++◌, append-nil, length, refl, sym, ap, ◌∙◌, subst}
+use Rattle.std.proofs.Common.{◌≡◌, inl, inr, ⊎_elim, ℕ, ◌<◌, ◌==◌, ◌&&◌, eq-eqb, Bool, true, false}
+use Rattle.std.proofs.Common.{if◌then◌else◌, MatchOption, Option, None, Some, List, [], ◌∷◌, ◌++◌}
+use Rattle.std.proofs.Common.{append-nil, length, refl, sym, ap, ◌∙◌, subst}
 use Rattle.std.proofs.lemmas.Bool.{ne_eqb}
 use Rattle.std.specs.Cmp.{IsEquivalence}
 use mathlib.Core.List.{IsPrefix}
@@ -52,7 +54,8 @@ use Rattle.papaya_change.proofs.Written.{own_query}
 pub live_full : (word : ℕ) → kind_of word ≡ kinds.Live → (word == 0) ≡ false
 live_full word live = ne_eqb word 0 (λ e. let z : kind_of 0 ≡ kinds.Live = subst (λ (n : ℕ). kind_of n ≡ kinds.Live) e live in cc z)
 
-module _ {K V S H : Type 0} (eq : K → K → Bool) (input : K → List (List ℕ)) (build : S → H) (write : H → List ℕ → H) (finish : H → ℕ) (classes : IsEquivalence eq) (respects : (x y : K) → eq x y ≡ true → input x ≡ input y)
+module _ {K V S H : Type 0} (eq : K → K → Bool) (input : K → List (List ℕ)) (build : S → H) (write : H → List ℕ → H) (finish : H → ℕ)
+    (classes : IsEquivalence eq) (respects : (x y : K) → eq x y ≡ true → input x ≡ input y)
     (b : Begun K V S) (name : Book) (key : K) (begun : List (Event K V S)) where
   abbrev hash : S → K → ℕ
   hash = hash_of input build write finish
@@ -66,7 +69,8 @@ module _ {K V S H : Type 0} (eq : K → K → Bool) (input : K → List (List �
   abbrev Under : List (Event K V S) → Machine → Option (Bor Sheet) → Option (Stored K V) → List (Stored K V) → (taken put : Option (Stored K V)) → Type 0
   Under log m table last pairs taken put = IsCalling eq hash b name (eq key) h (Some key) begun log m table last None pairs taken put None
 
-  module _ (log : List (Event K V S)) (at : Place) (word : ℕ) (full : (word == 0) ≡ false) (p : Stored K V) (table : Sheet) (r : IsInsertingAt eq hash b name key begun log (Writing (record { place = at; old = word })) (Some p) table) where
+  module _ (log : List (Event K V S)) (at : Place) (word : ℕ) (full : (word == 0) ≡ false) (p : Stored K V) (table : Sheet)
+      (r : IsInsertingAt eq hash b name key begun log (Writing (record { place = at; old = word })) (Some p) table) where
     abbrev lent : Bor Sheet
     lent = r.0
 
@@ -84,7 +88,8 @@ module _ {K V S H : Type 0} (eq : K → K → Bool) (input : K → List (List �
     pub met_placed : IsPlaced b (Some name) (names.Pair p)
     met_placed = subst (λ (o : Option (Stored K V)). IsPlaced b (Some name) (pair_named o)) last_is r.4.last_placed
 
-    may : MayRemove (setting_for eq hash b (eq key) h log) (coding_for hash b.hasher h) (exchanges_of begun) r.4.since (Some key) (loaded_with r.2 None []).call (record { place = at; word = word })
+    may : MayRemove (setting_for eq hash b (eq key) h log) (coding_for hash b.hasher h) (exchanges_of begun) r.4.since (Some key)
+        (loaded_with r.2 None []).call (record { place = at; word = word })
     may = ⊎_elim (λ none. absurd (let f = sym full ∙ ap (λ (z : ℕ). z == 0) none in cc f)) (λ o. o.1) r.4.relies.call.stage.old
 
     met_is : may.pair ≡ p
@@ -92,7 +97,8 @@ module _ {K V S H : Type 0} (eq : K → K → Bool) (input : K → List (List �
 
     -- its key is in the slot, and is of the call's class
     pub met_key_there : HasKeyAt log at.table at.probe.i (key_of p)
-    met_key_there = subst (λ (z : Stored K V). HasKeyAt log at.table at.probe.i (key_of z)) met_is (met_key eq hash b (eq key) h (exchanges_of begun) r.4.since (Some key) log r.4.is at word may.pair may.met)
+    met_key_there = subst (λ (z : Stored K V). HasKeyAt log at.table at.probe.i (key_of z)) met_is
+        (met_key eq hash b (eq key) h (exchanges_of begun) r.4.since (Some key) log r.4.is at word may.pair may.met)
 
     pub met_same : eq key (key_of p) ≡ true
     met_same = subst (λ (z : Stored K V). eq key (key_of z) ≡ true) met_is may.same
@@ -102,7 +108,8 @@ module _ {K V S H : Type 0} (eq : K → K → Bool) (input : K → List (List �
     met_number =
         let hashed = hashed_with eq input build write finish classes respects b (eq key) (input key) query log r.4.lawful in
         let calls = r.4.relies.call in
-        let shown = machine_shows (setting_for eq hash b (eq key) h log) (coding_for hash b.hasher h) hashed (exchanges_of begun) r.4.since (Some key) (loaded_with r.2 None []).call (seeker_at Computes h b.mode 1 (nothing_made b.limit) (Showing (record { place = at; word = word }))).call
+        let shown = machine_shows (setting_for eq hash b (eq key) h log) (coding_for hash b.hasher h) hashed (exchanges_of begun) r.4.since (Some key)
+        (loaded_with r.2 None []).call (seeker_at Computes h b.mode 1 (nothing_made b.limit) (Showing (record { place = at; word = word }))).call
         (record { hash = calls.hash; mode = calls.mode; made = calls.made; stage = (tt, may) }) (pair_of word) refl in
         let both : Some shown.0 ≡ Some p = sym shown.1 ∙ last_is in
         let one : shown.0 ≡ p = cc both in
@@ -132,12 +139,14 @@ module _ {K V S H : Type 0} (eq : K → K → Bool) (input : K → List (List �
       valued : Under log (writes has_value) (Some lent) r.2 [] None None
       valued =
           subst (λ (m : Machine). Under log m (Some lent) r.2 [] None None) to_value
-          (quiet eq input build write finish classes respects b (eq key) (input key) query (Some key) name begun log log ([], append-nil log) began.lawful (writes none) (Some lent) r.2 None [] None None None began MakeValue asks_value (Made_number 0) r.2 [] (Some lent) None
+          (quiet eq input build write finish classes respects b (eq key) (input key) query (Some key) name begun log log ([], append-nil log)
+          began.lawful (writes none) (Some lent) r.2 None [] None None None began MakeValue asks_value (Made_number 0) r.2 [] (Some lent) None
           (record {
             told = (inr (0, refl), (refl, refl));
             same = refl;
             busy = λ z. z;
-            brings = barren eq input build write finish classes respects b (eq key) (input key) query (Some key) name begun log log ([], append-nil log) began.lawful (writes none) (Some lent) r.2 None [] None None None began MakeValue asks_value tt (Made_number 0) None;
+            brings = barren eq input build write finish classes respects b (eq key) (input key) query (Some key) name begun log log
+                ([], append-nil log) began.lawful (writes none) (Some lent) r.2 None [] None None None began MakeValue asks_value tt (Made_number 0) None;
           }) began.holds_table began.last_placed began.made_placed)
 
       abbrev pub has_pair : Made
@@ -158,12 +167,16 @@ module _ {K V S H : Type 0} (eq : K → K → Bool) (input : K → List (List �
       pub paired : Under log (writes has_pair) (Some lent) r.2 (q ∷ []) None None
       paired =
           subst (λ (m : Machine). Under log m (Some lent) r.2 (q ∷ []) None None) to_pair
-          (quiet eq input build write finish classes respects b (eq key) (input key) query (Some key) name begun log log ([], append-nil log) valued.lawful (writes has_value) (Some lent) r.2 None [] None None None valued (MakePairOf (pair_of word)) asks_pair (Made_number q.index) r.2 (q ∷ []) (Some lent) None
+          (quiet eq input build write finish classes respects b (eq key) (input key) query (Some key) name begun log log ([], append-nil log)
+          valued.lawful (writes has_value) (Some lent) r.2 None [] None None None valued (MakePairOf (pair_of word)) asks_pair (Made_number q.index)
+          r.2 (q ∷ []) (Some lent) None
           (record {
             told = inr (q, λ o e f. ap (λ z. Some z) (of_met o e), (refl, refl, refl));
             same = refl;
             busy = λ z. z;
-            brings = barren eq input build write finish classes respects b (eq key) (input key) query (Some key) name begun log log ([], append-nil log) valued.lawful (writes has_value) (Some lent) r.2 None [] None None None valued (MakePairOf (pair_of word)) asks_pair tt (Made_number q.index) None;
+            brings = barren eq input build write finish classes respects b (eq key) (input key) query (Some key) name begun log log
+                ([], append-nil log) valued.lawful (writes has_value) (Some lent) r.2 None [] None None None valued (MakePairOf (pair_of word))
+                asks_pair tt (Made_number q.index) None;
           }) valued.holds_table valued.last_placed
           (λ o one. ⊎_elim (λ is. subst (λ (z : Stored K V). IsPlaced b (Some name) (names.Pair z)) (sym is) placed) (λ other. absurd other) one))
 
@@ -183,42 +196,52 @@ module _ {K V S H : Type 0} (eq : K → K → Bool) (input : K → List (List �
       pub slot_there : IsTable log at.table table × (at.probe.i < length table.slots)
       slot_there =
           subst (λ (z : Sheet). IsTable log at.table z × (at.probe.i < length z.slots)) r.1
-          (slot_table eq input build write finish classes respects b (eq key) (input key) query (Some key) name begun log m (Some lent) r.2 None (q ∷ []) None None None paired at.table at.probe.i (inr (word, new, serves_there)))
+          (slot_table eq input build write finish classes respects b (eq key) (input key) query (Some key) name begun log m (Some lent) r.2 None
+          (q ∷ []) None None None paired at.table at.probe.i (inr (word, new, serves_there)))
 
       -- the pair may be put in
       pub put_can : pair_of new ≡ q.index → CanExchange eq hash b (Slot at.table at.probe.i) (Some steps.Replace) word new (Some q) (names.Pair q) log
       put_can number =
           subst (λ (z : Option StepKind). CanExchange eq hash b (Slot at.table at.probe.i) z word new (Some q) (names.Pair q) log) replaces
-          (can_put eq input build write finish classes respects b (eq key) (input key) query (Some key) (exchanges_of begun) log paired.lawful m.call (call_loaded eq input build write finish classes respects b (eq key) (input key) query (Some key) name begun r.2 (q ∷ []))
-          (call_relies eq input build write finish classes respects b (eq key) (input key) query (Some key) name begun log m (Some lent) r.2 None (q ∷ []) None None None paired) at.table at.probe.i word new (let e = serves_there in cc e) (inr replaces) q
+          (can_put eq input build write finish classes respects b (eq key) (input key) query (Some key) (exchanges_of begun) log paired.lawful m.call
+          (call_loaded eq input build write finish classes respects b (eq key) (input key) query (Some key) name begun r.2 (q ∷ []))
+          (call_relies eq input build write finish classes respects b (eq key) (input key) query (Some key) name begun log m (Some lent) r.2 None
+          (q ∷ []) None None None paired) at.table at.probe.i word new (let e = serves_there in cc e) (inr replaces) q
           (λ claims. absurd (let f = sym replaces ∙ claims in cc f), λ it. subst (HasKeyAt log at.table at.probe.i) (sym key_is) met_key_there) number)
 
       -- its key is that of the slot still, where another pair was found there
       pub key_there : (log' : List (Event K V S)) → IsLawfulLog eq hash b log' → IsPrefix log log' → HasKeyAt log' at.table at.probe.i (key_of q)
-      key_there log' l' pre = key_at_stays eq input build write finish classes respects b log log' l' pre at.table at.probe.i (key_of q) (subst (HasKeyAt log at.table at.probe.i) (sym key_is) met_key_there)
+      key_there log' l' pre = key_at_stays eq input build write finish classes respects b log log' l' pre at.table at.probe.i (key_of q)
+          (subst (HasKeyAt log at.table at.probe.i) (sym key_is) met_key_there)
 
       pub key_same : eq key (key_of q) ≡ true
       key_same = subst (λ (z : K). eq key z ≡ true) (sym key_is) met_same
 
       -- it was put in
-      module _ (log' : List (Event K V S)) (found : ℕ) (before : Option (Stored K V)) (tried : IsSlotTried eq hash b name at.table at.probe.i (Some steps.Replace) word new (Some q) (names.Pair q) log found log' before) (is : (found == word) ≡ true) where
+      module _ (log' : List (Event K V S)) (found : ℕ) (before : Option (Stored K V))
+          (tried : IsSlotTried eq hash b name at.table at.probe.i (Some steps.Replace) word new (Some q) (names.Pair q) log found log' before)
+          (is : (found == word) ≡ true) where
         abbrev pub ends : Machine
         ends = insertion_at h b.mode 1 has_pair (Ended (Replaced (pair_of word) q.index))
 
         to_end : after m (answers.Call Exchanged) ≡ ends
-        to_end = rw (full, same_place) (ap (λ (z : Bool). insertion_at h b.mode 1 has_pair (if z then Counting (claimed_by target q.index) else Ended (Replaced (pair_of word) q.index))) full)
+        to_end = rw (full, same_place) (ap (λ (z : Bool).
+            insertion_at h b.mode 1 has_pair (if z then Counting (claimed_by target q.index) else Ended (Replaced (pair_of word) q.index))) full)
 
         pub ended : Under log' ends (Some lent) r.2 (q ∷ []) before (Some q)
         ended =
             subst (λ (z : Machine). Under log' z (Some lent) r.2 (q ∷ []) before (Some q)) to_end
-            (exchanged eq input build write finish classes respects b (eq key) (input key) query (Some key) name begun log log' m (Some lent) r.2 None (q ∷ []) None None None paired at.table at.probe.i word new found (Some q) before serves_there
-            (subst (λ (z : Option StepKind). IsSlotTried eq hash b name at.table at.probe.i z word new (Some q) (names.Pair q) log found log' before) (sym replaces) tried)
+            (exchanged eq input build write finish classes respects b (eq key) (input key) query (Some key) name begun log log' m (Some lent) r.2 None
+            (q ∷ []) None None None paired at.table at.probe.i word new found (Some q) before serves_there
+            (subst (λ (z : Option StepKind). IsSlotTried eq hash b name at.table at.probe.i z word new (Some q) (names.Pair q) log found log' before)
+            (sym replaces) tried)
             (λ o e. let one : q ≡ o = cc e in inl (sym one)) (λ claims o e. absurd (let f = sym replaces ∙ claims in cc f)) is)
 
         pub replace_changed : HasChanged eq (Some key) begun log' before (Some q) (Some (pair_of word), Some q.index)
         replace_changed = ended.changed (Some (pair_of word), Some q.index) refl
 
-        some_there : (o : Option (Stored K V)) → MatchOption o (Some (pair_of word) ≡ None) (λ z. (Some (pair_of word) ≡ Some z.index) × (replace_changed.class ≡ key_of z)) → (z : Stored K V) × (o ≡ Some z)
+        some_there : (o : Option (Stored K V)) → MatchOption o (Some (pair_of word) ≡ None)
+            (λ z. (Some (pair_of word) ≡ Some z.index) × (replace_changed.class ≡ key_of z)) → (z : Stored K V) × (o ≡ Some z)
         some_there None e = absurd (cc e)
         some_there (Some z) e = (z, refl)
 
@@ -229,14 +252,19 @@ module _ {K V S H : Type 0} (eq : K → K → Bool) (input : K → List (List �
         pub taken_there : IsPlaced b (Some name) (pair_named before)
         taken_there = ended.taken_placed
 
-        kept_by : (o z : Stored K V) → before ≡ Some z → MatchOption before (Some (key_of q) ≡ Some key) (λ w. key_of q ≡ key_of w) → Some q ≡ Some o → key_of o ≡ key_of z
-        kept_by o z took is e = let one : q ≡ o = cc e in subst (λ (w : Stored K V). key_of w ≡ key_of z) one (subst (λ (w : Option (Stored K V)). MatchOption w (Some (key_of q) ≡ Some key) (λ v. key_of q ≡ key_of v)) took is)
+        kept_by : (o z : Stored K V) → before ≡ Some z → MatchOption before (Some (key_of q) ≡ Some key) (λ w. key_of q ≡ key_of w) → Some q ≡ Some o
+            → key_of o ≡ key_of z
+        kept_by o z took is e = let one : q ≡ o = cc e in
+            subst (λ (w : Stored K V). key_of w ≡ key_of z) one
+            (subst (λ (w : Option (Stored K V)). MatchOption w (Some (key_of q) ≡ Some key) (λ v. key_of q ≡ key_of v)) took is)
 
         module _ (taken : Stored K V) (took : before ≡ Some taken) where
           -- the pair that went has the number of the one that was met
           pub taken_number : p.index ≡ taken.index
           taken_number =
-              let at = subst (λ (w : Option (Stored K V)). MatchOption w (Some (pair_of word) ≡ None) (λ z. (Some (pair_of word) ≡ Some z.index) × (replace_changed.class ≡ key_of z))) took replace_changed.taken_is in
+              let at = subst (λ (w : Option (Stored K V)).
+              MatchOption w (Some (pair_of word) ≡ None) (λ z. (Some (pair_of word) ≡ Some z.index) × (replace_changed.class ≡ key_of z))) took
+              replace_changed.taken_is in
               let same : pair_of word ≡ taken.index = let e = at.0 in cc e in
               met_number ∙ same
 
@@ -247,7 +275,8 @@ module _ {K V S H : Type 0} (eq : K → K → Bool) (input : K → List (List �
                 before = history_of c.before;
                 change = record { class = c.class; taken = before; put = Some q };
                 since = history_since begun c.before c.since;
-                is = ap (changes_of key_of) c.is ∙ (changes-append key_of (exchanges_of c.before) (c.by ∷ []) ∙ ap (λ (cs : List (Change K (Stored K V))). history_of c.before ++ cs) (append-nil _ ∙ c.change_is));
+                is = ap (changes_of key_of) c.is ∙ (changes-append key_of (exchanges_of c.before) (c.by ∷ [])
+                    ∙ ap (λ (cs : List (Change K (Stored K V))). history_of c.before ++ cs) (append-nil _ ∙ c.change_is));
                 class_is = classes.symm key c.class ∙ (classes.congr c.class (key_of q) key c.put_is.1 ∙ (classes.symm (key_of q) key ∙ key_same));
                 taken_is = took;
                 put_is = refl;

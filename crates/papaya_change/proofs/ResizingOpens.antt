@@ -1,5 +1,7 @@
 -- A call that resizes begins, and opens a first table where there is none.
-use Rattle.std.proofs.Common.{◌≡◌, ℕ, ◌+◌, ◌==◌, Bool, true, false, if◌then◌else◌, MatchBool, Option, None, Some, List, [], ◌∷◌, ◌++◌, append-nil, refl, sym, ap, ◌∙◌, subst}
+use Rattle.std.proofs.Common.{◌≡◌, ℕ, ◌+◌, ◌==◌, Bool, true, false, if◌then◌else◌, MatchBool}
+use Rattle.std.proofs.Common.{Option, None, Some, List, [], ◌∷◌, ◌++◌, append-nil, refl, sym, ap}
+use Rattle.std.proofs.Common.{◌∙◌, subst}
 use Rattle.std.specs.Cmp.{IsEquivalence}
 use mathlib.Core.List.{IsPrefix}
 use Rattle.boxcar.specs.Table.{Where}
@@ -72,16 +74,26 @@ ends_none Chunk cause e = cc e
 ends_none CopyAll cause e = cc e
 ends_none (Reserve more) cause e = cc e
 
-module _ {K V S H : Type 0} (eq : K → K → Bool) (input : K → List (List ℕ)) (build : S → H) (write : H → List ℕ → H) (finish : H → ℕ) (classes : IsEquivalence eq) (respects : (x y : K) → eq x y ≡ true → input x ≡ input y) (b : Begun K V S) (name : Book) where
+module _ {K V S H : Type 0} (eq : K → K → Bool) (input : K → List (List ℕ)) (build : S → H) (write : H → List ℕ → H) (finish : H → ℕ)
+    (classes : IsEquivalence eq) (respects : (x y : K) → eq x y ≡ true → input x ≡ input y) (b : Begun K V S) (name : Book) where
   abbrev hashing : S → K → ℕ
   hashing = hash eq input build write finish classes respects b
 
-  pub begins : (log : List (Event K V S)) → IsLawfulLog eq hashing b log → (resize : Resize) (initial number : ℕ) (h : Copier K V S H) → h.last ≡ None → h.kept ≡ None → IsResizing eq hashing b name log (begun resize b.mode initial number) h
+  pub begins : (log : List (Event K V S)) → IsLawfulLog eq hashing b log → (resize : Resize) (initial number : ℕ) (h : Copier K V S H) → h.last ≡ None
+      → h.kept ≡ None → IsResizing eq hashing b name log (begun resize b.mode initial number) h
   begins log l resize initial number h none none' = record {
     lawful = l;
-    relies = record { mode = mode_is b.mode; cut = λ x. refl; stage = stage_begins (G eq input build write finish classes respects b log) (C eq input build write finish classes respects b) (state_of log) (loaded_with h.last h.kept []) resize };
-    last_placed = subst (λ (o : Option (Stored K V)). Rattle.papaya_book.specs.Rule.IsPlaced b (Some name) (Rattle.papaya_book.specs.Logs.pair_named o)) (sym none) tt;
-    kept_placed = subst (λ (o : Option (Stored K V)). Rattle.papaya_book.specs.Rule.IsPlaced b (Some name) (Rattle.papaya_book.specs.Logs.pair_named o)) (sym none') tt;
+    relies = record {
+      mode = mode_is b.mode;
+      cut = λ x.
+          refl;
+      stage = stage_begins (G eq input build write finish classes respects b log) (C eq input build write finish classes respects b)
+          (state_of log) (loaded_with h.last h.kept []) resize;
+    };
+    last_placed = subst (λ (o : Option (Stored K V)).
+        Rattle.papaya_book.specs.Rule.IsPlaced b (Some name) (Rattle.papaya_book.specs.Logs.pair_named o)) (sym none) tt;
+    kept_placed = subst (λ (o : Option (Stored K V)).
+        Rattle.papaya_book.specs.Rule.IsPlaced b (Some name) (Rattle.papaya_book.specs.Logs.pair_named o)) (sym none') tt;
     opens = λ n e. absurd (opens_none resize n e);
     brings = λ behind n chunks e. absurd (links_none resize (links.Linking behind n chunks) e);
     room = room_begins resize (tables_of log) h.given.done;
@@ -89,10 +101,13 @@ module _ {K V S H : Type 0} (eq : K → K → Bool) (input : K → List (List �
     ends = λ cause e. absurd (ends_none resize cause e);
   }
 
-  module _ (v : List (Event K V S)) (m : Resizer) (h : Copier K V S H) (r : IsResizing eq hashing b name v m h) (n : ℕ) (is : m.state ≡ Opening n) (table : Where Sheet) (number : number_of table ≡ n) (found : ℕ) (log : List (Event K V S)) (state : Option (Named K V))
-      (t : IsTried eq hashing b Root (Some kinds.Open) 0 (table.index + 1) None (names.Table table) v found log state) (h' : Copier K V S H) (rest : h' ≡ record h { fresh = h'.fresh }) where
+  module _ (v : List (Event K V S)) (m : Resizer) (h : Copier K V S H) (r : IsResizing eq hashing b name v m h) (n : ℕ) (is : m.state ≡ Opening n)
+      (table : Where Sheet) (number : number_of table ≡ n) (found : ℕ) (log : List (Event K V S)) (state : Option (Named K V))
+      (t : IsTried eq hashing b Root (Some kinds.Open) 0 (table.index + 1) None (names.Table table) v found log state) (h' : Copier K V S H)
+      (rest : h' ≡ record h { fresh = h'.fresh }) where
     abbrev After : Bool → Type 0
-    After z = MatchBool z ((e : Step K V) × IsMeant eq hashing Root (Some kinds.Open) (table.index + 1) None (names.Table table) t.before e × (log ≡ t.before ++ Stepped e ∷ [])) (log ≡ t.before)
+    After z = MatchBool z ((e : Step K V) × IsMeant eq hashing Root (Some kinds.Open) (table.index + 1) None (names.Table table) t.before e
+        × (log ≡ t.before ++ Stepped e ∷ [])) (log ≡ t.before)
 
     abbrev Gs : Rattle.papaya_law.specs.Exchange.Setting K (Stored K V)
     Gs = G eq input build write finish classes respects b log
@@ -104,29 +119,42 @@ module _ {K V S H : Type 0} (eq : K → K → Bool) (input : K → List (List �
     same = ap (λ (z : Copier K V S H). loaded_with z.last z.kept []) rest
 
     placed : Rattle.papaya_book.specs.Rule.IsPlaced b (Some name) (Rattle.papaya_book.specs.Logs.pair_named h'.last)
-    placed = subst (λ (o : Option (Stored K V)). Rattle.papaya_book.specs.Rule.IsPlaced b (Some name) (Rattle.papaya_book.specs.Logs.pair_named o)) (sym (ap (λ (z : Copier K V S H). z.last) rest)) r.last_placed
+    placed = subst (λ (o : Option (Stored K V)). Rattle.papaya_book.specs.Rule.IsPlaced b (Some name) (Rattle.papaya_book.specs.Logs.pair_named o))
+        (sym (ap (λ (z : Copier K V S H). z.last) rest)) r.last_placed
 
     placed' : Rattle.papaya_book.specs.Rule.IsPlaced b (Some name) (Rattle.papaya_book.specs.Logs.pair_named h'.kept)
-    placed' = subst (λ (o : Option (Stored K V)). Rattle.papaya_book.specs.Rule.IsPlaced b (Some name) (Rattle.papaya_book.specs.Logs.pair_named o)) (sym (ap (λ (z : Copier K V S H). z.kept) rest)) r.kept_placed
+    placed' = subst (λ (o : Option (Stored K V)). Rattle.papaya_book.specs.Rule.IsPlaced b (Some name) (Rattle.papaya_book.specs.Logs.pair_named o))
+        (sym (ap (λ (z : Copier K V S H). z.kept) rest)) r.kept_placed
 
     -- the table became the root, or another one is
-    opened : (z : Bool) → (found == 0) ≡ z → IsResizing eq hashing b name log (after m (if z then answers.Call Exchanged else answers.Call (Found_instead found))) h'
+    opened : (z : Bool) → (found == 0) ≡ z → IsResizing eq hashing b name log
+        (after m (if z then answers.Call Exchanged else answers.Call (Found_instead found))) h'
     opened true it =
         let done = subst After it t.after in
         let e = exchange_of done.0 in
         let by : e ≡ law.Open n = call_wished Root (table.index + 1) (state_of t.before) None e (Some kinds.Open) tt done.1.asked ∙ ap law.Open number in
         let pre : IsPrefix t.before log = (Stepped done.0 ∷ [], sym done.2) in
         let none : ((state_of t.before).root == 0) ≡ true = ap (λ (i : ℕ). i == 0) t.is ∙ it in
-        let told : IsStageTold Gs Cs (state_of t.before) (Opening n) (loaded_with h.last h.kept []) (answers.Call Exchanged) (exchanges_of pre.0) (loaded_with h'.last h'.kept []) = rw none (refl, ap (λ (x : Exchange (Stored K V)). x ∷ []) by, same) in
-        again eq input build write finish classes respects b name v m h r t.before t.since log t.now pre (answers.Call Exchanged) (λ e. subst (λ (s : Stage). HasWords Gs (link_of s)) (sym is) tt) h' tt (subst (λ (s : Stage). IsStageTold Gs Cs (state_of t.before) s (loaded_with h.last h.kept []) (answers.Call Exchanged) (exchanges_of pre.0) (loaded_with h'.last h'.kept [])) (sym is) told) placed placed'
-        (subst (λ (s : Stage). IsMadeAt (λ i. IsFresh b name log i h'.fresh) (IsReadyAs b name log h'.fresh) (after_in m.resize m.mode m.initial m.number (answers.Call Exchanged) s)) (sym is) tt) (λ slots limit f. absurd (cc f))
+        let told : IsStageTold Gs Cs (state_of t.before) (Opening n) (loaded_with h.last h.kept []) (answers.Call Exchanged) (exchanges_of pre.0)
+        (loaded_with h'.last h'.kept []) = rw none (refl, ap (λ (x : Exchange (Stored K V)). x ∷ []) by, same) in
+        again eq input build write finish classes respects b name v m h r t.before t.since log t.now pre (answers.Call Exchanged)
+        (λ e. subst (λ (s : Stage). HasWords Gs (link_of s)) (sym is) tt) h' tt
+        (subst (λ (s : Stage). IsStageTold Gs Cs (state_of t.before) s (loaded_with h.last h.kept []) (answers.Call Exchanged) (exchanges_of pre.0)
+        (loaded_with h'.last h'.kept [])) (sym is) told) placed placed'
+        (subst (λ (s : Stage). IsMadeAt (λ i. IsFresh b name log i h'.fresh) (IsReadyAs b name log h'.fresh)
+        (after_in m.resize m.mode m.initial m.number (answers.Call Exchanged) s)) (sym is) tt) (λ slots limit f. absurd (cc f))
     opened false it =
         let still = subst After it t.after in
         let pre : IsPrefix t.before log = ([], append-nil t.before ∙ sym still) in
         let some : ((state_of t.before).root == 0) ≡ false = ap (λ (i : ℕ). i == 0) t.is ∙ it in
-        let told : IsStageTold Gs Cs (state_of t.before) (Opening n) (loaded_with h.last h.kept []) (answers.Call (Found_instead found)) [] (loaded_with h'.last h'.kept []) = rw some (ap (λ (i : ℕ). answers.Call (Found_instead i)) (sym t.is), (refl, same)) in
-        again eq input build write finish classes respects b name v m h r t.before t.since log t.now pre (answers.Call (Found_instead found)) (λ e. absurd (cc e)) h' tt (subst (λ (s : Stage). IsStageTold Gs Cs (state_of t.before) s (loaded_with h.last h.kept []) (answers.Call (Found_instead found)) [] (loaded_with h'.last h'.kept [])) (sym is) told) placed placed'
-        (subst (λ (s : Stage). IsMadeAt (λ i. IsFresh b name log i h'.fresh) (IsReadyAs b name log h'.fresh) (after_in m.resize m.mode m.initial m.number (answers.Call (Found_instead found)) s)) (sym is) tt) (λ slots limit f. absurd (cc f))
+        let told : IsStageTold Gs Cs (state_of t.before) (Opening n) (loaded_with h.last h.kept []) (answers.Call (Found_instead found)) []
+        (loaded_with h'.last h'.kept []) = rw some (ap (λ (i : ℕ). answers.Call (Found_instead i)) (sym t.is), (refl, same)) in
+        again eq input build write finish classes respects b name v m h r t.before t.since log t.now pre (answers.Call (Found_instead found))
+        (λ e. absurd (cc e)) h' tt (subst (λ (s : Stage).
+        IsStageTold Gs Cs (state_of t.before) s (loaded_with h.last h.kept []) (answers.Call (Found_instead found)) []
+        (loaded_with h'.last h'.kept [])) (sym is) told) placed placed'
+        (subst (λ (s : Stage). IsMadeAt (λ i. IsFresh b name log i h'.fresh) (IsReadyAs b name log h'.fresh)
+        (after_in m.resize m.mode m.initial m.number (answers.Call (Found_instead found)) s)) (sym is) tt) (λ slots limit f. absurd (cc f))
 
     pub tried : IsResizing eq hashing b name log (after m (tried_answer found 0)) h'
     tried = opened (found == 0) refl

@@ -1,5 +1,7 @@
 -- A call that resizes relies on longer logs too: what it asks may be answered, and each answer leaves it relying on what holds.
-use Rattle.std.proofs.Common.{◌≡◌, inr, ⊎_elim, ℕ, ◌+◌, ◌<◌, ◌==◌, Bool, true, false, MatchBool, Option, None, Some, List, [], ◌∷◌, ◌++◌, length, append-nil, eqb-true, refl, sym, ap, ◌∙◌, subst}
+use Rattle.std.proofs.Common.{◌≡◌, inr, ⊎_elim, ℕ, ◌+◌, ◌<◌, ◌==◌, Bool, true, false, MatchBool}
+use Rattle.std.proofs.Common.{Option, None, Some, List, [], ◌∷◌, ◌++◌, length, append-nil, eqb-true}
+use Rattle.std.proofs.Common.{refl, sym, ap, ◌∙◌, subst}
 use Rattle.std.specs.Cmp.{IsEquivalence}
 use mathlib.Core.List.{IsPrefix}
 use Rattle.boxcar.specs.Table.{Where}
@@ -65,28 +67,36 @@ use Rattle.papaya_change.proofs.ResizingStages.{stage_linking, stage_links}
 
 module _ {K P : Type 0} (g : Setting K P) (c : Coding K P) (s : State P) where
   -- but for a table that is opened, it asks and is told as a copy is
-  stage_asked : (stage : Stage) → ((n : ℕ) → stage ≡ Opening n → ⊥) → (at : At) (new : ℕ) (loaded : LoadedPairs P) (e : Exchange P) → IsStageAsked g c s stage at new loaded e → IsCopyAsked c (Rattle.papaya_chain.specs.Resizer.kind_in stage) at new s loaded.kept e
+  stage_asked : (stage : Stage) → ((n : ℕ) → stage ≡ Opening n → ⊥) → (at : At) (new : ℕ) (loaded : LoadedPairs P) (e : Exchange P)
+      → IsStageAsked g c s stage at new loaded e → IsCopyAsked c (Rattle.papaya_chain.specs.Resizer.kind_in stage) at new s loaded.kept e
   stage_asked (Opening n) closed at new loaded e a = absurd (closed n refl)
   stage_asked other closed at new loaded e a = a
 
-  pub stage_told : (stage : Stage) → ((n : ℕ) → stage ≡ Opening n → ⊥) → (loaded : LoadedPairs P) (answer : Answer) (es : List (Exchange P)) (loaded' : LoadedPairs P) → (ask : CopyAsk) × (Rattle.papaya_chain.specs.Resizer.asks_in stage ≡ Some ask) × IsCopyTold g c s (Rattle.papaya_chain.specs.Resizer.kind_in stage) (Rattle.papaya_chain.specs.Resizer.follows_in stage) loaded ask answer es loaded'
+  pub stage_told : (stage : Stage) → ((n : ℕ) → stage ≡ Opening n → ⊥)
+      → (loaded : LoadedPairs P) (answer : Answer) (es : List (Exchange P)) (loaded' : LoadedPairs P) → (ask : CopyAsk)
+      × (Rattle.papaya_chain.specs.Resizer.asks_in stage ≡ Some ask)
+      × IsCopyTold g c s (Rattle.papaya_chain.specs.Resizer.kind_in stage) (Rattle.papaya_chain.specs.Resizer.follows_in stage) loaded ask answer es loaded'
       → IsStageTold g c s stage loaded answer es loaded'
   stage_told (Opening n) closed loaded answer es loaded' told = absurd (closed n refl)
   stage_told other closed loaded answer es loaded' told = told
 
   -- the table that it makes a next one for is on the chain
-  stage_on : (slots limit chunks : ℕ) (loaded : LoadedPairs P) (stage : Stage) → ReliesStage g c s loaded stage → Rattle.papaya_chain.specs.Resizer.asks_in stage ≡ Some (copies.MakeTable slots limit chunks) → (Rattle.papaya_chain.specs.Resizer.follows_in stage ≡ 0 → ⊥) → IsOn s.first s.next (Rattle.papaya_chain.specs.Resizer.follows_in stage)
+  stage_on : (slots limit chunks : ℕ) (loaded : LoadedPairs P) (stage : Stage) → ReliesStage g c s loaded stage
+      → Rattle.papaya_chain.specs.Resizer.asks_in stage ≡ Some (copies.MakeTable slots limit chunks)
+      → (Rattle.papaya_chain.specs.Resizer.follows_in stage ≡ 0 → ⊥) → IsOn s.first s.next (Rattle.papaya_chain.specs.Resizer.follows_in stage)
   stage_on slots limit chunks loaded (Linking link) r e some = r.on
   stage_on slots limit chunks loaded (Copying from copying) r e some = copying_on g c slots limit chunks s loaded.call.last loaded.kept copying r.1 cc
   stage_on slots limit chunks loaded other r e some = absurd (some refl)
 
   -- and the one that it is about to link has a greater number
-  stage_rises : (behind n chunks : ℕ) (loaded : LoadedPairs P) (stage : Stage) → ReliesStage g c s loaded stage → link_of stage ≡ Some (links.Linking behind n chunks) → behind < n
+  stage_rises : (behind n chunks : ℕ) (loaded : LoadedPairs P) (stage : Stage) → ReliesStage g c s loaded stage
+      → link_of stage ≡ Some (links.Linking behind n chunks) → behind < n
   stage_rises behind n chunks loaded (Linking link) r e = let is : link ≡ links.Linking behind n chunks = cc e in subst Rises_to is r.rises
   stage_rises behind n chunks loaded (Copying from copying) r e = copying_rises g c behind n chunks s loaded.call.last loaded.kept copying r.1 e
   stage_rises behind n chunks loaded other r e = absurd cc
 
-module _ {K V S H : Type 0} (eq : K → K → Bool) (input : K → List (List ℕ)) (build : S → H) (write : H → List ℕ → H) (finish : H → ℕ) (classes : IsEquivalence eq) (respects : (x y : K) → eq x y ≡ true → input x ≡ input y) (b : Begun K V S) where
+module _ {K V S H : Type 0} (eq : K → K → Bool) (input : K → List (List ℕ)) (build : S → H) (write : H → List ℕ → H) (finish : H → ℕ)
+    (classes : IsEquivalence eq) (respects : (x y : K) → eq x y ≡ true → input x ≡ input y) (b : Begun K V S) where
   abbrev pub hash : S → K → ℕ
   hash = hash_of input build write finish
 
@@ -128,25 +138,32 @@ module _ {K V S H : Type 0} (eq : K → K → Bool) (input : K → List (List �
     loaded = loaded_with h.last h.kept []
 
     -- it relies on the words of a longer log, in the setting of one that goes on from it
-    pub later : (before : List (Event K V S)) → IsPrefix v before → (log : List (Event K V S)) → IsLawfulLog eq hash b log → IsPrefix before log → ReliesStage (G log) C (state_of before) loaded m.state
+    pub later : (before : List (Event K V S)) → IsPrefix v before → (log : List (Event K V S)) → IsLawfulLog eq hash b log → IsPrefix before log
+        → ReliesStage (G log) C (state_of before) loaded m.state
     later before since log l pre =
         let whole : IsPrefix v log = prefix_trans v before log since pre in
         let es = exchanges_of since.0 in
-        let here = stage_carries (G v) C (G log) (state_of v) (map_left (G v) (exchanges_of v)) (keeping (G v) (hashed v r.lawful).lawful (exchanges_of v) r.lawful.allowed) (agrees_later eq input build write finish classes respects b v r.lawful log whole) loaded m.state r.relies.stage in
+        let here = stage_carries (G v) C (G log) (state_of v) (map_left (G v) (exchanges_of v))
+        (keeping (G v) (hashed v r.lawful).lawful (exchanges_of v) r.lawful.allowed)
+        (agrees_later eq input build write finish classes respects b v r.lawful log whole) loaded m.state r.relies.stage in
         let both : exchanges_of v ++ es ≡ exchanges_of before = sym (exchanges_of-append v since.0) ∙ ap exchanges_of since.1 in
         let may : AllAllowed (G log) start (exchanges_of v ++ es) = subst (AllAllowed (G log) start) (sym both) (first_may before log l pre) in
-        let ran : run es (state_of v) ≡ state_of before = sym (run-append (exchanges_of v) es start) ∙ ap (λ (z : List (Exchange (Stored K V))). run z start) both in
+        let ran : run es (state_of v) ≡ state_of before = sym (run-append (exchanges_of v) es start)
+        ∙ ap (λ (z : List (Exchange (Stored K V))). run z start) both in
         subst (λ (s : State (Stored K V)). ReliesStage (G log) C s loaded m.state) ran
-        (stage_stable (G log) C (hashed log l) (state_of v) (map_left (G log) (exchanges_of v)) (kept_map v log l whole) es (allowed_rest (G log) (exchanges_of v) es start may) loaded m.state here)
+        (stage_stable (G log) C (hashed log l) (state_of v) (map_left (G log) (exchanges_of v)) (kept_map v log l whole) es
+        (allowed_rest (G log) (exchanges_of v) es start may) loaded m.state here)
 
     there : (ask : CopyAsk) → ask_of m ≡ Some ask → AreThere (G v) C (state_of v) h.last h.kept ask
-    there ask asked = stage_there (G v) C (hashed v r.lawful) (state_of v) (map_left (G v) (exchanges_of v)) (keeping (G v) (hashed v r.lawful).lawful (exchanges_of v) r.lawful.allowed) loaded m.state r.relies.stage ask asked
+    there ask asked = stage_there (G v) C (hashed v r.lawful) (state_of v) (map_left (G v) (exchanges_of v))
+        (keeping (G v) (hashed v r.lawful).lawful (exchanges_of v) r.lawful.allowed) loaded m.state r.relies.stage ask asked
 
     -- and a hint that it writes may be there
     may_note : (t x n : ℕ) → ask_of m ≡ Some (copies.WriteHint t x n) → IsSlotHint eq hash b t x n v
     may_note t x n asked = record {
       lawful = r.lawful;
-      is = stage_may_hint (G v) C (hashed v r.lawful) (state_of v) (map_left (G v) (exchanges_of v)) (keeping (G v) (hashed v r.lawful).lawful (exchanges_of v) r.lawful.allowed) loaded m.mode r.relies.mode m.state r.relies.stage t x n asked;
+      is = stage_may_hint (G v) C (hashed v r.lawful) (state_of v) (map_left (G v) (exchanges_of v))
+          (keeping (G v) (hashed v r.lawful).lawful (exchanges_of v) r.lawful.allowed) loaded m.mode r.relies.mode m.state r.relies.stage t x n asked;
     }
 
     -- where a word is named, its table has come
@@ -169,7 +186,8 @@ module _ {K V S H : Type 0} (eq : K → K → Bool) (input : K → List (List �
           let on = there (copies.Exchange (Next t) 0 n) (stage_linking m.state t n chunks about).0 in
           let came = chain_came v t on in
           let here = table_since v log t came.0.value pre (came.0, came.1, refl) in
-          last_came eq hash b log (hashed log l).lawful l (table_in (steps_of log) n) t n refl on.0 (here.0, here.1) stands (stage_rises (G v) C (state_of v) t n chunks loaded m.state r.relies.stage about)
+          last_came eq hash b log (hashed log l).lawful l (table_in (steps_of log) n) t n refl on.0 (here.0, here.1) stands
+          (stage_rises (G v) C (state_of v) t n chunks loaded m.state r.relies.stage about)
 
     module _ (closed : (n : ℕ) → m.state ≡ Opening n → ⊥) (at : At) (old new : ℕ) (asked : ask_of m ≡ Some (copies.Exchange at old new)) where
       -- an exchange of it that may be made after a longer log
@@ -185,11 +203,16 @@ module _ {K V S H : Type 0} (eq : K → K → Bool) (input : K → List (List �
           let same : Some (copies.Exchange at old new) ≡ Some (copies.Exchange (Next behind) 0 n) = sym asked ∙ (stage_linking m.state behind n chunks e).0 in
           let place : at ≡ Next behind = cc same in other behind place
 
-      pub granted : ((t : ℕ) → at ≡ Next t → ⊥) → (log : List (Event K V S)) → IsPrefix v log → IsLawfulLog eq hash b log → word_in eq hash b log at ≡ old → IsGranted log
+      pub granted : ((t : ℕ) → at ≡ Next t → ⊥) → (log : List (Event K V S)) → IsPrefix v log → IsLawfulLog eq hash b log
+          → word_in eq hash b log at ≡ old → IsGranted log
       granted other log pre l stands =
-          let done = stage_may (G log) C (hashed log l) (state_of log) (map_left (G log) (exchanges_of log)) (keeping (G log) (hashed log l).lawful (exchanges_of log) l.allowed) loaded m.state (later log pre log l ([], append-nil log)) (words_where (G log) (link_of m.state) (λ behind n chunks e. absurd (unlinked other behind n chunks e))) at old new asked (word_there log log at ∙ stands) in record {
+          let done = stage_may (G log) C (hashed log l) (state_of log) (map_left (G log) (exchanges_of log))
+          (keeping (G log) (hashed log l).lawful (exchanges_of log) l.allowed) loaded m.state (later log pre log l ([], append-nil log))
+          (words_where (G log) (link_of m.state) (λ behind n chunks e. absurd (unlinked other behind n chunks e))) at old new asked
+          (word_there log log at ∙ stands) in record {
             by = done.0;
-            wished = copy_alike C Numbered (λ z. refl) new (state_of log) h.kept done.0 (kind_of_ask m) at (stage_asked (G log) C (state_of log) m.state closed at new loaded done.0 done.1);
+            wished = copy_alike C Numbered (λ z. refl) new (state_of log) h.kept done.0 (kind_of_ask m) at
+                (stage_asked (G log) C (state_of log) m.state closed at new loaded done.0 done.1);
             allowed = done.2;
             written = done.3;
           }
@@ -206,7 +229,8 @@ module _ {K V S H : Type 0} (eq : K → K → Bool) (input : K → List (List �
           }
 
       -- an exchange that was wished is one of it
-      wished_by : (s : List (Event K V S)) → IsPrefix v s → IsLawfulLog eq hash b s → word_in eq hash b s at ≡ old → (e : Exchange (Stored K V)) → IsWished (kind_of_ask m) at new (state_of s) h.kept e → IsCopyAsked Numbered (kind_of_ask m) at new (state_of s) h.kept e
+      wished_by : (s : List (Event K V S)) → IsPrefix v s → IsLawfulLog eq hash b s → word_in eq hash b s at ≡ old → (e : Exchange (Stored K V))
+          → IsWished (kind_of_ask m) at new (state_of s) h.kept e → IsCopyAsked Numbered (kind_of_ask m) at new (state_of s) h.kept e
       wished_by s pre l stands e wished = copy_wished at new (state_of s) h.kept e (kind_of_ask m) kind_copies wished
         where
           -- it is of a copy's kind
@@ -219,13 +243,16 @@ module _ {K V S H : Type 0} (eq : K → K → Bool) (input : K → List (List �
               (λ other. let g = granted other s pre l stands in of_copy Numbered new (state_of s) h.kept g.by (kind_of_ask m) at g.wished)
               (next_or at)
 
-      module _ (found : ℕ) (log : List (Event K V S)) (pair : Option (Stored K V)) (t : IsTriedFor eq hash b name at (kind_of_ask m) old new h.kept h.fresh v found log pair) where
+      module _ (found : ℕ) (log : List (Event K V S)) (pair : Option (Stored K V))
+          (t : IsTriedFor eq hash b name at (kind_of_ask m) old new h.kept h.fresh v found log pair) where
         abbrev After : Bool → Type 0
-        After z = MatchBool z ((e : Step K V) × IsWished (kind_of_ask m) at new (state_of t.before) h.kept (exchange_of e) × IsOwnTable h.fresh (comes e) × (log ≡ t.before ++ Stepped e ∷ [])) (log ≡ t.before)
+        After z = MatchBool z ((e : Step K V) × IsWished (kind_of_ask m) at new (state_of t.before) h.kept (exchange_of e)
+            × IsOwnTable h.fresh (comes e) × (log ≡ t.before ++ Stepped e ∷ [])) (log ≡ t.before)
 
         -- what was true of the words before it
         abbrev pub Tells : IsPrefix t.before log → Answer → Option (Stored K V) → Type 0
-        Tells pre answer last = IsCopyTold (G log) C (state_of t.before) (kind_of_ask m) (follows_of m) loaded (copies.Exchange at old new) answer (exchanges_of pre.0) (loaded_with last h.kept [])
+        Tells pre answer last = IsCopyTold (G log) C (state_of t.before) (kind_of_ask m) (follows_of m) loaded (copies.Exchange at old new) answer
+            (exchanges_of pre.0) (loaded_with last h.kept [])
 
         pub grown : (found == old) ≡ true → (pre : IsPrefix t.before log) × Tells pre (answers.Call Exchanged) (marked_or (kind_of_ask m) pair h.last)
         grown is =
@@ -234,8 +261,10 @@ module _ {K V S H : Type 0} (eq : K → K → Bool) (input : K → List (List �
             let stands : word_in eq hash b t.before at ≡ old = t.is ∙ eqb-true found old is in
             let asked' = wished_by t.before t.since t.lawful stands e done.1 in
             let here : (word_of (G log) C (state_of t.before) at == old) ≡ true = ap (λ (n : ℕ). n == old) (word_there t.before log at ∙ t.is) ∙ is in
-            let own : IsCopyAsked C (kind_of_ask m) at new (state_of t.before) h.kept e = copy_alike Numbered C (λ z. refl) new (state_of t.before) h.kept e (kind_of_ask m) at asked' in
-            let told : last_after e h.last ≡ marked_or (kind_of_ask m) pair h.last = last_marked Numbered new (state_of t.before) h.kept e (kind_of_ask m) at asked' h.last ∙ ap (λ (z : Option (Stored K V)). marked_or (kind_of_ask m) z h.last) t.names in
+            let own : IsCopyAsked C (kind_of_ask m) at new (state_of t.before) h.kept e = copy_alike Numbered C (λ z. refl) new (state_of t.before)
+            h.kept e (kind_of_ask m) at asked' in
+            let told : last_after e h.last ≡ marked_or (kind_of_ask m) pair h.last = last_marked Numbered new (state_of t.before) h.kept e
+            (kind_of_ask m) at asked' h.last ∙ ap (λ (z : Option (Stored K V)). marked_or (kind_of_ask m) z h.last) t.names in
             ((Stepped done.0 ∷ [], sym done.3), rw here (refl, (e, own, refl, ap (λ (z : Option (Stored K V)). loaded_with z h.kept []) (sym told))))
 
         -- where a table was linked, the setting has its words by now
@@ -249,12 +278,16 @@ module _ {K V S H : Type 0} (eq : K → K → Bool) (input : K → List (List �
             let done = subst After is t.after in
             let stands : word_in eq hash b t.before at ≡ old = t.is ∙ eqb-true found old is in
             let asked' = wished_by t.before t.since t.lawful stands (exchange_of done.0) done.1 in
-            let by : exchange_of done.0 ≡ law.Link behind new = subst (λ (z : Option StepKind). IsCopyAsked Numbered z (Next behind) new (state_of t.before) h.kept (exchange_of done.0)) links_it.1 (subst (λ (a : At). IsCopyAsked Numbered (kind_of_ask m) a new (state_of t.before) h.kept (exchange_of done.0)) place asked') in
+            let by : exchange_of done.0 ≡ law.Link behind
+            new = subst (λ (z : Option StepKind). IsCopyAsked Numbered z (Next behind) new (state_of t.before) h.kept (exchange_of done.0))
+            links_it.1 (subst (λ (a : At). IsCopyAsked Numbered (kind_of_ask m) a new (state_of t.before) h.kept (exchange_of done.0)) place asked') in
             let step = link_step done.0 behind n (by ∙ ap (law.Link behind) number) in
             let own : IsOwnTable {K = K} {V = V} h.fresh (names.Table step.0) = subst (λ (x : Step K V). IsOwnTable h.fresh (comes x)) step.1 done.2 in
             let many = own_words K V h.fresh step.0 chunks own (r.brings behind n chunks e).1 in
             let none = not_come behind n chunks e t.before t.since t.lawful (subst (λ (a : At). word_in eq hash b t.before a ≡ 0) place (stands ∙ zero)) in
-            let came : table_in (steps_of log) n ≡ Some step.0 = subst (λ (i : ℕ). table_in (steps_of log) i ≡ Some step.0) step.2 (link_words t.before log behind step.0 (done.3 ∙ ap (λ (x : Step K V). t.before ++ Stepped x ∷ []) step.1) (ap (table_in (steps_of t.before)) step.2 ∙ none)) in
+            let came : table_in (steps_of log) n ≡ Some step.0 = subst (λ (i : ℕ). table_in (steps_of log) i ≡ Some step.0) step.2
+            (link_words t.before log behind step.0 (done.3 ∙ ap (λ (x : Step K V). t.before ++ Stepped x ∷ []) step.1)
+            (ap (table_in (steps_of t.before)) step.2 ∙ none)) in
             eq_le (words_of (steps_of log) n step.0 came ∙ many))
 
         pub lost : (found == old) ≡ false → (pre : IsPrefix t.before log) × Tells pre (answers.Call (Found_instead found)) (or_last pair h.last)
@@ -262,8 +295,12 @@ module _ {K V S H : Type 0} (eq : K → K → Bool) (input : K → List (List �
             let same = subst After is t.after in
             let word : word_of (G log) C (state_of t.before) at ≡ found = word_there t.before log at ∙ t.is in
             let differs : (word_of (G log) C (state_of t.before) at == old) ≡ false = ap (λ (n : ℕ). n == old) word ∙ is in
-            let told : told_last (state_of t.before) at h.last ≡ or_last pair h.last = told_pair (state_of t.before) at h.last ∙ ap (λ (z : Option (Stored K V)). or_last z h.last) t.names in
-            (([], append-nil t.before ∙ sym same), rw differs (ap (λ (n : ℕ). answers.Call (Found_instead n)) (sym word), refl, ap (λ (z : Option (Stored K V)). loaded_with z h.kept []) (sym told)))
+            let told : told_last (state_of t.before) at h.last ≡ or_last pair h.last = told_pair (state_of t.before) at h.last
+            ∙ ap (λ (z : Option (Stored K V)). or_last z h.last) t.names in (
+              ([], append-nil t.before ∙ sym same),
+              rw differs
+                  (ap (λ (n : ℕ). answers.Call (Found_instead n)) (sym word), refl, ap (λ (z : Option (Stored K V)). loaded_with z h.kept []) (sym told)),
+            )
 
     -- what it asks may be answered
     module _ (closed : (n : ℕ) → m.state ≡ Opening n → ⊥) where
@@ -303,16 +340,23 @@ module _ {K V S H : Type 0} (eq : K → K → Bool) (input : K → List (List �
             has_words : HasWords G' (link_of m.state)
             has_words =
                 let many : length w.value.done ≡ chunks = subst (λ (o : Option (Where Sheet × Pen)). HasChunks o chunks) is (r.brings t new chunks about).1 in
-                subst (HasWords G') (sym about) (eq_le (ap G'.chunks (sym number) ∙ (with_chunks eq input build write finish classes respects b log l w ∙ many)))
+                subst (HasWords G') (sym about) (eq_le (ap G'.chunks (sym number)
+                ∙ (with_chunks eq input build write finish classes respects b log l w ∙ many)))
 
             now : ReliesStage G' C (state_of log) loaded m.state
-            now = stage_carries (G log) C G' (state_of log) (map_left (G log) (exchanges_of log)) (keeping (G log) (hashed log l).lawful (exchanges_of log) l.allowed) (with_agrees eq input build write finish classes respects b log l w absent) loaded m.state (later log pre log l ([], append-nil log))
+            now = stage_carries (G log) C G' (state_of log) (map_left (G log) (exchanges_of log))
+                (keeping (G log) (hashed log l).lawful (exchanges_of log) l.allowed)
+                (with_agrees eq input build write finish classes respects b log l w absent) loaded m.state (later log pre log l ([], append-nil log))
 
-            done_with : (e : Exchange (Stored K V)) × IsStageAsked G' C (state_of log) m.state (Next t) new loaded e × Allows G' (state_of log) e × IsWritten G' C (state_of log) (Next t) new (after_exchange (state_of log) e)
-            done_with = stage_may G' C hashed' (state_of log) (map_left G' (exchanges_of log)) (keeping G' hashed'.lawful (exchanges_of log) (with_allowed eq input build write finish classes respects b log l w absent)) loaded m.state now has_words (Next t) old new asked (stands ∙ sym none)
+            done_with : (e : Exchange (Stored K V)) × IsStageAsked G' C (state_of log) m.state (Next t) new loaded e × Allows G' (state_of log) e
+                × IsWritten G' C (state_of log) (Next t) new (after_exchange (state_of log) e)
+            done_with = stage_may G' C hashed' (state_of log) (map_left G' (exchanges_of log))
+                (keeping G' hashed'.lawful (exchanges_of log) (with_allowed eq input build write finish classes respects b log l w absent)) loaded
+                m.state now has_words (Next t) old new asked (stands ∙ sym none)
 
             by : done_with.0 ≡ law.Link t (number_of w)
-            by = subst (λ (z : Option StepKind). IsCopyAsked C z (Next t) new (state_of log) h.kept done_with.0) asks.1 (stage_asked G' C (state_of log) m.state closed (Next t) new loaded done_with.0 done_with.1) ∙ ap (law.Link t) (sym number)
+            by = subst (λ (z : Option StepKind). IsCopyAsked C z (Next t) new (state_of log) h.kept done_with.0) asks.1
+                (stage_asked G' C (state_of log) m.state closed (Next t) new loaded done_with.0 done_with.1) ∙ ap (law.Link t) (sym number)
 
             may : MayStep eq hash b (Next t) (Some kinds.Link) (w.index + 1) None (names.Table w) log
             may = record {
@@ -322,7 +366,8 @@ module _ {K V S H : Type 0} (eq : K → K → Bool) (input : K → List (List �
               written = subst (λ (n : ℕ). IsWritten (G log) C (state_of log) (Next t) n (after_exchange (state_of log) (law.Link t (number_of w)))) (sym number)
                   (subst (λ (e : Exchange (Stored K V)). IsWritten (G log) C (state_of log) (Next t) new (after_exchange (state_of log) e)) by (record {
                     here = word_same G' (G log) C (after_exchange (state_of log) done_with.0) (Next t) ∙ done_with.3.here;
-                    others = λ other differs. word_same (G log) G' C (after_exchange (state_of log) done_with.0) other ∙ (done_with.3.others other differs ∙ word_same G' (G log) C (state_of log) other);
+                    others = λ other differs. word_same (G log) G' C (after_exchange (state_of log) done_with.0) other
+                        ∙ (done_with.3.others other differs ∙ word_same G' (G log) C (state_of log) other);
                   }));
             }
 
@@ -340,9 +385,18 @@ module _ {K V S H : Type 0} (eq : K → K → Bool) (input : K → List (List �
       can_exchange : (at : At) (old new : ℕ) → ask_of m ≡ Some (copies.Exchange at old new) → CanExchangeFor eq hash b name at (kind_of_ask m) old new v h
       can_exchange (Next t) old new asked = can_join t old new asked
       can_exchange Root old new asked = (tt, can_try closed Root old new asked (λ t e. cc e))
-      can_exchange (Aborted t) old new asked = (reached (Aborted t) (there (copies.Exchange (Aborted t) old new) asked), can_try closed (Aborted t) old new asked (λ t e. cc e))
-      can_exchange (Done t i) old new asked = (reached (Done t i) (there (copies.Exchange (Done t i) old new) asked), can_try closed (Done t i) old new asked (λ t e. cc e))
-      can_exchange (Slot t x) old new asked = (reached (Slot t x) (there (copies.Exchange (Slot t x) old new) asked), can_try closed (Slot t x) old new asked (λ t e. cc e))
+      can_exchange (Aborted t) old new asked =
+          (reached (Aborted t) (there (copies.Exchange (Aborted t) old new) asked), can_try closed (Aborted t) old new asked (λ t e. cc e))
+      can_exchange (Done t i) old new asked = (
+        reached (Done t i) (there (copies.Exchange (Done t i) old new) asked),
+        can_try closed (Done t i) old
+            new asked (λ t e. cc e),
+      )
+      can_exchange (Slot t x) old new asked = (
+        reached (Slot t x) (there (copies.Exchange (Slot t x) old new) asked),
+        can_try closed (Slot t x) old
+            new asked (λ t e. cc e),
+      )
       can_exchange Made_word old new asked = absurd (there (copies.Exchange Made_word old new) asked)
 
       pub can_answer : (ask : CopyAsk) → ask_of m ≡ Some ask → IsFitCopyAsk ask → CanAnswerTo eq hash b name ask (kind_of_ask m) (follows_of m) v h
@@ -352,6 +406,8 @@ module _ {K V S H : Type 0} (eq : K → K → Bool) (input : K → List (List �
       can_answer (copies.WriteHint t x n) asked fit = (reached (Slot t x) (there (copies.WriteHint t x n) asked), may_note t x n asked)
       can_answer (copies.SizeOf t) asked fit = chain_came v t (there (copies.SizeOf t) asked)
       can_answer (copies.HashOf n) asked fit = let p = there (copies.HashOf n) asked in record { some = (p.0, p.1); placed = r.last_placed }
-      can_answer (copies.SamePair i n) asked fit = let p = there (copies.SamePair i n) asked in (record { some = (p.0, p.2); placed = r.kept_placed }, record { some = (p.1, p.3); placed = r.last_placed })
+      can_answer (copies.SamePair i n) asked fit = let p = there (copies.SamePair i n) asked in
+          (record { some = (p.0, p.2); placed = r.kept_placed }, record { some = (p.1, p.3); placed = r.last_placed })
       can_answer copies.Count asked fit = tt
-      can_answer (copies.MakeTable slots limit chunks) asked fit = (λ some. chain_came v (follows_of m) (stage_on (G v) C (state_of v) slots limit chunks loaded m.state r.relies.stage asked some), fit)
+      can_answer (copies.MakeTable slots limit chunks) asked
+          fit = (λ some. chain_came v (follows_of m) (stage_on (G v) C (state_of v) slots limit chunks loaded m.state r.relies.stage asked some), fit)

@@ -1,9 +1,13 @@
 -- A call that resizes knows the length of the root, and where it ends there is the room that it wanted.
-use Rattle.std.proofs.Common.{◌≡◌, ℕ, ◌+◌, ◌≤◌, ◌^◌, ◌==◌, nat_le, max, Bool, true, false, cond, arith, leb-true, Option, None, Some, List, [], ◌∷◌, refl, ap, subst}
+use Rattle.std.proofs.Common.{◌≡◌, ℕ, ◌+◌, ◌≤◌, ◌^◌, ◌==◌, nat_le, max, Bool, true, false, cond}
+use Rattle.std.proofs.Common.{arith, leb-true, Option, None, Some, List, [], ◌∷◌, refl, ap, subst}
 use Rattle.std.proofs.lemmas.Bool.{cond_both}
 use Rattle.papaya_words.specs.declared.probe.ResizeMode.{ResizeMode}
 use Rattle.papaya_ask.specs.declared.ask.Answer.{Answer as Call_answer}
-use Rattle.papaya_ask.specs.declared.ask.Answer.TheVariants.{Word as Word_read, Exchanged, Found as Found_instead, Size, Made as Made_number, Refused as Was_refused}
+use Rattle.papaya_ask.specs.declared.ask.Answer.TheVariants.{Word as Word_read, Exchanged}
+use Rattle.papaya_ask.specs.declared.ask.Answer.TheVariants.{Found as Found_instead, Size}
+use Rattle.papaya_ask.specs.declared.ask.Answer.TheVariants.{Made as Made_number}
+use Rattle.papaya_ask.specs.declared.ask.Answer.TheVariants.{Refused as Was_refused}
 use Rattle.papaya_copy.specs.declared.copying.Copied.{Copied}
 use Rattle.papaya_copy.specs.declared.copying.Copied.TheVariants as copied_to
 use Rattle.papaya_copy.specs.declared.link.Linked.{Linked}
@@ -15,9 +19,14 @@ use Rattle.papaya_chain.specs.declared.resizer.Resize.{Resize}
 use Rattle.papaya_chain.specs.declared.resizer.Resize.TheVariants.{Chunk, CopyAll, Reserve}
 use Rattle.papaya_chain.specs.declared.resizer.Room.{Room}
 use Rattle.papaya_chain.specs.declared.resizer.State.{State as Stage}
-use Rattle.papaya_chain.specs.declared.resizer.State.TheVariants.{AtRoot, Making, Opening, Sizing, Counting, Looking, Linking, Copying, Done, Refused as Ended_refused}
+use Rattle.papaya_chain.specs.declared.resizer.State.TheVariants.{AtRoot, Making, Opening, Sizing}
+use Rattle.papaya_chain.specs.declared.resizer.State.TheVariants.{Counting, Looking, Linking}
+use Rattle.papaya_chain.specs.declared.resizer.State.TheVariants.{Copying, Done}
+use Rattle.papaya_chain.specs.declared.resizer.State.TheVariants.{Refused as Ended_refused}
 use Rattle.papaya_chain.specs.Machine as machine
-use Rattle.papaya_chain.specs.Resizer.{after_in, at_count, at_last, at_next, at_root, begun_in, called, copied, copies, counted, judges, linked, makes, over, told_root}
+use Rattle.papaya_chain.specs.Resizer.{after_in, at_count, at_last, at_next, at_root, begun_in}
+use Rattle.papaya_chain.specs.Resizer.{called, copied, copies, counted, judges, linked, makes, over}
+use Rattle.papaya_chain.specs.Resizer.{told_root}
 use Rattle.papaya_chain.specs.Room.{entries_of, room_of, room_of_len}
 use Rattle.papaya_book.specs.declared.rule.own.CapacityCause.{CapacityCause}
 use Rattle.papaya_book.specs.declared.rule.own.CapacityCause.TheVariants.{Sum}
@@ -36,7 +45,8 @@ module _ (tables : List ℕ) (given : List CapacityCause) where
   root_in : (resize : Resize) (root : ℕ) → In resize (at_root resize root)
   root_in Chunk root = cond_both (root == 0) Done (Looking root 0 None) (In Chunk) (λ _. tt) (λ _. tt)
   root_in CopyAll root = cond_both (root == 0) Done (Looking root 0 None) (In CopyAll) (λ _. tt) (λ _. tt)
-  root_in (Reserve more) root = cond_both (root == 0) (makes (room_of more)) (Sizing root) (In (Reserve more)) (λ _. makes_in (Reserve more) (room_of more)) (λ _. tt)
+  root_in (Reserve more) root = cond_both (root == 0) (makes (room_of more)) (Sizing root) (In (Reserve more))
+      (λ _. makes_in (Reserve more) (room_of more)) (λ _. tt)
 
   -- the length of a table that has room enough
   enough : (pairs : ℕ) (room : Room) → room_of pairs ≡ Some room → entries_of pairs ≤ room.len
@@ -46,10 +56,18 @@ module _ (tables : List ℕ) (given : List CapacityCause) where
       by_length true is = let same : room_of_len (max (entries_of pairs) 8) ≡ room = cc is in subst (λ (r : Room). entries_of pairs ≤ r.len) same (omega arith)
       by_length false is = absurd (cc is)
 
-  judges_in : (more root len count : ℕ) → given ≡ Sum count ∷ [] → Member len tables → (room : Option Room) → room_of (count + more) ≡ room → In (Reserve more) (judges root len room)
+  judges_in : (more root len count : ℕ) → given ≡ Sum count ∷ [] → Member len tables → (room : Option Room) → room_of (count + more) ≡ room
+      → In (Reserve more) (judges root len room)
   judges_in more root len count given_is there None is = tt
   judges_in more root len count given_is there (Some room) is = cond_both (nat_le room.len len) Done (Looking root len (Some room)) (In (Reserve more))
-      (λ fits. record { count = count; counted = given_is; len = len; there = there; room = let least = enough (count + more) room is in let up = leb-true room.len len fits in omega (arith, least, up) })
+      (λ fits. record {
+        count = count;
+        counted = given_is;
+        len = len;
+        there = there;
+        room = let least = enough (count + more) room is in
+            let up = leb-true room.len len fits in omega (arith, least, up);
+      })
       (λ _. tt)
 
   count_in : (resize : Resize) (root len count : ℕ) → given ≡ Sum count ∷ [] → Member len tables → In resize (at_count resize root len count)
@@ -63,8 +81,10 @@ module _ (tables : List ℕ) (given : List CapacityCause) where
   last_in (Reserve more) mode root len None h = absurd h
   last_in resize mode root len (Some room) h = tt
 
-  next_in : (resize : Resize) (mode : ResizeMode) (root len : ℕ) (room : Option Room) (next : ℕ) → IsWantedBy resize room → In resize (at_next mode root len room next)
-  next_in resize mode root len room next h = cond_both (next == 0) (at_last mode root len room) (copies root) (In resize) (λ _. last_in resize mode root len room h) (λ _. tt)
+  next_in : (resize : Resize) (mode : ResizeMode) (root len : ℕ) (room : Option Room) (next : ℕ) → IsWantedBy resize room
+      → In resize (at_next mode root len room next)
+  next_in resize mode root len room next h = cond_both (next == 0) (at_last mode root len room) (copies root) (In resize)
+      (λ _. last_in resize mode root len room h) (λ _. tt)
 
   over_in : (resize : Resize) → In resize (over resize)
   over_in Chunk = tt
@@ -84,7 +104,8 @@ module _ (tables : List ℕ) (given : List CapacityCause) where
   copied_in resize from (copied_to.Refused refused) = tt
 
   -- after an answer, where nothing is linked or copied
-  told_in : (resize : Resize) (mode : ResizeMode) (stage : Stage) (answer : Call_answer) → ((slots limit : ℕ) → answer ≡ Size slots limit → Member slots tables) → In resize stage → In resize (told_root resize mode stage answer)
+  told_in : (resize : Resize) (mode : ResizeMode) (stage : Stage) (answer : Call_answer)
+      → ((slots limit : ℕ) → answer ≡ Size slots limit → Member slots tables) → In resize stage → In resize (told_root resize mode stage answer)
   told_in resize mode AtRoot (Word_read root) size h = root_in resize root
   told_in resize mode (Making room) (Made_number n) size h = tt
   told_in resize mode (Making room) (Was_refused refused) size h = tt
@@ -98,13 +119,16 @@ module _ (tables : List ℕ) (given : List CapacityCause) where
   counted_in resize (Counting root len) count given_is h = count_in resize root len count given_is h
   counted_in resize stage count given_is h = h
 
-  called_in : (resize : Resize) (mode : ResizeMode) (stage : Stage) (answer : Answer) → IsGivenBy answer given → ((slots limit : ℕ) → answer ≡ answers.Call (Size slots limit) → Member slots tables) → In resize stage → In resize (called resize mode stage answer)
+  called_in : (resize : Resize) (mode : ResizeMode) (stage : Stage) (answer : Answer) → IsGivenBy answer given
+      → ((slots limit : ℕ) → answer ≡ answers.Call (Size slots limit) → Member slots tables) → In resize stage → In resize (called resize mode stage answer)
   called_in resize mode stage (answers.Call answer) by size h = told_in resize mode stage answer (λ slots limit e. size slots limit (ap answers.Call e)) h
   called_in resize mode stage (answers.Count count) by size h = counted_in resize stage count by h
   called_in resize mode stage (answers.Hash hash) by size h = h
 
   -- after any answer to one that has not ended
-  room_in : (resize : Resize) (mode : ResizeMode) (initial number : ℕ) (answer : Answer) (stage : Stage) → IsGivenBy answer given → ((slots limit : ℕ) → answer ≡ answers.Call (Size slots limit) → Member slots tables) → In resize stage → In resize (after_in resize mode initial number answer stage)
+  room_in : (resize : Resize) (mode : ResizeMode) (initial number : ℕ) (answer : Answer) (stage : Stage) → IsGivenBy answer given
+      → ((slots limit : ℕ) → answer ≡ answers.Call (Size slots limit) → Member slots tables) → In resize stage
+      → In resize (after_in resize mode initial number answer stage)
   room_in resize mode initial number answer (Linking link) by size h = linked_in resize (follows link) (machine.link_after link mode initial answer)
   room_in resize mode initial number answer (Copying from goes) by size h = copied_in resize from (machine.copying_after goes mode initial number answer)
   room_in resize mode initial number answer AtRoot by size h = called_in resize mode AtRoot answer by size h
@@ -117,14 +141,19 @@ module _ (tables : List ℕ) (given : List CapacityCause) where
   room_in resize mode initial number answer (Ended_refused refused) by size h = called_in resize mode (Ended_refused refused) answer by size h
 
 -- what one that has not ended knows is so of more tables too, whatever was given since
-room_since : (resize : Resize) (tables tables' : List ℕ) (given given' : List CapacityCause) → ((len : ℕ) → Member len tables → Member len tables') → (stage : Stage) → (stage ≡ Done → ⊥) → IsRoomIn resize tables given stage → IsRoomIn resize tables' given' stage
+room_since : (resize : Resize) (tables tables' : List ℕ) (given given' : List CapacityCause) → ((len : ℕ) → Member len tables → Member len tables')
+    → (stage : Stage) → (stage ≡ Done → ⊥) → IsRoomIn resize tables given stage → IsRoomIn resize tables' given' stage
 room_since resize tables tables' given given' more (Counting root len) on h = more len h
 room_since resize tables tables' given given' more (Looking root len room) on h = h
 room_since resize tables tables' given given' more Done on h = absurd (on refl)
 room_since resize tables tables' given given' more other on h = tt
 
-pub room_after : (resize : Resize) (mode : ResizeMode) (initial number : ℕ) (answer : Answer) (tables tables' : List ℕ) (given given' : List CapacityCause) → ((len : ℕ) → Member len tables → Member len tables') → (stage : Stage) → (stage ≡ Done → ⊥) → IsGivenBy answer given' → ((slots limit : ℕ) → answer ≡ answers.Call (Size slots limit) → Member slots tables') → IsRoomIn resize tables given stage → IsRoomIn resize tables' given' (after_in resize mode initial number answer stage)
-room_after resize mode initial number answer tables tables' given given' more stage on by size h = room_in tables' given' resize mode initial number answer stage by size (room_since resize tables tables' given given' more stage on h)
+pub room_after : (resize : Resize) (mode : ResizeMode) (initial number : ℕ) (answer : Answer) (tables tables' : List ℕ)
+    (given given' : List CapacityCause) → ((len : ℕ) → Member len tables → Member len tables') → (stage : Stage) → (stage ≡ Done → ⊥)
+    → IsGivenBy answer given' → ((slots limit : ℕ) → answer ≡ answers.Call (Size slots limit) → Member slots tables')
+    → IsRoomIn resize tables given stage → IsRoomIn resize tables' given' (after_in resize mode initial number answer stage)
+room_after resize mode initial number answer tables tables' given given' more stage on by size h = room_in tables' given' resize mode initial number
+    answer stage by size (room_since resize tables tables' given given' more stage on h)
 
 -- one that begins has found nothing
 pub room_begins : (resize : Resize) (tables : List ℕ) (given : List CapacityCause) → IsRoomIn resize tables given (begun_in resize)

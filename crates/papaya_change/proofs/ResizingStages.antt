@@ -5,7 +5,10 @@ use Rattle.papaya_words.specs.Chunks.{chunk_count, chunk_len}
 use Rattle.papaya_words.specs.declared.probe.ResizeMode.{ResizeMode}
 use Rattle.papaya_words.specs.declared.probe.ResizeMode.TheVariants.{Blocking}
 use Rattle.papaya_ask.specs.declared.ask.Answer.{Answer as Call_answer}
-use Rattle.papaya_ask.specs.declared.ask.Answer.TheVariants.{Word as Word_read, Exchanged, Found as Found_instead, Size, Made as Made_number, Refused as Was_refused}
+use Rattle.papaya_ask.specs.declared.ask.Answer.TheVariants.{Word as Word_read, Exchanged}
+use Rattle.papaya_ask.specs.declared.ask.Answer.TheVariants.{Found as Found_instead, Size}
+use Rattle.papaya_ask.specs.declared.ask.Answer.TheVariants.{Made as Made_number}
+use Rattle.papaya_ask.specs.declared.ask.Answer.TheVariants.{Refused as Was_refused}
 use Rattle.papaya_ask.specs.declared.ask.At.TheVariants.{Next, Root}
 use Rattle.papaya_ask.specs.declared.ask.StepKind.TheVariants as kinds
 use Rattle.papaya_ask.specs.declared.call.Task.TheVariants.{Get}
@@ -30,9 +33,14 @@ use Rattle.papaya_chain.specs.declared.resizer.Resize.{Resize}
 use Rattle.papaya_chain.specs.declared.resizer.Resize.TheVariants.{Chunk, CopyAll, Reserve}
 use Rattle.papaya_chain.specs.declared.resizer.Room.{Room}
 use Rattle.papaya_chain.specs.declared.resizer.State.{State as Stage}
-use Rattle.papaya_chain.specs.declared.resizer.State.TheVariants.{AtRoot, Making, Opening, Sizing, Counting, Looking, Linking, Copying, Done, Refused as Ended_refused}
+use Rattle.papaya_chain.specs.declared.resizer.State.TheVariants.{AtRoot, Making, Opening, Sizing}
+use Rattle.papaya_chain.specs.declared.resizer.State.TheVariants.{Counting, Looking, Linking}
+use Rattle.papaya_chain.specs.declared.resizer.State.TheVariants.{Copying, Done}
+use Rattle.papaya_chain.specs.declared.resizer.State.TheVariants.{Refused as Ended_refused}
 use Rattle.papaya_chain.specs.Machine as machine
-use Rattle.papaya_chain.specs.Resizer.{IsStandingIn, after_in, asks_in, at_count, at_last, at_next, at_root, called, copied, copies, counted, judges, kind_in, linked, makes, over, told_root}
+use Rattle.papaya_chain.specs.Resizer.{IsStandingIn, after_in, asks_in, at_count, at_last, at_next}
+use Rattle.papaya_chain.specs.Resizer.{at_root, called, copied, copies, counted, judges, kind_in}
+use Rattle.papaya_chain.specs.Resizer.{linked, makes, over, told_root}
 use Rattle.papaya_chain.specs.Room.{room_of}
 use Rattle.papaya_call_law.specs.Copier.{link_in_copying}
 use Rattle.papaya_chain_law.proofs.CopyStanding.{copying_fits, link_fits}
@@ -42,7 +50,8 @@ use Rattle.papaya_chain_law.proofs.LinkStates as states
 use Rattle.papaya_chain_law.proofs.LinkStates.{Copied_holds, In, IsStable, Linked_in, Of}
 use Rattle.papaya_chain_law.specs.Resizers.{link_of}
 
-module _ (Opened : ℕ → Type 0) (Holds : Link → Type 0) (Told New : Link → ℕ → Type 0) (stable : IsStable Holds Told New) (making : (behind slots limit chunks : ℕ) → Holds (links.Making behind slots limit chunks)) where
+module _ (Opened : ℕ → Type 0) (Holds : Link → Type 0) (Told New : Link → ℕ → Type 0) (stable : IsStable Holds Told New)
+    (making : (behind slots limit chunks : ℕ) → Holds (links.Making behind slots limit chunks)) where
   -- of the table that is about to be opened, and of the making of a table
   abbrev pub At : Stage → Type 0
   At (Opening n) = Opened n
@@ -93,7 +102,8 @@ module _ (Opened : ℕ → Type 0) (Holds : Link → Type 0) (Told New : Link �
   copied_at resize from (copied_to.Refused refused) h = tt
 
   -- after an answer, where nothing is linked or copied
-  told_at : (resize : Resize) (mode : ResizeMode) (stage : Stage) (answer : Call_answer) → ((n : ℕ) → answer ≡ Made_number n → Opened n) → At stage → At (told_root resize mode stage answer)
+  told_at : (resize : Resize) (mode : ResizeMode) (stage : Stage) (answer : Call_answer) → ((n : ℕ) → answer ≡ Made_number n → Opened n) → At stage
+      → At (told_root resize mode stage answer)
   told_at resize mode AtRoot (Word_read root) opened h = root_at resize root
   told_at resize mode (Making room) (Made_number n) opened h = opened n refl
   told_at resize mode (Making room) (Was_refused refused) opened h = tt
@@ -107,16 +117,21 @@ module _ (Opened : ℕ → Type 0) (Holds : Link → Type 0) (Told New : Link �
   counted_at resize (Counting root len) count h = count_at resize root len count
   counted_at resize stage count h = h
 
-  called_at : (resize : Resize) (mode : ResizeMode) (stage : Stage) (answer : Answer) → ((n : ℕ) → answer ≡ answers.Call (Made_number n) → Opened n) → At stage → At (called resize mode stage answer)
+  called_at : (resize : Resize) (mode : ResizeMode) (stage : Stage) (answer : Answer) → ((n : ℕ) → answer ≡ answers.Call (Made_number n) → Opened n)
+      → At stage → At (called resize mode stage answer)
   called_at resize mode stage (answers.Call answer) opened h = told_at resize mode stage answer (λ n e. opened n (ap answers.Call e)) h
   called_at resize mode stage (answers.Count count) opened h = counted_at resize stage count h
   called_at resize mode stage (answers.Hash hash) opened h = h
 
   -- after any
-  pub stage_at : (resize : Resize) (mode : ResizeMode) (initial number : ℕ) (answer : Answer) (stage : Stage) → ((slots limit : ℕ) → answer ≡ answers.Call (Size slots limit) → Of Told (link_of stage) slots) → ((n : ℕ) → answer ≡ answers.Call (Made_number n) → Of New (link_of stage) n) → ((n : ℕ) → answer ≡ answers.Call (Made_number n) → Opened n)
+  pub stage_at : (resize : Resize) (mode : ResizeMode) (initial number : ℕ) (answer : Answer) (stage : Stage)
+      → ((slots limit : ℕ) → answer ≡ answers.Call (Size slots limit) → Of Told (link_of stage) slots)
+      → ((n : ℕ) → answer ≡ answers.Call (Made_number n) → Of New (link_of stage) n) → ((n : ℕ) → answer ≡ answers.Call (Made_number n) → Opened n)
       → At stage → At (after_in resize mode initial number answer stage)
-  stage_at resize mode initial number answer (Linking link) told new opened h = linked_at (follows link) (machine.link_after link mode initial answer) (states.link_after Holds Told New stable link mode initial answer told new h)
-  stage_at resize mode initial number answer (Copying from goes) told new opened h = copied_at resize from (machine.copying_after goes mode initial number answer) (states.copying_after Holds Told New stable goes mode initial number answer told new h)
+  stage_at resize mode initial number answer (Linking link) told new opened h = linked_at (follows link) (machine.link_after link mode initial answer)
+      (states.link_after Holds Told New stable link mode initial answer told new h)
+  stage_at resize mode initial number answer (Copying from goes) told new opened h = copied_at resize from
+      (machine.copying_after goes mode initial number answer) (states.copying_after Holds Told New stable goes mode initial number answer told new h)
   stage_at resize mode initial number answer AtRoot told new opened h = called_at resize mode AtRoot answer opened h
   stage_at resize mode initial number answer (Making room) told new opened h = called_at resize mode (Making room) answer opened h
   stage_at resize mode initial number answer (Opening n) told new opened h = called_at resize mode (Opening n) answer opened h
@@ -135,35 +150,43 @@ module _ (Opened : ℕ → Type 0) (Made : (n chunks : ℕ) → Type 0) where
   IsMadeAt (Copying from goes) = In (IsMadeLink Made) (link_in_copying goes)
   IsMadeAt _ = Unit {0}
 
-  pub made_after : (resize : Resize) (mode : ResizeMode) (initial number : ℕ) (answer : Answer) (stage : Stage) → ((n : ℕ) → answer ≡ answers.Call (Made_number n) → Opened n)
-      → ((n behind slots limit chunks : ℕ) → answer ≡ answers.Call (Made_number n) → link_of stage ≡ Some (links.Making behind slots limit chunks) → Made n chunks) → IsMadeAt stage → IsMadeAt (after_in resize mode initial number answer stage)
+  pub made_after : (resize : Resize) (mode : ResizeMode) (initial number : ℕ) (answer : Answer) (stage : Stage)
+      → ((n : ℕ) → answer ≡ answers.Call (Made_number n) → Opened n)
+      → ((n behind slots limit chunks : ℕ) → answer ≡ answers.Call (Made_number n) → link_of stage ≡ Some (links.Making behind slots limit chunks)
+      → Made n chunks) → IsMadeAt stage → IsMadeAt (after_in resize mode initial number answer stage)
   made_after resize mode initial number answer stage opened new h =
       at_is (after_in resize mode initial number answer stage)
-      (stage_at Opened (IsMadeLink Made) (made.Told Made) (made.New Made) (made.stable Made) (λ behind slots limit chunks. tt) resize mode initial number answer stage (λ slots limit is. told_in (link_of stage) slots) (λ n is. new_in (link_of stage) n (λ behind slots limit chunks e. new n behind slots limit chunks is e)) opened (is_at stage h))
+      (stage_at Opened (IsMadeLink Made) (made.Told Made) (made.New Made) (made.stable Made) (λ behind slots limit chunks. tt) resize mode initial
+      number answer stage (λ slots limit is. told_in (link_of stage) slots)
+      (λ n is. new_in (link_of stage) n (λ behind slots limit chunks e. new n behind slots limit chunks is e)) opened (is_at stage h))
     where
       told_in : (o : Option Link) (slots : ℕ) → Of (made.Told Made) o slots
       told_in None slots = tt
       told_in (Some link) slots = tt
 
-      new_in : (o : Option Link) (n : ℕ) → ((behind slots limit chunks : ℕ) → o ≡ Some (links.Making behind slots limit chunks) → Made n chunks) → Of (made.New Made) o n
+      new_in : (o : Option Link) (n : ℕ) → ((behind slots limit chunks : ℕ) → o ≡ Some (links.Making behind slots limit chunks) → Made n chunks)
+          → Of (made.New Made) o n
       new_in None n h = tt
       new_in (Some (links.Making behind slots limit chunks)) n h = h behind slots limit chunks refl
       new_in (Some other) n h = tt
 
-      is_at : (stage : Stage) → IsMadeAt stage → At Opened (IsMadeLink Made) (made.Told Made) (made.New Made) (made.stable Made) (λ behind slots limit chunks. tt) stage
+      is_at : (stage : Stage) → IsMadeAt stage
+          → At Opened (IsMadeLink Made) (made.Told Made) (made.New Made) (made.stable Made) (λ behind slots limit chunks. tt) stage
       is_at (Opening n) h = h
       is_at (Linking link) h = h
       is_at (Copying from goes) h = h
       is_at other h = tt
 
-      at_is : (stage : Stage) → At Opened (IsMadeLink Made) (made.Told Made) (made.New Made) (made.stable Made) (λ behind slots limit chunks. tt) stage → IsMadeAt stage
+      at_is : (stage : Stage) → At Opened (IsMadeLink Made) (made.Told Made) (made.New Made) (made.stable Made) (λ behind slots limit chunks. tt)
+          stage → IsMadeAt stage
       at_is (Opening n) h = h
       at_is (Linking link) h = h
       at_is (Copying from goes) h = h
       at_is other h = tt
 
   -- in other words
-  pub made_at : (stage : Stage) → ((n : ℕ) → stage ≡ Opening n → Opened n) → ((behind n chunks : ℕ) → link_of stage ≡ Some (links.Linking behind n chunks) → Made n chunks) → IsMadeAt stage
+  pub made_at : (stage : Stage) → ((n : ℕ) → stage ≡ Opening n → Opened n)
+      → ((behind n chunks : ℕ) → link_of stage ≡ Some (links.Linking behind n chunks) → Made n chunks) → IsMadeAt stage
   made_at (Opening n) opens links_it = opens n refl
   made_at (Linking link) opens links_it = made.made_is Made (Some link) links_it
   made_at (Copying from goes) opens links_it = made.made_is Made (link_in_copying goes) links_it
@@ -187,31 +210,38 @@ module _ (behind table chunks : ℕ) (resize : Resize) (mode : ResizeMode) (init
   over_none CopyAll = tt
   over_none (Reserve more) = tt
 
-  exchanged_none : (stage : Stage) → link_of stage ≡ Some (links.Linking behind table chunks) → IsNone (after_in resize mode initial number (answers.Call Exchanged) stage)
+  exchanged_none : (stage : Stage) → link_of stage ≡ Some (links.Linking behind table chunks)
+      → IsNone (after_in resize mode initial number (answers.Call Exchanged) stage)
   exchanged_none (Linking (links.Linking a t d)) e = tt
   exchanged_none (Copying from (Stepping aim (steps.Linking to (links.Linking a t d)))) e = tt
   exchanged_none (Copying from (Stepping aim (steps.Settling chunk (settles.Carrying marked (carries.Linking hash (links.Linking a t d)))))) e = tt
   exchanged_none (Copying from (Lone slot (settles.Carrying marked (carries.Linking hash (links.Linking a t d))))) e = tt
   exchanged_none other e = absurd cc
 
-  found_none : (word : ℕ) (stage : Stage) → link_of stage ≡ Some (links.Linking behind table chunks) → IsNone (after_in resize mode initial number (answers.Call (Found_instead word)) stage)
+  found_none : (word : ℕ) (stage : Stage) → link_of stage ≡ Some (links.Linking behind table chunks)
+      → IsNone (after_in resize mode initial number (answers.Call (Found_instead word)) stage)
   found_none word (Linking (links.Linking a t d)) e = tt
   found_none word (Copying from (Stepping aim (steps.Linking to (links.Linking a t d)))) e = tt
   found_none word (Copying from (Stepping aim (steps.Settling chunk (settles.Carrying marked (carries.Linking hash (links.Linking a t d)))))) e = tt
   found_none word (Copying from (Lone slot (settles.Carrying marked (carries.Linking hash (links.Linking a t d))))) e = tt
   found_none word other e = absurd cc
 
-  pub tried_none : (stage : Stage) → link_of stage ≡ Some (links.Linking behind table chunks) → (told : Call_answer) → (told ≡ Exchanged) ⊎ ((word : ℕ) × (told ≡ Found_instead word)) → IsNone (after_in resize mode initial number (answers.Call told) stage)
-  tried_none stage e told (inl is) = subst (λ (a : Call_answer). IsNone (after_in resize mode initial number (answers.Call a) stage)) (sym is) (exchanged_none stage e)
-  tried_none stage e told (inr (word, is)) = subst (λ (a : Call_answer). IsNone (after_in resize mode initial number (answers.Call a) stage)) (sym is) (found_none word stage e)
+  pub tried_none : (stage : Stage) → link_of stage ≡ Some (links.Linking behind table chunks) → (told : Call_answer) → (told ≡ Exchanged)
+      ⊎ ((word : ℕ) × (told ≡ Found_instead word)) → IsNone (after_in resize mode initial number (answers.Call told) stage)
+  tried_none stage e told (inl is) = subst (λ (a : Call_answer). IsNone (after_in resize mode initial number (answers.Call a) stage)) (sym is)
+      (exchanged_none stage e)
+  tried_none stage e told (inr (word, is)) = subst (λ (a : Call_answer). IsNone (after_in resize mode initial number (answers.Call a) stage)) (sym is)
+      (found_none word stage e)
 
 -- Where it asks to link a table, it is about to; and the other way round.
-pub stage_links : (stage : Stage) (behind old new : ℕ) → asks_in stage ≡ Some (Exchange (Next behind) old new) → (chunks : ℕ) × (link_of stage ≡ Some (links.Linking behind new chunks))
+pub stage_links : (stage : Stage) (behind old new : ℕ) → asks_in stage ≡ Some (Exchange (Next behind) old new) → (chunks : ℕ)
+    × (link_of stage ≡ Some (links.Linking behind new chunks))
 stage_links (Linking link) behind old new e = link_asks link behind old new cc
 stage_links (Copying from goes) behind old new e = copying_asks goes behind old new cc
 stage_links other behind old new e = absurd cc
 
-pub stage_linking : (stage : Stage) (behind table chunks : ℕ) → link_of stage ≡ Some (links.Linking behind table chunks) → (asks_in stage ≡ Some (Exchange (Next behind) 0 table)) × (kind_in stage ≡ Some kinds.Link)
+pub stage_linking : (stage : Stage) (behind table chunks : ℕ) → link_of stage ≡ Some (links.Linking behind table chunks)
+    → (asks_in stage ≡ Some (Exchange (Next behind) 0 table)) × (kind_in stage ≡ Some kinds.Link)
 stage_linking (Linking link) behind table chunks e = let is : link ≡ links.Linking behind table chunks = cc e in rw is (refl, refl)
 stage_linking (Copying from goes) behind table chunks e =
     let both = machine_linking (record (machine.started Get 0 Blocking 0 0 None) { phase = phases.Copying goes }) behind table chunks e in

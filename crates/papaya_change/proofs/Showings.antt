@@ -15,9 +15,16 @@ use Rattle.papaya_book.proofs.Logs.{prefix_trans}
 use Rattle.papaya_lookup.proofs.Moments.{IsHistory, matched_history, own_history}
 use Rattle.papaya_lookup.proofs.Readings.{IsQuery, coding, setting}
 
-module _ {K V : Type 0} (eq : K → K → Bool) (matches : K → Bool) (older old new newer : List (Change K (Stored K V))) (before : IsPrefix older old) (behind : IsPrefix new newer) where
+module _ {K V : Type 0} (eq : K → K → Bool) (matches : K → Bool) (older old new newer : List (Change K (Stored K V))) (before : IsPrefix older old)
+    (behind : IsPrefix new newer) where
   pub held_wider : (held : _) → WasHeld eq matches old new held → WasHeld eq matches older newer held
-  held_wider held h = record { seen = h.seen; since = prefix_trans older old h.seen before h.since; until = prefix_trans h.seen new newer h.until behind; is = h.is }
+  held_wider held h = record {
+    seen = h.seen;
+    since = prefix_trans older old h.seen before h.since;
+    until = prefix_trans h.seen new newer h.until
+        behind;
+    is = h.is;
+  }
 
 -- what holds of each that was shown, where one follows from the other
 pub all_shown : {X A : Type 0} (P Q : X → Type 0) → ((x : X) → P x → Q x) → (said : List (X × A)) → AllShown P said → AllShown Q said
@@ -29,23 +36,29 @@ module _ {K V S : Type 0} (eq : K → K → Bool) (matches : K → Bool) (begun 
   held_as None h = record { seen = h.seen; since = h.since; until = h.until; is = h.had }
   held_as (Some p) h = let own = h.found p refl in record { seen = h.seen; since = h.since; until = h.until; is = (own, h.had (key_of p) own) }
 
-module _ {K V S H : Type 0} (eq : K → K → Bool) (input : K → List (List ℕ)) (build : S → H) (write : H → List ℕ → H) (finish : H → ℕ) (classes : IsEquivalence eq) (respects : (x y : K) → eq x y ≡ true → input x ≡ input y)
-    (b : Begun K V S) (matches : K → Bool) (query : List (List ℕ)) (lawful : IsQuery eq input matches query) (begun log : List (Event K V S)) (l : IsLawfulLog eq (hash_of input build write finish) b log)
+module _ {K V S H : Type 0} (eq : K → K → Bool) (input : K → List (List ℕ)) (build : S → H) (write : H → List ℕ → H) (finish : H → ℕ)
+    (classes : IsEquivalence eq) (respects : (x y : K) → eq x y ≡ true → input x ≡ input y)
+    (b : Begun K V S) (matches : K → Bool) (query : List (List ℕ)) (lawful : IsQuery eq input matches query) (begun log : List (Event K V S))
+    (l : IsLawfulLog eq (hash_of input build write finish) b log)
     (since : List (Exchange (Stored K V))) (is : exchanges_of begun ++ since ≡ exchanges_of log) where
   abbrev Was : Option K → Option (Stored K V) → Type 0
-  Was k value = WasAtMoment (setting eq input build write finish classes respects b matches query lawful log) (coding eq input build write finish classes respects b matches query lawful) (exchanges_of begun) since k value
+  Was k value = WasAtMoment (setting eq input build write finish classes respects b matches query lawful log)
+      (coding eq input build write finish classes respects b matches query lawful) (exchanges_of begun) since k value
 
   -- what the map had at a moment of a call was held between the histories at its begin and now
   pub held_then : (value : Option (Stored K V)) → Was None value → WasHeld eq matches (history_of begun) (history_of log) value
-  held_then value was = held_as eq matches begun log value (matched_history eq input build write finish classes respects b matches query lawful begun begun ([], append-nil begun) log l since is value was)
+  held_then value was = held_as eq matches begun log value
+      (matched_history eq input build write finish classes respects b matches query lawful begun begun ([], append-nil begun) log l since is value was)
 
   -- the same of a call that has a key of its own
   pub own_held_then : (key : K) (value : Option (Stored K V)) → Was (Some key) value → WasHeld eq (eq key) (history_of begun) (history_of log) value
-  own_held_then key value was = held_as eq (eq key) begun log value (own_history eq input build write finish classes respects b matches query lawful begun begun ([], append-nil begun) log l since is key value was)
+  own_held_then key value was = held_as eq (eq key) begun log value
+      (own_history eq input build write finish classes respects b matches query lawful begun begun ([], append-nil begun) log l since is key value was)
 
 -- What holds of each showing and what the closure may answer to it holds of those that were, where the closure is
 -- what it has to be at first and stays so.
-module _ {F X A : Type 0} (says : F → X → A → F → Type 0) (Is : F → Type 0) (P : X → A → Type 0) (each : (f : F) (x : X) (a : A) (g : F) → Is f → says f x a g → P x a × Is g) where
+module _ {F X A : Type 0} (says : F → X → A → F → Type 0) (Is : F → Type 0) (P : X → A → Type 0)
+    (each : (f : F) (x : X) (a : A) (g : F) → Is f → says f x a g → P x a × Is g) where
   stays_so : (f : F) → Is f → (said : List (X × A)) (g : F) → HasSaid says f said g → Is g
   stays_so f is [] g h = subst Is (sym h) is
   stays_so f is (last ∷ before) g h = (each h.0 last.0 last.1 g (stays_so f is before h.0 h.1) h.2).1
@@ -56,7 +69,8 @@ module _ {F X A : Type 0} (says : F → X → A → F → Type 0) (Is : F → Ty
   said_so f is (last ∷ before) g h x a (inr m) = said_so f is before h.0 h.1 x a m
 
 -- what holds of each answer that the closure may give holds of those that it gave
-pub said_only : {F X A : Type 0} (says : F → X → A → F → Type 0) (P : A → Type 0) → ((f : F) (x : X) (a : A) (g : F) → says f x a g → P a) → (f : F) (said : List (X × A)) (g : F) → HasSaid says f said g → (x : X) (a : A) → Member (x, a) said → P a
+pub said_only : {F X A : Type 0} (says : F → X → A → F → Type 0) (P : A → Type 0) → ((f : F) (x : X) (a : A) (g : F) → says f x a g → P a)
+    → (f : F) (said : List (X × A)) (g : F) → HasSaid says f said g → (x : X) (a : A) → Member (x, a) said → P a
 said_only says P each f said g h x a m = said_so says (λ z. Unit {0}) (λ y b. P b) (λ f' y b g' is s. (each f' y b g' s, tt)) f tt said g h x a m
 
 -- each of these was shown

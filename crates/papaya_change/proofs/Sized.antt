@@ -49,7 +49,8 @@ module _ (tables : List ℕ) where
 
   -- the making of a table
   link_size : (made : Link) (slots : ℕ) → Member slots tables → IsOfSize made → IsOfSize (link.at_size made slots)
-  link_size (links.Sizing behind copied unfit) slots told h = cond_both (copied == behind) (links.Counting behind unfit slots slots) (links.Measuring behind copied unfit slots) IsOfSize (λ _. told) (λ _. told)
+  link_size (links.Sizing behind copied unfit) slots told h = cond_both (copied == behind) (links.Counting behind unfit slots slots)
+      (links.Measuring behind copied unfit slots) IsOfSize (λ _. told) (λ _. told)
   link_size (links.Measuring behind copied unfit len) slots told h = h
   link_size other slots told h = h
 
@@ -58,10 +59,12 @@ module _ (tables : List ℕ) where
   link_made other n new h = h
 
   counted : (behind before : ℕ) (unfit : Bool) (chunks asked : ℕ) → Linked_in IsOfSize (link.counted behind before unfit chunks asked)
-  counted behind before unfit chunks asked = cond_both (nat_le asked (2 ^ 32)) (linked.On (link.making behind before unfit chunks asked)) (linked.Refused Capacity) (Linked_in IsOfSize) (λ _. tt) (λ _. tt)
+  counted behind before unfit chunks asked = cond_both (nat_le asked (2 ^ 32)) (linked.On (link.making behind before unfit chunks asked))
+      (linked.Refused Capacity) (Linked_in IsOfSize) (λ _. tt) (λ _. tt)
 
   link_count : (made : Link) (mode : ResizeMode) (count initial : ℕ) → IsOfSize made → Linked_in IsOfSize (link.at_count made mode count initial)
-  link_count (links.Counting behind unfit slots copied) mode count initial h = counted behind slots unfit (chunk_count copied (chunk_len mode)) (length_after slots count initial unfit)
+  link_count (links.Counting behind unfit slots copied) mode count initial h = counted behind slots unfit (chunk_count copied (chunk_len mode))
+      (length_after slots count initial unfit)
   link_count other mode count initial h = h
 
   link_refused : (made : Link) (refused : Refused) → IsOfSize made → Linked_in IsOfSize (link.at_refused made refused)
@@ -97,10 +100,12 @@ module _ (tables : List ℕ) where
   in_sized (Some made) h = h
 
   -- where the size that was told is that of one of these, the call counts by one of these after the answer
-  pub counting_after : (m : Machine) (answer : Answer) → ((slots limit : ℕ) → answer ≡ answers.Call (Size slots limit) → Member slots tables) → IsCountingOf tables m → IsCountingOf tables (after m answer)
+  pub counting_after : (m : Machine) (answer : Answer) → ((slots limit : ℕ) → answer ≡ answers.Call (Size slots limit) → Member slots tables)
+      → IsCountingOf tables m → IsCountingOf tables (after m answer)
   counting_after m answer told counts =
       in_sized (link_in (after m answer).phase)
-      (machine_holds IsOfSize Told New stable m answer (λ slots limit is. told_in (link_in m.phase) slots (told slots limit is)) (λ n aside is. new_in (link_in m.phase) n) (sized_in (link_in m.phase) counts))
+      (machine_holds IsOfSize Told New stable m answer (λ slots limit is. told_in (link_in m.phase) slots (told slots limit is))
+      (λ n aside is. new_in (link_in m.phase) n) (sized_in (link_in m.phase) counts))
     where
       told_in : (o : Option Link) (slots : ℕ) → Member slots tables → Of Told o slots
       told_in None slots told = tt

@@ -20,7 +20,8 @@ use Rattle.papaya_change.specs.Writing.{IsUnsaid, TellsTaken}
 module _ {K V S : Type 0} (eq : K → K → Bool) (hash : S → K → ℕ) (b : Begun K V S) (log : List (Event K V S)) (l : IsLawfulLog eq hash b log) where
   -- so many numbers were taken as the limit says
   at_most : (most : ℕ) → b.limit ≡ Some most → most ≤ (state_of log).made → (state_of log).made ≡ most
-  at_most most limit over = let below : (state_of log).made ≤ most = numbers_below (setting_of eq (hash b.hasher) b.mode b.limit log) most limit (exchanges_of log) start l.allowed (omega arith) in omega (arith, below, over)
+  at_most most limit over = let below : (state_of log).made ≤ most = numbers_below (setting_of eq (hash b.hasher) b.mode b.limit log) most limit
+      (exchanges_of log) start l.allowed (omega arith) in omega (arith, below, over)
 
   -- where the answer tells how many were taken
   pub limit_spent : (m : Machine) (answer : Answer) → m.made.limit ≡ b.limit → TellsTaken log (calls.ask_of m) answer → IsAtLimit m answer → IsSpent b.limit log
@@ -30,5 +31,7 @@ module _ {K V S : Type 0} (eq : K → K → Bool) (hash : S → K → ℕ) (b : 
       subst (λ (o : Option ℕ). MatchOption o ⊥ (λ n. (state_of log).made ≡ n)) (sym has) (at_most most has (omega (arith, made_is, over)))
 
 -- what was to be made is not refused for that
-pub unsaid_limit : (Holds : Type 0) (given : List CapacityCause) (answer : Answer) → IsUnsaid given answer → (cause : Cause) → answer ≡ Was_refused cause → cause ≡ Limit → Holds
-unsaid_limit Holds given answer unsaid cause e limit = absurd (⊎_elim (λ memory. let f = sym memory ∙ limit in cc f) (λ full. let f = sym full.0 ∙ limit in cc f) (unsaid cause e))
+pub unsaid_limit : (Holds : Type 0) (given : List CapacityCause) (answer : Answer) → IsUnsaid given answer → (cause : Cause)
+    → answer ≡ Was_refused cause → cause ≡ Limit → Holds
+unsaid_limit Holds given answer unsaid cause e limit = absurd
+    (⊎_elim (λ memory. let f = sym memory ∙ limit in cc f) (λ full. let f = sym full.0 ∙ limit in cc f) (unsaid cause e))

@@ -4,7 +4,10 @@ use Rattle.std.proofs.lemmas.Bool.{cond_both, cond-false}
 use Rattle.papaya_words.specs.declared.probe.ResizeMode.{ResizeMode}
 use Rattle.papaya_words.specs.declared.probe.ResizeMode.TheVariants.{Incremental, Blocking}
 use Rattle.papaya_ask.specs.declared.ask.Answer.{Answer}
-use Rattle.papaya_ask.specs.declared.ask.Answer.TheVariants.{Word as Word_read, Exchanged, Found as Found_instead, Yes, Op, Size, Made as Made_number, Ok as Ok_done, Refused as Was_refused}
+use Rattle.papaya_ask.specs.declared.ask.Answer.TheVariants.{Word as Word_read, Exchanged}
+use Rattle.papaya_ask.specs.declared.ask.Answer.TheVariants.{Found as Found_instead, Yes, Op, Size}
+use Rattle.papaya_ask.specs.declared.ask.Answer.TheVariants.{Made as Made_number, Ok as Ok_done}
+use Rattle.papaya_ask.specs.declared.ask.Answer.TheVariants.{Refused as Was_refused}
 use Rattle.papaya_ask.specs.declared.ask.Ask.{Ask}
 use Rattle.papaya_ask.specs.declared.ask.Ask.TheVariants.{Load, Exchange, SizeOf, MakeTable}
 use Rattle.papaya_ask.specs.declared.ask.At.{At}
@@ -17,7 +20,11 @@ use Rattle.papaya_ask.specs.declared.call.Task.TheVariants.{Get, Insert, RemoveI
 use Rattle.papaya_ask.specs.declared.search.Search.TheVariants.{Sizing}
 use Rattle.papaya_call.specs.declared.machine.Machine.{Machine as Call_machine}
 use Rattle.papaya_call.specs.declared.machine.State.{State}
-use Rattle.papaya_call.specs.declared.machine.State.TheVariants.{AtRoot, Making, Opening, Searching, Writing, Offering, Showing, Pairing, Putting, Deleting, Counting, Noting, Uncounting, Leaving, Growing, Ended}
+use Rattle.papaya_call.specs.declared.machine.State.TheVariants.{AtRoot, Making, Opening, Searching}
+use Rattle.papaya_call.specs.declared.machine.State.TheVariants.{Writing, Offering, Showing}
+use Rattle.papaya_call.specs.declared.machine.State.TheVariants.{Pairing, Putting, Deleting}
+use Rattle.papaya_call.specs.declared.machine.State.TheVariants.{Counting, Noting, Uncounting}
+use Rattle.papaya_call.specs.declared.machine.State.TheVariants.{Leaving, Growing, Ended}
 use Rattle.papaya_call.specs.declared.need.Need.{Need}
 use Rattle.papaya_call.specs.declared.made.Made.{Made}
 use Rattle.papaya_call.specs.declared.made.Number.{Number}
@@ -40,7 +47,9 @@ use Rattle.papaya_chain.specs.declared.ask.Answer.TheVariants as answers
 use Rattle.papaya_chain.specs.declared.machine.Machine.{Machine}
 use Rattle.papaya_chain.specs.declared.machine.Phase.{Phase}
 use Rattle.papaya_chain.specs.declared.machine.Phase.TheVariants.{Calling, Linking, Copying as Copying_root}
-use Rattle.papaya_chain.specs.Machine.{after, after_in, aim_for, ask_of, asks_in, called, follows_of, goes_on, grows_as, kind_in, kind_of_ask, leaves, onward, stepped, told_next}
+use Rattle.papaya_chain.specs.Machine.{after, after_in, aim_for, ask_of, asks_in, called}
+use Rattle.papaya_chain.specs.Machine.{follows_of, goes_on, grows_as, kind_in, kind_of_ask, leaves}
+use Rattle.papaya_chain.specs.Machine.{onward, stepped, told_next}
 use Rattle.papaya_chain.proofs.Settings.{settings_stable}
 use Rattle.papaya_law.specs.Code.{Coding, IsHashed}
 use Rattle.papaya_law.specs.Exchange.{Exchange as Law_exchange, Setting, State as Words}
@@ -110,7 +119,9 @@ pub own_kind_is : (m : Machine) → m.phase ≡ Calling → IsCallKind (kind_of_
 own_kind_is m e = subst IsCallKind (sym (own_kind m e)) (kind_asked_is m.call.made m.call.state)
 
 -- where such an exchange was asked for, it was the call's and no copy's
-pub asked_by_call : {K V : Type 0} (kind : Option StepKind) → IsCallKind kind → (at : At) (new : ℕ) (s : Words (Stored K V)) (made : Option (Stored K V)) (e : Law_exchange (Stored K V)) → IsWished kind at new s made e → IsCallAsked kind at new s (loaded_of made) e
+pub asked_by_call : {K V : Type 0} (kind : Option StepKind) → IsCallKind kind
+    → (at : At) (new : ℕ) (s : Words (Stored K V)) (made : Option (Stored K V)) (e : Law_exchange (Stored K V)) → IsWished kind at new s made e
+    → IsCallAsked kind at new s (loaded_of made) e
 asked_by_call kind own at new s made e (inl asks) = asks
 asked_by_call None own at new s made e (inr copies) = absurd copies
 asked_by_call (Some kinds.Open) own at new s made e (inr copies) = absurd copies
@@ -144,7 +155,8 @@ IsAside m m' = (t : ℕ) × (left_by m.call.state ≡ Some t) × (m'.call ≡ m.
 
 -- it looks on in the next table, whose number it was told
 abbrev HasEntered : Machine → Answer → Machine → Type 0
-HasEntered m answer m' = (t : ℕ) × (next : ℕ) × (left_by m.call.state ≡ Some t) × (answer ≡ Word_read next) × ((next == 0) ≡ false) × (m'.call ≡ record m.call { state = Searching (Sizing next) }) × (m'.phase ≡ Calling)
+HasEntered m answer m' = (t : ℕ) × (next : ℕ) × (left_by m.call.state ≡ Some t) × (answer ≡ Word_read next) × ((next == 0) ≡ false)
+    × (m'.call ≡ record m.call { state = Searching (Sizing next) }) × (m'.phase ≡ Calling)
 
 abbrev Leaves : Machine → Answer → Machine → Type 0
 Leaves m answer m' = IsAside m m' ⊎ HasEntered m answer m'
@@ -166,7 +178,8 @@ module _ (m : Machine) (calling : m.phase ≡ Calling) where
 
     -- there is no next table, or there is one
     either : Went m (Word_read word) (cond (word == 0) (stepped m (Word_read word)) (onward m word))
-    either = cond_both (word == 0) (stepped m (Word_read word)) (onward m word) (Went m (Word_read word)) (λ _. steps (Word_read word)) (λ some. inr (aside m.helped (aim_for m.call.state word) some))
+    either = cond_both (word == 0) (stepped m (Word_read word)) (onward m word) (Went m (Word_read word)) (λ _. steps (Word_read word))
+        (λ some. inr (aside m.helped (aim_for m.call.state word) some))
 
     leaves_went : (task : Task) → Went m (Word_read word) (leaves m task word)
     leaves_went Get = steps (Word_read word)
@@ -176,7 +189,8 @@ module _ (m : Machine) (calling : m.phase ≡ Calling) where
 
     grows_went : (mode : ResizeMode) (need : Need) → Leaves m (Word_read word) (grows_as m mode need word)
     grows_went Blocking need = inl (t, left, refl, tt)
-    grows_went (Incremental chunk) need = cond_both (word == 0) (record m { phase = Linking (links.Sizing (needed need) (needed need) false) }) (onward m word) (Leaves m (Word_read word)) (λ _. inl (t, left, refl, tt)) (λ some. aside m.helped (aim_for m.call.state word) some)
+    grows_went (Incremental chunk) need = cond_both (word == 0) (record m { phase = Linking (links.Sizing (needed need) (needed need) false) })
+        (onward m word) (Leaves m (Word_read word)) (λ _. inl (t, left, refl, tt)) (λ some. aside m.helped (aim_for m.call.state word) some)
 
   next_went : (word : ℕ) (s : State) → m.call.state ≡ s → Went m (Word_read word) (told_next m s word)
   next_went word (Leaving t) e = leaves_went word t (ap left_by e) m.call.task
@@ -199,9 +213,11 @@ module _ (m : Machine) (calling : m.phase ≡ Calling) where
   own_went answer = subst (Went m answer) (sym (ap (after_in m (answers.Call answer)) calling)) (called_went answer)
 
 -- one that needs a next table is set aside, or looks on there
-pub grown_leaves : (m : Machine) → m.phase ≡ Calling → (need : Need) → m.call.state ≡ Growing need → (word : ℕ) → Leaves m (Word_read word) (after m (answers.Call (Word_read word)))
+pub grown_leaves : (m : Machine) → m.phase ≡ Calling → (need : Need) → m.call.state ≡ Growing need → (word : ℕ)
+    → Leaves m (Word_read word) (after m (answers.Call (Word_read word)))
 grown_leaves m calling need grows word =
-    subst (Leaves m (Word_read word)) (sym (ap (after_in m (answers.Call (Word_read word))) calling ∙ ap (λ (s : State). told_next m s word) grows)) (grows_went m calling word (needed need) (ap left_by grows) m.call.mode need)
+    subst (Leaves m (Word_read word)) (sym (ap (after_in m (answers.Call (Word_read word))) calling ∙ ap (λ (s : State). told_next m s word) grows))
+    (grows_went m calling word (needed need) (ap left_by grows) m.call.mode need)
 
 -- a call that was just set aside asks nothing itself
 pub aside_asks_none : (call : Call_machine) (phase : Phase) → IsSetAside phase → (ask : Ask) → asks_in call phase ≡ asked.Call ask → ⊥
@@ -257,15 +273,18 @@ module _ (m : Machine) (calling : m.phase ≡ Calling) (answer : Answer) where
     | inr (inl h) ↦ absurd (aside_calls m'.phase h.3 still)
     | inr (inr h) ↦
         let told : told_table (calls.ask_of m.call) answer n ≡ h.1 =
-        ap (λ (a : Ask). told_table a answer n) (aside_asks m.call.made m.call.hash m.call.state h.0 h.2) ∙ (ap (λ (a : Answer). told_table (Load (Next h.0)) a n) h.3 ∙ cond-false (h.1 == 0) n h.1 h.4) in
+        ap (λ (a : Ask). told_table a answer n) (aside_asks m.call.made m.call.hash m.call.state h.0 h.2)
+        ∙ (ap (λ (a : Answer). told_table (Load (Next h.0)) a n) h.3 ∙ cond-false (h.1 == 0) n h.1 h.4) in
         subst (λ (z : Call_machine). IsAtTable (told_table (calls.ask_of m.call) answer n) z.state) (sym h.5) (sym told)
   ]
 
   -- after the answer it brings a table that it was told of, or that it brought before
-  pub own_brings : (n : ℕ) → IsBringing (ask_of m') n → ((answer ≡ Made_number n) × ((slots : ℕ) × (limit : ℕ) × (calls.ask_of m.call ≡ MakeTable slots limit 0))) ⊎ (calls.ask_of m.call ≡ Exchange Root 0 n)
+  pub own_brings : (n : ℕ) → IsBringing (ask_of m') n
+      → ((answer ≡ Made_number n) × ((slots : ℕ) × (limit : ℕ) × (calls.ask_of m.call ≡ MakeTable slots limit 0))) ⊎ (calls.ask_of m.call ≡ Exchange Root 0 n)
   own_brings n brings = elim (own_went m calling answer) [
     | inl h ↦
-        let asks : ask_of m' ≡ asked.Call (calls.ask_of (calls.after m.call answer)) = calling_asks m' h.1 ∙ ap (λ (z : Call_machine). asked.Call (calls.ask_of z)) h.0 in
+        let asks : ask_of m' ≡ asked.Call (calls.ask_of (calls.after m.call answer)) = calling_asks m' h.1
+        ∙ ap (λ (z : Call_machine). asked.Call (calls.ask_of z)) h.0 in
         machine_opened m.call n answer (brought_root (calls.ask_of (calls.after m.call answer)) n (subst (λ (a : Chain_ask). IsBringing a n) asks brings))
     | inr (inl h) ↦ absurd (aside_brings m'.call m'.phase h.3 n brings)
     | inr (inr h) ↦
@@ -298,21 +317,27 @@ module _ (m : Machine) (calling : m.phase ≡ Calling) (answer : Answer) where
       (own_brings n brings)
 
   -- what the call was told, the machine is told
-  pub own_told : {K P : Type 0} (g : Setting K P) (c : Coding K P) (k : K) (s : Words P) (loaded : LoadedPairs P) (es : List (Law_exchange P)) (call : told_calls.LoadedPairs P) (ask : Ask) → calls.ask_of m.call ≡ ask → told_calls.IsTold g c k s (kind_of_ask m) loaded.call ask answer es call
+  pub own_told : {K P : Type 0} (g : Setting K P) (c : Coding K P) (k : K) (s : Words P) (loaded : LoadedPairs P) (es : List (Law_exchange P))
+      (call : told_calls.LoadedPairs P) (ask : Ask) → calls.ask_of m.call ≡ ask → told_calls.IsTold g c k s (kind_of_ask m) loaded.call ask answer es call
       → IsTold g c k s (kind_of_ask m) (follows_of m) loaded (ask_of m) (answers.Call answer) es (record loaded { call = call })
   own_told g c k s loaded es call ask asks tells =
-      subst (λ (a : Chain_ask). IsTold g c k s (kind_of_ask m) (follows_of m) loaded a (answers.Call answer) es (record loaded { call = call })) (sym (calling_asks m calling ∙ ap (λ a. asked.Call a) asks))
+      subst (λ (a : Chain_ask). IsTold g c k s (kind_of_ask m) (follows_of m) loaded a (answers.Call answer) es (record loaded { call = call }))
+      (sym (calling_asks m calling ∙ ap (λ a. asked.Call a) asks))
       (record { told = answer; is = refl; call = call; tells = tells; handed = refl })
 
   pub own_order : IsInOrder m (answers.Call answer) m.phase
   own_order = subst (IsInOrder m (answers.Call answer)) (sym calling) (answer, refl)
 
   -- what it has changed then
-  pub own_changes : {K P : Type 0} (g : Setting K P) (c : Coding K P) → IsHashed g c → (k : K) → m.call.hash ≡ c.hash k → (s : Words P) (loaded : LoadedPairs P) (es : List (Law_exchange P)) (call : told_calls.LoadedPairs P) (ask : Ask) → calls.ask_of m.call ≡ ask
-      → told_calls.IsTold g c k s (kind_of_ask m) loaded.call ask answer es call → change_in m'.call.state ≡ change_after (kind_of_ask m) ask answer (change_in m.call.state)
+  pub own_changes : {K P : Type 0} (g : Setting K P) (c : Coding K P) → IsHashed g c → (k : K) → m.call.hash ≡ c.hash k
+      → (s : Words P) (loaded : LoadedPairs P) (es : List (Law_exchange P)) (call : told_calls.LoadedPairs P) (ask : Ask) → calls.ask_of m.call ≡ ask
+      → told_calls.IsTold g c k s (kind_of_ask m) loaded.call ask answer es call
+      → change_in m'.call.state ≡ change_after (kind_of_ask m) ask answer (change_in m.call.state)
   own_changes g c hashed k hash s loaded es call ask asks tells =
-      chain_changes g c k s m loaded (answers.Call answer) es (record loaded { call = call }) own_order (own_told g c k s loaded es call ask asks tells) hashed hash
-      ∙ ap (λ (a : Chain_ask). Rattle.papaya_chain_law.specs.Goes.change_by (kind_of_ask m) a (answers.Call answer) (change_in m.call.state)) (calling_asks m calling ∙ ap (λ a. asked.Call a) asks)
+      chain_changes g c k s m loaded (answers.Call answer) es (record loaded { call = call }) own_order
+      (own_told g c k s loaded es call ask asks tells) hashed hash
+      ∙ ap (λ (a : Chain_ask). Rattle.papaya_chain_law.specs.Goes.change_by (kind_of_ask m) a (answers.Call answer) (change_in m.call.state))
+      (calling_asks m calling ∙ ap (λ a. asked.Call a) asks)
 
   -- the map's first capacity stays
   pub own_settings : (m'.call.initial ≡ m.call.initial) × (m'.call.made ≡ (calls.after m.call answer).made ⊎ (m'.call.made ≡ m.call.made))
@@ -323,14 +348,17 @@ module _ (m : Machine) (calling : m.phase ≡ Calling) (answer : Answer) where
   ]
 
 -- after it has tried to open its table it brings none
-pub opened_once : (m : Machine) (t : ℕ) → ask_of m ≡ asked.Call (Exchange Root 0 t) → (answer : Answer) → (answer ≡ Exchanged) ⊎ ((word : ℕ) × (answer ≡ Found_instead word)) → (n : ℕ) → IsBringing (ask_of (after m (answers.Call answer))) n → ⊥
+pub opened_once : (m : Machine) (t : ℕ) → ask_of m ≡ asked.Call (Exchange Root 0 t) → (answer : Answer) → (answer ≡ Exchanged)
+    ⊎ ((word : ℕ) × (answer ≡ Found_instead word)) → (n : ℕ) → IsBringing (ask_of (after m (answers.Call answer))) n → ⊥
 opened_once m t asks answer tried n brings =
     let own = call_asks m (Exchange Root 0 t) asks in
     elim (own_went m own.0 answer) [
       | inl h ↦
           let m' : Machine = after m (answers.Call answer) in
-          let then : ask_of m' ≡ asked.Call (calls.ask_of (calls.after m.call answer)) = calling_asks m' h.1 ∙ ap (λ (z : Call_machine). asked.Call (calls.ask_of z)) h.0 in
-          opens_once m.call answer t n own.1 tried (brought_root (calls.ask_of (calls.after m.call answer)) n (subst (λ (a : Chain_ask). IsBringing a n) then brings))
+          let then : ask_of m' ≡ asked.Call (calls.ask_of (calls.after m.call answer)) = calling_asks m' h.1
+          ∙ ap (λ (z : Call_machine). asked.Call (calls.ask_of z)) h.0 in
+          opens_once m.call answer t n own.1 tried
+          (brought_root (calls.ask_of (calls.after m.call answer)) n (subst (λ (a : Chain_ask). IsBringing a n) then brings))
       | inr (inl h) ↦ aside_brings (after m (answers.Call answer)).call (after m (answers.Call answer)).phase h.3 n brings
       | inr (inr h) ↦ ⊎_elim (λ e. let f = sym h.3 ∙ e in cc f) (λ e. let f = sym h.3 ∙ e.1 in cc f) tried
     ]

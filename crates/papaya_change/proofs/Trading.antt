@@ -17,7 +17,8 @@ module _ {K V : Type 0} where
   met_some met None same = let e = same in absurd (cc e)
   met_some met (Some p) same = let e = same.1 in let one : met ≡ same.0 = cc e in (p, refl, subst (λ (z : Stored K V). IsSamePair z p) (sym one) same.2)
 
-module _ {K V : Type 0} (eq : K → K → Bool) (classes : IsEquivalence eq) (key : K) (value : V) (old new : List (Change K (Stored K V))) (q : Stored K V) (value_is : q.value.value ≡ value) where
+module _ {K V : Type 0} (eq : K → K → Bool) (classes : IsEquivalence eq) (key : K) (value : V) (old new : List (Change K (Stored K V)))
+    (q : Stored K V) (value_is : q.value.value ≡ value) where
   -- it was put in where none was
   put_none : (taken : Option (Stored K V)) → taken ≡ None → key_of q ≡ key → IsChangeOf (eq key) old new taken (Some q) → IsPut eq key value old new None
   put_none taken none key_is c = record {
@@ -30,11 +31,13 @@ module _ {K V : Type 0} (eq : K → K → Bool) (classes : IsEquivalence eq) (ke
     taken_is = c.taken_is ∙ none;
   }
 
-  pub traded_none : key_of q ≡ key → (taken : Option (Stored K V)) → AreSame None taken → IsChangeOf (eq key) old new taken (Some q) → IsPut eq key value old new None
+  pub traded_none : key_of q ≡ key → (taken : Option (Stored K V)) → AreSame None taken → IsChangeOf (eq key) old new taken (Some q)
+      → IsPut eq key value old new None
   traded_none key_is taken same c = put_none taken (met_none taken same) key_is c
 
   -- or in the place of a pair, the value of which is answered
-  pub traded_some : (met : Stored K V) (answer : Bor V) → answer.now ≡ met.value.value → (taken : Option (Stored K V)) → AreSame (Some met) taken → IsChangeOf (eq key) old new taken (Some q) → IsPut eq key value old new (Some answer)
+  pub traded_some : (met : Stored K V) (answer : Bor V) → answer.now ≡ met.value.value → (taken : Option (Stored K V)) → AreSame (Some met) taken
+      → IsChangeOf (eq key) old new taken (Some q) → IsPut eq key value old new (Some answer)
   traded_some met answer now None same c = let e = same in absurd (cc e)
   traded_some met answer now (Some p) same c =
       let e = same.1 in let one : met ≡ same.0 = cc e in

@@ -1,5 +1,7 @@
 -- A call that inserts after its loads, its exchanges and its count.
-use Rattle.std.proofs.Common.{◌≡◌, ◌⊎◌, inr, ⊎_elim, ℕ, ◌==◌, Bool, true, false, cond, MatchBool, MatchOption, Option, None, Some, List, [], length, refl, sym, ap, ◌∙◌, subst}
+use Rattle.std.proofs.Common.{◌≡◌, ◌⊎◌, inr, ⊎_elim, ℕ, ◌==◌, Bool, true, false, cond, MatchBool}
+use Rattle.std.proofs.Common.{MatchOption, Option, None, Some, List, [], length, refl, sym, ap, ◌∙◌}
+use Rattle.std.proofs.Common.{subst}
 use Rattle.std.proofs.lemmas.Bool.{cases_Bool}
 use Rattle.std.specs.Cmp.{IsEquivalence}
 use mathlib.Core.List.{IsPrefix}
@@ -47,7 +49,10 @@ use Rattle.papaya_book.specs.Plays.{CanExchange, IsPutting}
 use Rattle.papaya_book.specs.Rule.{IsLawfulLog, IsPlaced}
 use Rattle.papaya_book.specs.declared.book.pairs.KeyPart.TheVariants as keys
 use Rattle.papaya_change.specs.Writing.{HasValue, IsWriting, MayStand, TellsTaken}
-use Rattle.papaya_change.proofs.Changing.{begins as begins_calling, call_loaded, call_relies, counted, hint_may, hint_table, hinted, load_table, loaded_lawful, loads, noted, size_table, sized, slot_table}
+use Rattle.papaya_change.proofs.Changing.{begins as begins_calling, call_loaded, call_relies}
+use Rattle.papaya_change.proofs.Changing.{counted, hint_may, hint_table, hinted, load_table}
+use Rattle.papaya_change.proofs.Changing.{loaded_lawful, loads, noted, size_table, sized}
+use Rattle.papaya_change.proofs.Changing.{slot_table}
 use Rattle.papaya_change.proofs.StepsOfOwn.{own_kind}
 use Rattle.papaya_lookup.proofs.AskedPairs.{asked_kind}
 use Rattle.papaya_lookup.proofs.Driving.{IsRelying, can_delete, can_put}
@@ -60,10 +65,13 @@ use Rattle.papaya_lookup.proofs.Readings.{IsQuery}
 use Rattle.papaya_change.proofs.Written.{Writing, WritingOn, goes_on, own_query}
 
 -- such a call that begins, with its key and its value as they are handed in
-pub begins : {K V S H : Type 0} (eq : K → K → Bool) (hash : S → K → ℕ) (b : Begun K V S) (name : Book) (key : K) (log : List (Event K V S)) (w : Writer K V S H) → IsLawfulLog eq hash b log → (task : Task) (initial : ℕ) → w.call.machine ≡ started task (hash b.hasher key) b.mode initial 0 b.limit
-    → (w.call.table ≡ None) × (w.call.fresh ≡ None) → (w.call.last ≡ None) × (w.call.kept ≡ None) × (w.call.taken ≡ None) × (w.call.put ≡ None) → w.key ≡ Some (keys.Own key) → HasValue b name w.value → IsWriting eq hash b name key [] log log w
+pub begins : {K V S H : Type 0} (eq : K → K → Bool) (hash : S → K → ℕ) (b : Begun K V S) (name : Book) (key : K) (log : List (Event K V S))
+    (w : Writer K V S H) → IsLawfulLog eq hash b log → (task : Task) (initial : ℕ) → w.call.machine ≡ started task (hash b.hasher key) b.mode initial 0 b.limit
+    → (w.call.table ≡ None) × (w.call.fresh ≡ None) → (w.call.last ≡ None) × (w.call.kept ≡ None) × (w.call.taken ≡ None) × (w.call.put ≡ None)
+    → w.key ≡ Some (keys.Own key) → HasValue b name w.value → IsWriting eq hash b name key [] log log w
 begins eq hash b name key log w l task initial machine table pairs own valued = record {
-  calling = rw (machine, table.0, table.1, pairs.0, pairs.1, pairs.2, pairs.3) (begins_calling eq hash b name (eq key) (hash b.hasher key) (Some key) refl log l task initial);
+  calling = rw (machine, table.0, table.1, pairs.0, pairs.1, pairs.2, pairs.3)
+      (begins_calling eq hash b name (eq key) (hash b.hasher key) (Some key) refl log l task initial);
   keyed = rw own (refl, tt);
   valued = valued;
   put_placed = rw pairs.3 tt;
@@ -80,7 +88,9 @@ module _ (X Y : Type 0) where
   replaced_as false kind is y replaces = y
 
 -- a load of how many numbers for pairs were taken tells that
-taken_at : {K V S : Type 0} (eq : K → K → Bool) (hash : S → K → ℕ) (b : Begun K V S) (name : Book) (log : List (Event K V S)) (at : At) (word : ℕ) (table table' : Option (Bor Sheet)) (last last' : Option (Stored K V)) → IsLoaded eq hash b name at word log table table' last last' → IsNumberAsk (Load at) → (state_of log).made ≡ word
+taken_at : {K V S : Type 0} (eq : K → K → Bool) (hash : S → K → ℕ) (b : Begun K V S) (name : Book) (log : List (Event K V S)) (at : At) (word : ℕ)
+    (table table' : Option (Bor Sheet)) (last last' : Option (Stored K V)) → IsLoaded eq hash b name at word log table table' last last'
+    → IsNumberAsk (Load at) → (state_of log).made ≡ word
 taken_at eq hash b name log Root word table table' last last' is number = absurd number
 taken_at eq hash b name log (Next t) word table table' last last' is number = absurd number
 taken_at eq hash b name log (Aborted t) word table table' last last' is number = absurd number
@@ -88,7 +98,8 @@ taken_at eq hash b name log (Done t c) word table table' last last' is number = 
 taken_at eq hash b name log (Slot t x) word table table' last last' is number = absurd number
 taken_at eq hash b name log Made_word word table table' last last' is number = is.0.is
 
-module _ {K V S H : Type 0} (eq : K → K → Bool) (input : K → List (List ℕ)) (build : S → H) (write : H → List ℕ → H) (finish : H → ℕ) (classes : IsEquivalence eq) (respects : (x y : K) → eq x y ≡ true → input x ≡ input y)
+module _ {K V S H : Type 0} (eq : K → K → Bool) (input : K → List (List ℕ)) (build : S → H) (write : H → List ℕ → H) (finish : H → ℕ)
+    (classes : IsEquivalence eq) (respects : (x y : K) → eq x y ≡ true → input x ≡ input y)
     (b : Begun K V S) (name : Book) (key : K) (made : List (Stored K V)) (begun : List (Event K V S)) where
   abbrev hash : S → K → ℕ
   hash = hash_of input build write finish
@@ -110,7 +121,8 @@ module _ {K V S H : Type 0} (eq : K → K → Bool) (input : K → List (List �
 
       -- the word at a place may be loaded
       pub load_held : (at : At) → ask_of m ≡ Call (Load at) → IsHeldAt at log w.call.table
-      load_held at asks = load_table eq input build write finish classes respects b (eq key) (input key) query (Some key) name begun log m w.call.table w.call.last w.call.kept made w.call.taken w.call.put w.call.fresh r.calling at asks (may_ask (Load at) asks)
+      load_held at asks = load_table eq input build write finish classes respects b (eq key) (input key) query (Some key) name begun log m
+          w.call.table w.call.last w.call.kept made w.call.taken w.call.put w.call.fresh r.calling at asks (may_ask (Load at) asks)
 
       -- a root is opened where there is none
       module _ (old new : ℕ) (asks : ask_of m ≡ Call (Ask_exchange Root old new)) where
@@ -125,13 +137,17 @@ module _ {K V S H : Type 0} (eq : K → K → Bool) (input : K → List (List �
         opening = r.calling.brings new (subst (λ (a : Chain_ask). IsBringing a new) (sym asks_zero) (refl, refl))
 
         -- what is at hand is that table, with its seal
-        pub opening_of : (t : Where Sheet) (seal : Pen) → w.call.fresh ≡ Some (t, seal) → (number_of t ≡ new) × IsMade t.value log × IsPlaced b (Some name) (names.Table t) × (seal.book ≡ name) × (seal.nib ≡ nib may_write t.value.seal 0)
+        pub opening_of : (t : Where Sheet) (seal : Pen) → w.call.fresh ≡ Some (t, seal) → (number_of t ≡ new) × IsMade t.value log
+            × IsPlaced b (Some name) (names.Table t) × (seal.book ≡ name) × (seal.nib ≡ nib may_write t.value.seal 0)
         opening_of t seal e =
             let both = sym opening.is ∙ e in
             let two : ◌≡◌ {A = Where Sheet × Pen} (opening.table, opening.seal) (t, seal) = cc both in
-            subst (λ (z : Where Sheet × Pen). (number_of z.0 ≡ new) × IsMade z.0.value log × IsPlaced b (Some name) (names.Table z.0) × (z.1.book ≡ name) × (z.1.nib ≡ nib may_write z.0.value.seal 0)) two (opening.number_is, opening.made, opening.placed, opening.seal_book, opening.seal_nib)
+            subst (λ (z : Where Sheet × Pen). (number_of z.0 ≡ new) × IsMade z.0.value log × IsPlaced b (Some name) (names.Table z.0)
+            × (z.1.book ≡ name) × (z.1.nib ≡ nib may_write z.0.value.seal 0)) two
+            (opening.number_is, opening.made, opening.placed, opening.seal_book, opening.seal_nib)
 
-        module _ (log' : List (Event K V S)) (found : ℕ) (t : Where Sheet) (state : Option (Named K V)) (lent : Bor Sheet) (fresh' : Option (Where Sheet × Pen)) (tried : IsTried eq hash b Root (Some kinds.Open) 0 new None (names.Table t) log found log' state) where
+        module _ (log' : List (Event K V S)) (found : ℕ) (t : Where Sheet) (state : Option (Named K V)) (lent : Bor Sheet)
+            (fresh' : Option (Where Sheet × Pen)) (tried : IsTried eq hash b Root (Some kinds.Open) 0 new None (names.Table t) log found log' state) where
           abbrev w' : Writer K V S H
           w' = record w { call = record w.call { table = Some lent; fresh = fresh' } }
 
@@ -139,14 +155,16 @@ module _ {K V S H : Type 0} (eq : K → K → Bool) (input : K → List (List �
           pub opened_here : (found == 0) ≡ true → IsTable log' new lent.now → On log' w' Exchanged
           opened_here is holds =
               goes_on eq input build write finish classes respects b name key made begun log w r made log' w' Exchanged r.keyed r.valued tt
-              (opened eq input build write finish classes respects b (eq key) (input key) query (Some key) name begun log log' m w.call.table w.call.last w.call.kept made w.call.taken w.call.put w.call.fresh fresh' r.calling new found t state asks_zero kind_open tried lent is holds)
+              (opened eq input build write finish classes respects b (eq key) (input key) query (Some key) name begun log log' m w.call.table
+              w.call.last w.call.kept made w.call.taken w.call.put w.call.fresh fresh' r.calling new found t state asks_zero kind_open tried lent is holds)
               r.put_placed
 
           -- another one was
           pub opened_there : (found == 0) ≡ false → IsTable log' found lent.now → On log' w' (Found_instead found)
           opened_there is holds =
               goes_on eq input build write finish classes respects b name key made begun log w r made log' w' (Found_instead found) r.keyed r.valued tt
-              (beaten eq input build write finish classes respects b (eq key) (input key) query (Some key) name begun log log' m w.call.table w.call.last w.call.kept made w.call.taken w.call.put w.call.fresh fresh' r.calling new found t state asks_zero kind_open tried lent is holds)
+              (beaten eq input build write finish classes respects b (eq key) (input key) query (Some key) name begun log log' m w.call.table
+              w.call.last w.call.kept made w.call.taken w.call.put w.call.fresh fresh' r.calling new found t state asks_zero kind_open tried lent is holds)
               r.put_placed
 
       -- a number for a pair may be taken
@@ -155,10 +173,12 @@ module _ {K V S H : Type 0} (eq : K → K → Bool) (input : K → List (List �
         kind_take = own_kind m (call_asks m (Ask_exchange Made_word old new) asks).0 ∙ (may_ask (Ask_exchange Made_word old new) asks).1
 
         pub taking : CanExchange eq hash b Made_word (kind_of_ask m) old new None names.Nothing log
-        taking = take_can eq input build write finish classes respects b (eq key) (input key) query (Some key) name begun log m w.call.table w.call.last w.call.kept made w.call.taken w.call.put w.call.fresh r.calling old new asks kind_take
+        taking = take_can eq input build write finish classes respects b (eq key) (input key) query (Some key) name begun log m w.call.table
+            w.call.last w.call.kept made w.call.taken w.call.put w.call.fresh r.calling old new asks kind_take
 
         -- after it was tried the call relies on what holds, and it was told how many are taken where another was first
-        module _ (log' : List (Event K V S)) (found : ℕ) (state : Option (Named K V)) (tried : IsTried eq hash b Made_word (kind_of_ask m) old new None names.Nothing log found log' state) where
+        module _ (log' : List (Event K V S)) (found : ℕ) (state : Option (Named K V))
+            (tried : IsTried eq hash b Made_word (kind_of_ask m) old new None names.Nothing log found log' state) where
           abbrev Tells : Bool → Answer → Type 0
           Tells z answer = MatchBool z (answer ≡ Exchanged) (answer ≡ Found_instead found)
 
@@ -166,84 +186,110 @@ module _ {K V S H : Type 0} (eq : K → K → Bool) (input : K → List (List �
           took_on answer told =
               ⊎_elim
               (λ is. subst (On log' w) (sym (subst (λ (z : Bool). Tells z answer) is told))
-              (goes_on eq input build write finish classes respects b name key made begun log w r made log' w Exchanged r.keyed r.valued tt (number_taken eq input build write finish classes respects b (eq key) (input key) query (Some key) name begun log m w.call.table w.call.last w.call.kept made w.call.taken w.call.put w.call.fresh r.calling old new asks kind_take log' found state tried is) r.put_placed))
+              (goes_on eq input build write finish classes respects b name key made begun log w r made log' w Exchanged r.keyed r.valued tt
+              (number_taken eq input build write finish classes respects b (eq key) (input key) query (Some key) name begun log m w.call.table
+              w.call.last w.call.kept made w.call.taken w.call.put w.call.fresh r.calling old new asks kind_take log' found state tried is) r.put_placed))
               (λ is. subst (On log' w) (sym (subst (λ (z : Bool). Tells z answer) is told))
-              (goes_on eq input build write finish classes respects b name key made begun log w r made log' w (Found_instead found) r.keyed r.valued tt (number_lost eq input build write finish classes respects b (eq key) (input key) query (Some key) name begun log m w.call.table w.call.last w.call.kept made w.call.taken w.call.put w.call.fresh r.calling old new asks kind_take log' found state tried is) r.put_placed))
+              (goes_on eq input build write finish classes respects b name key made begun log w r made log' w (Found_instead found) r.keyed r.valued
+              tt (number_lost eq input build write finish classes respects b (eq key) (input key) query (Some key) name begun log m w.call.table
+              w.call.last w.call.kept made w.call.taken w.call.put w.call.fresh r.calling old new asks kind_take log' found state tried is) r.put_placed))
               (cases_Bool (found == old))
 
           pub took_tells : (answer : Answer) → Tells (found == old) answer → TellsTaken log' (calls.ask_of m.call) answer
           took_tells answer told number count says =
               ⊎_elim
-              (λ is. let e = subst (λ (z : Bool). Tells z answer) is told in absurd (⊎_elim (λ s. let f = sym e ∙ s in cc f) (λ s. let f = sym e ∙ s in cc f) says))
+              (λ is. let e = subst (λ (z : Bool). Tells z answer) is told in
+              absurd (⊎_elim (λ s. let f = sym e ∙ s in cc f) (λ s. let f = sym e ∙ s in cc f) says))
               (λ is.
               let e = subst (λ (z : Bool). Tells z answer) is told in
-              let made_is = number_found eq input build write finish classes respects b (eq key) (input key) query (Some key) name begun log m w.call.table w.call.last w.call.kept made w.call.taken w.call.put w.call.fresh r.calling old new asks kind_take log' found state tried is in
+              let made_is = number_found eq input build write finish classes respects b (eq key) (input key) query (Some key) name begun log m
+              w.call.table w.call.last w.call.kept made w.call.taken w.call.put w.call.fresh r.calling old new asks kind_take log' found state tried is in
               ⊎_elim (λ s. absurd (let f = sym e ∙ s in cc f)) (λ s. let f = sym e ∙ s in made_is ∙ cc f) says)
               (cases_Bool (found == old))
 
     -- a place was loaded
-    pub loaded_on : (log' : List (Event K V S)) → IsPrefix log log' → (at : At) (word : ℕ) (c : Driver K V S H) → c ≡ record w.call { table = c.table; last = c.last } → ask_of m ≡ Call (Load at) → IsLoaded eq hash b name at word log' w.call.table c.table w.call.last c.last → On log' (record w { call = c }) (Word_read word)
+    pub loaded_on : (log' : List (Event K V S)) → IsPrefix log log' → (at : At) (word : ℕ) (c : Driver K V S H)
+        → c ≡ record w.call { table = c.table; last = c.last } → ask_of m ≡ Call (Load at)
+        → IsLoaded eq hash b name at word log' w.call.table c.table w.call.last c.last → On log' (record w { call = c }) (Word_read word)
     loaded_on log' pre at word c rest asks is =
-        let calling = loads eq input build write finish classes respects b (eq key) (input key) query (Some key) name begun log log' pre (loaded_lawful eq hash b name log' at word w.call.table c.table w.call.last c.last is) m w.call.table w.call.last w.call.kept made w.call.taken w.call.put w.call.fresh r.calling at word c.table c.last asks is in
+        let calling = loads eq input build write finish classes respects b (eq key) (input key) query (Some key) name begun log log' pre
+        (loaded_lawful eq hash b name log' at word w.call.table c.table w.call.last c.last is) m w.call.table w.call.last w.call.kept made
+        w.call.taken w.call.put w.call.fresh r.calling at word c.table c.last asks is in
         subst (λ (z : Driver K V S H). On log' (record w { call = z }) (Word_read word)) (sym rest)
-        (goes_on eq input build write finish classes respects b name key made begun log w r made log' (record w { call = record w.call { table = c.table; last = c.last } }) (Word_read word) r.keyed r.valued tt calling r.put_placed)
+        (goes_on eq input build write finish classes respects b name key made begun log w r made log'
+        (record w { call = record w.call { table = c.table; last = c.last } }) (Word_read word) r.keyed r.valued tt calling r.put_placed)
 
     -- how many numbers for pairs were taken is told
-    pub loaded_tells : (log' : List (Event K V S)) (at : At) (word : ℕ) (c : Driver K V S H) → ask_of m ≡ Call (Load at) → IsLoaded eq hash b name at word log' w.call.table c.table w.call.last c.last → TellsTaken log' (calls.ask_of m.call) (Word_read word)
+    pub loaded_tells : (log' : List (Event K V S)) (at : At) (word : ℕ) (c : Driver K V S H) → ask_of m ≡ Call (Load at)
+        → IsLoaded eq hash b name at word log' w.call.table c.table w.call.last c.last → TellsTaken log' (calls.ask_of m.call) (Word_read word)
     loaded_tells log' at word c asks is number count says =
-        let made_is = taken_at eq hash b name log' at word w.call.table c.table w.call.last c.last is (subst IsNumberAsk (call_asks m (Load at) asks).1 number) in
+        let made_is = taken_at eq hash b name log' at word w.call.table c.table w.call.last c.last is
+        (subst IsNumberAsk (call_asks m (Load at) asks).1 number) in
         ⊎_elim (λ e. made_is ∙ cc e) (λ e. absurd (cc e)) says
 
     -- a slot whose hint is loaded or written is one of the table that is held
     pub hint_held : (t i : ℕ) → (ask_of m ≡ Call (LoadHint t i)) ⊎ ((hint : ℕ) × (ask_of m ≡ Call (WriteHint t i hint))) → IsHeldAt (Slot t i) log w.call.table
-    hint_held t i asks = hint_table eq input build write finish classes respects b (eq key) (input key) query (Some key) name begun log m w.call.table w.call.last w.call.kept made w.call.taken w.call.put w.call.fresh r.calling t i asks
+    hint_held t i asks = hint_table eq input build write finish classes respects b (eq key) (input key) query (Some key) name begun log m w.call.table
+        w.call.last w.call.kept made w.call.taken w.call.put w.call.fresh r.calling t i asks
 
     -- a hint that is written may be the slot's
     pub hint_can : (t i n : ℕ) → ask_of m ≡ Call (WriteHint t i n) → IsSlotHint eq hash b t i n log
-    hint_can t i n asks = hint_may eq input build write finish classes respects b (eq key) (input key) query (Some key) name begun log m w.call.table w.call.last w.call.kept made w.call.taken w.call.put w.call.fresh r.calling t i n asks
+    hint_can t i n asks = hint_may eq input build write finish classes respects b (eq key) (input key) query (Some key) name begun log m w.call.table
+        w.call.last w.call.kept made w.call.taken w.call.put w.call.fresh r.calling t i n asks
 
     -- a hint was loaded
-    pub hinted_on : (log' : List (Event K V S)) → IsPrefix log log' → (t i n : ℕ) → ask_of m ≡ Call (LoadHint t i) → IsSlotHint eq hash b t i n log' → On log' w (Word_read n)
+    pub hinted_on : (log' : List (Event K V S)) → IsPrefix log log' → (t i n : ℕ) → ask_of m ≡ Call (LoadHint t i) → IsSlotHint eq hash b t i n log'
+        → On log' w (Word_read n)
     hinted_on log' pre t i n asks is =
         goes_on eq input build write finish classes respects b name key made begun log w r made log' w (Word_read n) r.keyed r.valued tt
-        (hinted eq input build write finish classes respects b (eq key) (input key) query (Some key) name begun log log' pre is.lawful m w.call.table w.call.last w.call.kept made w.call.taken w.call.put w.call.fresh r.calling t i n asks is)
+        (hinted eq input build write finish classes respects b (eq key) (input key) query (Some key) name begun log log' pre is.lawful m w.call.table
+        w.call.last w.call.kept made w.call.taken w.call.put w.call.fresh r.calling t i n asks is)
         r.put_placed
 
     -- and one was written
     pub noted_on : (t i n : ℕ) → ask_of m ≡ Call (WriteHint t i n) → On log w Ok_done
     noted_on t i n asks =
         goes_on eq input build write finish classes respects b name key made begun log w r made log w Ok_done r.keyed r.valued tt
-        (noted eq input build write finish classes respects b (eq key) (input key) query (Some key) name begun log m w.call.table w.call.last w.call.kept made w.call.taken w.call.put w.call.fresh r.calling t i n asks)
+        (noted eq input build write finish classes respects b (eq key) (input key) query (Some key) name begun log m w.call.table w.call.last
+        w.call.kept made w.call.taken w.call.put w.call.fresh r.calling t i n asks)
         r.put_placed
 
     -- a table whose size is asked for is held
     pub size_held : (t : ℕ) → ask_of m ≡ Call (SizeOf t) → w.call.table ≡ None → ⊥
-    size_held t asks none = subst (λ (o : Option (Bor Sheet)). MatchOption o ⊥ (λ z. IsTable log t z.now)) none (size_table eq input build write finish classes respects b (eq key) (input key) query (Some key) name begun log m w.call.table w.call.last w.call.kept made w.call.taken w.call.put w.call.fresh r.calling t asks)
+    size_held t asks none = subst (λ (o : Option (Bor Sheet)). MatchOption o ⊥ (λ z. IsTable log t z.now)) none
+        (size_table eq input build write finish classes respects b (eq key) (input key) query (Some key) name begun log m w.call.table w.call.last
+        w.call.kept made w.call.taken w.call.put w.call.fresh r.calling t asks)
 
     -- its size was told
-    pub sized_on : (t : ℕ) (lent : Bor Sheet) → w.call.table ≡ Some lent → (slots limit : ℕ) → slots ≡ length lent.now.slots → limit ≡ lent.now.limit → IsSize slots limit → ask_of m ≡ Call (SizeOf t) → On log w (Size slots limit)
+    pub sized_on : (t : ℕ) (lent : Bor Sheet) → w.call.table ≡ Some lent → (slots limit : ℕ) → slots ≡ length lent.now.slots → limit ≡ lent.now.limit
+        → IsSize slots limit → ask_of m ≡ Call (SizeOf t) → On log w (Size slots limit)
     sized_on t lent has slots limit slots_is limit_is size asks =
         goes_on eq input build write finish classes respects b name key made begun log w r made log w (Size slots limit) r.keyed r.valued size
-        (sized eq input build write finish classes respects b (eq key) (input key) query (Some key) name begun log m w.call.table w.call.last w.call.kept made w.call.taken w.call.put w.call.fresh r.calling t lent has slots limit slots_is limit_is asks)
+        (sized eq input build write finish classes respects b (eq key) (input key) query (Some key) name begun log m w.call.table w.call.last
+        w.call.kept made w.call.taken w.call.put w.call.fresh r.calling t lent has slots limit slots_is limit_is asks)
         r.put_placed
 
     -- the change was counted
     pub counted_on : (by : _) → ask_of m ≡ Call (AddToShard by) → On log w Ok_done
     counted_on by asks =
         goes_on eq input build write finish classes respects b name key made begun log w r made log w Ok_done r.keyed r.valued tt
-        (counted eq input build write finish classes respects b (eq key) (input key) query (Some key) name begun log m w.call.table w.call.last w.call.kept made w.call.taken w.call.put w.call.fresh r.calling by asks)
+        (counted eq input build write finish classes respects b (eq key) (input key) query (Some key) name begun log m w.call.table w.call.last
+        w.call.kept made w.call.taken w.call.put w.call.fresh r.calling by asks)
         r.put_placed
 
     module _ (t i old new : ℕ) (asks : ask_of m ≡ Call (Ask_exchange (Slot t i) old new)) where
       -- the slot is one of the table that is held
       pub slot_held : IsHeldAt (Slot t i) log w.call.table
-      slot_held = slot_table eq input build write finish classes respects b (eq key) (input key) query (Some key) name begun log m w.call.table w.call.last w.call.kept made w.call.taken w.call.put w.call.fresh r.calling t i (inr (old, new, asks))
+      slot_held = slot_table eq input build write finish classes respects b (eq key) (input key) query (Some key) name begun log m w.call.table
+          w.call.last w.call.kept made w.call.taken w.call.put w.call.fresh r.calling t i (inr (old, new, asks))
 
       abbrev its_own : (m.phase ≡ Calling) × (calls.ask_of m.call ≡ Ask_exchange (Slot t i) old new)
       its_own = call_asks m (Ask_exchange (Slot t i) old new) asks
 
-      abbrev relying : IsRelying eq input build write finish classes respects b (eq key) (input key) query (Some key) (exchanges_of begun) log m.call (call_loaded eq input build write finish classes respects b (eq key) (input key) query (Some key) name begun w.call.last made)
-      relying = call_relies eq input build write finish classes respects b (eq key) (input key) query (Some key) name begun log m w.call.table w.call.last w.call.kept made w.call.taken w.call.put w.call.fresh r.calling
+      abbrev relying : IsRelying eq input build write finish classes respects b (eq key) (input key) query (Some key) (exchanges_of begun) log m.call
+          (call_loaded eq input build write finish classes respects b (eq key) (input key) query (Some key) name begun w.call.last made)
+      relying = call_relies eq input build write finish classes respects b (eq key) (input key) query (Some key) name begun log m w.call.table
+          w.call.last w.call.kept made w.call.taken w.call.put w.call.fresh r.calling
 
       -- where a pair is put in, it is claimed for an empty slot, and else takes the place of another
       kind_at : IsPutting (kind_of_ask m) → kind_of_ask m ≡ Some (cond (old == 0) kinds.Claim kinds.Replace)
@@ -254,19 +300,27 @@ module _ {K V S H : Type 0} (eq : K → K → Bool) (input : K → List (List �
       claims_own kind q stands claims = claimed_as _ _ (old == 0) (kind_of_ask m) (kind_at kind) stands claims
 
       -- a pair may be put in that may stand there, where one of its number was asked for
-      pub put_can : IsPutting (kind_of_ask m) → (q : Stored K V) → MayStand log key t i old q → pair_of new ≡ q.index → CanExchange eq hash b (Slot t i) (kind_of_ask m) old new (Some q) (names.Pair q) log
+      pub put_can : IsPutting (kind_of_ask m) → (q : Stored K V) → MayStand log key t i old q → pair_of new ≡ q.index
+          → CanExchange eq hash b (Slot t i) (kind_of_ask m) old new (Some q) (names.Pair q) log
       put_can kind q stands number =
           let same = own_kind m its_own.0 in
           subst (λ (z : Option StepKind). CanExchange eq hash b (Slot t i) z old new (Some q) (names.Pair q) log) (sym same)
-          (can_put eq input build write finish classes respects b (eq key) (input key) query (Some key) (exchanges_of begun) log r.calling.lawful m.call (call_loaded eq input build write finish classes respects b (eq key) (input key) query (Some key) name begun w.call.last made) relying t i old new its_own.1 (subst IsPutting same kind) q
-          (λ claims. ap (λ z. Some z) (claims_own kind q stands (same ∙ claims)), λ replaces. replaced_as _ _ (old == 0) (kind_of_ask m) (kind_at kind) stands (same ∙ replaces)) number)
+          (can_put eq input build write finish classes respects b (eq key) (input key) query (Some key) (exchanges_of begun) log r.calling.lawful
+          m.call (call_loaded eq input build write finish classes respects b (eq key) (input key) query (Some key) name begun w.call.last made)
+          relying t i old new its_own.1 (subst IsPutting same kind) q (
+            λ claims. ap (λ z. Some z) (claims_own kind q stands (same ∙ claims)),
+            λ replaces.
+                replaced_as _ _ (old == 0) (kind_of_ask m) (kind_at kind) stands (same ∙ replaces),
+          ) number)
 
       -- and a pair may be deleted
       pub delete_can : kind_of_ask m ≡ Some kinds.Delete → CanExchange eq hash b (Slot t i) (kind_of_ask m) old new None names.Nothing log
       delete_can kind =
           let same = own_kind m its_own.0 in
           subst (λ (z : Option StepKind). CanExchange eq hash b (Slot t i) z old new None names.Nothing log) (sym same)
-          (can_delete eq input build write finish classes respects b (eq key) (input key) query (Some key) (exchanges_of begun) log r.calling.lawful m.call (call_loaded eq input build write finish classes respects b (eq key) (input key) query (Some key) name begun w.call.last made) relying t i old new its_own.1 (sym same ∙ kind))
+          (can_delete eq input build write finish classes respects b (eq key) (input key) query (Some key) (exchanges_of begun) log r.calling.lawful
+          m.call (call_loaded eq input build write finish classes respects b (eq key) (input key) query (Some key) name begun w.call.last made)
+          relying t i old new its_own.1 (sym same ∙ kind))
 
       -- what is put in is one of the pairs that were made, or none
       put_is_placed : (put : Option (Stored K V)) → ((q : Stored K V) → put ≡ Some q → IsOneOf made q) → IsPlaced b (Some name) (pair_named put)
@@ -274,28 +328,38 @@ module _ {K V S H : Type 0} (eq : K → K → Bool) (input : K → List (List �
       put_is_placed (Some q) own = r.calling.made_placed q (own q refl)
 
       -- An exchange was tried that puts in one of the pairs that were made, or none.
-      module _ (put : Option (Stored K V)) (own : (q : Stored K V) → put ≡ Some q → IsOneOf made q) (claims : kind_of_ask m ≡ Some kinds.Claim → (q : Stored K V) → put ≡ Some q → key_of q ≡ key) (log' : List (Event K V S)) (found : ℕ) (pair : Option (Stored K V)) (s : IsSlotTried eq hash b name t i (kind_of_ask m) old new put (pair_named put) log found log' pair) where
+      module _ (put : Option (Stored K V)) (own : (q : Stored K V) → put ≡ Some q → IsOneOf made q)
+          (claims : kind_of_ask m ≡ Some kinds.Claim → (q : Stored K V) → put ≡ Some q → key_of q ≡ key) (log' : List (Event K V S)) (found : ℕ)
+          (pair : Option (Stored K V)) (s : IsSlotTried eq hash b name t i (kind_of_ask m) old new put (pair_named put) log found log' pair) where
         -- it was made
         slot_changed : (found == old) ≡ true → On log' (record w { call = record w.call { taken = pair; put = put } }) Exchanged
         slot_changed is =
-            goes_on eq input build write finish classes respects b name key made begun log w r made log' (record w { call = record w.call { taken = pair; put = put } }) Exchanged r.keyed r.valued tt
-            (exchanged eq input build write finish classes respects b (eq key) (input key) query (Some key) name begun log log' m w.call.table w.call.last w.call.kept made w.call.taken w.call.put w.call.fresh r.calling t i old new found put pair asks s own (λ claim q has. ap (λ z. Some z) (claims claim q has)) is)
+            goes_on eq input build write finish classes respects b name key made begun log w r made log'
+            (record w { call = record w.call { taken = pair; put = put } }) Exchanged r.keyed r.valued tt
+            (exchanged eq input build write finish classes respects b (eq key) (input key) query (Some key) name begun log log' m w.call.table
+            w.call.last w.call.kept made w.call.taken w.call.put w.call.fresh r.calling t i old new found put pair asks s own
+            (λ claim q has. ap (λ z. Some z) (claims claim q has)) is)
             (put_is_placed put own)
 
         -- it was not
         slot_lost : (found == old) ≡ false → On log' (record w { call = record w.call { last = or_last pair w.call.last } }) (Found_instead found)
         slot_lost is =
-            goes_on eq input build write finish classes respects b name key made begun log w r made log' (record w { call = record w.call { last = or_last pair w.call.last } }) (Found_instead found) r.keyed r.valued tt
-            (lost eq input build write finish classes respects b (eq key) (input key) query (Some key) name begun log log' m w.call.table w.call.last w.call.kept made w.call.taken w.call.put w.call.fresh r.calling t i old new found put pair asks s is)
+            goes_on eq input build write finish classes respects b name key made begun log w r made log'
+            (record w { call = record w.call { last = or_last pair w.call.last } }) (Found_instead found) r.keyed r.valued tt
+            (lost eq input build write finish classes respects b (eq key) (input key) query (Some key) name begun log log' m w.call.table w.call.last
+            w.call.kept made w.call.taken w.call.put w.call.fresh r.calling t i old new found put pair asks s is)
             r.put_placed
 
         -- as the call holds it afterwards
         abbrev AfterTried : Bool → Driver K V S H → Answer → Type 0
-        AfterTried z c answer = MatchBool z ((answer ≡ Exchanged) × (c ≡ record w.call { taken = pair; put = put })) ((answer ≡ Found_instead found) × (c ≡ record w.call { last = or_last pair w.call.last }))
+        AfterTried z c answer = MatchBool z ((answer ≡ Exchanged) × (c ≡ record w.call { taken = pair; put = put }))
+            ((answer ≡ Found_instead found) × (c ≡ record w.call { last = or_last pair w.call.last }))
 
         pub tried_on : (c : Driver K V S H) (answer : Answer) → AfterTried (found == old) c answer → On log' (record w { call = c }) answer
         tried_on c answer h =
             ⊎_elim
-            (λ is. let g = subst (λ (z : Bool). AfterTried z c answer) is h in subst (λ (z : Driver K V S H × Answer). On log' (record w { call = z.0 }) z.1) (λ j. (sym g.1 j, sym g.0 j)) (slot_changed is))
-            (λ is. let g = subst (λ (z : Bool). AfterTried z c answer) is h in subst (λ (z : Driver K V S H × Answer). On log' (record w { call = z.0 }) z.1) (λ j. (sym g.1 j, sym g.0 j)) (slot_lost is))
+            (λ is. let g = subst (λ (z : Bool). AfterTried z c answer) is h in
+            subst (λ (z : Driver K V S H × Answer). On log' (record w { call = z.0 }) z.1) (λ j. (sym g.1 j, sym g.0 j)) (slot_changed is))
+            (λ is. let g = subst (λ (z : Bool). AfterTried z c answer) is h in
+            subst (λ (z : Driver K V S H × Answer). On log' (record w { call = z.0 }) z.1) (λ j. (sym g.1 j, sym g.0 j)) (slot_lost is))
             (cases_Bool (found == old))

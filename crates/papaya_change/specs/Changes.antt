@@ -10,9 +10,9 @@ abbrev pub key_kept : {K V : Type 0} → Option (Stored K V) → K → K
 key_kept None key = key
 key_kept (Some p) key = key_of p
 
--- What the call put in is the last that was seen of the history: the value that was handed in, with the
--- key that was stored, or with the one that was handed in where none was. The answer is the value of
--- what it took out.
+-- What the call put in is the last that was seen of the history: the value that was handed in, with
+-- the key that was stored, or with the one that was handed in where none was. The answer is the
+-- value of what it took out.
 pub record IsPut {K V : Type 0} (eq : K → K → Bool) (key : K) (value : V)
     (old new : List (Change K (Stored K V))) (answer : Option (Bor V)) : Type 0 where
   pub before : List (Change K (Stored K V))

@@ -90,8 +90,8 @@ HasAskedWords link fresh = (behind n chunks : ℕ) → link ≡ Some (Linking be
 abbrev pub IsOfCall : {K : Type 0} → (K → K → Bool) → Option K → K → Type 0
 IsOfCall eq k other = MatchOption k (Unit {0}) (λ key. eq key other ≡ true)
 
--- A pair that takes the place of none has the call's own key, and any other has that of the pair whose
--- place it takes.
+-- A pair that takes the place of none has the call's own key, and any other has that of the pair
+-- whose place it takes.
 pub record HasItsKey {K V : Type 0} (eq : K → K → Bool) (k : Option K) (taken : Option (Stored K V))
     (q : Stored K V) : Type 0 where
   pub is : MatchOption taken (Some (key_of q) ≡ k) (λ p. key_of q ≡ key_of p)
@@ -116,8 +116,8 @@ pub record HasChanged {K V S : Type 0} (eq : K → K → Bool) (k : Option K)
 
 -- A call by the key k, or by the further one, relies on the log since it began, with the copy that
 -- it is set aside for. It holds the table and the pair of which it was told last, the pair that its
--- copy carries, the pairs that it has made, and those that its change took out and put in; and a table
--- that it made, until it has tried to open or link it.
+-- copy carries, the pairs that it has made, and those that its change took out and put in; and a
+-- table that it made, until it has tried to open or link it.
 pub record IsCalling {K V S : Type 0} (eq : K → K → Bool) (hash : S → K → ℕ) (b : Begun K V S)
     (name : Book) (matches : K → Bool) (fed : ℕ) (k : Option K) (begun log : List (Event K V S))
     (m : Machine) (table : Option (Bor Sheet)) (last kept : Option (Stored K V))

@@ -1,4 +1,5 @@
--- Where a call goes on that was set aside for a copy, and what each of the copy's answers leaves it.
+-- Where a call goes on that was set aside for a copy, and what each of the copy's answers
+-- leaves it.
 use Rattle.std.specs.Prelude.{◌≡◌, ◌⊎◌, ℕ, ◌==◌, Bool, MatchBool, MatchOption, Option, None, Some, List, [], ◌∷◌, ◌++◌}
 use mathlib.Core.List.{IsPrefix}
 use Rattle.logbook.specs.Pages.{Book}
@@ -136,7 +137,8 @@ module _ {K V S : Type 0} (eq : K → K → Bool) (hash : S → K → ℕ) (b : 
         → IsPlaced b (Some name) (pair_named last')
 
   -- An exchange was made for a copy, after a log that goes on from what was seen, or another word
-  -- was found. A table that came with it was at hand. This is the pair that the word named which was found.
+  -- was found. A table that came with it was at hand. This is the pair that the word named which
+  -- was found.
   pub record IsTriedFor (at : At) (kind : Option StepKind) (old new : ℕ)
       (kept : Option (Stored K V)) (fresh : Option (Where Sheet × Pen))
       (seen : List (Event K V S)) (found : ℕ) (log : List (Event K V S))

@@ -40,8 +40,8 @@ module _ {K V : Type 0} (eq : K → K → Bool) (matches : K → Bool)
   IsJudged said (Ok (Err entry)) = (p : Stored K V) × Member (p, false) said × AreOf entry p
   IsJudged said (Err refused) = IsMemoryOrCapacity refused
 
-  -- A removal whose closure was `first`. Each pair that it was shown was the map's between the two
-  -- histories.
+  -- A removal whose closure was `first`. Each pair that it was shown was the map's between the
+  -- two histories.
   pub record IsRemovalBy {F : Type 0} (judges : F → Stored K V → Bool → F → Type 0) (first : F)
       (answer : Result (Result (Option (Bor K × Bor V)) (Bor K × Bor V)) Refused) : Type 0 where
     pub said : List (Stored K V × Bool)
@@ -50,8 +50,8 @@ module _ {K V : Type 0} (eq : K → K → Bool) (matches : K → Bool)
     pub held : AllShown (λ p. WasHeld eq matches old new (Some p)) said
     pub answered : IsJudged said answer
 
-  -- A removal whose closure was `first` has shown it these, and it is `left` then. Each pair that it
-  -- was shown was the map's between the two histories.
+  -- A removal whose closure was `first` has shown it these, and it is `left` then. Each pair that
+  -- it was shown was the map's between the two histories.
   pub record HasShown {F : Type 0} (judges : F → Stored K V → Bool → F → Type 0)
       (first left : F) : Type 0 where
     pub said : List (Stored K V × Bool)

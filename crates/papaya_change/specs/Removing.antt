@@ -76,8 +76,8 @@ module _ {K V S H F : Type 0} (eq : K → K → Bool) (hash : S → K → ℕ) (
   IsUnderWay first old log x f = (begun : List (Event K V S)) × IsPrefix old begun
       × IsRemoving first begun log x f
 
--- The closure f was shown the pair last loaded, which the removal keeps; it answered so, and is g
--- then.
+-- The closure f was shown the pair last loaded, which the removal keeps; it answered so, and is
+-- g then.
 abbrev pub Shows : {K V S H F : Type 0} → (F → Stored K V → Bool → F → Type 0) → Removal K V S H → F
     → Removal K V S H → F → Answer → Type 0
 Shows {K = K} {V = V} judges x f x' g answer = (p : Stored K V) × (agreed : Bool)

@@ -95,8 +95,8 @@ abbrev pub left_to : {K V : Type 0} → Turn K V → ℕ
 left_to (Next at) = left_at at
 left_to _ = 0
 
--- A call of this key that began at this log would stand here by now, and was told of this pair last,
--- if one is named. It has made no pair yet, and relies on this table.
+-- A call of this key that began at this log would stand here by now, and was told of this pair
+-- last, if one is named. It has made no pair yet, and relies on this table.
 abbrev pub IsSeekingAt : {K V S : Type 0} → Seeker → (K → K → Bool) → (S → K → ℕ) → Begun K V S
     → Book → K → (begun log : List (Event K V S)) → State → Option (Stored K V) → Sheet → Type 0
 IsSeekingAt {K} {V} who eq hash b name key begun log state met table = (lent : Bor Sheet)

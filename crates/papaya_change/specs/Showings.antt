@@ -1,5 +1,5 @@
--- What the closure of a call was shown, and what it answered; and what was the map's between two
--- histories.
+-- What the closure of a call was shown, and what it answered; and what was the map's between
+-- two histories.
 use Rattle.std.specs.Prelude.{◌≡◌, Bool, true, MatchOption, Option, None, Some, List, [], ◌∷◌}
 use Rattle.std.specs.Fn.{Called, Mut}
 use mathlib.Core.List.{IsPrefix}

@@ -1,5 +1,5 @@
-//! What is asked for a copy, answered by steps on the book. Whoever copies, a call that is set aside
-//! or one that resizes the map, this is the one place where tables are copied.
+//! What is asked for a copy, answered by steps on the book. Whoever copies, a call that is set
+//! aside or one that resizes the map, this is the one place where tables are copied.
 ghost use Rattle.std.specs.Prelude.{◌≡◌, ◌≢◌, ◌⊎◌, ◌<◌, ◌+◌, ℕ, [], ◌∷◌, IfErr, IfOk, None, Some, length};
 ghost use Rattle.papaya_ask.specs.Search.{IsSize};
 ghost use Rattle.papaya_ask.specs.declared.ask.At.TheVariants.{Next, Slot};
@@ -40,8 +40,8 @@ pub struct Asked {
 }
 
 /// What one holds who copies: the pair that was loaded last, the pair that is carried to another
-/// table, and a table that was made, until it is tried to be linked. Where a number was given past a
-/// limit, or the sum of the count, contracts see that number.
+/// table, and a table that was made, until it is tried to be linked. Where a number was given past
+/// a limit, or the sum of the count, contracts see that number.
 #[derive(Drop)]
 pub struct Copier<K: Hash + Eq, V, S: BuildHasher> {
     pub last: Option<Stored<K, V>>,
@@ -50,9 +50,9 @@ pub struct Copier<K: Hash + Eq, V, S: BuildHasher> {
     pub given: OwnSteps<CapacityCause>,
 }
 
-/// The number that says at which chunk a copy begins: one more each time, so that it goes on where the
-/// one before it began. All take it from one shard, since a pinned map has another one at each call,
-/// and where each shard went on by itself, a copy passed by the chunks of others.
+/// The number that says at which chunk a copy begins: one more each time, so that it goes on where
+/// the one before it began. All take it from one shard, since a pinned map has another one at each
+/// call, and where each shard went on by itself, a copy passed by the chunks of others.
 pub(crate) fn next_start(count: &Count) -> u64 {
     count.shard(0).start()
 }
@@ -83,8 +83,8 @@ impl<K: Hash + Eq, V, S: BuildHasher> Copier<K, V, S> {
         }
     }
 
-    /// The answer to what is asked for a copy. `making` keeps the turn to make a next table, from the
-    /// making to the try to link it.
+    /// The answer to what is asked for a copy. `making` keeps the turn to make a next table, from
+    /// the making to the try to link it.
     pub fn answer<'a, R: Wait>(
         &mut self,
         rt: &R,
@@ -262,8 +262,8 @@ impl<K: Hash + Eq, V, S: BuildHasher> Copier<K, V, S> {
         found
     }
 
-    /// Tries to exchange the word of a table's slot: the word that was found, and the pair that it
-    /// names.
+    /// Tries to exchange the word of a table's slot: the word that was found, and the pair that
+    /// it names.
     #[inline(always)]
     fn try_slot<'a>(
         &self,
@@ -314,8 +314,8 @@ impl<K: Hash + Eq, V, S: BuildHasher> Copier<K, V, S> {
         found
     }
 
-    /// Tries to exchange a word but that of a next table: the word that was found, and the pair that
-    /// it names.
+    /// Tries to exchange a word but that of a next table: the word that was found, and the pair
+    /// that it names.
     fn try_for<'a>(
         &self,
         at: At,
@@ -501,8 +501,8 @@ fn write_hint<'a, K: Hash + Eq, V, S: BuildHasher>(
     window.write_hint(table, number, place, hint);
 }
 
-/// The size of a table: how many slots it has, and at how many places but for the first a search of it
-/// looks.
+/// The size of a table: how many slots it has, and at how many places but for the first a search of
+/// it looks.
 #[inline(always)]
 pub(crate) fn size_at<'a, K: Hash + Eq, V, S: BuildHasher>(
     table: &Table<K, V, S>,
@@ -541,8 +541,8 @@ fn size<'a, K: Hash + Eq, V, S: BuildHasher>(
 /// thread was first that is a small one, since it will not be linked. Nobody waits to make a first
 /// table, which follows none.
 ///
-/// A thread has one turn at most, as it gives back the one that it has before it waits. It waits for
-/// nothing else until it has tried to link the table, so two threads never wait for each other.
+/// A thread has one turn at most, as it gives back the one that it has before it waits. It waits
+/// for nothing else until it has tried to link the table, so two threads never wait for each other.
 fn turn<'a, K: Hash + Eq, V, S: BuildHasher, R: Wait>(
     rt: &R,
     follows: u64,

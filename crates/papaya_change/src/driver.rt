@@ -26,10 +26,10 @@ use papaya_chain::machine::Machine;
 use papaya_words::probe::ResizeMode;
 use std::hash::{BuildHasher, Hash};
 
-/// A changing call under way: its machine; the table and the pair that it loaded last; the pair that
-/// it carries to another table while it is set aside for a copy; and the pairs that its change took
-/// out and put in. A table that it has made is opened or linked by its next step. Where it was given
-/// a number past a limit, contracts see that number.
+/// A changing call under way: its machine; the table and the pair that it loaded last; the pair
+/// that it carries to another table while it is set aside for a copy; and the pairs that its change
+/// took out and put in. A table that it has made is opened or linked by its next step. Where it was
+/// given a number past a limit, contracts see that number.
 #[derive(Drop)]
 pub struct Driver<'a, K: Hash + Eq, V, S: BuildHasher> {
     pub machine: Machine,

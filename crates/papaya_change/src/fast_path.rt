@@ -71,8 +71,8 @@ fn without<K, V>(seen: Probed) -> Turn<K, V>
     }
 }
 
-/// Loads the word at one place of a table, and compares the key of the pair that it names, if it names
-/// one.
+/// Loads the word at one place of a table, and compares the key of the pair that it names, if it
+/// names one.
 #[inline(always)]
 fn read_at<K: Hash + Eq, V, S: BuildHasher>(
     window: &mut Window<'_, K, V, S>,
@@ -112,8 +112,8 @@ fn read_at<K: Hash + Eq, V, S: BuildHasher>(
     }
 }
 
-/// Looks at one place of a table: loads its hint, and its word where the hint says nothing or is the
-/// key's.
+/// Looks at one place of a table: loads its hint, and its word where the hint says nothing or is
+/// the key's.
 #[inline(always)]
 fn look_at<K: Hash + Eq, V, S: BuildHasher>(
     window: &mut Window<'_, K, V, S>,
@@ -141,8 +141,8 @@ fn look_at<K: Hash + Eq, V, S: BuildHasher>(
     read_at(window, key, table, at)
 }
 
-/// Where a pair of the key may be put in, as one search of a table sees it: at an empty place, or in
-/// place of a live pair of the key.
+/// Where a pair of the key may be put in, as one search of a table sees it: at an empty place, or
+/// in place of a live pair of the key.
 #[inline(always)]
 fn seek<K: Hash + Eq, V, S: BuildHasher>(
     window: &mut Window<'_, K, V, S>,
@@ -255,8 +255,8 @@ pub fn claim<R: Wait, K: Hash + Eq + Drop, V: Drop, S: BuildHasher>(
     Ok(Tried::Put(pair))
 }
 
-/// Logs a pair with the key that a search has met, and tries to put it in the place of the pair that has
-/// that.
+/// Logs a pair with the key that a search has met, and tries to put it in the place of the pair
+/// that has that.
 #[inline(always)]
 pub fn replace<R: Wait, K: Hash + Eq + Drop, V: Drop, S: BuildHasher>(
     means: &Means<'_, '_, R>,
@@ -331,8 +331,8 @@ pub fn delete<K: Hash + Eq, V, S: BuildHasher>(
     true
 }
 
-/// Inserts a pair at the empty place that a search has found for it. Where another word stands there by
-/// now, its machine begins.
+/// Inserts a pair at the empty place that a search has found for it. Where another word stands
+/// there by now, its machine begins.
 #[inline(always)]
 fn claim_at<'a, R: Wait, K: Hash + Eq + Drop, V: Drop, S: BuildHasher>(
     means: &Means<'_, '_, R>,
@@ -366,9 +366,9 @@ fn claim_at<'a, R: Wait, K: Hash + Eq + Drop, V: Drop, S: BuildHasher>(
     }
 }
 
-/// Inserts a pair with the key that a search has met in the place of the pair that has that: the value
-/// that it had. The key that was handed in goes. Where another word stands there by now, its machine
-/// begins.
+/// Inserts a pair with the key that a search has met in the place of the pair that has that: the
+/// value that it had. The key that was handed in goes. Where another word stands there by now, its
+/// machine begins.
 #[inline(always)]
 fn replace_at<'a, R: Wait, K: Hash + Eq + Drop, V: Drop, S: BuildHasher>(
     means: &Means<'_, '_, R>,

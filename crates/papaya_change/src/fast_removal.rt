@@ -16,15 +16,16 @@ use papaya_lookup::lookup::{Hit, Met, find};
 use papaya_words::word::{Kind, Word};
 use std::hash::{BuildHasher, Hash};
 
-/// A limit on pairs is a number of 64 bits, which no clause of the book says. No code is left of this.
+/// A limit on pairs is a number of 64 bits, which no clause of the book says. No code is left
+/// of this.
 #[inline(always)]
 fn fits(limit: Option<u64>)
     ensures { IsLimit limit }
 {}
 
-/// Finds a key's pair by a lookup's search, shows it to the closure where it is live, and deletes it
-/// if that agrees. None where the pair is being moved, or another word stands in its place by then:
-/// the closure may have been shown a pair all the same.
+/// Finds a key's pair by a lookup's search, shows it to the closure where it is live, and deletes
+/// it if that agrees. None where the pair is being moved, or another word stands in its place by
+/// then: the closure may have been shown a pair all the same.
 #[inline(always)]
 pub fn remove_fast<'a, K: Hash + Eq, V, S: BuildHasher, Q: Equivalent<K>, F: FnMut(&K, &V) -> bool>(
     shard: &Shard<'_>,

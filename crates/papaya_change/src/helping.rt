@@ -36,8 +36,8 @@ use std::sync::{MutexGuard, Wait};
 
 impl<'a, K: Hash + Eq, V, S: BuildHasher> Driver<'a, K, V, S> {
     /// Copies for a call that is set aside, until it goes on for itself: in a next table, at the
-    /// root, or at its end, where a table could not be made. One that is not set aside stays as it
-    /// is.
+    /// root, or at its end, where a table could not be made. One that is not set aside stays as
+    /// it is.
     #[inline(always)]
     pub fn help<R: Wait>(
         &mut self,
@@ -76,8 +76,8 @@ impl<'a, K: Hash + Eq, V, S: BuildHasher> Driver<'a, K, V, S> {
         self.machine = machine;
     }
 
-    /// Copies until the call goes on for itself. It is a function of its own, so that a call that is
-    /// not set aside pays nothing for it.
+    /// Copies until the call goes on for itself. It is a function of its own, so that a call that
+    /// is not set aside pays nothing for it.
     #[inline(never)]
     fn help_set_aside<R: Wait>(
         &mut self,
@@ -99,8 +99,8 @@ impl<'a, K: Hash + Eq, V, S: BuildHasher> Driver<'a, K, V, S> {
         ensures rest { (self.new.taken ≡ self.old.taken) × (self.new.put ≡ self.old.put) }
     {
         self.copy_from(next_start(shard.count()));
-        // The turn to make a next table, until that is linked. Where it is refused the copy ends, and
-        // the turn goes with it.
+        // The turn to make a next table, until that is linked. Where it is refused the copy ends,
+        // and the turn goes with it.
         let mut making: Option<MutexGuard<'a, ()>> = None;
         for _ in rt.forever() {
             let Ask::Copy(ask) = self.machine.ask() else {
@@ -134,8 +134,8 @@ impl<'a, K: Hash + Eq, V, S: BuildHasher> Driver<'a, K, V, S> {
         }
     }
 
-    /// Copies slots of a chunk one after another, where the first of them is looked at, and else one
-    /// step further: the answer to what is asked then.
+    /// Copies slots of a chunk one after another, where the first of them is looked at, and else
+    /// one step further: the answer to what is asked then.
     fn copy_on<R: Wait>(
         &mut self,
         rt: &R,

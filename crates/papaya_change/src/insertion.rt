@@ -43,8 +43,8 @@ use std::alloc::Global;
 use std::hash::{BuildHasher, Hash};
 use std::sync::Wait;
 
-/// An insertion under way, with the pair of its own key that it made, and the last that it made of a
-/// key that it met.
+/// An insertion under way, with the pair of its own key that it made, and the last that it made of
+/// a key that it met.
 #[derive(Drop)]
 pub struct Insertion<'a, K: Hash + Eq, V, S: BuildHasher> {
     writer: Writer<'a, K, V, S>,
@@ -89,8 +89,8 @@ impl<'a, K: Hash + Eq + Drop, V: Drop, S: BuildHasher> Insertion<'a, K, V, S> {
         }
     }
 
-    /// Tries to put a pair into a slot: of the call's own key where that is empty, and else of the key
-    /// that is there.
+    /// Tries to put a pair into a slot: of the call's own key where that is empty, and else of the
+    /// key that is there.
     fn put(
         &mut self,
         number: u64,
@@ -189,8 +189,8 @@ impl<'a, K: Hash + Eq + Drop, V: Drop, S: BuildHasher> Insertion<'a, K, V, S> {
     }
 }
 
-/// Runs an insertion under way to its end, which has not changed the map yet: the value that its key
-/// had.
+/// Runs an insertion under way to its end, which has not changed the map yet: the value that its
+/// key had.
 fn drive<'a, R: Wait, K: Hash + Eq + Drop, V: Drop, S: BuildHasher>(
     means: &Means<'_, '_, R>,
     window: &mut Window<'a, K, V, S>,
@@ -269,8 +269,8 @@ pub(crate) fn insert_slow<'a, R: Wait, K: Hash + Eq + Drop, V: Drop, S: BuildHas
     drive(means, window, given, insertion)
 }
 
-/// Inserts a pair by its machine, whose search of this table has found no place for the key: the value
-/// that its key had.
+/// Inserts a pair by its machine, whose search of this table has found no place for the key: the
+/// value that its key had.
 pub(crate) fn insert_onward<'a, R: Wait, K: Hash + Eq + Drop, V: Drop, S: BuildHasher>(
     means: &Means<'_, '_, R>,
     window: &mut Window<'a, K, V, S>,
@@ -356,8 +356,8 @@ pub(crate) fn insert_logged<'a, R: Wait, K: Hash + Eq + Drop, V: Drop, S: BuildH
     drive(means, window, given, insertion)
 }
 
-/// Inserts the value of a pair that lies in the log, with a key that was met in the slot of this write,
-/// by its machine: the value that the call's key had.
+/// Inserts the value of a pair that lies in the log, with a key that was met in the slot of this
+/// write, by its machine: the value that the call's key had.
 pub(crate) fn insert_met<'a, R: Wait, K: Hash + Eq + Drop, V: Drop, S: BuildHasher>(
     means: &Means<'_, '_, R>,
     window: &mut Window<'a, K, V, S>,

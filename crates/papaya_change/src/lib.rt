@@ -1,5 +1,5 @@
-//! The calls that change the shared map: insertions, removals and computes, driven by their
-//! machines.
+//! The calls that change the shared map: insertions, removals and computes, driven by
+//! their machines.
 #![tactic(auto)]
 
 pub mod copier;

@@ -1,5 +1,5 @@
-//! Removals: by a lookup's search where it finds their pair live, and else their machine, answered by
-//! steps on the book and by a closure.
+//! Removals: by a lookup's search where it finds their pair live, and else their machine, answered
+//! by steps on the book and by a closure.
 ghost use Rattle.papaya_lookup.specs.Drivers.{own, past};
 ghost use Rattle.papaya_lookup.specs.History.{Makes, key_of};
 ghost use Rattle.papaya_book.specs.Windows.{IsLawful, Sees};
@@ -133,7 +133,8 @@ impl<'a, K: Hash + Eq, V, S: BuildHasher> Removal<'a, K, V, S> {
                 Some(Answer::Ok)
             }
             CallAsk::Done(_) => None,
-            // A removal shows only a pair, makes no key and no pair, fills no slot and opens no table.
+            // A removal shows only a pair, makes no key and no pair, fills no slot and opens
+            // no table.
             CallAsk::ShowNone
             | CallAsk::WriteHint(_, _, _)
             | CallAsk::Exchange(_, _, _)

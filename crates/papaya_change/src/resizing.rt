@@ -98,8 +98,8 @@ impl<K: Hash + Eq, V, S: BuildHasher> Resizing<K, V, S> {
         self.copier.answer(rt, alloc, shard, asked, making, window)
     }
 
-    /// Copies slots of the chunk, from the one that is looked at on: the answer to what is asked where
-    /// that ends.
+    /// Copies slots of the chunk, from the one that is looked at on: the answer to what is asked
+    /// where that ends.
     fn copy_slots<'a>(
         &mut self,
         from: u64,
@@ -160,8 +160,8 @@ impl<K: Hash + Eq, V, S: BuildHasher> Resizing<K, V, S> {
 }
 
 /// Resizes the map, and changes no pair. `given` tells the sum of the count beside which there is
-/// room then. Where it is refused for want of room, it tells the number that a full log gave, or the
-/// sum that makes a table too long.
+/// room then. Where it is refused for want of room, it tells the number that a full log gave, or
+/// the sum that makes a table too long.
 pub fn resize<'a, R: Wait, K: Hash + Eq, V, S: BuildHasher>(
     rt: &R,
     alloc: Global,

@@ -372,8 +372,9 @@ impl<K: Hash + Eq, V, S: BuildHasher> Copier<K, V, S> {
         }
     }
 
-    /// Copies the slots of a chunk from this one on, as long as no other caller is met and the pairs
-    /// find a place in the next table: where the copy stands then, and what it was answered there.
+    /// Copies the slots of a chunk from this one on, as long as no other caller is met and the
+    /// pairs find a place in the next table: where the copy stands then, and what it was
+    /// answered there.
     pub(crate) fn copy_slots<'a>(
         &mut self,
         aim: Aim,

@@ -141,8 +141,8 @@ impl<'a, K: Hash + Eq + Drop, V: Drop, S: BuildHasher> Writer<'a, K, V, S> {
         Answer::Made(0)
     }
 
-    /// Logs the pair of the call's key and the value, and hands it out. Where there is none, what the
-    /// machine is to be answered.
+    /// Logs the pair of the call's key and the value, and hands it out. Where there is none, what
+    /// the machine is to be answered.
     pub fn log_pair<R: Wait>(
         &mut self,
         rt: &R,
@@ -183,8 +183,8 @@ impl<'a, K: Hash + Eq + Drop, V: Drop, S: BuildHasher> Writer<'a, K, V, S> {
         }
     }
 
-    /// Logs the pair of the value and the key of the pair last loaded, and hands it out. Where there
-    /// is none, what the machine is to be answered.
+    /// Logs the pair of the value and the key of the pair last loaded, and hands it out. Where
+    /// there is none, what the machine is to be answered.
     pub fn log_pair_of<R: Wait>(
         &mut self,
         rt: &R,

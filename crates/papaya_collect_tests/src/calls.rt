@@ -1,6 +1,6 @@
-// Each call that takes memory for many keys, also while these are being moved, with each request for memory
-// refused to it in turn: it says so and leaves what was there, and then it succeeds. What is told to refuse
-// is the heap of `tests/refused.py`.
+// Each call that takes memory for many keys, also while these are being moved, with each request
+// for memory refused to it in turn: it says so and leaves what was there, and then it succeeds.
+// What is told to refuse is the heap of `tests/refused.py`.
 use crate::collection::{Collection, Maker, has_below};
 use crate::expect::is_at;
 use crate::keys::{END, Key, MODES, Pair, START};
@@ -84,7 +84,8 @@ fn change<R: Wait, C: Collection>(rt: &R, it: &mut C, call: Call) -> Result<(), 
     }
 }
 
-/// Are all its keys below this one with their values, and are the even ones there, where these stay?
+/// Are all its keys below this one with their values, and are the even ones there, where
+/// these stay?
 fn is_left<C: Collection>(it: &C, keys: u64, evens_stay: bool) -> bool {
     let mut left = 0u64;
     for key in 0..keys {
@@ -177,8 +178,8 @@ fn calls<R: Wait, C: Collection + Drop>(
     }
 }
 
-/// After a refusal it is as it was. Where it took further keys, it has those before the refused one, and
-/// where keys were to go, those that did not go yet.
+/// After a refusal it is as it was. Where it took further keys, it has those before the refused
+/// one, and where keys were to go, those that did not go yet.
 fn is_kept<C: Collection>(it: &C, call: Call, keys: u64) -> bool {
     let count = it.count();
     match call {
@@ -305,8 +306,8 @@ fn each_maker<R: Wait + Abort, C: Collection + Drop>(rt: &R, alloc: Global) {
     }
 }
 
-/// So many keys of one path are there. A table is full at the next one or not, is being copied, and with 64
-/// in all one is given up in `Blocking`.
+/// So many keys of one path are there. A table is full at the next one or not, is being copied, and
+/// with 64 in all one is given up in `Blocking`.
 const STAGES: [u64; 10] = [0, 20, 25, 26, 27, 47, 63, 64, 65, 67];
 
 /// Of so many keys some are copied into a second table, or that is made at the next call.

@@ -1,6 +1,6 @@
-// Eight threads on a map or a set that grows, while each so many requests for memory one is refused: each
-// call is answered or refused memory, and no key is lost or invented. With memory it goes on. What is told
-// to refuse is the heap of `tests/refused.py`.
+// Eight threads on a map or a set that grows, while each so many requests for memory one is
+// refused: each call is answered or refused memory, and no key is lost or invented. With memory it
+// goes on. What is told to refuse is the heap of `tests/refused.py`.
 use crate::crowded::Crowded;
 use crate::expect::is_at;
 use crate::keys::MODES;
@@ -113,7 +113,8 @@ fn meet(alloc: Global, board: &Board, every: usize) {
     }
 }
 
-/// Stores a value. At a key that no other thread changes it is there then, or what was there before.
+/// Stores a value. At a key that no other thread changes it is there then, or what was
+/// there before.
 fn puts<R: Wait, C: Crowded>(
     rt: &R,
     it: &C,
@@ -284,7 +285,8 @@ struct Crowd {
     every: usize,
 }
 
-/// What came of a crowd: all was as it should be while memory was refused, after that, and with memory.
+/// What came of a crowd: all was as it should be while memory was refused, after that, and
+/// with memory.
 fn came_of<R: Threads + Wait + Sync, C: Crowded + Sync + Drop>(
     rt: &R,
     alloc: Global,

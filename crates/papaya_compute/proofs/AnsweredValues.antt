@@ -2,10 +2,16 @@
 use Rattle.std.proofs.Common.{◌≡◌, ℕ, Some, refl, sym, subst}
 use Rattle.papaya_words.specs.declared.probe.Refused.{Refused}
 use Rattle.papaya_ask.specs.declared.ask.Ask.{Ask}
-use Rattle.papaya_ask.specs.declared.ask.Ask.TheVariants.{Load, Exchange, LoadHint, WriteHint, SameKey, ShowNone, ShowPair, SizeOf, MakeKey, MakeValue, MakePair, MakePairOf, MakeTable, AddToShard, Done}
+use Rattle.papaya_ask.specs.declared.ask.Ask.TheVariants.{Load, Exchange, LoadHint, WriteHint}
+use Rattle.papaya_ask.specs.declared.ask.Ask.TheVariants.{SameKey, ShowNone, ShowPair, SizeOf}
+use Rattle.papaya_ask.specs.declared.ask.Ask.TheVariants.{MakeKey, MakeValue, MakePair, MakePairOf}
+use Rattle.papaya_ask.specs.declared.ask.Ask.TheVariants.{MakeTable, AddToShard, Done}
 use Rattle.papaya_ask.specs.declared.ask.At.TheVariants.{Next}
 use Rattle.papaya_ask.specs.declared.ask.Answer.{Answer}
-use Rattle.papaya_ask.specs.declared.ask.Answer.TheVariants.{Word as Word_read, Exchanged, Found as Found_instead, Op, Made as Made_number, Ok as Ok_done, Refused as Was_refused}
+use Rattle.papaya_ask.specs.declared.ask.Answer.TheVariants.{Word as Word_read, Exchanged}
+use Rattle.papaya_ask.specs.declared.ask.Answer.TheVariants.{Found as Found_instead, Op}
+use Rattle.papaya_ask.specs.declared.ask.Answer.TheVariants.{Made as Made_number, Ok as Ok_done}
+use Rattle.papaya_ask.specs.declared.ask.Answer.TheVariants.{Refused as Was_refused}
 use Rattle.papaya_ask.specs.declared.ask.OpKind.{OpKind}
 use Rattle.papaya_ask.specs.declared.ask.OpKind.TheVariants as ops
 use Rattle.papaya_ask.specs.declared.call.Task.{Task}
@@ -49,9 +55,11 @@ module _ (m : Machine) where
   at_stage stage = record m { state = stage }
 
   -- something else than the pair was made
-  paired_answered : (purpose : Purpose) (n : ℕ) → IsAnswered (Pairing purpose) → IsSilent (pair_ask m.made (in_place_of purpose)) → (G : Grown) → grown m.made (in_place_of purpose) ≡ G → IsAnswered (paired G purpose n)
+  paired_answered : (purpose : Purpose) (n : ℕ) → IsAnswered (Pairing purpose) → IsSilent (pair_ask m.made (in_place_of purpose)) → (G : Grown)
+      → grown m.made (in_place_of purpose) ≡ G → IsAnswered (paired G purpose n)
   paired_answered purpose n waits silent (On made) is = waits
-  paired_answered purpose n waits silent (Pair made) is = absurd (silent_no_pair (pair_ask m.made (in_place_of purpose)) silent (makes_pair m.made (in_place_of purpose) made is))
+  paired_answered purpose n waits silent (Pair made) is = absurd
+      (silent_no_pair (pair_ask m.made (in_place_of purpose)) silent (makes_pair m.made (in_place_of purpose) made is))
 
   answered_in : (stage : State) (answer : Answer) → IsAnswered stage → IsSilent (asks m.made m.hash stage) → IsAnswered (after (at_stage stage) answer).state
   answered_in (Pairing purpose) (Word_read word) waits silent = numbered_leads IsAnswered tt (Pairing purpose) waits (told m.made word)
@@ -108,7 +116,8 @@ module _ (m : Machine) where
   pub answered_none : (kind : OpKind) → ask_of m ≡ ShowNone → IsAnswered (after m (Op kind)).state
   answered_none kind e = none_in m.state kind e
 
-  pair_in : (stage : State) (n : ℕ) (kind : OpKind) → (kind ≡ ops.Remove → ⊥) → asks m.made m.hash stage ≡ ShowPair n → IsAnswered (after (record m { task = Compute; state = stage }) (Op kind)).state
+  pair_in : (stage : State) (n : ℕ) (kind : OpKind) → (kind ≡ ops.Remove → ⊥) → asks m.made m.hash stage ≡ ShowPair n
+      → IsAnswered (after (record m { task = Compute; state = stage }) (Op kind)).state
   pair_in (Showing removal) n ops.Insert stays e = tt
   pair_in (Showing removal) n ops.Remove stays e = absurd (stays refl)
   pair_in (Showing removal) n (ops.Abort with) stays e = tt

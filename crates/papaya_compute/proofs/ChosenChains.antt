@@ -26,10 +26,12 @@ module _ (m : Machine) (answer : Answer) (order : IsInOrder m answer m.phase) wh
   ]
 
   -- what it remembers it did before, or a pair was made now
-  pub chain_choice : (old : ℕ) (new : Of) → (after m answer).call.remembered.choice ≡ Some (To_replace old new) → (m.call.remembered.choice ≡ Some (To_replace old new)) ⊎ (IsOwnStep m answer × MakesPair (calls.ask_of m.call))
+  pub chain_choice : (old : ℕ) (new : Of) → (after m answer).call.remembered.choice ≡ Some (To_replace old new)
+      → (m.call.remembered.choice ≡ Some (To_replace old new)) ⊎ (IsOwnStep m answer × MakesPair (calls.ask_of m.call))
   chain_choice old new e = elim (machine_goes m answer order) [
     | inl waits ↦ inl (ap (λ (z : Call_machine). z.remembered.choice) (sym waits.call) ∙ e)
-    | inr (inl own) ↦ ⊎_elim (λ same. inl same) (λ makes. inr (own, makes.0)) (machine_choice m.call old new own.told (ap (λ (z : Call_machine). z.remembered.choice) (sym own.call) ∙ e))
+    | inr (inl own) ↦ ⊎_elim (λ same. inl same) (λ makes. inr (own, makes.0))
+        (machine_choice m.call old new own.told (ap (λ (z : Call_machine). z.remembered.choice) (sym own.call) ∙ e))
     | inr (inr (inl enters)) ↦ inl (ap (λ (z : Call_machine). z.remembered.choice) (sym enters.call) ∙ e)
     | inr (inr (inr (inl begins))) ↦ inl (ap (λ (z : Call_machine). z.remembered.choice) (sym begins.call) ∙ e)
     | inr (inr (inr (inr ends))) ↦ inl (ap (λ (z : Call_machine). z.remembered.choice) (sym ends.call) ∙ e)

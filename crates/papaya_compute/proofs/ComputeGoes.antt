@@ -7,7 +7,10 @@ use Rattle.papaya_words.specs.declared.probe.Refused.{Refused as Cause}
 use Rattle.papaya_words.specs.declared.probe.Refused.TheVariants.{Capacity, Limit}
 use Rattle.papaya_call.specs.declared.answers.Operation.{Operation}
 use Rattle.papaya_ask.specs.declared.ask.Ask.{Ask}
-use Rattle.papaya_ask.specs.declared.ask.Ask.TheVariants.{Load, Exchange, LoadHint, WriteHint, SameKey, ShowNone, ShowPair, SizeOf, MakeKey, MakeValue, MakePair, MakePairOf, MakeTable, AddToShard, Done}
+use Rattle.papaya_ask.specs.declared.ask.Ask.TheVariants.{Load, Exchange, LoadHint, WriteHint}
+use Rattle.papaya_ask.specs.declared.ask.Ask.TheVariants.{SameKey, ShowNone, ShowPair, SizeOf}
+use Rattle.papaya_ask.specs.declared.ask.Ask.TheVariants.{MakeKey, MakeValue, MakePair, MakePairOf}
+use Rattle.papaya_ask.specs.declared.ask.Ask.TheVariants.{MakeTable, AddToShard, Done}
 use Rattle.papaya_ask.specs.declared.ask.Answer.{Answer}
 use Rattle.papaya_ask.specs.declared.ask.Answer.TheVariants.{Refused as Was_refused}
 use Rattle.papaya_ask.specs.declared.ask.At.TheVariants.{Root, Next, Aborted as Aborted_word, Done as Done_word, Slot, Made as Made_word}
@@ -115,11 +118,13 @@ left_by_task task kind (Done reply) may other = absurd (other.done reply refl)
 
 -- is what any call asks that inserts
 pub left_to_write : (m : Machine) → IsStanding m → (ask : Ask) → ask_of m ≡ Call ask → IsOther ask → IsWriters ask
-left_to_write m standing ask asks other = left_by_task m.call.task (calls.kind_of_ask m.call) ask (subst (λ (a : Ask). MayAsk m.call.task (calls.kind_of_ask m.call) a) (call_asks m ask asks).1 (asked_of_task m.call standing.call)) other
+left_to_write m standing ask asks other = left_by_task m.call.task (calls.kind_of_ask m.call) ask
+    (subst (λ (a : Ask). MayAsk m.call.task (calls.kind_of_ask m.call) a) (call_asks m ask asks).1 (asked_of_task m.call standing.call)) other
 
 module _ {K V S H T : Type 0} (key : K) (made : List (Stored K V)) (said : List (Option (Stored K V) × Operation V T)) (x : Computing K V S T H) where
   -- what is at hand stays so, whatever else the writer does, while it keeps the value
-  pub holds_still : (w : Writer K V S H) → w.value ≡ x.writer.value → (stands : Said) → Holds key made said x stands → Holds key made said (record x { writer = w }) stands
+  pub holds_still : (w : Writer K V S H) → w.value ≡ x.writer.value → (stands : Said) → Holds key made said x stands
+      → Holds key made said (record x { writer = w }) stands
   holds_still w same (Agrees n agrees) h = h
   holds_still w same (Inserts None) h = (h.0, (h.1.0, ap held_value same ∙ h.1.1, h.1.2))
   holds_still w same (Inserts (Some n)) h = (h.0, h.1, h.2, (h.3.0, ap held_value same ∙ h.3.1, h.3.2))
@@ -132,7 +137,8 @@ module _ {K V S H T : Type 0} (x : Computing K V S T H) where
   pub newest_still : (w : Writer K V S H) → held_value w.value ≡ held_value x.writer.value → IsNewest x → IsNewest (record x { writer = w })
   newest_still w same h = record { shown = h.shown; made = (h.made.0, h.made.1, same ∙ h.made.2) }
 
-module _ {K V S H : Type 0} (eq : K → K → Bool) (input : K → List (List ℕ)) (build : S → H) (write : H → List ℕ → H) (finish : H → ℕ) (classes : IsEquivalence eq) (respects : (x y : K) → eq x y ≡ true → input x ≡ input y)
+module _ {K V S H : Type 0} (eq : K → K → Bool) (input : K → List (List ℕ)) (build : S → H) (write : H → List ℕ → H) (finish : H → ℕ)
+    (classes : IsEquivalence eq) (respects : (x y : K) → eq x y ≡ true → input x ≡ input y)
     (b : Begun K V S) (name : Book) (key : K) (begun : List (Event K V S)) where
   abbrev hash : S → K → ℕ
   hash = hash_of input build write finish
@@ -143,7 +149,8 @@ module _ {K V S H : Type 0} (eq : K → K → Bool) (input : K → List (List �
   abbrev pub ComputingOn : {T : Type 0} → List (Event K V S) → Computing K V S T H → List (Option (Stored K V) × Operation V T) → Option Answer → Type 0
   ComputingOn log x heard answer = IsComputingOn eq hash b name key begun log x heard answer
 
-  module _ {T : Type 0} (log : List (Event K V S)) (x : Computing K V S T H) (heard : List (Option (Stored K V) × Operation V T)) (r : Computing_at log x heard) where
+  module _ {T : Type 0} (log : List (Event K V S)) (x : Computing K V S T H) (heard : List (Option (Stored K V) × Operation V T))
+      (r : Computing_at log x heard) where
     abbrev pub m : Machine
     m = x.writer.call.machine
 
@@ -152,7 +159,8 @@ module _ {K V S H : Type 0} (eq : K → K → Bool) (input : K → List (List �
     HeldOn log' held = WasHeld eq (eq key) (history_of begun) (history_of log') held
 
     pub held_later : (log' : List (Event K V S)) → IsPrefix log log' → (held : Option (Stored K V)) → HeldOn log held → HeldOn log' held
-    held_later log' pre held h = held_wider eq (eq key) (history_of begun) (history_of begun) (history_of log) (history_of log') ([], append-nil (history_of begun)) (history_since log log' pre) held h
+    held_later log' pre held h = held_wider eq (eq key) (history_of begun) (history_of begun) (history_of log) (history_of log')
+        ([], append-nil (history_of begun)) (history_since log log' pre) held h
 
     module _ (standing : IsStanding m) (ask : Ask) (asks : ask_of m ≡ Call ask) (is_silent : IsSilent ask) (answer : Answer) where
       abbrev own : (m.phase ≡ Calling) × (calls.ask_of m.call ≡ ask)
@@ -171,23 +179,30 @@ module _ {K V S H : Type 0} (eq : K → K → Bool) (input : K → List (List �
       never e = not_show m.call answer silent None (call_asks m ShowNone e).1
 
       -- whether it was shown that there is none
-      none_later : HasNoNone heard ⊎ HasShownNone m.call.remembered.fill m.call.state → HasNoNone heard ⊎ HasShownNone (after m (answers.Call answer)).call.remembered.fill (after m (answers.Call answer)).call.state
+      none_later : HasNoNone heard ⊎ HasShownNone m.call.remembered.fill m.call.state → HasNoNone heard
+          ⊎ HasShownNone (after m (answers.Call answer)).call.remembered.fill (after m (answers.Call answer)).call.state
       none_later h = ⊎_elim (λ none. inl none) (λ shown. inr (chain_once m (answers.Call answer) order shown).1) h
 
       -- why it is refused: by what the answer says, or since no number is left for a pair
-      refused : (holds : Cause → Type 0) → ((cause : Cause) → answer ≡ Was_refused cause → holds cause) → (IsAtLimit m.call answer → holds Limit) → (cause : Cause) → ask_of (after m (answers.Call answer)) ≡ Call (Done (Refused cause)) → holds cause
+      refused : (holds : Cause → Type 0) → ((cause : Cause) → answer ≡ Was_refused cause → holds cause) → (IsAtLimit m.call answer → holds Limit)
+          → (cause : Cause) → ask_of (after m (answers.Call answer)) ≡ Call (Done (Refused cause)) → holds cause
       refused holds told spent = refused_for m own.0 answer holds never open_still told spent
 
       -- a newer answer of its closure waits on
       waits_on : IsAnswered m.call.state → IsAnswered (after m (answers.Call answer)).call.state
-      waits_on waits = subst (λ (z : Call_machine). IsAnswered z.state) (sym (own_step m own.0 answer (λ t e. answered_stays m.call t waits e))) (answered_on m.call answer silent waits)
+      waits_on waits = subst (λ (z : Call_machine). IsAnswered z.state) (sym (own_step m own.0 answer (λ t e. answered_stays m.call t waits e)))
+          (answered_on m.call answer silent waits)
 
       -- the pair that it remembers is the one of before
-      chosen_before : (old : ℕ) (new : Of) → (after m (answers.Call answer)).call.remembered.choice ≡ Some (To_replace old new) → m.call.remembered.choice ≡ Some (To_replace old new)
-      chosen_before old new e = ⊎_elim (λ same. same) (λ makes. absurd (silent_no_pair (calls.ask_of m.call) silent makes.1)) (chain_choice m (answers.Call answer) order old new e)
+      chosen_before : (old : ℕ) (new : Of) → (after m (answers.Call answer)).call.remembered.choice ≡ Some (To_replace old new)
+          → m.call.remembered.choice ≡ Some (To_replace old new)
+      chosen_before old new e = ⊎_elim (λ same. same) (λ makes. absurd (silent_no_pair (calls.ask_of m.call) silent makes.1))
+          (chain_choice m (answers.Call answer) order old new e)
 
       -- it goes on after an answer to a silent ask
-      pub goes_on : (log' : List (Event K V S)) → IsPrefix log log' → (w : Writer K V S H) → w.call.machine ≡ m → w.value ≡ x.writer.value → IsUnsaid w.call.given.done answer → TellsTaken log' (calls.ask_of m.call) answer → IsWritingOn eq hash b name key r.made begun log' w answer → ComputingOn log' (record x { writer = w }) heard (Some answer)
+      pub goes_on : (log' : List (Event K V S)) → IsPrefix log log' → (w : Writer K V S H) → w.call.machine ≡ m → w.value ≡ x.writer.value
+          → IsUnsaid w.call.given.done answer → TellsTaken log' (calls.ask_of m.call) answer → IsWritingOn eq hash b name key r.made begun log' w answer
+          → ComputingOn log' (record x { writer = w }) heard (Some answer)
       goes_on log' pre w same value unsaid tells on =
           let given = w.call.given.done in
           let l' : IsLawfulLog eq hash b log' = on.0.calling.lawful in
@@ -204,19 +219,32 @@ module _ {K V S H : Type 0} (eq : K → K → Bool) (input : K → List (List �
               held = all_shown (HeldOn log) (HeldOn log') (held_later log' pre) heard r.held;
               none_once = r.none_once;
               none_shown = subst (λ (z : Machine). HasNoNone heard ⊎ HasShownNone z.call.remembered.fill z.call.state) (sym then) (none_later r.none_shown);
-              stood = λ stands h. holds_still key r.made heard x (answered_writer w answer) value stands (r.stood stands (own_stood m own.0 answer silent standing r.words stands (subst (λ (z : Machine). StandsOn z.call stands) then h)));
+              stood = λ stands h. holds_still key r.made heard x (answered_writer w answer) value stands
+                  (r.stood stands (own_stood m own.0 answer silent standing r.words stands (subst (λ (z : Machine). StandsOn z.call stands) then h)));
               newest = λ i n h.
-                  ⊎_elim (λ waits. inl (subst (λ (z : Machine). IsAnswered z.call.state) (sym then) (waits_on waits))) (λ newest. inr (newest_still x (answered_writer w answer) (ap held_value value) newest))
-                  (r.newest i n (own_stood m own.0 answer silent standing r.words (Makes (Some i) n) (subst (λ (z : Machine). StandsOn z.call (Makes (Some i) n)) then h)));
-              of_slot = λ old new e. let h = r.of_slot old new (chosen_before old new (subst (λ (z : Machine). z.call.remembered.choice ≡ Some (To_replace old new)) then e)) in (h.0, h.1, key_at_stays eq input build write finish classes respects b log log' l' pre new.table new.index (key_of h.0) h.2);
-              aborts = λ with e. let s = own_aborted m own.0 answer with open_still (ap ask_of (sym then) ∙ e) in absurd (not_show m.call answer silent s.0 s.1);
-              refuses = λ cause e. inl (refused IsMemoryCapacityOrLimit (λ c h. inl (unsaid_cause given answer unsaid c h)) (λ over. inr refl) cause (ap ask_of (sym then) ∙ e));
-              crowded = λ e. let initial = (after w.call.machine (answers.Call answer)).call.initial in refused (λ cause. cause ≡ Capacity → HasNoRoom initial (tables_of log') given) (unsaid_room initial (tables_of log') given answer unsaid) (λ over f. absurd (cc f)) Capacity (ap ask_of (sym then) ∙ e) refl;
-              spent = λ e. refused (λ cause. cause ≡ Limit → IsSpent b.limit log') (unsaid_limit (IsSpent b.limit log') given answer unsaid) (λ over f. limit_spent eq hash b log' l' m.call answer r.writing.calling.relies.call.made.limit tells over) Limit (ap ask_of (sym then) ∙ e) refl;
+                  ⊎_elim (λ waits. inl (subst (λ (z : Machine). IsAnswered z.call.state) (sym then) (waits_on waits)))
+                  (λ newest. inr (newest_still x (answered_writer w answer) (ap held_value value) newest))
+                  (r.newest i n (own_stood m own.0 answer silent standing r.words (Makes (Some i) n)
+                  (subst (λ (z : Machine). StandsOn z.call (Makes (Some i) n)) then h)));
+              of_slot = λ old new e. let h = r.of_slot old new
+                  (chosen_before old new (subst (λ (z : Machine). z.call.remembered.choice ≡ Some (To_replace old new)) then e)) in
+                  (h.0, h.1, key_at_stays eq input build write finish classes respects b log log' l' pre new.table new.index (key_of h.0) h.2);
+              aborts = λ with e. let s = own_aborted m own.0 answer with open_still (ap ask_of (sym then) ∙ e) in
+                  absurd (not_show m.call answer silent s.0 s.1);
+              refuses = λ cause e. inl (refused IsMemoryCapacityOrLimit (λ c h. inl (unsaid_cause given answer unsaid c h)) (λ over. inr refl) cause
+                  (ap ask_of (sym then) ∙ e));
+              crowded = λ e. let initial = (after w.call.machine (answers.Call answer)).call.initial in
+                  refused (λ cause. cause ≡ Capacity → HasNoRoom initial (tables_of log') given)
+                  (unsaid_room initial (tables_of log') given answer unsaid) (λ over f. absurd (cc f)) Capacity (ap ask_of (sym then) ∙ e) refl;
+              spent = λ e. refused (λ cause. cause ≡ Limit → IsSpent b.limit log') (unsaid_limit (IsSpent b.limit log') given answer unsaid)
+                  (λ over f. limit_spent eq hash b log' l' m.call answer r.writing.calling.relies.call.made.limit tells over) Limit
+                  (ap ask_of (sym then) ∙ e) refl;
             },
             on.1,
           )
 
       -- so it does where it was not asked how many numbers for pairs were taken
-      pub goes_untold : (IsNumberAsk ask → ⊥) → (log' : List (Event K V S)) → IsPrefix log log' → (w : Writer K V S H) → w.call.machine ≡ m → w.value ≡ x.writer.value → IsUnsaid w.call.given.done answer → IsWritingOn eq hash b name key r.made begun log' w answer → ComputingOn log' (record x { writer = w }) heard (Some answer)
+      pub goes_untold : (IsNumberAsk ask → ⊥) → (log' : List (Event K V S)) → IsPrefix log log' → (w : Writer K V S H) → w.call.machine ≡ m
+          → w.value ≡ x.writer.value → IsUnsaid w.call.given.done answer → IsWritingOn eq hash b name key r.made begun log' w answer
+          → ComputingOn log' (record x { writer = w }) heard (Some answer)
       goes_untold other log' pre w same value unsaid on = goes_on log' pre w same value unsaid (λ number. absurd (other (subst IsNumberAsk own.1 number))) on

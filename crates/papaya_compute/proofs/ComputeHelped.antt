@@ -51,7 +51,8 @@ module _ (m m' : Machine) (tables : List ℕ) (given : List CapacityCause) (help
   shown_kept : HasShownNone m.call.remembered.fill m.call.state → HasShownNone m'.call.remembered.fill m'.call.state
   shown_kept shown = elim helped [
     | inl same ↦ subst (λ (z : Machine). HasShownNone z.call.remembered.fill z.call.state) (sym same) shown
-    | inr (inl h) ↦ subst (λ (z : Call_machine). HasShownNone z.remembered.fill z.state) (sym h.call) (aside_filled m.call.remembered.fill m.call.state h.from h.left shown)
+    | inr (inl h) ↦ subst (λ (z : Call_machine). HasShownNone z.remembered.fill z.state) (sym h.call)
+        (aside_filled m.call.remembered.fill m.call.state h.from h.left shown)
     | inr (inr (inl h)) ↦
         subst (λ (z : Call_machine). HasShownNone z.remembered.fill z.state) (sym h.call)
         (machine_shown (record m.call { state = AtRoot }) (Word_read h.root) (aside_filled m.call.remembered.fill m.call.state h.from h.left shown)).1
@@ -93,12 +94,16 @@ module _ (m m' : Machine) (tables : List ℕ) (given : List CapacityCause) (help
         | inl same ↦ ap ask_of (sym same) ∙ e
         | inr (inl h) ↦ let f = ap (λ (z : Call_machine). calls.ask_of z) (sym h.call) ∙ own in absurd (cc f)
         | inr (inr (inl h)) ↦
-            absurd (anew (λ s. calls.asks m.call.made m.call.hash s ≡ Done (Aborted with) → ⊥) (λ f. cc f) (λ f. cc f) (λ f. cc f) (λ t f. cc f) m.call.task m.call.remembered.fill h.root (ap (λ (z : Call_machine). calls.ask_of z) (sym h.call) ∙ own))
+            absurd (anew (λ s. calls.asks m.call.made m.call.hash s ≡ Done (Aborted with) → ⊥) (λ f. cc f) (λ f. cc f) (λ f. cc f) (λ t f. cc f)
+            m.call.task m.call.remembered.fill h.root (ap (λ (z : Call_machine). calls.ask_of z) (sym h.call) ∙ own))
         | inr (inr (inr h)) ↦ let f = ap (λ (z : Call_machine). calls.ask_of z) (sym h.call) ∙ own in absurd (cc f)
       ]
 
-module _ {K V S H T : Type 0} (eq : K → K → Bool) (input : K → List (List ℕ)) (build : S → H) (write : H → List ℕ → H) (finish : H → ℕ) (classes : IsEquivalence eq) (respects : (x y : K) → eq x y ≡ true → input x ≡ input y)
-    (b : Begun K V S) (name : Book) (key : K) (begun log log' : List (Event K V S)) (pre : IsPrefix log log') (x : Computing K V S T H) (heard : List (Option (Stored K V) × Operation V T)) (r : IsComputing eq (hash_of input build write finish) b name key begun log x heard) (c : Driver K V S H) where
+module _ {K V S H T : Type 0} (eq : K → K → Bool) (input : K → List (List ℕ)) (build : S → H) (write : H → List ℕ → H) (finish : H → ℕ)
+    (classes : IsEquivalence eq) (respects : (x y : K) → eq x y ≡ true → input x ≡ input y)
+    (b : Begun K V S) (name : Book) (key : K) (begun log log' : List (Event K V S)) (pre : IsPrefix log log') (x : Computing K V S T H)
+    (heard : List (Option (Stored K V) × Operation V T)) (r : IsComputing eq (hash_of input build write finish) b name key begun log x heard)
+    (c : Driver K V S H) where
   abbrev hash : S → K → ℕ
   hash = hash_of input build write finish
 
@@ -106,9 +111,12 @@ module _ {K V S H T : Type 0} (eq : K → K → Bool) (input : K → List (List 
   HeldOn log' held = WasHeld eq (eq key) (history_of begun) (history_of log') held
 
   held_later : (held : Option (Stored K V)) → HeldOn log held → HeldOn log' held
-  held_later held h = held_wider eq (eq key) (history_of begun) (history_of begun) (history_of log) (history_of log') ([], append-nil (history_of begun)) (history_since log log' pre) held h
+  held_later held h = held_wider eq (eq key) (history_of begun) (history_of begun) (history_of log) (history_of log')
+      ([], append-nil (history_of begun)) (history_since log log' pre) held h
 
-  pub computing_helped : IsDriven eq hash b name (eq key) (hash b.hasher key) (Some key) begun log' r.made c → c.put ≡ x.writer.call.put → c.machine.phase ≡ Calling → (x.writer.call.machine.phase ≡ Calling → (c ≡ x.writer.call) × (log' ≡ log)) → HasHelped x.writer.call.machine c.machine (tables_of log') c.given.done
+  pub computing_helped : IsDriven eq hash b name (eq key) (hash b.hasher key) (Some key) begun log' r.made c → c.put ≡ x.writer.call.put
+      → c.machine.phase ≡ Calling → (x.writer.call.machine.phase ≡ Calling → (c ≡ x.writer.call) × (log' ≡ log))
+      → HasHelped x.writer.call.machine c.machine (tables_of log') c.given.done
       → IsComputing eq hash b name key begun log' (record x { writer = record x.writer { call = c } }) heard
   computing_helped driven put calling still helped =
       let m = x.writer.call.machine in
@@ -118,7 +126,12 @@ module _ {K V S H T : Type 0} (eq : K → K → Bool) (input : K → List (List 
       let same = λ (e : m.phase ≡ Calling). (still e).0 in
       record {
         made = r.made;
-        writing = record { calling = driven; keyed = r.writing.keyed; valued = r.writing.valued; put_placed = subst (λ o. IsPlaced b (Some name) (pair_named o)) (sym put) r.writing.put_placed };
+        writing = record {
+          calling = driven;
+          keyed = r.writing.keyed;
+          valued = r.writing.valued;
+          put_placed = subst (λ o. IsPlaced b (Some name) (pair_named o)) (sym put) r.writing.put_placed;
+        };
         task_is = k.task ∙ r.task_is;
         words = k.shows r.words;
         puts = puts_kept m c.machine tables given helped r.task_is r.puts;
@@ -132,9 +145,12 @@ module _ {K V S H T : Type 0} (eq : K → K → Bool) (input : K → List (List 
         newest = λ i n h.
             ⊎_elim (λ waits. inl (waits_kept m c.machine tables given helped waits)) (λ newest. inr (newest_still x (record x.writer { call = c }) refl newest))
             (r.newest i n (k.stands (Makes (Some i) n) h));
-        of_slot = λ old new e. let h = r.of_slot old new (ap (λ (z : Remembered). z.choice) (sym (remembers m c.machine tables given helped)) ∙ e) in (h.0, h.1, key_at_stays eq input build write finish classes respects b log log' driven.lawful pre new.table new.index (key_of h.0) h.2);
+        of_slot = λ old new e. let h = r.of_slot old new (ap (λ (z : Remembered). z.choice) (sym (remembers m c.machine tables given helped)) ∙ e) in
+            (h.0, h.1, key_at_stays eq input build write finish classes respects b log log' driven.lawful pre new.table new.index (key_of h.0) h.2);
         aborts = λ with e. r.aborts with (aborted_before m c.machine tables given helped with e);
-        refuses = λ cause e. ⊎_elim (λ one. r.refuses cause (ap ask_of (sym one) ∙ e)) (λ h. inl (inl (⊎_elim (λ memory. inl memory) (λ full. inr full.0) h))) (k.ends cause e);
+        refuses = λ cause e. ⊎_elim (λ one. r.refuses cause (ap ask_of (sym one) ∙ e))
+            (λ h. inl (inl (⊎_elim (λ memory. inl memory) (λ full. inr full.0) h))) (k.ends cause e);
         crowded = room_kept x.writer.call c tables calling same helped (tables_of log) (tables_since log log' pre) r.crowded;
-        spent = spent_kept x.writer.call c tables calling same helped (IsSpent b.limit log') (λ e. subst (IsSpent b.limit) (sym (still (call_asks m (Done (Refused Limit)) e).0).1) (r.spent e));
+        spent = spent_kept x.writer.call c tables calling same helped (IsSpent b.limit log')
+            (λ e. subst (IsSpent b.limit) (sym (still (call_asks m (Done (Refused Limit)) e).0).1) (r.spent e));
       }

@@ -33,11 +33,13 @@ module _ (m : Machine) (calling : m.phase ≡ Calling) (answer : Answer) where
   ]
 
   -- it aborts where its closure answered so that it was shown something
-  pub own_aborted : (with : ℕ) → ((reply : Reply) → ask_of m ≡ Call (Done reply) → ⊥) → ask_of m' ≡ Call (Done (Aborted with)) → (shown : Option ℕ) × (calls.ask_of m.call ≡ show shown) × (answer ≡ Op (ops.Abort with))
+  pub own_aborted : (with : ℕ) → ((reply : Reply) → ask_of m ≡ Call (Done reply) → ⊥) → ask_of m' ≡ Call (Done (Aborted with)) → (shown : Option ℕ)
+      × (calls.ask_of m.call ≡ show shown) × (answer ≡ Op (ops.Abort with))
   own_aborted with open_still e =
       let own : calls.ask_of m'.call ≡ Done (Aborted with) = (call_asks m' (Done (Aborted with)) e).1 in
       elim (own_went m calling answer) [
-        | inl h ↦ machine_aborted m.call answer with (λ reply done. open_still reply (calling_asks m calling ∙ ap (λ a. Call a) done)) (ap (λ (z : Call_machine). calls.ask_of z) (sym h.0) ∙ own)
+        | inl h ↦ machine_aborted m.call answer with (λ reply done. open_still reply (calling_asks m calling ∙ ap (λ a. Call a) done))
+            (ap (λ (z : Call_machine). calls.ask_of z) (sym h.0) ∙ own)
         | inr (inl h) ↦ absurd (aside_asks_none m'.call m'.phase h.3 (Done (Aborted with)) e)
         | inr (inr h) ↦ let f = ap (λ (z : Call_machine). calls.ask_of z) (sym h.5) ∙ own in absurd (cc f)
       ]

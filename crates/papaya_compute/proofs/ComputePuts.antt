@@ -1,5 +1,7 @@
 -- The pair that a compute puts into a slot is at hand, and has the key that it may have there.
-use Rattle.std.proofs.Common.{◌≡◌, inl, inr, ⊎_elim, ℕ, ◌<◌, ◌≤◌, ◌^◌, ◌==◌, Bool, true, false, cond, MatchBool, Option, None, Some, List, refl, sym, ap, ◌∙◌, subst, arith}
+use Rattle.std.proofs.Common.{◌≡◌, inl, inr, ⊎_elim, ℕ, ◌<◌, ◌≤◌, ◌^◌, ◌==◌, Bool, true, false}
+use Rattle.std.proofs.Common.{cond, MatchBool, Option, None, Some, List, refl, sym, ap, ◌∙◌, subst}
+use Rattle.std.proofs.Common.{arith}
 use Rattle.std.proofs.lemmas.Bool.{cases_lt}
 use Rattle.std.specs.Cmp.{IsEquivalence}
 use Rattle.logbook.specs.Pages.{Book}
@@ -33,7 +35,10 @@ use Rattle.papaya_change.proofs.Written.{own_query}
 use Rattle.papaya_book.specs.Logs.{Stored}
 use Rattle.papaya_compute.proofs.ChosenSlots.{machine_slot}
 
-module _ {K V S T H : Type 0} (eq : K → K → Bool) (input : K → List (List ℕ)) (build : S → H) (write : H → List ℕ → H) (finish : H → ℕ) (classes : IsEquivalence eq) (respects : (x y : K) → eq x y ≡ true → input x ≡ input y) (b : Begun K V S) (name : Book) (key : K) (begun log : List (Event K V S)) (x : Computing K V S T H) (heard : List (Option (Stored K V) × Operation V T)) (r : IsComputing eq (hash_of input build write finish) b name key begun log x heard)
+module _ {K V S T H : Type 0} (eq : K → K → Bool) (input : K → List (List ℕ)) (build : S → H) (write : H → List ℕ → H) (finish : H → ℕ)
+    (classes : IsEquivalence eq) (respects : (x y : K) → eq x y ≡ true → input x ≡ input y) (b : Begun K V S) (name : Book) (key : K)
+    (begun log : List (Event K V S)) (x : Computing K V S T H) (heard : List (Option (Stored K V) × Operation V T))
+    (r : IsComputing eq (hash_of input build write finish) b name key begun log x heard)
     (standing : IsStanding x.writer.call.machine) (t i old new : ℕ) (asks : ask_of x.writer.call.machine ≡ Call (Exchange (Slot t i) old new)) where
   abbrev m : Machine
   m = x.writer.call.machine
@@ -43,7 +48,9 @@ module _ {K V S T H : Type 0} (eq : K → K → Bool) (input : K → List (List 
 
   -- its hash is one of 64 bits
   fits : m.call.hash < 2 ^ 64
-  fits = subst (λ n. n < 2 ^ 64) (sym r.writing.calling.relies.call.hash) ((hashed_with eq input build write finish classes respects b (eq key) (input key) (own_query eq input build write finish classes respects b name key) log r.writing.calling.lawful).coding.hash_fits (Some key))
+  fits = subst (λ n. n < 2 ^ 64) (sym r.writing.calling.relies.call.hash)
+      ((hashed_with eq input build write finish classes respects b (eq key) (input key)
+      (own_query eq input build write finish classes respects b name key) log r.writing.calling.lawful).coding.hash_fits (Some key))
 
   -- the exchange is what its closure said
   is_said : IsSaidExchange m.call (pair_of old) (pair_of new)
@@ -85,11 +92,14 @@ module _ {K V S T H : Type 0} (eq : K → K → Bool) (input : K → List (List 
   -- the key that is in the slot for which the pair was made
   kept_there : calls.kind_of_ask m.call ≡ Some kinds.Replace → (q : Stored K V) → x.made ≡ Some q → HasKeyAt log t i (key_of q)
   kept_there kind q has =
-      let some : 0 < old = ⊎_elim (λ (some : 0 < old). some) (λ (none : old ≤ 0). let zero : old ≡ 0 = omega (arith, none) in let f : false ≡ true = sym (full kind) ∙ ap (λ (n : ℕ). n == 0) zero in absurd (cc f)) (cases_lt 0 old) in
+      let some : 0 < old = ⊎_elim (λ (some : 0 < old). some)
+      (λ (none : old ≤ 0). let zero : old ≡ 0 = omega (arith, none) in let f : false ≡ true = sym (full kind) ∙ ap (λ (n : ℕ). n == 0) zero in
+      absurd (cc f)) (cases_lt 0 old) in
       let slot = machine_slot m.call t i old new r.task_is standing.call r.puts own.1 kind some in
       let h = r.of_slot (pair_of old) slot.of slot.choice in
       let one : h.0 ≡ q = cc (h.1, has) in
-      subst (λ (z : Stored K V). HasKeyAt log t i (key_of z)) one (subst (λ n. HasKeyAt log n i (key_of h.0)) slot.table (subst (λ n. HasKeyAt log slot.of.table n (key_of h.0)) slot.index h.2))
+      subst (λ (z : Stored K V). HasKeyAt log t i (key_of z)) one
+      (subst (λ n. HasKeyAt log n i (key_of h.0)) slot.table (subst (λ n. HasKeyAt log slot.of.table n (key_of h.0)) slot.index h.2))
 
   replaced : kind_of_ask m ≡ Some kinds.Replace → IsAtHand x.made
   replaced e =
@@ -97,8 +107,14 @@ module _ {K V S T H : Type 0} (eq : K → K → Bool) (input : K → List (List 
       ⊎_elim (λ h. let g = sym kind ∙ h.0 in absurd (cc g))
       (λ o. ⊎_elim
       (λ h.
-      let s = r.stood (Makes (Some (pair_of old)) (pair_of new)) h.1 in
-      (s.1, s.4, s.5.number, s.5.made_is, subst (λ (z : Bool). MatchBool z (key_of s.1 ≡ key) (HasKeyAt log t i (key_of s.1))) (sym (full kind)) (kept_there kind s.1 s.4)))
+      let s = r.stood (Makes (Some (pair_of old)) (pair_of new)) h.1 in (
+        s.1,
+        s.4,
+        s.5.number,
+        s.5.made_is,
+        subst (λ (z : Bool). MatchBool z (key_of s.1 ≡ key) (HasKeyAt log t i (key_of s.1))) (sym (full kind))
+            (kept_there kind s.1 s.4),
+      ))
       (λ h. let g = sym kind ∙ h.0 in absurd (cc g)) o)
       is_said
 

@@ -1,5 +1,6 @@
 -- What a compute that has replied answers: what its closure answered, and the change that it made.
-use Rattle.std.proofs.Common.{◌≡◌, inl, inr, ℕ, Bool, true, MatchOption, Option, None, Some, Result, Ok, Err, List, [], ◌∷◌, ◌++◌, append-nil, refl, sym, ap, ◌∙◌, subst}
+use Rattle.std.proofs.Common.{◌≡◌, inl, inr, ℕ, Bool, true, MatchOption, Option, None, Some, Result}
+use Rattle.std.proofs.Common.{Ok, Err, List, [], ◌∷◌, ◌++◌, append-nil, refl, sym, ap, ◌∙◌, subst}
 use Rattle.std.specs.Cmp.{IsEquivalence}
 use mathlib.Core.List.{IsPrefix}
 use denote.Bor.{Bor}
@@ -56,7 +57,8 @@ IsNoCompute Reply_done = Unit {0}
 IsNoCompute (Refused cause) = ⊥
 
 -- what is none of the replies of a compute is one of these
-pub other_reply : (reply : Reply) → ((n : ℕ) → reply ≡ Inserted n → ⊥) → ((old n : ℕ) → reply ≡ Replaced old n → ⊥) → ((n : ℕ) → reply ≡ Removed n → ⊥) → ((with : ℕ) → reply ≡ Aborted with → ⊥) → ((cause : Cause) → reply ≡ Refused cause → ⊥) → IsNoCompute reply
+pub other_reply : (reply : Reply) → ((n : ℕ) → reply ≡ Inserted n → ⊥) → ((old n : ℕ) → reply ≡ Replaced old n → ⊥)
+    → ((n : ℕ) → reply ≡ Removed n → ⊥) → ((with : ℕ) → reply ≡ Aborted with → ⊥) → ((cause : Cause) → reply ≡ Refused cause → ⊥) → IsNoCompute reply
 other_reply Absent inserted replaced removed aborted refused = tt
 other_reply (Found n) inserted replaced removed aborted refused = tt
 other_reply (Inserted n) inserted replaced removed aborted refused = inserted n refl
@@ -76,8 +78,10 @@ of_some holds none o p is m = subst (λ z. MatchOption z none holds) is m
 abbrev AreOne : {K V : Type 0} → Stored K V → Stored K V → Type 0
 AreOne p q = p.value ≡ q.value
 
-module _ {K V S T H : Type 0} (eq : K → K → Bool) (input : K → List (List ℕ)) (build : S → H) (write : H → List ℕ → H) (finish : H → ℕ) (classes : IsEquivalence eq) (respects : (x y : K) → eq x y ≡ true → input x ≡ input y)
-    (b : Begun K V S) (name : Book) (key : K) (begun log : List (Event K V S)) (x : Computing K V S T H) (heard : List (Option (Stored K V) × Operation V T)) (r : IsComputing eq (hash_of input build write finish) b name key begun log x heard) where
+module _ {K V S T H : Type 0} (eq : K → K → Bool) (input : K → List (List ℕ)) (build : S → H) (write : H → List ℕ → H) (finish : H → ℕ)
+    (classes : IsEquivalence eq) (respects : (x y : K) → eq x y ≡ true → input x ≡ input y)
+    (b : Begun K V S) (name : Book) (key : K) (begun log : List (Event K V S)) (x : Computing K V S T H)
+    (heard : List (Option (Stored K V) × Operation V T)) (r : IsComputing eq (hash_of input build write finish) b name key begun log x heard) where
   abbrev m : Machine
   m = x.writer.call.machine
 
@@ -96,7 +100,9 @@ module _ {K V S T H : Type 0} (eq : K → K → Bool) (input : K → List (List 
 
   -- what its reply stands on is at hand
   at_hand : (reply : Reply) (said : Said) → ask_of m ≡ Call (Done reply) → said_of_compute reply ≡ Some said → Holds key r.made heard x said
-  at_hand reply said e is = r.stood said (inl (ap (λ t. said_in t m.call.state) r.task_is ∙ (ap (said_in Compute) (ended_in m.call.made m.call.hash m.call.state reply (call_asks m (Done reply) e).1) ∙ is)))
+  at_hand reply said e is = r.stood said (inl
+      (ap (λ t. said_in t m.call.state) r.task_is
+      ∙ (ap (said_in Compute) (ended_in m.call.made m.call.hash m.call.state reply (call_asks m (Done reply) e).1) ∙ is)))
 
   module _ (reply : Reply) (e : ask_of m ≡ Call (Done reply)) (old new : Option ℕ) (change : change_of_reply reply ≡ Some (old, new)) where
     changed : HasChanged eq (Some key) begun log x.writer.call.taken x.writer.call.put (old, new)
@@ -104,7 +110,8 @@ module _ {K V S T H : Type 0} (eq : K → K → Bool) (input : K → List (List 
         let query = own_query eq input build write finish classes respects b name key in
         let g = Wide eq input build write finish classes respects b (eq key) (input key) query (Some key) name begun log in
         let c = Coded eq input build write finish classes respects b (eq key) (input key) query (Some key) name begun in
-        r.writing.calling.changed (old, new) ((machine_replies g c (exchanges_of begun) r.writing.calling.since (Some key) loaded m.call r.writing.calling.relies.call reply (call_asks m (Done reply) e).1).1 ∙ change)
+        r.writing.calling.changed (old, new) ((machine_replies g c (exchanges_of begun) r.writing.calling.since (Some key) loaded m.call
+        r.writing.calling.relies.call reply (call_asks m (Done reply) e).1).1 ∙ change)
 
     -- the numbers of what went and of what came
     taken_number : (taken : Stored K V) → x.writer.call.taken ≡ Some taken → (old ≡ Some taken.index) × (changed.class ≡ key_of taken)
@@ -135,7 +142,8 @@ module _ {K V S T H : Type 0} (eq : K → K → Bool) (input : K → List (List 
         by_option (Some p) h = let g = sym none ∙ h.0 in absurd (cc g)
 
     some_taken : (n : ℕ) → old ≡ Some n → x.writer.call.taken ≡ None → ⊥
-    some_taken n some is = let h = subst (λ o. MatchOption o (old ≡ None) (λ p. (old ≡ Some p.index) × (changed.class ≡ key_of p))) is changed.taken_is in let g = sym some ∙ h in cc g
+    some_taken n some is = let h = subst (λ o. MatchOption o (old ≡ None) (λ p. (old ≡ Some p.index) × (changed.class ≡ key_of p))) is
+        changed.taken_is in let g = sym some ∙ h in cc g
 
     some_put : (n : ℕ) → new ≡ Some n → x.writer.call.put ≡ None → ⊥
     some_put n some is = let h = subst (λ o. MatchOption o (new ≡ None) IsPutIn) is changed.put_is in let g = sym some ∙ h in cc g
@@ -146,7 +154,9 @@ module _ {K V S T H : Type 0} (eq : K → K → Bool) (input : K → List (List 
       before = history_of changed.before;
       change = record { class = changed.class; taken = x.writer.call.taken; put = x.writer.call.put };
       since = history_since begun changed.before changed.since;
-      is = ap (changes_of key_of) changed.is ∙ (changes-append key_of (exchanges_of changed.before) (changed.by ∷ []) ∙ ap (λ (cs : List (Change K (Stored K V))). history_of changed.before ++ cs) (Rattle.std.proofs.lemmas.List.append-nil _ ∙ changed.change_is));
+      is = ap (changes_of key_of) changed.is ∙
+          (changes-append key_of (exchanges_of changed.before) (changed.by ∷ [])
+          ∙ ap (λ (cs : List (Change K (Stored K V))). history_of changed.before ++ cs) (Rattle.std.proofs.lemmas.List.append-nil _ ∙ changed.change_is));
       class_is = class;
       taken_is = took;
       put_is = puts;
@@ -173,22 +183,34 @@ module _ {K V S T H : Type 0} (eq : K → K → Bool) (input : K → List (List 
 
     -- it lies in the logs
     pub fill_placed : (fill : Stored K V) → x.fill ≡ Some fill → IsPlaced b (Some name) (pair_named (Some fill))
-    fill_placed fill has = let one : filled.0 ≡ fill = cc (filled.1, has) in subst (λ (z : Stored K V). IsPlaced b (Some name) (pair_named (Some z))) one (r.writing.calling.made_placed filled.0 filled.2.made_is)
+    fill_placed fill has = let one : filled.0 ≡ fill = cc (filled.1, has) in
+        subst (λ (z : Stored K V). IsPlaced b (Some name) (pair_named (Some z))) one (r.writing.calling.made_placed filled.0 filled.2.made_is)
 
-    pub inserted : (fill put : Stored K V) → x.fill ≡ Some fill → x.writer.call.put ≡ Some put → AreOne fill put → (k : Bor K) (v : Bor V) → AreOf (k, v) put → Answers (Ok (computed.Inserted k v))
+    pub inserted : (fill put : Stored K V) → x.fill ≡ Some fill → x.writer.call.put ≡ Some put → AreOne fill put → (k : Bor K) (v : Bor V)
+        → AreOf (k, v) put → Answers (Ok (computed.Inserted k v))
     inserted fill put has puts same k v are =
         let one : filled.0 ≡ fill = cc (filled.1, has) in
         let value = ap (λ (z : Stored K V). z.value) one ∙ same in
         let own : key_of put ≡ key = ap (λ z. z.key.value) (sym value) ∙ filled.2.key_is in
         let change = changed (Inserted n) e None (Some n) refl in
-        let class : eq key change.class ≡ true = classes.symm key change.class ∙ subst (λ (z : K). eq change.class z ≡ true) own (put_number (Inserted n) e None (Some n) refl put puts).1 in
-        answers (Ok (computed.Inserted k v)) (put, change_is (Inserted n) e None (Some n) refl None (Some put) (none_taken (Inserted n) e None (Some n) refl refl) puts class, own, subst (λ (z : V). Member (None, operation.Insert z) heard) (ap (λ z. z.value) value) filled.2.said_is, are)
+        let class : eq key change.class ≡ true = classes.symm key change.class
+        ∙ subst (λ (z : K). eq change.class z ≡ true) own (put_number (Inserted n) e None (Some n) refl put puts).1 in
+        answers (Ok (computed.Inserted k v)) (
+          put,
+          change_is (Inserted n) e None (Some n) refl None (Some put)
+              (none_taken (Inserted n) e None (Some n) refl refl) puts class,
+          own,
+          subst (λ (z : V). Member (None, operation.Insert z) heard)
+              (ap (λ z. z.value) value) filled.2.said_is,
+          are,
+        )
 
   -- the pair that was shown had the call's key
   shown_key : (p : Stored K V) (done : Operation V T) → Member (Some p, done) heard → eq key (key_of p) ≡ true
   shown_key p done member = (shown_each (WasHeld eq (eq key) (history_of begun) (history_of log)) heard r.held (Some p) done member).is.0
 
-  module _ (reply : Reply) (e : ask_of m ≡ Call (Done reply)) (n : ℕ) (new : Option ℕ) (change : change_of_reply reply ≡ Some (Some n, new)) (p : Stored K V) (number : p.index ≡ n) (taken : Stored K V) (took : x.writer.call.taken ≡ Some taken) where
+  module _ (reply : Reply) (e : ask_of m ≡ Call (Done reply)) (n : ℕ) (new : Option ℕ) (change : change_of_reply reply ≡ Some (Some n, new))
+      (p : Stored K V) (number : p.index ≡ n) (taken : Stored K V) (took : x.writer.call.taken ≡ Some taken) where
     -- the pair that went has the number of the one that was shown
     went_number : p.index ≡ taken.index
     went_number = let t = (taken_number reply e (Some n) new change taken took).0 in let same : n ≡ taken.index = cc t in number ∙ same
@@ -209,14 +231,22 @@ module _ {K V S T H : Type 0} (eq : K → K → Bool) (input : K → List (List 
     removed_taken none = some_taken (Removed n) e (Some n) None refl n refl none
 
     pub removed_number : (chosen taken : Stored K V) → x.chosen ≡ Some chosen → x.writer.call.taken ≡ Some taken → chosen.index ≡ taken.index
-    removed_number chosen taken has took = let one : doomed.0 ≡ chosen = cc (doomed.1, has) in ap (λ (z : Stored K V). z.index) (sym one) ∙ went_number (Removed n) e n None refl doomed.0 doomed.2 taken took
+    removed_number chosen taken has took = let one : doomed.0 ≡ chosen = cc (doomed.1, has) in
+        ap (λ (z : Stored K V). z.index) (sym one) ∙ went_number (Removed n) e n None refl doomed.0 doomed.2 taken took
 
-    pub removed : (chosen taken : Stored K V) → x.chosen ≡ Some chosen → x.writer.call.taken ≡ Some taken → AreOne chosen taken → (k : Bor K) (v : Bor V) → AreOf (k, v) taken → Answers (Ok (computed.Removed k v))
+    pub removed : (chosen taken : Stored K V) → x.chosen ≡ Some chosen → x.writer.call.taken ≡ Some taken → AreOne chosen taken
+        → (k : Bor K) (v : Bor V) → AreOf (k, v) taken → Answers (Ok (computed.Removed k v))
     removed chosen taken has took same k v are =
         let one : doomed.0 ≡ chosen = cc (doomed.1, has) in
         let value = ap (λ (z : Stored K V). z.value) one ∙ same in
         let class = went_class (Removed n) e n None refl doomed.0 doomed.2 taken took value (shown_key doomed.0 operation.Remove doomed.3) in
-        answers (Ok (computed.Removed k v)) (taken, change_is (Removed n) e (Some n) None refl (Some taken) None took (none_put (Removed n) e (Some n) None refl refl) class, (doomed.0, (went_number (Removed n) e n None refl doomed.0 doomed.2 taken took, value), doomed.3), are)
+        answers (Ok (computed.Removed k v)) (
+          taken,
+          change_is (Removed n) e (Some n) None refl (Some taken) None took
+              (none_put (Removed n) e (Some n) None refl refl) class,
+          (doomed.0, (went_number (Removed n) e n None refl doomed.0 doomed.2 taken took, value), doomed.3),
+          are,
+        )
 
   -- a pair took the place of another
   module _ (i n : ℕ) (e : ask_of m ≡ Call (Done (Replaced i n))) where
@@ -236,7 +266,8 @@ module _ {K V S T H : Type 0} (eq : K → K → Bool) (input : K → List (List 
     updated_put none = some_put (Replaced i n) e (Some i) (Some n) refl n refl none
 
     pub updated_number : (chosen taken : Stored K V) → x.chosen ≡ Some chosen → x.writer.call.taken ≡ Some taken → chosen.index ≡ taken.index
-    updated_number chosen taken has took = let one : replaced.0 ≡ chosen = cc (replaced.2, has) in ap (λ (z : Stored K V). z.index) (sym one) ∙ went_number (Replaced i n) e i (Some n) refl replaced.0 replaced.3 taken took
+    updated_number chosen taken has took = let one : replaced.0 ≡ chosen = cc (replaced.2, has) in
+        ap (λ (z : Stored K V). z.index) (sym one) ∙ went_number (Replaced i n) e i (Some n) refl replaced.0 replaced.3 taken took
 
     pub made_number : (made put : Stored K V) → x.made ≡ Some made → x.writer.call.put ≡ Some put → made.index ≡ put.index
     made_number made put has puts =
@@ -246,18 +277,33 @@ module _ {K V S T H : Type 0} (eq : K → K → Bool) (input : K → List (List 
         ap (λ (z : Stored K V). z.index) (sym one) ∙ (replaced.5.number ∙ number)
 
     pub made_placed : (made : Stored K V) → x.made ≡ Some made → IsPlaced b (Some name) (pair_named (Some made))
-    made_placed made has = let one : replaced.1 ≡ made = cc (replaced.4, has) in subst (λ (z : Stored K V). IsPlaced b (Some name) (pair_named (Some z))) one (r.writing.calling.made_placed replaced.1 replaced.5.made_is)
+    made_placed made has = let one : replaced.1 ≡ made = cc (replaced.4, has) in
+        subst (λ (z : Stored K V). IsPlaced b (Some name) (pair_named (Some z))) one (r.writing.calling.made_placed replaced.1 replaced.5.made_is)
 
-    pub updated : (chosen taken made put : Stored K V) → x.chosen ≡ Some chosen → x.writer.call.taken ≡ Some taken → x.made ≡ Some made → x.writer.call.put ≡ Some put → AreOne chosen taken → AreOne made put → (before after : Bor K × Bor V) → AreOf before taken → AreOf after put → Answers (Ok (computed.Updated before after))
+    pub updated : (chosen taken made put : Stored K V) → x.chosen ≡ Some chosen → x.writer.call.taken ≡ Some taken → x.made ≡ Some made
+        → x.writer.call.put ≡ Some put → AreOne chosen taken → AreOne made put → (before after : Bor K × Bor V) → AreOf before taken → AreOf after put
+        → Answers (Ok (computed.Updated before after))
     updated chosen taken made put has took made_is puts same new_same before after are new_are =
         let one : replaced.0 ≡ chosen = cc (replaced.2, has) in
         let value = ap (λ (z : Stored K V). z.value) one ∙ same in
         let new : replaced.1 ≡ made = cc (replaced.4, made_is) in
         let new_value = ap (λ (z : Stored K V). z.value) new ∙ new_same in
         let own = kept (Replaced i n) e (Some i) (Some n) refl taken put took puts in
-        let class = went_class (Replaced i n) e i (Some n) refl replaced.0 replaced.3 taken took value (shown_key replaced.0 (operation.Insert replaced.1.value.value) replaced.5.said_is) in
-        answers (Ok (computed.Updated before after))
-        (taken, put, change_is (Replaced i n) e (Some i) (Some n) refl (Some taken) (Some put) took puts class, own, (replaced.0, (went_number (Replaced i n) e i (Some n) refl replaced.0 replaced.3 taken took, value), subst (λ (z : V). Member (Some replaced.0, operation.Insert z) heard) (ap (λ z. z.value) new_value) replaced.5.said_is), are, new_are)
+        let class = went_class (Replaced i n) e i (Some n) refl replaced.0 replaced.3 taken took value
+        (shown_key replaced.0 (operation.Insert replaced.1.value.value) replaced.5.said_is) in
+        answers (Ok (computed.Updated before after)) (
+          taken,
+          put,
+          change_is (Replaced i n) e (Some i) (Some n) refl (Some taken) (Some put) took puts class,
+          own,
+          (
+            replaced.0,
+            (went_number (Replaced i n) e i (Some n) refl replaced.0 replaced.3 taken took, value),
+            subst (λ (z : V). Member (Some replaced.0, operation.Insert z) heard) (ap (λ z. z.value) new_value) replaced.5.said_is,
+          ),
+          are,
+          new_are,
+        )
 
   -- its closure ended it
   pub aborted : (with : ℕ) → ask_of m ≡ Call (Done (Aborted with)) → (t : T) → x.aborted ≡ Some t → Answers (Ok (computed.Aborted t))
@@ -274,7 +320,11 @@ module _ {K V S T H : Type 0} (eq : K → K → Bool) (input : K → List (List 
   refused cause e = answers (Err cause) (r.refuses cause e)
 
   -- it replies nothing else
-  replies_no_other : (reply : Reply) → IsNoCompute reply → IsReply (Wide eq input build write finish classes respects b (eq key) (input key) (own_query eq input build write finish classes respects b name key) (Some key) name begun log) (Coded eq input build write finish classes respects b (eq key) (input key) (own_query eq input build write finish classes respects b name key) (Some key) name begun) (exchanges_of begun) r.writing.calling.since (Some key) loaded Compute reply → ⊥
+  replies_no_other : (reply : Reply) → IsNoCompute reply
+      → IsReply (Wide eq input build write finish classes respects b (eq key) (input key)
+      (own_query eq input build write finish classes respects b name key) (Some key) name begun log)
+      (Coded eq input build write finish classes respects b (eq key) (input key) (own_query eq input build write finish classes respects b name key)
+      (Some key) name begun) (exchanges_of begun) r.writing.calling.since (Some key) loaded Compute reply → ⊥
   replies_no_other Absent never is = is
   replies_no_other (Found n) never is = is
   replies_no_other (Inserted n) never is = never
@@ -291,37 +341,56 @@ module _ {K V S T H : Type 0} (eq : K → K → Bool) (input : K → List (List 
       let query = own_query eq input build write finish classes respects b name key in
       let g = Wide eq input build write finish classes respects b (eq key) (input key) query (Some key) name begun log in
       let c = Coded eq input build write finish classes respects b (eq key) (input key) query (Some key) name begun in
-      replies_no_other reply never (subst (λ (t : Task). IsReply g c (exchanges_of begun) r.writing.calling.since (Some key) loaded t reply) r.task_is (machine_replies g c (exchanges_of begun) r.writing.calling.since (Some key) loaded m.call r.writing.calling.relies.call reply (call_asks m (Done reply) e).1).0)
+      replies_no_other reply never (subst (λ (t : Task). IsReply g c (exchanges_of begun) r.writing.calling.since (Some key) loaded t reply) r.task_is
+      (machine_replies g c (exchanges_of begun) r.writing.calling.since (Some key) loaded m.call r.writing.calling.relies.call reply
+      (call_asks m (Done reply) e).1).0)
 
 -- what was seen before a compute began was seen before its change, and before what its closure was shown
 module _ {K V : Type 0} (eq : K → K → Bool) (key : K) (older old new : List (Change K (Stored K V))) (pre : IsPrefix older old) where
   pub change_since : (taken put : Option (Stored K V)) → IsChangeOf (eq key) old new taken put → IsChangeOf (eq key) older new taken put
-  change_since taken put t = record { before = t.before; change = t.change; since = prefix_trans older old t.before pre t.since; is = t.is; class_is = t.class_is; taken_is = t.taken_is; put_is = t.put_is; kept = t.kept }
+  change_since taken put t = record {
+    before = t.before;
+    change = t.change;
+    since = prefix_trans older old t.before pre t.since;
+    is = t.is;
+    class_is = t.class_is;
+    taken_is = t.taken_is;
+    put_is = t.put_is;
+    kept = t.kept;
+  }
 
 module _ {K V T : Type 0} (eq : K → K → Bool) (key : K) (older old new : List (Change K (Stored K V))) (pre : IsPrefix older old) where
-  operated_since : (said : List (Option (Stored K V) × Operation V T)) (answer : Result (Computed K V T) Cause) → IsOperated eq key old new said answer → IsOperated eq key older new said answer
+  operated_since : (said : List (Option (Stored K V) × Operation V T)) (answer : Result (Computed K V T) Cause)
+      → IsOperated eq key old new said answer → IsOperated eq key older new said answer
   operated_since said (Ok (computed.Inserted k v)) h = (h.0, change_since eq key older old new pre None (Some h.0) h.1, h.2, h.3, h.4)
   operated_since said (Ok (computed.Updated before after)) h = (h.0, h.1, change_since eq key older old new pre (Some h.0) (Some h.1) h.2, h.3, h.4, h.5, h.6)
   operated_since said (Ok (computed.Removed k v)) h = (h.0, change_since eq key older old new pre (Some h.0) None h.1, h.2, h.3)
   operated_since said (Ok (computed.Aborted t)) h = h
   operated_since said (Err cause) h = h
 
-  pub replied_since : (heard : List (Option (Stored K V) × Operation V T)) (answer : Result (Computed K V T) Cause) → IsReplied eq key old new heard answer → IsReplied eq key older new heard answer
+  pub replied_since : (heard : List (Option (Stored K V) × Operation V T)) (answer : Result (Computed K V T) Cause)
+      → IsReplied eq key old new heard answer → IsReplied eq key older new heard answer
   replied_since heard answer r = record {
-    held = all_shown (WasHeld eq (eq key) old new) (WasHeld eq (eq key) older new) (λ held h. held_wider eq (eq key) older old new new pre ([], append-nil new) held h) heard r.held;
+    held = all_shown (WasHeld eq (eq key) old new) (WasHeld eq (eq key) older new)
+        (λ held h. held_wider eq (eq key) older old new new pre ([], append-nil new) held h) heard r.held;
     none_once = r.none_once;
     operated = operated_since heard answer r.operated;
   }
 
   -- so it answers by a closure that was shown and answered these
-  pub computed_by : {F : Type 0} (operates : F → Option (Stored K V) → Operation V T → F → Type 0) (first left : F) (heard : List (Option (Stored K V) × Operation V T)) → HasSaid operates first heard left → (answer : Result (Computed K V T) Cause) → IsReplied eq key old new heard answer → IsComputeBy eq key older new operates first answer
+  pub computed_by : {F : Type 0} (operates : F → Option (Stored K V) → Operation V T → F → Type 0) (first left : F)
+      (heard : List (Option (Stored K V) × Operation V T)) → HasSaid operates first heard left → (answer : Result (Computed K V T) Cause)
+      → IsReplied eq key old new heard answer → IsComputeBy eq key older new operates first answer
   computed_by operates first left heard has answer r =
       let s = replied_since heard answer r in
       record { said = heard; left = left; has_said = has; held = s.held; none_once = s.none_once; operated = s.operated }
 
 -- a compute that begins
-pub begins : {K V S T H : Type 0} (eq : K → K → Bool) (hash : S → K → ℕ) (b : Begun K V S) (name : Book) (key : K) (log : List (Event K V S)) (x : Computing K V S T H) → IsLawfulLog eq hash b log → (initial : ℕ) → x.writer.call.machine ≡ started Compute (hash b.hasher key) b.mode initial 0 b.limit
-    → (x.writer.call.table ≡ None) × (x.writer.call.fresh ≡ None) → (x.writer.call.last ≡ None) × (x.writer.call.kept ≡ None) × (x.writer.call.taken ≡ None) × (x.writer.call.put ≡ None) → x.writer.key ≡ Some (keys.Own key) → x.writer.value ≡ None → x.shown ≡ None → x.fill ≡ None → x.chosen ≡ None → IsComputing eq hash b name key log log x []
+pub begins : {K V S T H : Type 0} (eq : K → K → Bool) (hash : S → K → ℕ) (b : Begun K V S) (name : Book) (key : K) (log : List (Event K V S))
+    (x : Computing K V S T H) → IsLawfulLog eq hash b log → (initial : ℕ) → x.writer.call.machine ≡ started Compute (hash b.hasher key) b.mode initial 0 b.limit
+    → (x.writer.call.table ≡ None) × (x.writer.call.fresh ≡ None) → (x.writer.call.last ≡ None) × (x.writer.call.kept ≡ None)
+    × (x.writer.call.taken ≡ None) × (x.writer.call.put ≡ None) → x.writer.key ≡ Some (keys.Own key) → x.writer.value ≡ None → x.shown ≡ None
+    → x.fill ≡ None → x.chosen ≡ None → IsComputing eq hash b name key log log x []
 begins eq hash b name key log x l initial machine table pairs own value shown fill chosen = record {
   made = [];
   writing = begins_writing eq hash b name key log x.writer l Compute initial machine table pairs own (rw value tt);

@@ -1,5 +1,6 @@
 -- What a compute answers that was made at once: its closure was shown once what there is, or its rule was.
-use Rattle.std.proofs.Common.{◌≡◌, inl, inr, ⊎_elim, Bool, false, Option, None, Some, Result, Ok, Err, List, [], ◌∷◌, ◌++◌, option_map, refl, sym, ap, ◌∙◌, subst}
+use Rattle.std.proofs.Common.{◌≡◌, inl, inr, ⊎_elim, Bool, false, Option, None, Some, Result, Ok}
+use Rattle.std.proofs.Common.{Err, List, [], ◌∷◌, ◌++◌, option_map, refl, sym, ap, ◌∙◌, subst}
 use denote.Bor.{Bor}
 use Rattle.papaya_words.specs.declared.probe.Refused.{Refused as Cause}
 use Rattle.papaya_words.specs.declared.probe.Refused.TheVariants.{RemoveNothing}
@@ -44,23 +45,40 @@ module _ {C A : Type 0} where
   if_on P Q (Over a) f h = tt
   if_on P Q (On x) f h = f x h
 
-module _ {K V T : Type 0} (eq : K → K → Bool) (key : K) (old new : List (Change K (Stored K V))) (held : Option (Stored K V)) (was : WasHeld eq (eq key) old new held) (done : Operation V T) where
+module _ {K V T : Type 0} (eq : K → K → Bool) (key : K) (old new : List (Change K (Stored K V))) (held : Option (Stored K V))
+    (was : WasHeld eq (eq key) old new held) (done : Operation V T) where
   abbrev Replies : Result (Computed K V T) Cause → Type 0
   Replies answer = IsReplied eq key old new ((held, done) ∷ []) answer
 
   replies : (answer : Result (Computed K V T) Cause) → IsOperated eq key old new ((held, done) ∷ []) answer → Replies answer
   replies answer operated = record { held = (was, tt); none_once = once held done; operated = operated }
 
-  pub inserts : held ≡ None → (q : Stored K V) → done ≡ operation.Insert q.value.value → IsChangeOf (eq key) old new None (Some q) → key_of q ≡ key → (k : Bor K) (v : Bor V) → AreOf (k, v) q → Replies (Ok (Inserted k v))
+  pub inserts : held ≡ None → (q : Stored K V) → done ≡ operation.Insert q.value.value → IsChangeOf (eq key) old new None (Some q) → key_of q ≡ key
+      → (k : Bor K) (v : Bor V) → AreOf (k, v) q → Replies (Ok (Inserted k v))
   inserts none q is change key_is k v are = replies (Ok (Inserted k v)) (q, change, key_is, inl (λ i. (sym none i, sym is i)), are)
 
-  pub updates : (p taken q : Stored K V) → held ≡ Some p → done ≡ operation.Insert q.value.value → IsSamePair p taken → IsChangeOf (eq key) old new (Some taken) (Some q) → (before after : Bor K × Bor V) → AreOf before p → AreOf after q → Replies (Ok (Updated before after))
+  pub updates : (p taken q : Stored K V) → held ≡ Some p → done ≡ operation.Insert q.value.value → IsSamePair p taken
+      → IsChangeOf (eq key) old new (Some taken) (Some q) → (before after : Bor K × Bor V) → AreOf before p → AreOf after q → Replies (Ok (Updated before after))
   updates p taken q some is same change before after of_p of_q =
-      replies (Ok (Updated before after)) (taken, q, change, change.kept taken q refl refl, (p, same, inl (λ i. (sym some i, sym is i))), (of_p.0 ∙ ap (λ z. z.key.value) same.1, of_p.1 ∙ ap (λ z. z.value) same.1), of_q)
+      replies (Ok (Updated before after)) (
+        taken,
+        q,
+        change,
+        change.kept taken q refl refl,
+        (p, same, inl (λ i. (sym some i, sym is i))),
+        (of_p.0 ∙ ap (λ z. z.key.value) same.1, of_p.1 ∙ ap (λ z. z.value) same.1),
+        of_q,
+      )
 
-  pub removed : (p taken : Stored K V) → held ≡ Some p → done ≡ operation.Remove → IsSamePair p taken → IsChangeOf (eq key) old new (Some taken) None → (k : Bor K) (v : Bor V) → AreOf (k, v) p → Replies (Ok (Removed k v))
+  pub removed : (p taken : Stored K V) → held ≡ Some p → done ≡ operation.Remove → IsSamePair p taken → IsChangeOf (eq key) old new (Some taken) None
+      → (k : Bor K) (v : Bor V) → AreOf (k, v) p → Replies (Ok (Removed k v))
   removed p taken some is same change k v of_p =
-      replies (Ok (Removed k v)) (taken, change, (p, same, inl (λ i. (sym some i, sym is i))), (of_p.0 ∙ ap (λ z. z.key.value) same.1, of_p.1 ∙ ap (λ z. z.value) same.1))
+      replies (Ok (Removed k v)) (
+        taken,
+        change,
+        (p, same, inl (λ i. (sym some i, sym is i))),
+        (of_p.0 ∙ ap (λ z. z.key.value) same.1, of_p.1 ∙ ap (λ z. z.value) same.1),
+      )
 
   pub aborts : (t : T) → done ≡ operation.Abort t → Replies (Ok (Aborted t))
   aborts t is = replies (Ok (Aborted t)) (held, λ i. (held, is i))
@@ -87,7 +105,8 @@ module _ {K V : Type 0} (current : Option (Bor V)) where
   on_still P (Over (Err cause)) h = tt
   on_still P (On x) h = h
 
-  pub made_still : {C : Type 0} (M : Bool → Type 0) (x : Tried C K V) → Unremoved x → IfOver x (λ a. M (changes a)) → IfOver (outcomes x current) (λ a. M (puts a))
+  pub made_still : {C : Type 0} (M : Bool → Type 0) (x : Tried C K V) → Unremoved x → IfOver x (λ a. M (changes a))
+      → IfOver (outcomes x current) (λ a. M (puts a))
   made_still M (Over (Ok (Inserted k v))) none h = h
   made_still M (Over (Ok (Updated before after))) none h = h
   made_still M (Over (Ok (Removed k v))) none h = absurd (none k v refl)
@@ -103,7 +122,8 @@ module _ {K V : Type 0} (current : Option (Bor V)) where
   refused_still (Over (Err other)) cause e = let same : other ≡ cause = cc e in ap (λ (z : Cause). Over (Err z)) same
   refused_still (On x) cause e = absurd (cc e)
 
-  module _ {F : Type 0} (eq : K → K → Bool) (key : K) (old new : List (Change K (Stored K V))) (decides : F → Option V → Option V → F → Type 0) (first left : F) (held : Option (Stored K V)) (done : Operation V (Unit {0})) (wished : Wishes decides first held done left) where
+  module _ {F : Type 0} (eq : K → K → Bool) (key : K) (old new : List (Change K (Stored K V))) (decides : F → Option V → Option V → F → Type 0)
+      (first left : F) (held : Option (Stored K V)) (done : Operation V (Unit {0})) (wished : Wishes decides first held done left) where
     abbrev heard : List (Option (Stored K V) × Operation V (Unit {0}))
     heard = (held, done) ∷ []
 
@@ -126,16 +146,24 @@ module _ {K V : Type 0} (current : Option (Bor V)) where
     abbrev Decides : Result (Outcome V) Cause → Type 0
     Decides answer = IsDecided eq key old new decides first left answer
 
-    pub decided_once : option_map (λ v. v.now) current ≡ value_in held → {C : Type 0} (x : Tried C K V) → IfOver x Replies_so → IfOver (outcomes x current) Decides
+    pub decided_once : option_map (λ v. v.now) current ≡ value_in held → {C : Type 0} (x : Tried C K V) → IfOver x Replies_so
+        → IfOver (outcomes x current) Decides
     decided_once is (Over (Ok (Inserted k v))) r = decided_by (Ok (Put v)) (done_put eq key old new heard removes (Ok (Inserted k v)) r k v refl)
-    decided_once is (Over (Ok (Updated before after))) r = decided_by (Ok (Replaced after.1)) (done_replaced eq key old new heard removes (Ok (Updated before after)) r before after refl)
+    decided_once is (Over (Ok (Updated before after))) r = decided_by (Ok (Replaced after.1))
+        (done_replaced eq key old new heard removes (Ok (Updated before after)) r before after refl)
     decided_once is (Over (Ok (Removed k v))) r = absurd (done_removed eq key old new heard removes (Ok (Removed k v)) r k v refl)
     decided_once is (Over (Ok (Aborted t))) r =
         let o = r.operated in let ends : done ≡ operation.Abort t = ap (λ z. z.1) o.1 in
         decided_by (Ok (Left current None)) (record {
           held = r.held;
           none_once = r.none_once;
-          decided = (held, (λ i. (held, ends i)), is, λ v member. ⊎_elim (λ e. let f : operation.Insert v ≡ operation.Abort t = ap (λ z. z.1) e ∙ ends in absurd (cc f)) (λ none. absurd none) member);
+          decided = (
+            held,
+            (λ i. (held, ends i)),
+            is,
+            λ v member.
+                ⊎_elim (λ e. let f : operation.Insert v ≡ operation.Abort t = ap (λ z. z.1) e ∙ ends in absurd (cc f)) (λ none. absurd none) member,
+          );
         })
     decided_once is (Over (Err cause)) r = decided_by (Err cause) (done_refused eq key old new heard removes (Err cause) r cause refl)
     decided_once is (On x) r = tt

@@ -27,7 +27,8 @@ use Rattle.papaya_change.proofs.Changing.{Coded, Wide}
 use Rattle.papaya_change.proofs.Showings.{own_held_then}
 use Rattle.papaya_change.proofs.Written.{own_query}
 
-module _ {K V S H : Type 0} (eq : K → K → Bool) (input : K → List (List ℕ)) (build : S → H) (write : H → List ℕ → H) (finish : H → ℕ) (classes : IsEquivalence eq) (respects : (x y : K) → eq x y ≡ true → input x ≡ input y)
+module _ {K V S H : Type 0} (eq : K → K → Bool) (input : K → List (List ℕ)) (build : S → H) (write : H → List ℕ → H) (finish : H → ℕ)
+    (classes : IsEquivalence eq) (respects : (x y : K) → eq x y ≡ true → input x ≡ input y)
     (b : Begun K V S) (name : Book) (key : K) (begun log : List (Event K V S)) (table : Sheet) where
   abbrev hash : S → K → ℕ
   hash = hash_of input build write finish
@@ -48,7 +49,8 @@ module _ {K V S H : Type 0} (eq : K → K → Bool) (input : K → List (List �
   pub none_found : (at : Place) → At_state (Offering (At at)) None → WasHeld eq (eq key) (history_of begun) (history_of log) None
   none_found at r =
       own_held_then eq input build write finish classes respects b (eq key) (input key) own begun log r.4.lawful r.4.since r.4.is key None
-      (machine_offers G C (exchanges_of begun) r.4.since (Some key) (record { last = r.2; made = [] }) (seeker_at Computes (hash b.hasher key) b.mode 1 (nothing_made b.limit) (Offering (At at))).call r.4.relies.call refl)
+      (machine_offers G C (exchanges_of begun) r.4.since (Some key) (record { last = r.2; made = [] })
+      (seeker_at Computes (hash b.hasher key) b.mode 1 (nothing_made b.limit) (Offering (At at))).call r.4.relies.call refl)
 
   -- where it met a live pair
   module _ (at : Place) (word : ℕ) (p : Stored K V) (r : At_state (Showing (record { place = at; word = word })) (Some p)) where
@@ -58,7 +60,9 @@ module _ {K V S H : Type 0} (eq : K → K → Bool) (input : K → List (List �
     pub pair_found : WasHeld eq (eq key) (history_of begun) (history_of log) (Some p)
     pair_found =
         let hashed = hashed_with eq input build write finish classes respects b (eq key) (input key) own log r.4.lawful in
-        let shown = machine_shows G C hashed (exchanges_of begun) r.4.since (Some key) (record { last = r.2; made = [] }) (seeker_at Computes (hash b.hasher key) b.mode 1 (nothing_made b.limit) (Showing (record { place = at; word = word }))).call r.4.relies.call (pair_of word) refl in
+        let shown = machine_shows G C hashed (exchanges_of begun) r.4.since (Some key) (record { last = r.2; made = [] })
+        (seeker_at Computes (hash b.hasher key) b.mode 1 (nothing_made b.limit) (Showing (record { place = at; word = word }))).call r.4.relies.call
+        (pair_of word) refl in
         let both : Some shown.0 ≡ Some p = sym shown.1 ∙ r.3 p refl in
         let one : shown.0 ≡ p = cc both in
         own_held_then eq input build write finish classes respects b (eq key) (input key) own begun log r.4.lawful r.4.since r.4.is key (Some p)

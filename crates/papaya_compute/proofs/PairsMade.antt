@@ -25,7 +25,9 @@ use Rattle.papaya_call.specs.Compute.{fills, in_place_of}
 use Rattle.papaya_call.specs.Machine.{IsStanding, IsStandingState, after, ask_of, asks, made_to_pair, paired, paired_held}
 use Rattle.papaya_call.specs.Made.{grown, number_ask, of_ask, own_ask, pair_ask, paired as pair_done}
 use Rattle.papaya_call.specs.Write.{made_of}
-use Rattle.papaya_call_law.specs.Says.{Inserts, IsAnswered, KeepsFill, Makes, MakesPair, Said, ShowsIn, ShowsPairs, StandsOn, said_in, said_to_choose, said_to_fill, shown_by}
+use Rattle.papaya_call_law.specs.Says.{Inserts, IsAnswered, KeepsFill, Makes, MakesPair, Said}
+use Rattle.papaya_call_law.specs.Says.{ShowsIn, ShowsPairs, StandsOn, said_in, said_to_choose}
+use Rattle.papaya_call_law.specs.Says.{said_to_fill, shown_by}
 use Rattle.papaya_call_law.proofs.Makings.{pair_made}
 use Rattle.papaya_call_law.proofs.SaysSaid.{shown_pair}
 
@@ -96,8 +98,11 @@ module _ (m : Machine) (n : ℕ) where
   keeps_fill stage None is said e = absurd (cc e)
   keeps_fill stage (Some i) is said e = let same : Makes None i ≡ said = cc e in (i, sym same, inr (inl (ap said_to_fill is ∙ e)))
 
-  replace_over : (stage : State) (write : Write) (said : Said) → 0 < write.old → IsOf (Putting (record { write = write; pair = n })) m.remembered.fill (Some (To_replace (pair_of write.old) (made_of write n))) said → (said ≡ Makes (Some (pair_of write.old)) n) ⊎ KeepsFill (on stage) said
-  replace_over stage write said some (inl e) = let is : Makes (shown_by write.old) n ≡ said = cc e in inl (sym is ∙ ap (λ o. Makes o n) (shown_pair write.old some))
+  replace_over : (stage : State) (write : Write) (said : Said) → 0 < write.old
+      → IsOf (Putting (record { write = write; pair = n })) m.remembered.fill (Some (To_replace (pair_of write.old) (made_of write n))) said
+      → (said ≡ Makes (Some (pair_of write.old)) n) ⊎ KeepsFill (on stage) said
+  replace_over stage write said some (inl e) = let is : Makes (shown_by write.old) n ≡ said = cc e in
+      inl (sym is ∙ ap (λ o. Makes o n) (shown_pair write.old some))
   replace_over stage write said some (inr (inl e)) = inr (keeps_fill stage m.remembered.fill refl said e)
   replace_over stage write said some (inr (inr e)) = let is : Makes (Some (pair_of write.old)) n ≡ said = cc e in inl (sym is)
 
@@ -106,16 +111,22 @@ module _ (m : Machine) (n : ℕ) where
     abbrev Then : Grown → Machine
     Then G = record m { task = Compute; made = made_to_pair G; remembered = paired_held G m.remembered purpose n; state = paired G purpose n }
 
-  filling : (gap : Gap) → (G : Grown) → G ≡ Pair (pair_done m.made) → ((stands : Said) → StandsOn (Then (Pairing (Fill gap)) (Fill gap) G) stands → stands ≡ Makes None n) × ((paired_held G m.remembered (Fill gap) n).choice ≡ None)
+  filling : (gap : Gap) → (G : Grown) → G ≡ Pair (pair_done m.made)
+      → ((stands : Said) → StandsOn (Then (Pairing (Fill gap)) (Fill gap) G) stands → stands ≡ Makes None n)
+      × ((paired_held G m.remembered (Fill gap) n).choice ≡ None)
   filling gap (On made) is = absurd (cc is)
   filling gap (Pair made) is = (fill_over gap, refl)
 
-  replacing : (write : Write) → 0 < write.old → (G : Grown) → G ≡ Pair (pair_done m.made) → ((stands : Said) → StandsOn (Then (Pairing (Replace write)) (Replace write) G) stands → (stands ≡ Makes (Some (pair_of write.old)) n) ⊎ KeepsFill (on (Pairing (Replace write))) stands)
+  replacing : (write : Write) → 0 < write.old → (G : Grown) → G ≡ Pair (pair_done m.made)
+      → ((stands : Said) → StandsOn (Then (Pairing (Replace write)) (Replace write) G) stands → (stands ≡ Makes (Some (pair_of write.old)) n)
+      ⊎ KeepsFill (on (Pairing (Replace write))) stands)
       × ((paired_held G m.remembered (Replace write) n).choice ≡ Some (To_replace (pair_of write.old) (made_of write n)))
   replacing write some (On made) is = absurd (cc is)
   replacing write some (Pair made) is = ((λ stands. replace_over (Pairing (Replace write)) write stands some), refl)
 
-  replacing_again : (write : Write) → 0 < write.old → (G : Grown) → G ≡ Pair (pair_done m.made) → ((stands : Said) → StandsOn (Then (Pairing (Again write)) (Again write) G) stands → (stands ≡ Makes (Some (pair_of write.old)) n) ⊎ KeepsFill (on (Pairing (Again write))) stands)
+  replacing_again : (write : Write) → 0 < write.old → (G : Grown) → G ≡ Pair (pair_done m.made)
+      → ((stands : Said) → StandsOn (Then (Pairing (Again write)) (Again write) G) stands → (stands ≡ Makes (Some (pair_of write.old)) n)
+      ⊎ KeepsFill (on (Pairing (Again write))) stands)
       × ((paired_held G m.remembered (Again write) n).choice ≡ Some (To_replace (pair_of write.old) (made_of write n)))
   replacing_again write some (On made) is = absurd (cc is)
   replacing_again write some (Pair made) is = ((λ stands. replace_over (Pairing (Again write)) write stands some), refl)
@@ -124,11 +135,13 @@ module _ (m : Machine) (n : ℕ) where
   made_for : (purpose : Purpose) → MakesPair (pair_ask m.made (in_place_of purpose)) → grown m.made (in_place_of purpose) ≡ Pair (pair_done m.made)
   made_for purpose makes = pair_made m.made (in_place_of purpose) makes
 
-  filling_in : (stage : State) → IsStandingState Compute stage → ShowsIn m.remembered.choice stage → asks m.made m.hash stage ≡ MakePair → IsFilling (on stage) n
+  filling_in : (stage : State) → IsStandingState Compute stage → ShowsIn m.remembered.choice stage → asks m.made m.hash stage ≡ MakePair
+      → IsFilling (on stage) n
   filling_in (Pairing (Fill gap)) is shows e =
       let f = filling gap (grown m.made 0) (made_for (Fill gap) (subst MakesPair (sym e) tt)) in record { said = inl refl; then = f.0; choice = f.1 }
   filling_in (Pairing (Replace write)) is shows e = let zero = filled_old m.made.number m.made write.old e in absurd (omega (arith, shows, zero))
-  filling_in (Pairing (Again write)) is shows e = let zero = filled_old m.made.number m.made write.old e in let some = shows.0 in absurd (omega (arith, some, zero))
+  filling_in (Pairing (Again write)) is shows e = let zero = filled_old m.made.number m.made write.old e in let some = shows.0 in
+      absurd (omega (arith, some, zero))
   filling_in (Writing write) is shows e = absurd is.0
   filling_in (Searching (Sizing t)) is shows e = absurd (cc e)
   filling_in (Searching (Looking at)) is shows e = absurd (cc e)
@@ -137,9 +150,11 @@ module _ (m : Machine) (n : ℕ) where
   filling_in stage is shows e = absurd (cc e)
 
   pub machine_filling : m.task ≡ Compute → IsStanding m → ShowsPairs m → ask_of m ≡ MakePair → IsFilling m n
-  machine_filling is standing shows e = subst (λ (t : Task). IsStandingState t m.state → IsFilling (record m { task = t }) n) (sym is) (λ s. filling_in m.state s shows e) standing.state
+  machine_filling is standing shows e = subst (λ (t : Task). IsStandingState t m.state → IsFilling (record m { task = t }) n) (sym is)
+      (λ s. filling_in m.state s shows e) standing.state
 
-  replacing_in : (i : ℕ) (stage : State) → IsStandingState Compute stage → ShowsIn m.remembered.choice stage → asks m.made m.hash stage ≡ MakePairOf i → IsReplacing (on stage) i n
+  replacing_in : (i : ℕ) (stage : State) → IsStandingState Compute stage → ShowsIn m.remembered.choice stage → asks m.made m.hash stage ≡ MakePairOf i
+      → IsReplacing (on stage) i n
   replacing_in i (Pairing (Fill gap)) is shows e = absurd ((replaced_old m.made.number m.made 0 i e).1 refl)
   replacing_in i (Pairing (Replace write)) is shows e =
       let number = (replaced_old m.made.number m.made write.old i e).0 in
@@ -150,7 +165,14 @@ module _ (m : Machine) (n : ℕ) where
       let number = (replaced_old m.made.number m.made write.old i e).0 in
       let f = replacing_again write some (grown m.made write.old) (made_for (Again write) (subst MakesPair (sym e) tt)) in
       subst (λ j. IsReplacing (on (Pairing (Again write))) j n) number
-      (record { write = write; number = refl; purpose = inr refl; said = inr (new.pair, inr (inr (ap said_to_choose chosen)), λ waits. waits); then = f.0; choice = f.1 })
+      (record {
+        write = write;
+        number = refl;
+        purpose = inr refl;
+        said = inr (new.pair, inr (inr (ap said_to_choose chosen)), λ waits. waits);
+        then = f.0;
+        choice = f.1;
+      })
   replacing_in i (Writing write) is shows e = absurd is.0
   replacing_in i (Searching (Sizing t)) is shows e = absurd (cc e)
   replacing_in i (Searching (Looking at)) is shows e = absurd (cc e)
@@ -159,4 +181,5 @@ module _ (m : Machine) (n : ℕ) where
   replacing_in i stage is shows e = absurd (cc e)
 
   pub machine_replacing : (i : ℕ) → m.task ≡ Compute → IsStanding m → ShowsPairs m → ask_of m ≡ MakePairOf i → IsReplacing m i n
-  machine_replacing i is standing shows e = subst (λ (t : Task). IsStandingState t m.state → IsReplacing (record m { task = t }) i n) (sym is) (λ s. replacing_in i m.state s shows e) standing.state
+  machine_replacing i is standing shows e = subst (λ (t : Task). IsStandingState t m.state → IsReplacing (record m { task = t }) i n) (sym is)
+      (λ s. replacing_in i m.state s shows e) standing.state

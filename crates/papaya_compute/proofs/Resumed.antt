@@ -32,7 +32,8 @@ use Rattle.papaya_compute.specs.declared.computing.Computing.{Computing}
 use Rattle.papaya_compute.specs.Computing.{Holds, IsComputing}
 use Rattle.papaya_compute.specs.Resuming.{resumed_at}
 
-module _ {K V S : Type 0} (eq : K → K → Bool) (hash : S → K → ℕ) (b : Begun K V S) (name : Book) (key : K) (begun log : List (Event K V S)) (seen : IsPrefix begun log) (l : IsLawfulLog eq hash b log) where
+module _ {K V S : Type 0} (eq : K → K → Bool) (hash : S → K → ℕ) (b : Begun K V S) (name : Book) (key : K) (begun log : List (Event K V S))
+    (seen : IsPrefix begun log) (l : IsLawfulLog eq hash b log) where
   abbrev h : ℕ
   h = hash b.hasher key
 
@@ -52,7 +53,9 @@ module _ {K V S : Type 0} (eq : K → K → Bool) (hash : S → K → ℕ) (b : 
   since_is = sym (exchanges_of-append begun seen.0) ∙ ap exchanges_of seen.1
 
   -- its call, which has made these pairs and remembers this
-  calls : (made : List (Stored K V)) → ((p : Stored K V) → IsOneOf made p → (eq key (key_of p) ≡ true) × IsPlaced b (Some name) (names.Pair p)) → (initial : ℕ) (held : Remembered) → ReliesFill g c (exchanges_of begun) since (Some key) (loaded made) held.fill → ReliesChoice g c (exchanges_of begun) since (Some key) (loaded made) held.choice
+  calls : (made : List (Stored K V)) → ((p : Stored K V) → IsOneOf made p → (eq key (key_of p) ≡ true) × IsPlaced b (Some name) (names.Pair p))
+      → (initial : ℕ) (held : Remembered) → ReliesFill g c (exchanges_of begun) since (Some key) (loaded made) held.fill
+      → ReliesChoice g c (exchanges_of begun) since (Some key) (loaded made) held.choice
       → IsCalling eq hash b name (eq key) h (Some key) begun log (resumed_at h b.mode initial b.limit held) None None None made None None None
   calls made each initial held fill_is choice_is = record {
     lawful = l;
@@ -90,7 +93,8 @@ module _ {K V S : Type 0} (eq : K → K → Bool) (hash : S → K → ℕ) (b : 
     counts = tt;
   }
 
-  module _ {T H : Type 0} (x : Computing K V S T H) (initial : ℕ) (table : (x.writer.call.table ≡ None) × (x.writer.call.fresh ≡ None)) (pairs : (x.writer.call.last ≡ None) × (x.writer.call.kept ≡ None) × (x.writer.call.taken ≡ None) × (x.writer.call.put ≡ None))
+  module _ {T H : Type 0} (x : Computing K V S T H) (initial : ℕ) (table : (x.writer.call.table ≡ None) × (x.writer.call.fresh ≡ None))
+      (pairs : (x.writer.call.last ≡ None) × (x.writer.call.kept ≡ None) × (x.writer.call.taken ≡ None) × (x.writer.call.put ≡ None))
       (has_key : HasKey b name key x.writer.key) (has_value : HasValue b name x.writer.value) where
     abbrev IsAt : Remembered → Type 0
     IsAt held = x.writer.call.machine ≡ resumed_at h b.mode initial b.limit held
@@ -98,13 +102,15 @@ module _ {K V S : Type 0} (eq : K → K → Bool) (hash : S → K → ℕ) (b : 
     -- its closure answered the value of a pair that was made
     module _ (q : Stored K V) (placed : IsPlaced b (Some name) (names.Pair q)) (class : eq key (key_of q) ≡ true) where
       pair_is : (p : Stored K V) → IsOneOf (q ∷ []) p → (eq key (key_of p) ≡ true) × IsPlaced b (Some name) (names.Pair p)
-      pair_is p one = ⊎_elim (λ is. subst (λ (z : Stored K V). (eq key (key_of z) ≡ true) × IsPlaced b (Some name) (names.Pair z)) (sym is) (class, placed)) (λ other. absurd other) one
+      pair_is p one = ⊎_elim (λ is. subst (λ (z : Stored K V). (eq key (key_of z) ≡ true) × IsPlaced b (Some name) (names.Pair z)) (sym is)
+          (class, placed)) (λ other. absurd other) one
 
       abbrev Heard : Option (Stored K V) → List (Option (Stored K V) × Operation V T)
       Heard held = (held, operation.Insert q.value.value) ∷ []
 
       -- where it was shown that there is none
-      module _ (key_is : key_of q ≡ key) (was : WasHeld eq (eq key) (history_of begun) (history_of log) None) (shown : x.shown ≡ None) (fill : x.fill ≡ Some q) (chosen : x.chosen ≡ None) where
+      module _ (key_is : key_of q ≡ key) (was : WasHeld eq (eq key) (history_of begun) (history_of log) None) (shown : x.shown ≡ None)
+          (fill : x.fill ≡ Some q) (chosen : x.chosen ≡ None) where
         abbrev with_fill : Remembered
         with_fill = record { fill = Some q.index; choice = None }
 
@@ -117,7 +123,8 @@ module _ {K V S : Type 0} (eq : K → K → Bool) (hash : S → K → ℕ) (b : 
         resumes_filled machine = record {
           made = q ∷ [];
           writing = record {
-            calling = rw (machine, table.0, table.1, pairs.0, pairs.1, pairs.2, pairs.3) (calls (q ∷ []) pair_is initial with_fill (q, inl refl, refl, ap (λ z. Some z) key_is) tt);
+            calling = rw (machine, table.0, table.1, pairs.0, pairs.1, pairs.2, pairs.3)
+                (calls (q ∷ []) pair_is initial with_fill (q, inl refl, refl, ap (λ z. Some z) key_is) tt);
             keyed = has_key;
             valued = has_value;
             put_placed = rw pairs.3 tt;
@@ -134,7 +141,8 @@ module _ {K V S : Type 0} (eq : K → K → Bool) (hash : S → K → ℕ) (b : 
           stood = λ stands s.
               let is : stands ≡ Makes None q.index = fills_only (subst (λ (z : Machine). StandsOn z.call stands) machine s) in
               subst (Holds key (q ∷ []) (Heard None) x) (sym is) (q, fill, record { number = refl; made_is = inl refl; key_is = key_is; said_is = inl refl });
-          newest = λ i n s. let is : Makes (Some i) n ≡ Makes None q.index = fills_only (subst (λ (z : Machine). StandsOn z.call (Makes (Some i) n)) machine s) in absurd (cc is);
+          newest = λ i n s. let is : Makes (Some i) n ≡ Makes None q.index = fills_only
+              (subst (λ (z : Machine). StandsOn z.call (Makes (Some i) n)) machine s) in absurd (cc is);
           of_slot = λ old new e. let f = sym (ap (λ (z : Machine). z.call.remembered.choice) machine) ∙ e in absurd (cc f);
           aborts = λ with e. let f = sym (ap ask_of machine) ∙ e in absurd (cc f);
           refuses = λ cause e. let f = sym (ap ask_of machine) ∙ e in absurd (cc f);
@@ -143,7 +151,10 @@ module _ {K V S : Type 0} (eq : K → K → Bool) (hash : S → K → ℕ) (b : 
         }
 
       -- it was shown a pair, which was met in this slot
-      module _ (p : Stored K V) (key_is : key_of q ≡ key_of p) (shown_placed : IsPlaced b (Some name) (names.Pair p)) (was : WasHeld eq (eq key) (history_of begun) (history_of log) (Some p)) (shown : x.shown ≡ Some p) (fill : x.fill ≡ None) (chosen : x.chosen ≡ Some p) (made : x.made ≡ Some q) (value_is : held_value x.writer.value ≡ Some q.value.value) (t i : ℕ) (met : HasKeyAt log t i (key_of q)) where
+      module _ (p : Stored K V) (key_is : key_of q ≡ key_of p) (shown_placed : IsPlaced b (Some name) (names.Pair p))
+          (was : WasHeld eq (eq key) (history_of begun) (history_of log) (Some p)) (shown : x.shown ≡ Some p) (fill : x.fill ≡ None)
+          (chosen : x.chosen ≡ Some p) (made : x.made ≡ Some q) (value_is : held_value x.writer.value ≡ Some q.value.value) (t i : ℕ)
+          (met : HasKeyAt log t i (key_of q)) where
         abbrev of : Of
         of = record { pair = q.index; table = t; index = i }
 
@@ -156,13 +167,15 @@ module _ {K V S : Type 0} (eq : K → K → Bool) (hash : S → K → ℕ) (b : 
         chooses_only (inr (inr e)) = cc e
 
         at_slot : IsOfKey g ((run (exchanges_of begun ++ since) start).slot t i) (Some (key_of q))
-        at_slot = subst (λ (es : List (Exchange (Stored K V))). IsOfKey g ((run es start).slot t i) (Some (key_of q))) (sym since_is) (met.0, met.1, ap (λ z. Some z) met.2)
+        at_slot = subst (λ (es : List (Exchange (Stored K V))). IsOfKey g ((run es start).slot t i) (Some (key_of q))) (sym since_is)
+            (met.0, met.1, ap (λ z. Some z) met.2)
 
         pub resumes_replaced : IsAt with_choice → IsComputing eq hash b name key begun log x (Heard (Some p))
         resumes_replaced machine = record {
           made = q ∷ [];
           writing = record {
-            calling = rw (machine, table.0, table.1, pairs.0, pairs.1, pairs.2, pairs.3) (calls (q ∷ []) pair_is initial with_choice tt (q, inl refl, refl, at_slot));
+            calling = rw (machine, table.0, table.1, pairs.0, pairs.1, pairs.2, pairs.3)
+                (calls (q ∷ []) pair_is initial with_choice tt (q, inl refl, refl, at_slot));
             keyed = has_key;
             valued = has_value;
             put_placed = rw pairs.3 tt;
@@ -178,7 +191,8 @@ module _ {K V S : Type 0} (eq : K → K → Bool) (hash : S → K → ℕ) (b : 
           none_shown = inl tt;
           stood = λ stands s.
               let is : stands ≡ Makes (Some p.index) q.index = chooses_only (subst (λ (z : Machine). StandsOn z.call stands) machine s) in
-              subst (Holds key (q ∷ []) (Heard (Some p)) x) (sym is) (p, q, chosen, refl, made, record { number = refl; made_is = inl refl; key_is = key_is; said_is = inl refl });
+              subst (Holds key (q ∷ []) (Heard (Some p)) x) (sym is)
+              (p, q, chosen, refl, made, record { number = refl; made_is = inl refl; key_is = key_is; said_is = inl refl });
           newest = λ i n s. inr (record { shown = shown ∙ sym chosen; made = (q, made, value_is) });
           of_slot = λ old new e.
               let f = sym (ap (λ (z : Machine). z.call.remembered.choice) machine) ∙ e in let is : of ≡ new = cc f in
@@ -190,7 +204,9 @@ module _ {K V S : Type 0} (eq : K → K → Bool) (hash : S → K → ℕ) (b : 
         }
 
     -- it would have a pair removed
-    module _ (p : Stored K V) (shown_placed : IsPlaced b (Some name) (names.Pair p)) (was : WasHeld eq (eq key) (history_of begun) (history_of log) (Some p)) (shown : x.shown ≡ Some p) (fill : x.fill ≡ None) (chosen : x.chosen ≡ Some p) where
+    module _ (p : Stored K V) (shown_placed : IsPlaced b (Some name) (names.Pair p))
+        (was : WasHeld eq (eq key) (history_of begun) (history_of log) (Some p)) (shown : x.shown ≡ Some p) (fill : x.fill ≡ None)
+        (chosen : x.chosen ≡ Some p) where
       abbrev to_remove : Remembered
       to_remove = record { fill = None; choice = Some (To_remove p.index) }
 
@@ -220,7 +236,8 @@ module _ {K V S : Type 0} (eq : K → K → Bool) (hash : S → K → ℕ) (b : 
         stood = λ stands s.
             let is : stands ≡ Removes p.index = removes_only (subst (λ (z : Machine). StandsOn z.call stands) machine s) in
             subst (Holds key [] ((Some p, operation.Remove) ∷ []) x) (sym is) (p, chosen, refl, inl refl);
-        newest = λ i n s. let is : Makes (Some i) n ≡ Removes p.index = removes_only (subst (λ (z : Machine). StandsOn z.call (Makes (Some i) n)) machine s) in absurd (cc is);
+        newest = λ i n s. let is : Makes (Some i) n ≡ Removes p.index = removes_only
+            (subst (λ (z : Machine). StandsOn z.call (Makes (Some i) n)) machine s) in absurd (cc is);
         of_slot = λ old new e. let f = sym (ap (λ (z : Machine). z.call.remembered.choice) machine) ∙ e in absurd (cc f);
         aborts = λ with e. let f = sym (ap ask_of machine) ∙ e in absurd (cc f);
         refuses = λ cause e. let f = sym (ap ask_of machine) ∙ e in absurd (cc f);

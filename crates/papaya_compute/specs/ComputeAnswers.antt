@@ -21,8 +21,8 @@ changes (Ok (Removed k v)) = true
 changes (Ok (Aborted with)) = false
 changes (Err refused) = false
 
--- A compute is refused as an insertion is, or since its closure last would remove where there is
--- nothing.
+-- A compute is refused as an insertion is, or since its closure last would remove where there
+-- is nothing.
 abbrev pub IsRefusedBy : {K V T : Type 0} → List (Option (Stored K V) × Operation V T) → Refused
     → Type 0
 IsRefusedBy said refused = IsMemoryCapacityOrLimit refused ⊎ ((refused ≡ RemoveNothing)

@@ -65,8 +65,8 @@ module _ {K V S T H : Type 0} {d : keyed.Ghosts S K H} where
       → computing.IsComputing d.keys.eq d.keys.hash (begun_of w'.book.now.parts)
       w'.book.now.begun.book key begun w'.sight.log x ((met_by turn, done) ∷ []))
 
-  -- One of this key is under way that began since what was seen first. Its closure was `first` then,
-  -- and is `left` now.
+  -- One of this key is under way that began since what was seen first. Its closure was `first`
+  -- then, and is `left` now.
   abbrev pub IsOnItsWay : {F : Type 0} → (w w' : Window K V S H d) → K
       → (F → Option (Stored K V) → Operation V T → F → Type 0) → (first left : F)
       → Computing K V S T H → Type 0

@@ -1,5 +1,5 @@
--- A compute whose exchange at once was lost: its machine goes on from the root with what its closure
--- answered in mind.
+-- A compute whose exchange at once was lost: its machine goes on from the root with what its
+-- closure answered in mind.
 use Rattle.std.specs.Prelude.{ℕ, false, Option, List, [], ◌∷◌}
 use mathlib.Core.List.{IsPrefix}
 use Rattle.papaya_words.specs.declared.probe.ResizeMode.{ResizeMode}
@@ -30,8 +30,8 @@ resumed_at hash mode initial limit held = record {
 }
 
 module _ {K V S T H : Type 0} {d : keyed.Ghosts S K H} where
-  -- A compute goes on whose closure was shown this once, and answered so: since whatever log that was
-  -- the map's.
+  -- A compute goes on whose closure was shown this once, and answered so: since whatever log that
+  -- was the map's.
   abbrev pub IsResumed : Window K V S H d → K → Option (Stored K V) → Operation V T
       → Computing K V S T H → Type 0
   IsResumed w key held done x = (begun : List (Event K V S)) → IsPrefix begun w.sight.log

@@ -170,8 +170,8 @@ fn settle<'a, C: Drop, K, V>(
     }
 }
 
-/// Looks for the key in the root, and stores at once what the rule answers where the search ends at an
-/// empty place or at a live pair. Else, and where another call was first, the machine goes on.
+/// Looks for the key in the root, and stores at once what the rule answers where the search ends at
+/// an empty place or at a live pair. Else, and where another call was first, the machine goes on.
 #[inline(always)]
 fn decide_at_once<'a, R: Wait, K: Hash + Eq + Drop, V: Drop, S: BuildHasher, D: Rule<V>>(
     means: &Means<'_, '_, R>,

@@ -1,5 +1,5 @@
-//! Computes whose search of the root ends at an empty place or at a live pair: what their closure answered is
-//! done at once. Where another call was first, their machine goes on.
+//! Computes whose search of the root ends at an empty place or at a live pair: what their closure
+//! answered is done at once. Where another call was first, their machine goes on.
 ghost use Rattle.std.specs.Prelude.{◌≡◌, false, None, Some, Err, Option};
 ghost use Rattle.std.specs.Int.{IsPowerOfTwo};
 ghost use Rattle.papaya_words.specs.Word.{kind_of};
@@ -41,8 +41,8 @@ pub enum First<C, A> {
     On(C),
 }
 
-/// Where the search of the root has led a compute. None where there is no root, and where there is a limit:
-/// there each pair needs a number, which the machine takes.
+/// Where the search of the root has led a compute. None where there is no root, and where there is
+/// a limit: there each pair needs a number, which the machine takes.
 #[inline(always)]
 pub fn look<'a, K: Hash + Eq, V, S: BuildHasher>(
     window: &mut Window<'a, K, V, S>,
@@ -82,8 +82,8 @@ pub fn begin<'a, K: Hash + Eq + Drop, V: Drop, S: BuildHasher, T: Drop>(
     Computing::new(window, initial, key)
 }
 
-/// Does what the closure answered that was shown that there is none, at the empty place that a search has
-/// found.
+/// Does what the closure answered that was shown that there is none, at the empty place that a
+/// search has found.
 #[inline(always)]
 pub fn fill<'a, R: Wait, K: Hash + Eq + Drop, V: Drop, S: BuildHasher, T: Drop>(
     means: &Means<'_, '_, R>,

@@ -1,5 +1,6 @@
-//! Computes whose closure is lent the pair that it is shown, for the time of its call alone. So the
-//! closure's type names no lifetime, and such a call can be made in other crates for keys of any type.
+//! Computes whose closure is lent the pair that it is shown, for the time of its call alone. So
+//! the closure's type names no lifetime, and such a call can be made in other crates for keys of
+//! any type.
 ghost use Rattle.std.specs.Prelude.{◌≡◌, false, None, Err};
 ghost use Rattle.std.specs.Int.{IsPowerOfTwo};
 ghost use Rattle.papaya_book.specs.Books.{IsIn};
@@ -55,8 +56,9 @@ fn operate<K: Hash + Eq, V, S: BuildHasher, T, F: FnMut(Option<(&K, &V)>) -> Ope
     }
 }
 
-/// Looks for the key in the root, and does at once what the closure answers where the search ends at an
-/// empty place or at a live pair. Else, and where another call was first, the machine goes on.
+/// Looks for the key in the root, and does at once what the closure answers where the search
+/// ends at an empty place or at a live pair. Else, and where another call was first, the machine
+/// goes on.
 #[inline(always)]
 fn lend_at_once<
     'a,
@@ -112,9 +114,9 @@ fn lend_at_once<
     }
 }
 
-/// Does with a key's pair, or where it has none, what the closure answers that is lent it. Where it is
-/// refused for want of room, `given` tells the number that a full log gave, or the sum of the count that
-/// makes a next table too long.
+/// Does with a key's pair, or where it has none, what the closure answers that is lent it. Where it
+/// is refused for want of room, `given` tells the number that a full log gave, or the sum of the
+/// count that makes a next table too long.
 pub fn compute_lent<
     'a,
     R: Wait,

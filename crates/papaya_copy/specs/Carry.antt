@@ -1,5 +1,5 @@
--- A copier puts the pair of a marked word into a table: what it asks, and where each answer leads
--- it.
+-- A copier puts the pair of a marked word into a table: what it asks, and where each answer
+-- leads it.
 use Rattle.std.specs.Prelude.{ℕ, ◌==◌, nat_lt, Bool, true, false, if◌then◌else◌, Option, Some, None}
 use Rattle.papaya_words.specs.Word.{kind_of, pair_of, hint_of, may_hold, live_word}
 use Rattle.papaya_words.specs.declared.probe.Refused.{Refused}

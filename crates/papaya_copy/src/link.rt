@@ -21,8 +21,8 @@ pub enum Link {
     /// found no place, or that this table was given up.
     Sizing {
         after: u64,
-        /// The table that is copied to the next one: this one, or the root, if this one was given
-        /// up.
+        /// The table that is copied to the next one: this one, or the root, if this one was
+        /// given up.
         copied: u64,
         unfit: bool,
     },

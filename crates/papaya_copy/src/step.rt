@@ -4,7 +4,9 @@ ghost use Rattle.std.specs.Int.{IsPowerOfTwo};
 ghost use Rattle.papaya_copy.specs.Link.{IsFitCopyAsk, IsStandingLink, IsStandingLinked};
 ghost use Rattle.papaya_ask.specs.Search.{IsSize};
 ghost use Rattle.papaya_copy.specs.Settle.{IsStandingSettled};
-ghost use Rattle.papaya_copy.specs.Step.{IsStandingChunk, IsStandingCursor, IsStandingStep, IsStandingStepped, advanced, aimed, at_count, at_exchanged, at_found};
+ghost use Rattle.papaya_copy.specs.Step.{IsStandingChunk, IsStandingCursor, IsStandingStep};
+ghost use Rattle.papaya_copy.specs.Step.{IsStandingStepped, advanced, aimed, at_count};
+ghost use Rattle.papaya_copy.specs.Step.{at_exchanged, at_found};
 ghost use Rattle.papaya_copy.specs.Step.{at_hash, at_made, at_ok, at_refused, at_size, at_word, at_yes, chunk_at};
 ghost use Rattle.papaya_copy.specs.Step.{chunk_read, first_cursor, judged, linked_to, next_cursor, settled_to, slot_of, step_ask, step_follows};
 ghost use Rattle.papaya_copy.specs.Step.{step_kind};
@@ -53,8 +55,8 @@ pub struct Chunk {
 
 /// Where the copy of a chunk stands, between two answers.
 ///
-/// In 0.2.5 this is `help_copy` with `help_copy_incremental` and `help_copy_blocking`, and its end
-/// `try_promote`.
+/// In 0.2.5 this is `help_copy` with `help_copy_incremental` and `help_copy_blocking`, and its
+/// end `try_promote`.
 #[derive(Clone, Copy)]
 pub enum Step {
     /// It loads the root, which is the table to be copied.

@@ -21,7 +21,11 @@ use Rattle.papaya_call.specs.declared.made.Number.{Number}
 use Rattle.papaya_call.specs.declared.made.Number.TheVariants.{Wanted, Free, Taken}
 use Rattle.papaya_call.specs.declared.machine.Machine.{Machine as Call_machine}
 use Rattle.papaya_call.specs.declared.machine.State.{State as Stage}
-use Rattle.papaya_call.specs.declared.machine.State.TheVariants.{AtRoot, Making, Opening, Searching, Writing, Offering, Showing, Pairing, Putting, Deleting, Counting, Noting, Uncounting, Leaving, Growing, Ended}
+use Rattle.papaya_call.specs.declared.machine.State.TheVariants.{AtRoot, Making, Opening, Searching}
+use Rattle.papaya_call.specs.declared.machine.State.TheVariants.{Writing, Offering, Showing}
+use Rattle.papaya_call.specs.declared.machine.State.TheVariants.{Pairing, Putting, Deleting}
+use Rattle.papaya_call.specs.declared.machine.State.TheVariants.{Counting, Noting, Uncounting}
+use Rattle.papaya_call.specs.declared.machine.State.TheVariants.{Leaving, Growing, Ended}
 use Rattle.papaya_call.specs.declared.write.Write.{Write}
 use Rattle.papaya_chain.specs.declared.ask.Ask.TheVariants as chain_asks
 use Rattle.papaya_chain.specs.declared.ask.Answer.{Answer}
@@ -51,7 +55,8 @@ use Rattle.papaya_core.proofs.NumbersTaken.{own_free, own_limit}
 
 -- what is made for a pair is no number
 made_no_number : (made : Made) (old : ℕ) → AsksNumber (make_ask made old) → ⊥
-made_no_number made old = cond_both (old == 0) (own_ask made.keyed made.valued) (of_ask made.valued old) (λ a. AsksNumber a → ⊥) (λ _. own made.keyed made.valued) (λ _. of made.valued)
+made_no_number made old = cond_both (old == 0) (own_ask made.keyed made.valued) (of_ask made.valued old) (λ a. AsksNumber a → ⊥)
+    (λ _. own made.keyed made.valued) (λ _. of made.valued)
   where
     own : (keyed valued : Bool) → AsksNumber (own_ask keyed valued) → ⊥
     own false valued n = n
@@ -64,7 +69,8 @@ made_no_number made old = cond_both (old == 0) (own_ask made.keyed made.valued) 
 
 -- none is below the limit where as many were taken
 full_limit : (made : Made) (limit : Option ℕ) (count : ℕ) → limit ≡ Some count → told_limit made limit count ≡ None
-full_limit made limit count e = ap (λ l. told_limit made l count) e ∙ cond_both (nat_lt count count) _ None (λ o. o ≡ None) (λ less. absurd (let f = ltb-true count count less in omega (arith, f))) (λ _. refl)
+full_limit made limit count e = ap (λ l. told_limit made l count) e
+    ∙ cond_both (nat_lt count count) _ None (λ o. o ≡ None) (λ less. absurd (let f = ltb-true count count less in omega (arith, f))) (λ _. refl)
 
 full_as : (made : Made) (number : Number) (old count : ℕ) → AsksNumber (number_ask number made old) → made.limit ≡ Some count → told_as made number count ≡ None
 full_as made Wanted old count n e = full_limit made made.limit count e
@@ -150,7 +156,9 @@ module _ {K V S A : Type 0} (eq : K → K → Bool) (says : Says K V A) (hash : 
   -- all numbers are taken, and one that the call would take is free
   module _ (spent : r.machine.call.made.limit ≡ Some s.words.made) (free : (m : ℕ) → r.machine.call.made.number ≡ Free m → m < s.words.made) where
     -- it is told of as many
-    told_full : (answer : Call_answer) (ask : Call_ask) → AsksNumber ask → ((old new : ℕ) → ask ≡ Exchange Made_word old new → r.machine.call.made.number ≡ Free old) → Performs eq says refuse ask s r answer s' r' → (answer ≡ Word_read s.words.made) ⊎ (answer ≡ Found_instead s.words.made)
+    told_full : (answer : Call_answer) (ask : Call_ask) → AsksNumber ask
+        → ((old new : ℕ) → ask ≡ Exchange Made_word old new → r.machine.call.made.number ≡ Free old) → Performs eq says refuse ask s r answer s' r'
+        → (answer ≡ Word_read s.words.made) ⊎ (answer ≡ Found_instead s.words.made)
     told_full answer (Load Made_word) n takes h = inl h.0
     told_full answer (Exchange Made_word old new) n takes h =
         matched ((answer ≡ Word_read s.words.made) ⊎ (answer ≡ Found_instead s.words.made)) (s.words.made == old) _ _ h.0
@@ -159,7 +167,9 @@ module _ {K V S A : Type 0} (eq : K → K → Bool) (says : Says K V A) (hash : 
     told_full answer ask n takes h = absurd n
 
     -- and ends so
-    ends : (answer : Call_answer) → AsksNumber (calls.ask_of r.machine.call) → (answer ≡ Word_read s.words.made) ⊎ (answer ≡ Found_instead s.words.made) → r.machine.phase ≡ Calling → reply_in (ask_of (after r.machine (answers.Call answer))) ≡ Some (Reply_refused Limit)
+    ends : (answer : Call_answer) → AsksNumber (calls.ask_of r.machine.call) → (answer ≡ Word_read s.words.made)
+        ⊎ (answer ≡ Found_instead s.words.made) → r.machine.phase ≡ Calling
+        → reply_in (ask_of (after r.machine (answers.Call answer))) ≡ Some (Reply_refused Limit)
     ends answer n (inl e) phase =
         let x = numbering r.machine.call r.machine.call.state n in
         let full = full_as r.machine.call.made r.machine.call.made.number x.old s.words.made (subst AsksNumber x.asked n) spent in
@@ -167,33 +177,41 @@ module _ {K V S A : Type 0} (eq : K → K → Bool) (says : Says K V A) (hash : 
         ∙ ap (λ p. reply_in (ask_of (after_in r.machine (answers.Call (Word_read s.words.made)) p))) phase
         ∙ ap (λ m. reply_in (ask_of m)) (x.onward r.machine s.words.made)
         ∙ ap (λ p. reply_in (asks_in (calls.after r.machine.call (Word_read s.words.made)) p)) phase
-        ∙ ap (λ st. reply_in (chain_asks.Call (asks (calls.made_at_word r.machine.call.made s.words.made r.machine.call.state) r.machine.call.hash st))) (x.read s.words.made full)
+        ∙ ap (λ st. reply_in (chain_asks.Call (asks (calls.made_at_word r.machine.call.made s.words.made r.machine.call.state) r.machine.call.hash
+        st))) (x.read s.words.made full)
     ends answer n (inr e) phase =
         let x = numbering r.machine.call r.machine.call.state n in
         let full = full_as r.machine.call.made r.machine.call.made.number x.old s.words.made (subst AsksNumber x.asked n) spent in
         ap (λ a. reply_in (ask_of (after r.machine (answers.Call a)))) e
         ∙ ap (λ p. reply_in (ask_of (after_in r.machine (answers.Call (Found_instead s.words.made)) p))) phase
         ∙ ap (λ p. reply_in (asks_in (calls.after r.machine.call (Found_instead s.words.made)) p)) phase
-        ∙ ap (λ st. reply_in (chain_asks.Call (asks (calls.made_at_word r.machine.call.made s.words.made r.machine.call.state) r.machine.call.hash st))) (x.found s.words.made full)
+        ∙ ap (λ st. reply_in (chain_asks.Call (asks (calls.made_at_word r.machine.call.made s.words.made r.machine.call.state) r.machine.call.hash
+        st))) (x.found s.words.made full)
 
-    pub refused_there : (answer : Answer) → AsksForNumber (ask_of r.machine) → PerformsAsk eq says hash refuse (ask_of r.machine) s r answer s' r' → reply_in (ask_of (after r.machine answer)) ≡ Some (Reply_refused Limit)
+    pub refused_there : (answer : Answer) → AsksForNumber (ask_of r.machine) → PerformsAsk eq says hash refuse (ask_of r.machine) s r answer s' r'
+        → reply_in (ask_of (after r.machine answer)) ≡ Some (Reply_refused Limit)
     refused_there answer n h =
         let (phase, asks_number) = calls_itself r.machine.call r.machine.phase n in
         let (told, is, own) = subst (λ y. PerformsAsk eq says hash refuse (asks_in r.machine.call y) s r answer s' r') phase h in
         let x = numbering r.machine.call r.machine.call.state asks_number in
-        let takes = λ (old new : ℕ) (e : calls.ask_of r.machine.call ≡ Exchange Made_word old new). taken_from r.machine.call.made.number r.machine.call.made x.old old new (sym x.asked ∙ e) in
+        let takes = λ (old new : ℕ) (e : calls.ask_of r.machine.call ≡ Exchange Made_word old new).
+        taken_from r.machine.call.made.number r.machine.call.made x.old old new (sym x.asked ∙ e) in
         ap (λ a. reply_in (ask_of (after r.machine a))) is
         ∙ ends told asks_number (told_full told (calls.ask_of r.machine.call) asks_number takes own) phase
 
-module _ {K V S A : Type 0} (eq : K → K → Bool) (says : Says K V A) (hash : S → K → ℕ) (refuse : Bool) (s : CoreState K V S A) (caller : ℕ) (s' : CoreState K V S A) (event : Event) (reply : Option Reply) (lawful : IsLawfulCore eq (hash s.store.hasher) s.store s.callers s.mode) where
+module _ {K V S A : Type 0} (eq : K → K → Bool) (says : Says K V A) (hash : S → K → ℕ) (refuse : Bool) (s : CoreState K V S A) (caller : ℕ)
+    (s' : CoreState K V S A) (event : Event) (reply : Option Reply) (lawful : IsLawfulCore eq (hash s.store.hasher) s.store s.callers s.mode) where
   -- the call on one key that a caller has under way
-  its_call : (x : Advances eq says hash refuse s caller s' event reply) (r : Running K V A) → call_of s caller ≡ Some r → AsksForNumber (ask_of r.machine) → AsksForNumber (ask_of x.before.machine)
+  its_call : (x : Advances eq says hash refuse s caller s' event reply) (r : Running K V A) → call_of s caller ≡ Some r
+      → AsksForNumber (ask_of r.machine) → AsksForNumber (ask_of x.before.machine)
   its_call x r was n = subst (λ (y : Running K V A). AsksForNumber (ask_of y.machine)) (same_item r x.before (sym was ∙ x.was)) n
 
   -- so a step of a call that needs a number is refused where all are taken
   pub spent_refuses : Steps eq says hash refuse s caller s' event reply → NeedsNumber s caller → IsSpent s → reply ≡ Some (Reply_refused Limit)
   spent_refuses (inl x) (r, was, n) spent =
       x.reply_is
-      ∙ refused_there eq says hash refuse s.store s'.store x.before x.later (own_limit eq (hash s.store.hasher) s lawful caller x.before x.was ∙ spent) (own_free eq (hash s.store.hasher) s lawful caller x.before x.was spent) x.answer (its_call x r was n) x.performs
+      ∙ refused_there eq says hash refuse s.store s'.store x.before x.later
+      (own_limit eq (hash s.store.hasher) s lawful caller x.before x.was ∙ spent)
+      (own_free eq (hash s.store.hasher) s lawful caller x.before x.was spent) x.answer (its_call x r was n) x.performs
   spent_refuses (inr (inl x)) (r, was, n) spent = absurd (no_resizer (working s.callers caller) was x.was)
   spent_refuses (inr (inr x)) (r, was, n) spent = absurd (no_scanner (working s.callers caller) was x.was)

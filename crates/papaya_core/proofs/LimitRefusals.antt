@@ -73,7 +73,8 @@ module _ {K V S : Type 0} (eq : K → K → Bool) (hash : S → K → ℕ) (refu
       matched ⊥ (word_at s.words at == old) _ _ h (λ _ done. absurd (cc (done.0, f))) (λ _ lost. absurd (cc (lost.0, f)))
   copy_other (copies.LoadHint n i) (is, same) e = absurd (cc (is, e))
   copy_other (copies.WriteHint n i hint) (is, same) e = absurd (cc (is, e))
-  copy_other (copies.SizeOf n) (is, same) e = let f : size_of (table_of s.words.tables n) ≡ Was_refused Limit = cc (is, e) in size_other (table_of s.words.tables n) f
+  copy_other (copies.SizeOf n) (is, same) e = let f : size_of (table_of s.words.tables n) ≡ Was_refused Limit = cc (is, e) in
+      size_other (table_of s.words.tables n) f
   copy_other (copies.HashOf n) (is, fits, same) e = hash_other (hash s.hasher) _ (sym is ∙ e)
   copy_other (copies.SamePair m n) (is, same) e = absurd (cc (is, e))
   copy_other copies.Count (is, same) e = absurd (cc (is, e))
@@ -84,7 +85,8 @@ module _ {K V S : Type 0} (eq : K → K → Bool) (hash : S → K → ℕ) (refu
 
 module _ {K V S A : Type 0} (eq : K → K → Bool) (says : Says K V A) (hash : S → K → ℕ) (refuse : Bool) (s s' : StoreState K V S) where
   -- an ask of a scan
-  scan_other : (v v' : Scanning A) (answer : Answer) (ask : ScanAsk) → PerformsScan eq says hash refuse ask s v answer s' v' → answer ≡ answers.Call (Was_refused Limit) → ⊥
+  scan_other : (v v' : Scanning A) (answer : Answer) (ask : ScanAsk) → PerformsScan eq says hash refuse ask s v answer s' v'
+      → answer ≡ answers.Call (Was_refused Limit) → ⊥
   scan_other v v' answer (scan_asks.Copy ask) (h, same) e = copy_other eq hash refuse s answer s' ask h e
   scan_other v v' answer (scan_asks.Show n) ((told, is, inl (none, ok, same)), stays) e = absurd (cc (is, ok, e))
   scan_other v v' answer (scan_asks.Show n) ((told, is, inr (a, p, keeps, left, had, logged, says_so, answered, then)), stays) e = absurd (cc (is, answered, e))
@@ -112,19 +114,25 @@ module _ {K V S A : Type 0} (eq : K → K → Bool) (says : Says K V A) (hash : 
     make_other ask makes h e = absurd makes
 
     -- where the number of those taken is told, it is that
-    number_told : (ask : Call_ask) → IsNumberAsk ask → Performs eq says refuse ask s r told s' r' → (count : ℕ) → (told ≡ Word_read count) ⊎ (told ≡ Found_instead count) → count ≡ s.words.made
+    number_told : (ask : Call_ask) → IsNumberAsk ask → Performs eq says refuse ask s r told s' r' → (count : ℕ) → (told ≡ Word_read count)
+        ⊎ (told ≡ Found_instead count) → count ≡ s.words.made
     number_told (call_asks.Load Made) asked (is, stays) count (inl e) = cc (is, e)
     number_told (call_asks.Load Made) asked (is, stays) count (inr e) = absurd (cc (is, e))
     number_told (call_asks.Exchange Made old new) asked (h, same) count e =
-        matched (count ≡ s.words.made) (s.words.made == old) _ _ h (λ _ done. elim e [ inl y ↦ absurd (let f = done.0 in cc (f, y)) | inr y ↦ absurd (let f = done.0 in cc (f, y)) ])
+        matched (count ≡ s.words.made) (s.words.made == old) _ _ h
+        (λ _ done. elim e [ inl y ↦ absurd (let f = done.0 in cc (f, y)) | inr y ↦ absurd (let f = done.0 in cc (f, y)) ])
         (λ _ lost. elim e [ inl y ↦ absurd (let f = lost.0 in cc (f, y)) | inr y ↦ let f = lost.0 in cc (f, y) ])
     number_told ask asked h count e = absurd asked
 
   -- what is asked by the call itself
-  own_asked : (r r' : Running K V A) (answer : Answer) → r.machine.phase ≡ Calling → PerformsAsk eq says hash refuse (ask_of r.machine) s r answer s' r' → PerformsAsk eq says hash refuse (asks.Call (call_machine.ask_of r.machine.call)) s r answer s' r'
+  own_asked : (r r' : Running K V A) (answer : Answer) → r.machine.phase ≡ Calling
+      → PerformsAsk eq says hash refuse (ask_of r.machine) s r answer s' r'
+      → PerformsAsk eq says hash refuse (asks.Call (call_machine.ask_of r.machine.call)) s r answer s' r'
   own_asked r r' answer phase h = subst (λ y. PerformsAsk eq says hash refuse (asks_in r.machine.call y) s r answer s' r') phase h
 
-module _ {K V S A : Type 0} (eq : K → K → Bool) (says : Says K V A) (hash : S → K → ℕ) (refuse : Bool) (s : CoreState K V S A) (caller : ℕ) (s' : CoreState K V S A) (event : Event) (reply : Option Reply) (lawful : IsLawfulCore eq (hash s.store.hasher) s.store s.callers s.mode) (e : reply ≡ Some (Reply_refused Limit)) where
+module _ {K V S A : Type 0} (eq : K → K → Bool) (says : Says K V A) (hash : S → K → ℕ) (refuse : Bool) (s : CoreState K V S A) (caller : ℕ)
+    (s' : CoreState K V S A) (event : Event) (reply : Option Reply) (lawful : IsLawfulCore eq (hash s.store.hasher) s.store s.callers s.mode)
+    (e : reply ≡ Some (Reply_refused Limit)) where
   -- the call's own refusal
   own_spent : (x : Advances eq says hash refuse s caller s' event reply) → IsOwnRefusal x.before.machine x.answer Limit → IsSpent s
   own_spent x own =
@@ -133,7 +141,8 @@ module _ {K V S A : Type 0} (eq : K → K → Bool) (says : Says K V A) (hash : 
       elim own.why [
         | inl (makes, refused) ↦ absurd (make_other eq says hash refuse s.store s'.store x.before told x.later _ makes h (same ∙ refused))
         | inr (inl (limit, (most, count, is_limit, up, asks_number, counts))) ↦
-            let now : count ≡ s.store.words.made = number_told eq says hash refuse s.store s'.store x.before told x.later _ asks_number h count (subst (λ y. (y ≡ Word_read count) ⊎ (y ≡ Found_instead count)) (sym same) counts) in
+            let now : count ≡ s.store.words.made = number_told eq says hash refuse s.store s'.store x.before told x.later _ asks_number h count
+            (subst (λ y. (y ≡ Word_read count) ⊎ (y ≡ Found_instead count)) (sym same) counts) in
             spent_by eq (hash s.store.hasher) s lawful caller x.before x.was most is_limit (subst (λ y. most ≤ y) now up)
         | inr (inr (other, shown, removes)) ↦ absurd (cc other)
       ]

@@ -2,7 +2,9 @@
 use Rattle.std.proofs.Common.{◌≡◌, ℕ, ◌+◌, ◌<◌, ◌≤◌, Bool, List, [], ◌∷◌, Option, None, Some, MatchOption, sym, ◌∙◌, ap, subst, arith}
 use Rattle.papaya_ask.specs.declared.ask.At.TheVariants.{Made}
 use Rattle.papaya_law.specs.Allows.{Allows, AllAllowed}
-use Rattle.papaya_law.specs.Exchange.{Setting, State, Exchange, Open, Claim, Replace, Delete, Link, Mark, Close, Place, Finish, Advance, Promote, Abort, Take, after, run, start}
+use Rattle.papaya_law.specs.Exchange.{Setting, State, Exchange, Open, Claim, Replace, Delete, Link}
+use Rattle.papaya_law.specs.Exchange.{Mark, Close, Place, Finish, Advance, Promote, Abort, Take}
+use Rattle.papaya_law.specs.Exchange.{after, run, start}
 use Rattle.papaya_call.specs.declared.made.Number.TheVariants.{Free}
 use Rattle.papaya_call_law.specs.Relies.{ReliesNumber}
 use Rattle.papaya_store.specs.declared.pairs.Running.{Running}
@@ -33,7 +35,8 @@ just (Some m) n made e up within = let f : m ≡ n = cc e in let same : m ≡ ma
 module _ {K P : Type 0} (g : Setting K P) where
   -- an exchange
   once_within : (s : State P) (e : Exchange P) → Allows g s e → Within g.most s.made → Within g.most (after s e).made
-  once_within s (Take m) may within = subst (λ made. Within g.most (made + 1)) may.0 (taken_within g.most s.made (subst (λ made. MatchOption g.most (Unit {0}) (λ n. made < n)) (sym may.0) may.1))
+  once_within s (Take m) may within = subst (λ made. Within g.most (made + 1)) may.0
+      (taken_within g.most s.made (subst (λ made. MatchOption g.most (Unit {0}) (λ n. made < n)) (sym may.0) may.1))
   once_within s (Open t) may within = within
   once_within s (Claim t x p) may within = within
   once_within s (Replace t x p q) may within = within
@@ -66,15 +69,18 @@ module _ {K V S A : Type 0} (eq : K → K → Bool) (hash : K → ℕ) (s : Core
       (kept.calls caller r was).relies.call.made.limit
 
   -- where a call was told of as many as its limit, all are taken
-  pub spent_by : (caller : ℕ) (r : Running K V A) → running s.callers caller ≡ Some r → (most : ℕ) → r.machine.call.made.limit ≡ Some most → most ≤ s.store.words.made → IsSpent s
+  pub spent_by : (caller : ℕ) (r : Running K V A) → running s.callers caller ≡ Some r → (most : ℕ) → r.machine.call.made.limit ≡ Some most
+      → most ≤ s.store.words.made → IsSpent s
   spent_by caller r was most e up = just s.mode.limit most s.store.words.made (sym (own_limit caller r was) ∙ e) up core_within
 
   -- and a number that it is to take is free
-  pub own_free : (caller : ℕ) (r : Running K V A) → running s.callers caller ≡ Some r → IsSpent s → (m : ℕ) → r.machine.call.made.number ≡ Free m → m < s.store.words.made
+  pub own_free : (caller : ℕ) (r : Running K V A) → running s.callers caller ≡ Some r → IsSpent s → (m : ℕ) → r.machine.call.made.number ≡ Free m
+      → m < s.store.words.made
   own_free caller r was spent m e =
       let (es, (call_traces, kept)) = lawful.law in
       let call = kept.calls caller r was in
-      below s.mode.limit spent (subst (ReliesNumber (setting_of eq (low hash) s.mode s.store.words.tables) (coding_of (low hash)) (call_traces caller).begun (call_traces caller).since call.key) e call.relies.call.made.number_is)
+      below s.mode.limit spent (subst (ReliesNumber (setting_of eq (low hash) s.mode s.store.words.tables) (coding_of (low hash))
+      (call_traces caller).begun (call_traces caller).since call.key) e call.relies.call.made.number_is)
     where
       below : (limit : Option ℕ) → limit ≡ Some s.store.words.made → MatchOption limit (Unit {0}) (λ n. m < n) → m < s.store.words.made
       below None none free = absurd cc

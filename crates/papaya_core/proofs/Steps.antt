@@ -46,8 +46,10 @@ unended_asks (stages.Refused refused) going none = absurd cc
 unended_asks stage going none = absurd cc
 
 -- what a caller has under way stands, and has not ended
-pub work_stands : {K V S A H : Type 0} (eq : K → K → Bool) (input : K → List (List ℕ)) (build : S → H) (write : H → List ℕ → H) (finish : H → ℕ) (classes : IsEquivalence eq) (respects : (x y : K) → eq x y ≡ true → input x ≡ input y) (says : Says K V A) (s : CoreState K V S A)
-    → IsLawfulCore eq (hash_of input build write finish s.store.hasher) s.store s.callers s.mode → (caller : ℕ) (work : Work K V A) → working s.callers caller ≡ Some work → IsStandingWork work
+pub work_stands : {K V S A H : Type 0} (eq : K → K → Bool) (input : K → List (List ℕ)) (build : S → H) (write : H → List ℕ → H) (finish : H → ℕ)
+    (classes : IsEquivalence eq) (respects : (x y : K) → eq x y ≡ true → input x ≡ input y) (says : Says K V A) (s : CoreState K V S A)
+    → IsLawfulCore eq (hash_of input build write finish s.store.hasher) s.store s.callers s.mode → (caller : ℕ) (work : Work K V A)
+    → working s.callers caller ≡ Some work → IsStandingWork work
 work_stands eq input build write finish classes respects says s lawful caller (works.Call r) was = lawful.core.standing caller r (ap call_in was)
 work_stands eq input build write finish classes respects says s lawful caller (works.Resize z) was = lawful.core.resizers caller z (ap resizer_in was)
 work_stands eq input build write finish classes respects says s lawful caller (works.Scan v) was = (
@@ -55,7 +57,9 @@ work_stands eq input build write finish classes respects says s lawful caller (w
   lawful_asks eq input build write finish classes respects says false s lawful caller v (ap scanner_in was),
 )
 
-module _ {K V S A H : Type 0} (eq : K → K → Bool) (input : K → List (List ℕ)) (build : S → H) (write : H → List ℕ → H) (finish : H → ℕ) (classes : IsEquivalence eq) (respects : (x y : K) → eq x y ≡ true → input x ≡ input y) (says : Says K V A) (refuse : Bool) (s : CoreState K V S A) (caller : ℕ) (s' : CoreState K V S A) (event : Event) (reply : Option Reply) where
+module _ {K V S A H : Type 0} (eq : K → K → Bool) (input : K → List (List ℕ)) (build : S → H) (write : H → List ℕ → H) (finish : H → ℕ)
+    (classes : IsEquivalence eq) (respects : (x y : K) → eq x y ≡ true → input x ≡ input y) (says : Says K V A) (refuse : Bool)
+    (s : CoreState K V S A) (caller : ℕ) (s' : CoreState K V S A) (event : Event) (reply : Option Reply) where
   -- keys are hashed so
   abbrev hashes : S → K → ℕ
   hashes = hash_of input build write finish
@@ -70,9 +74,11 @@ module _ {K V S A H : Type 0} (eq : K → K → Bool) (input : K → List (List 
     pub keeps : KeepsPairs s.store s'.store
     pub shard : AddsToShard s caller s'
 
-  module _ (lawful : IsLawfulCore eq (hashes s.store.hasher) s.store s.callers s.mode) (counted : IsCounted eq s.store s.callers) (rest : Option (Work K V A)) (callers : s'.callers ≡ with_work s.callers caller rest) (mode : s'.mode ≡ s.mode) (initial : s'.initial ≡ s.initial) where
+  module _ (lawful : IsLawfulCore eq (hashes s.store.hasher) s.store s.callers s.mode) (counted : IsCounted eq s.store s.callers)
+      (rest : Option (Work K V A)) (callers : s'.callers ≡ with_work s.callers caller rest) (mode : s'.mode ≡ s.mode) (initial : s'.initial ≡ s.initial) where
     -- of a call on one key
-    call_sound : (before : Running K V A) → working s.callers caller ≡ Some (works.Call before) → CallGoes eq says hashes refuse s.store caller s'.store event reply rest before → IsSound
+    call_sound : (before : Running K V A) → working s.callers caller ≡ Some (works.Call before)
+        → CallGoes eq says hashes refuse s.store caller s'.store event reply rest before → IsSound
     call_sound before was goes =
         let (es, (call_traces, kept)) = lawful.law in
         let law = keys_lawful eq input build write finish classes respects s.store.hasher in
@@ -89,7 +95,8 @@ module _ {K V S A H : Type 0} (eq : K → K → Bool) (input : K → List (List 
           callers = callers ∙ ap (with_work s.callers caller) goes.work_is;
           mode = mode;
           initial = initial;
-          cause = λ refused e. lawful_caused eq input build write finish classes respects says refuse s lawful caller before runs goes.answer s'.store goes.later goes.performs refused (sym goes.reply_is ∙ e);
+          cause = λ refused e. lawful_caused eq input build write finish classes respects says refuse s lawful caller before runs goes.answer s'.store
+              goes.later goes.performs refused (sym goes.reply_is ∙ e);
         } in
         let core' = advance-core eq says hashes refuse s caller s' event reply x lawful.core in
         record {
@@ -106,12 +113,14 @@ module _ {K V S A H : Type 0} (eq : K → K → Bool) (input : K → List (List 
         }
 
     -- of a call that resizes the map
-    resizer_sound : (before : Resizer) → working s.callers caller ≡ Some (works.Resize before) → ResizerGoes eq hashes refuse s.store s'.store event reply rest before → IsSound
+    resizer_sound : (before : Resizer) → working s.callers caller ≡ Some (works.Resize before)
+        → ResizerGoes eq hashes refuse s.store s'.store event reply rest before → IsSound
     resizer_sound before was goes =
         let (es, (call_traces, kept)) = lawful.law in
         let law = keys_lawful eq input build write finish classes respects s.store.hasher in
         let now = kept.resizers caller before (ap resizer_in was) in
-        let told = stage_left eq (hashes s.store.hasher) law hashes refuse s es (call_traces caller) lawful.core before refl kept.allowed kept.coded kept.made kept.hints now before.state refl goes.ask goes.asked goes.answer s'.store goes.performs in
+        let told = stage_left eq (hashes s.store.hasher) law hashes refuse s es (call_traces caller) lawful.core before refl kept.allowed kept.coded
+        kept.made kept.hints now before.state refl goes.ask goes.asked goes.answer s'.store goes.performs in
         let x : Resizes eq hashes refuse s caller s' event reply = record {
           before = before;
           was = ap resizer_in was;
@@ -124,7 +133,9 @@ module _ {K V S A H : Type 0} (eq : K → K → Bool) (input : K → List (List 
           callers = callers ∙ ap (with_work s.callers caller) goes.work_is;
           mode = mode;
           initial = initial;
-          cause = λ refused e. resizer_refused (setting_of eq (low (hashes s.store.hasher)) s.mode s.store.words.tables) (coding_of (low (hashes s.store.hasher))) (run es start) before (call_traces caller).loaded now.relies goes.answer told.made told.loaded' told.told refused (sym goes.reply_is ∙ e);
+          cause = λ refused e. resizer_refused (setting_of eq (low (hashes s.store.hasher)) s.mode s.store.words.tables)
+              (coding_of (low (hashes s.store.hasher))) (run es start) before (call_traces caller).loaded now.relies goes.answer told.made told.loaded'
+              told.told refused (sym goes.reply_is ∙ e);
         } in
         let core' = resize-core eq hashes refuse s caller s' event reply x lawful.core in
         let moved = lawful_resizes eq input build write finish classes respects refuse s s' caller event reply lawful x in
@@ -132,7 +143,8 @@ module _ {K V S A H : Type 0} (eq : K → K → Bool) (input : K → List (List 
           steps = inr (inl x);
           lawful = record {
             core = core';
-            law = subst (λ y. (es : _) × ((call_traces : _) × IsKept eq (hashes y) s'.mode s'.store s'.callers es call_traces)) (sym (left eq (hashes s.store.hasher) law refuse s caller s' event reply x refl es call_traces lawful.core kept).hasher_is)
+            law = subst (λ y. (es : _) × ((call_traces : _) × IsKept eq (hashes y) s'.mode s'.store s'.callers es call_traces))
+                (sym (left eq (hashes s.store.hasher) law refuse s caller s' event reply x refl es call_traces lawful.core kept).hasher_is)
                 (_, (_, resize_kept eq (hashes s.store.hasher) law refuse s caller s' event reply x refl es call_traces lawful.core kept));
           };
           counted = counted_resize eq (hashes s.store.hasher) law refuse s caller s' event reply x refl es call_traces lawful.core core' kept counted;
@@ -146,7 +158,8 @@ module _ {K V S A H : Type 0} (eq : K → K → Bool) (input : K → List (List 
         }
 
     -- of a call that scans a table
-    scanner_sound : (before : Scanning A) → working s.callers caller ≡ Some (works.Scan before) → ScanGoes eq says hashes refuse s.store caller s'.store event reply rest before → IsSound
+    scanner_sound : (before : Scanning A) → working s.callers caller ≡ Some (works.Scan before)
+        → ScanGoes eq says hashes refuse s.store caller s'.store event reply rest before → IsSound
     scanner_sound before was goes =
         let scans : scanning s.callers caller ≡ Some before = ap scanner_in was in
         let x : Scans eq says hashes refuse s caller s' event reply = record {
@@ -162,7 +175,8 @@ module _ {K V S A H : Type 0} (eq : K → K → Bool) (input : K → List (List 
           callers = callers ∙ ap (with_work s.callers caller) goes.work_is;
           mode = mode;
           initial = initial;
-          cause = λ refused e. lawful_scan_caused eq input build write finish classes respects says refuse s lawful caller before scans goes.ask goes.asked goes.answer s'.store goes.later goes.performs refused (sym goes.reply_is ∙ e);
+          cause = λ refused e. lawful_scan_caused eq input build write finish classes respects says refuse s lawful caller before scans goes.ask
+              goes.asked goes.answer s'.store goes.later goes.performs refused (sym goes.reply_is ∙ e);
         } in
         record {
           steps = inr (inr x);
@@ -173,12 +187,14 @@ module _ {K V S A H : Type 0} (eq : K → K → Bool) (input : K → List (List 
           keeps = scan_keeps eq input build write finish classes respects says refuse s lawful caller s' event reply x;
           shard = record {
             call = λ r by is asks. let f : None ≡ Some r = sym (ap call_in was) ∙ is in absurd cc;
-            scan = λ v by is asks. goes.shard by (same_item goes.ask (scan_asks.AddToShard by) (sym goes.asked ∙ ap (λ (o : Scanning A). scanner.ask_of o.scanner) (same_item before v (sym scans ∙ is)) ∙ asks));
+            scan = λ v by is asks. goes.shard by (same_item goes.ask (scan_asks.AddToShard by)
+                (sym goes.asked ∙ ap (λ (o : Scanning A). scanner.ask_of o.scanner) (same_item before v (sym scans ∙ is)) ∙ asks));
           };
         }
 
     -- whatever was under way
-    pub work_sound : (work : Work K V A) → working s.callers caller ≡ Some work → WorkGoes eq says hashes refuse s.store caller s'.store event reply rest work → IsSound
+    pub work_sound : (work : Work K V A) → working s.callers caller ≡ Some work
+        → WorkGoes eq says hashes refuse s.store caller s'.store event reply rest work → IsSound
     work_sound (works.Call before) was goes = call_sound before was goes
     work_sound (works.Resize before) was goes = resizer_sound before was goes
     work_sound (works.Scan before) was goes = scanner_sound before was goes

@@ -13,7 +13,8 @@ use Rattle.papaya_store.specs.Scans.{PerformsScan}
 use Rattle.papaya_timeline.specs.Outcomes.{given_by}
 
 -- where its list could grow, what it gave before and what its ask gave
-module _ {K V S A : Type 0} (eq : K → K → Bool) (says : Says K V A) (hash : S → K → ℕ) (refuse : Bool) (store : StoreState K V S) (v : Scanning A) (a : Answer) (store' : StoreState K V S) (v' : Scanning A) where
+module _ {K V S A : Type 0} (eq : K → K → Bool) (says : Says K V A) (hash : S → K → ℕ) (refuse : Bool) (store : StoreState K V S) (v : Scanning A)
+    (a : Answer) (store' : StoreState K V S) (v' : Scanning A) where
   -- a scanner that was told something else gave nothing
   same_given : v' ≡ v → v'.given ≡ v.given ++ []
   same_given same = ap (λ (y : Scanning A). y.given) same ∙ sym (append-nil v.given)
@@ -21,7 +22,8 @@ module _ {K V S A : Type 0} (eq : K → K → Bool) (says : Says K V A) (hash : 
   pub given_is : (ask : ScanAsk) → PerformsScan eq says hash refuse ask store v a store' v' → unheard ask a ≡ None → v'.given ≡ v.given ++ given_by (Some ask)
   given_is (Copy ask) (performs, same) heard = same_given same
   given_is (Show n) ((told, is, inl (nothing, ok, same)), stays) heard = same_given same
-  given_is (Show n) ((told, is, inr (left, p, keeps, fewer, had, logged, says_so, answered, then)), stays) heard = ap (λ (y : Scanning A). y.given) then ∙ sym (append-nil v.given)
+  given_is (Show n) ((told, is, inr (left, p, keeps, fewer, had, logged, says_so, answered, then)), stays) heard = ap (λ (y : Scanning A). y.given)
+      then ∙ sym (append-nil v.given)
   given_is (Give n) ((told, is, inl (ok, more)), stays) heard = more.given
   given_is (Give n) ((told, is, inr (refused, scanner, left, same)), stays) heard =
       let over : unheard (Give n) a ≡ Some Memory = ap (unheard (Give n)) (is ∙ ap (λ y. answers.Call y) refused) in

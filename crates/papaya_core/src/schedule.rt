@@ -266,8 +266,8 @@ fn advance_resizer<K: Hash + Eq + Drop, V: Drop, S: BuildHasher, A>(
     }
 }
 
-/// One ask of a call: what happened, what the call came to where it ended, and the call if it goes
-/// on.
+/// One ask of a call: what happened, what the call came to where it ended, and the call if it
+/// goes on.
 fn advance_work<K: Hash + Eq + Drop, V: Drop, S: BuildHasher, A: Answers<K, V> + Drop>(
     alloc: Global,
     store: &mut Store<K, V, S>,
@@ -321,8 +321,7 @@ impl<K: Hash + Eq + Drop, V: Drop, S: BuildHasher + Drop, A> Core<K, V, S, A> {
     ///
     /// `Refused::ZeroChunk` for chunks of no slots. `Refused::Capacity` for more shards than
     /// [`papaya_words::limits::MAX_SHARDS`], and for a table past
-    /// [`papaya_words::limits::MAX_TABLE_LEN`].
-    /// `Refused::Memory` where a growth was refused.
+    /// [`papaya_words::limits::MAX_TABLE_LEN`]. `Refused::Memory` where a growth was refused.
     pub fn new(
         alloc: Global,
         mode: ResizeMode,
@@ -456,8 +455,8 @@ impl<K: Hash + Eq + Drop, V: Drop, S: BuildHasher, A: Answers<K, V> + Drop> Core
     /// with it, or as its closure answered when it was shown just what goes. The contracts of
     /// `begin` and of each step say where intents come from.
     ///
-    /// With `refuse_memory` a step that would log a key, a value or a pair, or make a table, answers
-    /// `Refused::Memory`, and any other step is an ordinary one.
+    /// With `refuse_memory` a step that would log a key, a value or a pair, or make a table,
+    /// answers `Refused::Memory`, and any other step is an ordinary one.
     ///
     /// `Refused::Limit` is answered where as many numbers were taken for pairs as the limit says
     /// and the call needs one more, and only there.

@@ -1,5 +1,5 @@
-// A call that stores a value where a key is found keeps the key that is stored. The keys here are equal
-// where their numbers are, and a label tells which of them is stored.
+// A call that stores a value where a key is found keeps the key that is stored. The keys here are
+// equal where their numbers are, and a label tells which of them is stored.
 ghost use Rattle.std.specs.Prelude.{◌≡◌, ◌==◌};
 ghost use Rattle.std.proofs.Common.{ap};
 ghost use Rattle.std.specs.Cmp.{nat_eq_equiv, on_equiv, partial_equiv_from_equiv, unsigned_Decides};
@@ -201,8 +201,8 @@ fn stored_key_stays(rt: HostRuntime) -> Result<(), Fail> {
     Ok(())
 }
 
-/// A value was stored by a call that was handed this label: of a key that was absent it has that label,
-/// and else the label of the pair whose place it took.
+/// A value was stored by a call that was handed this label: of a key that was absent it has that
+/// label, and else the label of the pair whose place it took.
 fn keeps(label: char, came: Came) -> bool {
     match came {
         Came::Inserted((own, _)) => own == label,
@@ -211,8 +211,8 @@ fn keeps(label: char, came: Came) -> bool {
     }
 }
 
-/// The first call is stopped after so many steps, and the others are made whole. Then it goes on. Did it
-/// end before it was stopped?
+/// The first call is stopped after so many steps, and the others are made whole. Then it goes on.
+/// Did it end before it was stopped?
 fn stopped(
     rt: &impl Abort,
     alloc: Global,
@@ -260,8 +260,8 @@ fn each_stop(
     Ok(())
 }
 
-/// A call that is to replace a pair, which is removed meanwhile, or removed and put in again with another
-/// label, or replaced.
+/// A call that is to replace a pair, which is removed meanwhile, or removed and put in again with
+/// another label, or replaced.
 #[test]
 fn stored_key_stays_beside_other_calls(rt: HostRuntime) -> Result<(), Fail> {
     for first in [Step::Insert('y', 2), Step::Compute('y', 2)] {

@@ -1,5 +1,5 @@
-// A map with a limit on its pairs: just as many are logged as it says, a call that needs one more is
-// refused there, and no memory is wanted for it.
+// A map with a limit on its pairs: just as many are logged as it says, a call that needs one more
+// is refused there, and no memory is wanted for it.
 use crate::expect::{is, is_at};
 use crate::plain::{
     Asked, MODES, Numbers, WHOLE, begin, by_value, compute, removal, replies, reply_to, times,
@@ -172,8 +172,8 @@ fn without_memory(
     Ok(trace)
 }
 
-/// There are tables already. At the limit no memory is wanted. Below it the number stays taken, though
-/// there is no memory for its pair.
+/// There are tables already. At the limit no memory is wanted. Below it the number stays taken,
+/// though there is no memory for its pair.
 #[test]
 fn no_memory_at_a_limit(rt: HostRuntime) -> Result<(), Fail> {
     let alloc = rt.alloc();
@@ -190,9 +190,9 @@ fn no_memory_at_a_limit(rt: HostRuntime) -> Result<(), Fail> {
     Ok(())
 }
 
-/// A map without a table that may log no pair. An insertion makes the table first, and is refused for
-/// want of memory where there is none for that. A compute shows that there is no pair, and makes no
-/// table.
+/// A map without a table that may log no pair. An insertion makes the table first, and is refused
+/// for want of memory where there is none for that. A compute shows that there is no pair, and
+/// makes no table.
 #[test]
 fn limit_of_no_pairs(rt: HostRuntime) -> Result<(), Fail> {
     let alloc = rt.alloc();

@@ -1,5 +1,5 @@
-// A core of numbers, calls that its callers make whole or in part, and what they reply, by the values
-// of the pairs.
+// A core of numbers, calls that its callers make whole or in part, and what they reply, by the
+// values of the pairs.
 use crate::expect::is_at;
 use papaya_ask::ask::StepKind;
 use papaya_ask::call::{Call, Reply};

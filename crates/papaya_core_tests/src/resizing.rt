@@ -1,6 +1,6 @@
-// What is done with a full table, and beside a caller that has stopped in an insertion into one; room
-// that is made ahead; chunks that two callers copy at a time; and a table that is given up since the
-// count lags behind stopped callers.
+// What is done with a full table, and beside a caller that has stopped in an insertion into one;
+// room that is made ahead; chunks that two callers copy at a time; and a table that is given up
+// since the count lags behind stopped callers.
 use crate::expect::{is, is_at};
 use crate::plain::{
     Asked, MODES, Numbers, WHOLE, answers_in, begin, by_value, go_on, holds, removal, replies,
@@ -289,9 +289,9 @@ fn stops_at(
     Ok(false)
 }
 
-/// Caller 1 has marked the pair of its chunk and stops, while another caller copies a chunk. That one
-/// marks so many pairs: none where its number picks the chunk of caller 1, which it ends. Then caller
-/// 1 goes on.
+/// Caller 1 has marked the pair of its chunk and stops, while another caller copies a chunk. That
+/// one marks so many pairs: none where its number picks the chunk of caller 1, which it ends. Then
+/// caller 1 goes on.
 fn copies_beside(
     rt: &impl Abort,
     alloc: Global,
@@ -331,7 +331,8 @@ fn callers_with_different_numbers_copy_different_chunks(rt: HostRuntime) -> Resu
 /// How many keys fill a table of 32 slots on one path.
 const CROWD: usize = 26;
 
-/// A caller inserts its number as a key, and stops as soon as caller 30 finds that: before it counts it.
+/// A caller inserts its number as a key, and stops as soon as caller 30 finds that: before it
+/// counts it.
 fn stops_once_found(alloc: Global, core: &mut Numbers, caller: usize) -> Result<bool, Fail> {
     let key = caller as u64;
     let _ = begin(alloc, core, caller, Call::Insert(key, value(key)), 0)?;
@@ -363,8 +364,8 @@ fn gives_up_a_table(rt: &impl Abort, alloc: Global, core: &mut Numbers) -> Resul
     Ok(())
 }
 
-/// Callers 0 to 25 fill a table of 32 slots and stop for good, with the count at 0. So the next table
-/// is too short.
+/// Callers 0 to 25 fill a table of 32 slots and stop for good, with the count at 0. So the next
+/// table is too short.
 #[test]
 fn table_made_by_a_count_that_lags_is_given_up(rt: HostRuntime) -> Result<(), Fail> {
     let mut core = Core::new(rt.alloc(), ResizeMode::Blocking, 0, 1, TOGETHER)?;

@@ -212,8 +212,8 @@ fn filled_at(steps: usize) -> Replies {
     (Reply::Inserted(10), Reply::Removed(1), found)
 }
 
-/// Caller 0 is stopped after so many steps of a compute of key 7, which stores 10. Meanwhile caller 1
-/// stores 1 and removes it.
+/// Caller 0 is stopped after so many steps of a compute of key 7, which stores 10. Meanwhile caller
+/// 1 stores 1 and removes it.
 fn stopped_fill(alloc: Global, core: &mut Numbers, steps: usize) -> Result<Trace, Fail> {
     let ops = vec![in alloc; Operation::Insert(10)]?;
     let turns = vec![in alloc;

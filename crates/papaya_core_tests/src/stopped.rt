@@ -1,5 +1,6 @@
-// Each two calls: the first is stopped after each number of its steps, the second is made whole, and
-// then the first is ended. What both tell of a key, and what it has then, is as a plain map has it.
+// Each two calls: the first is stopped after each number of its steps, the second is made whole,
+// and then the first is ended. What both tell of a key, and what it has then, is as a plain map
+// has it.
 use crate::expect::is_at;
 use crate::plain::{MODES, WHOLE, by_value, value};
 use crate::plans::{ON_ALL, Plan, Says, Told, as_allowed, on_key};
@@ -19,8 +20,8 @@ type Ruled<S> = Core<u64, u64, S, Says>;
 /// More steps than any of the calls makes that are stopped.
 const MOST: usize = 2000;
 
-/// What a map has when the first call begins: it was made for so many pairs, some keys were stored, and
-/// those from another on removed.
+/// What a map has when the first call begins: it was made for so many pairs, some keys were stored,
+/// and those from another on removed.
 #[derive(Clone, Copy)]
 struct Start {
     capacity: usize,
@@ -67,8 +68,8 @@ const TOMBSTONE: Start = Start {
     left: 1,
 };
 
-/// A table of 8 slots is full, and of its chunks of one slot the first is copied to the next table, where
-/// one key more stands.
+/// A table of 8 slots is full, and of its chunks of one slot the first is copied to the next table,
+/// where one key more stands.
 const COPIED: Start = Start {
     capacity: 6,
     stored: 9,

@@ -1,5 +1,5 @@
-// Worked values, where clause and code might agree and both be wrong, and that each call can
-// succeed.
+// Worked values, where clause and code might agree and both be wrong, and that each call
+// can succeed.
 use crate::expect::{is, is_at};
 use papaya_words::counter::Counter;
 use papaya_words::limits::{DEFAULT_CHUNK, FIRST_TABLE_LEN, FIRST_TABLE_LIMIT, MAX_SHARDS};

@@ -14,13 +14,13 @@ use std::sync::atomic::raw;
 
 /// What a rule says of hints.
 pub trait Hinting<E> {
-    // What holds of the number of a hint that stands beside the word with this key, at a log that was
-    // reached.
+    // What holds of the number of a hint that stands beside the word with this key, at a log that
+    // was reached.
     ghost hinted_beside: { ℕ → ℕ → List E → Type 0 };
 }
 
-/// A number beside a word of the book, which threads change in single atomic steps. Contracts see the
-/// word that it stands beside.
+/// A number beside a word of the book, which threads change in single atomic steps. Contracts see
+/// the word that it stands beside.
 pub struct Hint<E, A, P: Rule<E, A> + Hinting<E>> {
     bits: u64,
     marker: PhantomData<(E, A, P)>,

@@ -1,5 +1,6 @@
 -- What was written of the pairs of a map and was read again, as a map.
-use Rattle.std.proofs.Common.{◌≡◌, inl, inr, ⊎_elim, Bool, true, false, cond, List, [], ◌∷◌, Option, Some, None, MatchOption, option_map, refl, sym, ap, ◌∙◌, subst}
+use Rattle.std.proofs.Common.{◌≡◌, inl, inr, ⊎_elim, Bool, true, false, cond, List, [], ◌∷◌, Option}
+use Rattle.std.proofs.Common.{Some, None, MatchOption, option_map, refl, sym, ap, ◌∙◌, subst}
 use Rattle.std.proofs.lemmas.Bool.{cases_Bool, cond-true, cond-false, true≢false}
 use Rattle.std.specs.Cmp.{IsEquivalence}
 use Rattle.std.specs.Prelude.{is_some}
@@ -21,7 +22,8 @@ module _ {K P : Type 0} (eq : K → K → Bool) (law : IsEquivalence eq) (key : 
   found_in [] k p is = absurd cc
   found_in (q ∷ ps) k p is = go (eq k (key q)) (found_in ps k p) refl is
     where
-      go : (b : Bool) → (lookup eq key ps k ≡ Some p → In p ps × (eq k (key p) ≡ true)) → eq k (key q) ≡ b → cond b (Some q) (lookup eq key ps k) ≡ Some p → In p (q ∷ ps) × (eq k (key p) ≡ true)
+      go : (b : Bool) → (lookup eq key ps k ≡ Some p → In p ps × (eq k (key p) ≡ true)) → eq k (key q) ≡ b
+          → cond b (Some q) (lookup eq key ps k) ≡ Some p → In p (q ∷ ps) × (eq k (key p) ≡ true)
       go true on y e = let same : q ≡ p = cc e in (inl same, subst (λ (z : P). eq k (key z) ≡ true) same y)
       go false on n e = let later = on e in (inr later.0, later.1)
 
@@ -29,7 +31,8 @@ module _ {K P : Type 0} (eq : K → K → Bool) (law : IsEquivalence eq) (key : 
   none_in [] k none p there y = there
   none_in (q ∷ ps) k none p there y = go (eq k (key q)) (none_in ps k) refl none
     where
-      go : (b : Bool) → (lookup eq key ps k ≡ None → (z : P) → In z ps → eq k (key z) ≡ true → ⊥) → eq k (key q) ≡ b → cond b (Some q) (lookup eq key ps k) ≡ None → ⊥
+      go : (b : Bool) → (lookup eq key ps k ≡ None → (z : P) → In z ps → eq k (key z) ≡ true → ⊥) → eq k (key q) ≡ b
+          → cond b (Some q) (lookup eq key ps k) ≡ None → ⊥
       go true on here e = absurd cc
       go false on other e = ⊎_elim (λ is. true≢false (sym y ∙ ap (λ (z : P). eq k (key z)) (sym is) ∙ other)) (λ later. on e p later y) there
 
@@ -40,7 +43,8 @@ module _ {K P : Type 0} (eq : K → K → Bool) (law : IsEquivalence eq) (key : 
       ⊎_elim
       (λ is. cond-true (eq k (key q)) (Some q) (lookup eq key ps k) (ap (λ (z : P). eq k (key z)) is ∙ y) ∙ ap (λ (z : P). Some z) is)
       (λ later. ⊎_elim
-      (λ (here : eq k (key q) ≡ true). absurd (none_in ps (key q) alone p later (law.symm (key q) (key p) ∙ joined (key p) k (key q) (law.symm (key p) k ∙ y) (law.symm (key q) k ∙ here))))
+      (λ (here : eq k (key q) ≡ true). absurd (none_in ps (key q) alone p later
+      (law.symm (key q) (key p) ∙ joined (key p) k (key q) (law.symm (key p) k ∙ y) (law.symm (key q) k ∙ here))))
       (λ (other : eq k (key q) ≡ false). cond-false (eq k (key q)) (Some q) (lookup eq key ps k) other ∙ one_in ps apart k p later y)
       (cases_Bool (eq k (key q))))
       there
@@ -56,16 +60,27 @@ module _ {K V B : Type 0} (eq : K → K → Bool) (law : IsEquivalence eq) (show
 
   of_kept : (k : K) (b : B) (o : Option (K × V)) → Read b → eq k (shows b).0 ≡ true → IsOfItems (shows b).0 o → IsOfItems k (Some (kept o (shows b)))
   of_kept k b None read y is = (b, b, read, read, y, y, refl)
-  of_kept k b (Some there) read y (a, c, own, _, first, _, e) = (a, b, own, read, law.congr k (shows b).0 (shows a).0 y ∙ first, y, ap (λ (z : K × V). (z.0, (shows b).1)) e)
+  of_kept k b (Some there) read y (a, c, own, _, first, _, e) = (
+    a,
+    b,
+    own,
+    read,
+    law.congr k (shows b).0 (shows a).0 y
+        ∙ first,
+    y,
+    ap (λ (z : K × V). (z.0, (shows b).1)) e,
+  )
 
   of_put : (m : Entries K V) → ((j : K) → IsOfItems j (m j)) → (b : B) → Read b → (k : K) → IsOfItems k (put eq m (shows b) k)
   of_put m all b read k =
       ⊎_elim
-      (λ (y : eq k (shows b).0 ≡ true). subst (IsOfItems k) (sym (cond-true (eq k (shows b).0) (Some (kept (m (shows b).0) (shows b))) (m k) y)) (of_kept k b (m (shows b).0) read y (all (shows b).0)))
+      (λ (y : eq k (shows b).0 ≡ true). subst (IsOfItems k) (sym (cond-true (eq k (shows b).0) (Some (kept (m (shows b).0) (shows b))) (m k) y))
+      (of_kept k b (m (shows b).0) read y (all (shows b).0)))
       (λ (n : eq k (shows b).0 ≡ false). subst (IsOfItems k) (sym (cond-false (eq k (shows b).0) (Some (kept (m (shows b).0) (shows b))) (m k) n)) (all k))
       (cases_Bool (eq k (shows b).0))
 
-  of_all : (done : List B) → ((b : B) → In b done → Read b) → (m : Entries K V) → ((j : K) → IsOfItems j (m j)) → (k : K) → IsOfItems k (put_all eq shows m done k)
+  of_all : (done : List B) → ((b : B) → In b done → Read b) → (m : Entries K V) → ((j : K) → IsOfItems j (m j)) → (k : K)
+      → IsOfItems k (put_all eq shows m done k)
   of_all [] read m all k = all k
   of_all (b ∷ done) read m all k = of_all done (λ c there. read c (inr there)) (put eq m (shows b)) (of_put m all b (read b (inl refl))) k
 
@@ -90,7 +105,8 @@ some_of : {K V : Type 0} (o : Option (Stored K V)) (e : K × V) → option_map e
 some_of None e is = absurd cc
 some_of (Some q) e is = (q, refl, cc is)
 
-module _ {K V B S Z : Type 0} (eq : K → K → Bool) (law : IsEquivalence eq) (shows : B → K × V) (Near : K × V → K × V → Type 0) (near : (a b : K × V) → Near a b → eq a.0 b.0 ≡ true)
+module _ {K V B S Z : Type 0} (eq : K → K → Bool) (law : IsEquivalence eq) (shows : B → K × V) (Near : K × V → K × V → Type 0)
+    (near : (a b : K × V) → Near a b → eq a.0 b.0 ≡ true)
     (near_both : (e a b : K × V) → Near e a → Near e b → Near e (a.0, b.1)) (s : StoreState K V S) (t : StoreState K V Z) (done : List B) where
   abbrev keyed : Stored K V → K
   keyed p = p.key
@@ -98,19 +114,23 @@ module _ {K V B S Z : Type 0} (eq : K → K → Bool) (law : IsEquivalence eq) (
   -- Each pair of the one map has an item that is near it, and the other way round. So where the other
   -- map has just the items, the two agree.
   pub agree : AreApart eq keyed (content eq s) → ((p : Stored K V) → In p (content eq s) → (b : B) × In b done × Near (entry_of p) (shows b))
-      → ((b : B) → In b done → (p : Stored K V) × In p (content eq s) × Near (entry_of p) (shows b)) → ((k : K) → entries_in eq t k ≡ put_all eq shows nothing done k)
+      → ((b : B) → In b done → (p : Stored K V) × In p (content eq s) × Near (entry_of p) (shows b))
+      → ((k : K) → entries_in eq t k ≡ put_all eq shows nothing done k)
       → Agree eq (λ p q. Near (entry_of p) (entry_of q)) s t
-  agree apart there from just k = of_option (map_in eq s k) refl (put_all eq shows nothing done k) refl (of_all eq law shows (λ b. In b done) done (λ b within. within) nothing (λ j. tt) k)
+  agree apart there from just k = of_option (map_in eq s k) refl (put_all eq shows nothing done k) refl
+      (of_all eq law shows (λ b. In b done) done (λ b within. within) nothing (λ j. tt) k)
     where
       -- an item of the class is near the class's pair
       near_own : (p : Stored K V) → map_in eq s k ≡ Some p → (b : B) → In b done → eq k (shows b).0 ≡ true → Near (entry_of p) (shows b)
       near_own p is b within y =
           let of = from b within in
-          let found : map_in eq s k ≡ Some of.0 = one_in eq law keyed (content eq s) apart k of.0 of.1 (joined eq law keyed k (shows b).0 of.0.key y (near (entry_of of.0) (shows b) of.2)) in
+          let found : map_in eq s k ≡ Some of.0 = one_in eq law keyed (content eq s) apart k of.0 of.1
+          (joined eq law keyed k (shows b).0 of.0.key y (near (entry_of of.0) (shows b) of.2)) in
           let same : of.0 ≡ p = (let both : Some of.0 ≡ Some p = sym found ∙ is in cc both) in
           subst (λ (z : Stored K V). Near (entry_of z) (shows b)) same of.2
 
-      of_option : (o : Option (Stored K V)) → map_in eq s k ≡ o → (u : Option (K × V)) → put_all eq shows nothing done k ≡ u → IsOfItems eq law shows (λ b. In b done) k u
+      of_option : (o : Option (Stored K V)) → map_in eq s k ≡ o → (u : Option (K × V)) → put_all eq shows nothing done k ≡ u
+          → IsOfItems eq law shows (λ b. In b done) k u
           → MatchOption o (map_in eq t k ≡ None) (λ (p : Stored K V). (q : Stored K V) × (map_in eq t k ≡ Some q) × Near (entry_of p) (entry_of q))
       of_option None is None none _ = none_of (map_in eq t k) (just k ∙ none)
       of_option None is (Some e) has (a, b, within, _, y, _, _) =
@@ -119,10 +139,15 @@ module _ {K V B S Z : Type 0} (eq : K → K → Bool) (law : IsEquivalence eq) (
       of_option (Some p) is None none _ =
           let held = found_in eq law keyed (content eq s) k p is in
           let b = there p held.0 in
-          absurd ((none_put eq law shows (λ b. In b done) done nothing k none).1 b.0 b.1 (law.congr k p.key (shows b.0).0 held.1 ∙ near (entry_of p) (shows b.0) b.2))
+          absurd ((none_put eq law shows (λ b. In b done) done nothing k none).1 b.0 b.1
+          (law.congr k p.key (shows b.0).0 held.1 ∙ near (entry_of p) (shows b.0) b.2))
       of_option (Some p) is (Some e) has (a, b, first, last, y, z, e_is) =
-          let own = some_of (map_in eq t k) e (just k ∙ has) in
-          (own.0, own.1, subst (λ (w : K × V). Near (entry_of p) w) (sym (own.2 ∙ e_is)) (near_both (entry_of p) (shows a) (shows b) (near_own p is a first y) (near_own p is b last z)))
+          let own = some_of (map_in eq t k) e (just k ∙ has) in (
+            own.0,
+            own.1,
+            subst (λ (w : K × V). Near (entry_of p) w) (sym (own.2 ∙ e_is))
+                (near_both (entry_of p) (shows a) (shows b) (near_own p is a first y) (near_own p is b last z)),
+          )
 
 module _ {K V S Z : Type 0} (eq : K → K → Bool) (s : StoreState K V S) (t : StoreState K V Z) where
   -- maps that agree by more agree by less
@@ -135,9 +160,12 @@ module _ {K V S Z : Type 0} (eq : K → K → Bool) (s : StoreState K V S) (t : 
       of_option (Some p) some = (some.0, some.1, weaker p some.0 some.2)
 
 -- sets that agree have the same keys
-pub same_keys : {K S Z : Type 0} (eq : K → K → Bool) (s : StoreState K (Unit {0}) S) (t : StoreState K (Unit {0}) Z) (like : Stored K (Unit {0}) → Stored K (Unit {0}) → Type 0) → Agree eq like s t → HaveSameKeys eq s t
+pub same_keys : {K S Z : Type 0} (eq : K → K → Bool) (s : StoreState K (Unit {0}) S) (t : StoreState K (Unit {0}) Z)
+    (like : Stored K (Unit {0}) → Stored K (Unit {0}) → Type 0) → Agree eq like s t → HaveSameKeys eq s t
 same_keys {K} eq s t like agrees k = of_option (map_in eq s k) (agrees k)
   where
-    of_option : (o : Option (Stored K (Unit {0}))) → MatchOption o (map_in eq t k ≡ None) (λ (p : Stored K (Unit {0})). (q : Stored K (Unit {0})) × (map_in eq t k ≡ Some q) × like p q) → is_some o ≡ is_some (map_in eq t k)
+    of_option : (o : Option (Stored K (Unit {0})))
+        → MatchOption o (map_in eq t k ≡ None) (λ (p : Stored K (Unit {0})). (q : Stored K (Unit {0})) × (map_in eq t k ≡ Some q) × like p q)
+        → is_some o ≡ is_some (map_in eq t k)
     of_option None none = sym (ap is_some none)
     of_option (Some p) some = sym (ap is_some some.1)

@@ -1,5 +1,7 @@
 -- An object, one pair on.
-use Rattle.std.proofs.Common.{◌≡◌, suc, ◌+◌, ◌<◌, ◌≤◌, ◌||◌, not, cond, Bool, true, false, List, [], ◌∷◌, ◌++◌, length, map, Option, Some, String, Global, string_bytes, string_cmp, refl, sym, ap, ◌∙◌, subst, arith}
+use Rattle.std.proofs.Common.{◌≡◌, suc, ◌+◌, ◌<◌, ◌≤◌, ◌||◌, not, cond, Bool, true, false, List, []}
+use Rattle.std.proofs.Common.{◌∷◌, ◌++◌, length, map, Option, Some, String, Global, string_bytes}
+use Rattle.std.proofs.Common.{string_cmp, refl, sym, ap, ◌∙◌, subst, arith}
 use Rattle.std.proofs.lemmas.List.{length_push}
 use Rattle.std.proofs.lemmas.List.Sums.{fold_push}
 use Rattle.std.specs.List.{AllZip, Any}
@@ -47,7 +49,8 @@ module _ {K V : Type 0} (text_of : K → Option (String Global) → Type 0) (dat
   pub built_none : IsBuilt [] [] false
   built_none = record { members = []; each = tt; view_is = refl; apart = λ _. refl; fewer = λ e. absurd cc; most = omega arith }
 
-  module _ (items : List (K × V)) (es : List (String Global × Value)) (clash : Bool) (built : IsBuilt items es clash) (item : K × V) (t : String Global) (v : Value)
+  module _ (items : List (K × V)) (es : List (String Global × Value)) (clash : Bool) (built : IsBuilt items es clash) (item : K × V)
+      (t : String Global) (v : Value)
       (text_is : text_of item.0 (Some t)) (value_is : data_of item.1 (Some v)) where
     abbrev m : Member
     m = (string_bytes t, view v)
@@ -56,13 +59,15 @@ module _ {K V : Type 0} (text_of : K → Option (String Global) → Type 0) (dat
     member = record { text = t; value = v; text_is = text_is; value_is = value_is; bytes = refl; shown = refl }
 
     view_more : members_view (insert_entry string_cmp es t v) ≡ object_of (built.members ++ m ∷ [])
-    view_more = members_view-insert_entry es t v ∙ ap (put (string_bytes t) (view v)) built.view_is ∙ sym (fold_push (λ (o : Members) (n : Member). put n.0 n.1 o) no_members built.members m)
+    view_more = members_view-insert_entry es t v ∙ ap (put (string_bytes t) (view v)) built.view_is
+        ∙ sym (fold_push (λ (o : Members) (n : Member). put n.0 n.1 o) no_members built.members m)
 
     long : length (items ++ item ∷ []) ≡ length items + 1
     long = length_push items item
 
     -- one more entry for a new text
-    pub built_more : (new after : Bool) → (clash || not new) ≡ after → length (insert_entry string_cmp es t v) ≡ length es + cond new 1 0 → IsBuilt (items ++ item ∷ []) (insert_entry string_cmp es t v) after
+    pub built_more : (new after : Bool) → (clash || not new) ≡ after → length (insert_entry string_cmp es t v) ≡ length es + cond new 1 0
+        → IsBuilt (items ++ item ∷ []) (insert_entry string_cmp es t v) after
     built_more new after is many = record {
       members = built.members ++ m ∷ [];
       each = zip_more (IsMember text_of data_of) items built.members item m built.each member;
@@ -76,18 +81,21 @@ module _ {K V : Type 0} (text_of : K → Option (String Global) → Type 0) (dat
         little true = omega arith
         little false = omega arith
 
-        none : (c n : Bool) → (c ≡ false → length es ≡ length items) → length (insert_entry string_cmp es t v) ≡ length es + cond n 1 0 → (c || not n) ≡ false → length (insert_entry string_cmp es t v) ≡ length (items ++ item ∷ [])
+        none : (c n : Bool) → (c ≡ false → length es ≡ length items) → length (insert_entry string_cmp es t v) ≡ length es + cond n 1 0
+            → (c || not n) ≡ false → length (insert_entry string_cmp es t v) ≡ length (items ++ item ∷ [])
         none true n apart more e = absurd cc
         none false false apart more e = absurd cc
         none false true apart more e = let a = apart refl in omega (arith, a, more, long)
 
-        one : (c n : Bool) → (c ≡ true → length es < length items) → length (insert_entry string_cmp es t v) ≡ length es + cond n 1 0 → (c || not n) ≡ true → length (insert_entry string_cmp es t v) < length (items ++ item ∷ [])
+        one : (c n : Bool) → (c ≡ true → length es < length items) → length (insert_entry string_cmp es t v) ≡ length es + cond n 1 0
+            → (c || not n) ≡ true → length (insert_entry string_cmp es t v) < length (items ++ item ∷ [])
         one true n fewer more e = let a = fewer refl in let b = little n in omega (arith, a, more, long, b)
         one false false fewer more e = let a = built.most in omega (arith, a, more, long)
         one false true fewer more e = absurd cc
 
     -- the same of what the entries and the items are then
-    pub built_on : (new after : Bool) → (clash || not new) ≡ after → (es' : List (String Global × Value)) → es' ≡ insert_entry string_cmp es t v → length es' ≡ length es + cond new 1 0 → (items' : List (K × V)) → items' ≡ items ++ item ∷ [] → IsBuilt items' es' after
+    pub built_on : (new after : Bool) → (clash || not new) ≡ after → (es' : List (String Global × Value)) → es' ≡ insert_entry string_cmp es t v
+        → length es' ≡ length es + cond new 1 0 → (items' : List (K × V)) → items' ≡ items ++ item ∷ [] → IsBuilt items' es' after
     built_on new after is es' entries many items' came =
         let more : IsBuilt (items ++ item ∷ []) (insert_entry string_cmp es t v) after = built_more new after is (sym (ap length entries) ∙ many) in
         let there : IsBuilt (items ++ item ∷ []) es' after = subst (λ e. IsBuilt (items ++ item ∷ []) e after) (sym entries) more in

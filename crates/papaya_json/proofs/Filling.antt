@@ -27,7 +27,8 @@ module _ {K V S A B : Type 0} (eq : K → K → Bool) (reads : A → B → Type 
 
   module _ (items : List A) (s : MapState K V S) (filled : IsFilled items s) where
     module _ (item : A) (it : B) where
-      pub filled_more : reads item it → (absent : Bool) (s' : MapState K V S) → IsPut eq (shows it).0 (shows it).1 s (Ok absent) s' → IsFilled (items ++ item ∷ []) s'
+      pub filled_more : reads item it → (absent : Bool) (s' : MapState K V S) → IsPut eq (shows it).0 (shows it).1 s (Ok absent) s'
+          → IsFilled (items ++ item ∷ []) s'
       filled_more is absent s' puts = record {
         new = filled.new;
         is_new = filled.is_new;
@@ -37,7 +38,8 @@ module _ {K V S A B : Type 0} (eq : K → K → Bool) (reads : A → B → Type 
         fills = fills_more eq shows filled.new filled.done s filled.fills it absent s' puts;
       }
 
-    pub filled_cut : (it : B) (refused : Refused) (s' : MapState K V S) → IsPut eq (shows it).0 (shows it).1 s (Err refused) s' → IsCutAnew S eq shows filled.done it refused
+    pub filled_cut : (it : B) (refused : Refused) (s' : MapState K V S) → IsPut eq (shows it).0 (shows it).1 s (Err refused) s'
+        → IsCutAnew S eq shows filled.done it refused
     filled_cut it refused s' puts = record {
       new = filled.new;
       left = s';
@@ -46,7 +48,12 @@ module _ {K V S A B : Type 0} (eq : K → K → Bool) (reads : A → B → Type 
     }
 
     pub filled_read : IsRead eq reads shows items s
-    filled_read = record { done = filled.done; each = filled.each; just = just eq shows filled.new filled.done s filled.fills hasher filled.empty filled.is_new }
+    filled_read = record {
+      done = filled.done;
+      each = filled.each;
+      just = just eq shows filled.new filled.done s filled.fills hasher filled.empty
+          filled.is_new;
+    }
 
     pub filled_hasher : s.store.hasher ≡ hasher
     filled_hasher = filled.fills.keeps.hasher ∙ filled.is_new.store_is.hasher_is

@@ -1,5 +1,7 @@
 -- The members of an object that were put in one by one, and none in the place of another.
-use Rattle.std.proofs.Common.{◌≡◌, ◌⊎◌, inl, inr, ⊎_elim, ℕ, suc, ◌+◌, ◌≤◌, List, [], ◌∷◌, length, Ordering, Less, Equal, Greater, nat_cmp, is_eq, string_bytes, refl, sym, ap, ◌∙◌, subst, arith}
+use Rattle.std.proofs.Common.{◌≡◌, ◌⊎◌, inl, inr, ⊎_elim, ℕ, suc, ◌+◌, ◌≤◌, List, [], ◌∷◌, length}
+use Rattle.std.proofs.Common.{Ordering, Less, Equal, Greater, nat_cmp, is_eq, string_bytes, refl}
+use Rattle.std.proofs.Common.{sym, ap, ◌∙◌, subst, arith}
 use Rattle.std.proofs.lemmas.Map.Text.{is_eq-slice_cmp}
 use Rattle.std.proofs.lemmas.Slice.Eq.{bytes_eq-Decides}
 use Rattle.std.specs.Cmp.Lexicographic.{slice_cmp}
@@ -32,7 +34,8 @@ module _ (k : List ℕ) (d : Data) where
   has_put l e (member m f ms) has = put_at (slice_cmp nat_cmp l m) l m e f ms refl (has_put l e ms) has
 
   stays_at : (o : Ordering) (l m : List ℕ) (e f : Data) (ms : Members) → (members_len (put l e ms) ≡ suc (members_len ms) → Has k d ms → Has k d (put l e ms))
-      → members_len (match_ordering o (member l e (member m f ms)) (member m e ms) (member m f (put l e ms))) ≡ suc (suc (members_len ms)) → Has k d (member m f ms)
+      → members_len (match_ordering o (member l e (member m f ms)) (member m e ms) (member m f (put l e ms))) ≡ suc (suc (members_len ms))
+      → Has k d (member m f ms)
       → Has k d (match_ordering o (member l e (member m f ms)) (member m e ms) (member m f (put l e ms)))
   stays_at Less l m e f ms later more has = inr has
   stays_at Equal l m e f ms later more has = absurd (omega (arith, more))
@@ -44,7 +47,8 @@ module _ (k : List ℕ) (d : Data) where
   has_stays l e (member m f ms) more has = stays_at (slice_cmp nat_cmp l m) l m e f ms (has_stays l e ms) more has
 
 module _ (l : List ℕ) (e : Data) where
-  own_at : (o : Ordering) (m : List ℕ) (f : Data) (ms : Members) → slice_cmp nat_cmp l m ≡ o → Has l e (put l e ms) → Has l e (match_ordering o (member l e (member m f ms)) (member m e ms) (member m f (put l e ms)))
+  own_at : (o : Ordering) (m : List ℕ) (f : Data) (ms : Members) → slice_cmp nat_cmp l m ≡ o → Has l e (put l e ms)
+      → Has l e (match_ordering o (member l e (member m f ms)) (member m e ms) (member m f (put l e ms)))
   own_at Less m f ms is later = inl (refl, refl)
   own_at Equal m f ms is later = inl (sym (same_text l m is), refl)
   own_at Greater m f ms is later = inr later
@@ -100,7 +104,8 @@ all_there (n ∷ ms) o more m there =
 
 entry_has : (es : List Entry) (e : Entry) → In e es → Has (string_bytes e.0) (view e.1) (members_view es)
 entry_has [] e there = absurd there
-entry_has (f ∷ es) e there = ⊎_elim (λ is. inl (ap (λ (z : Entry). string_bytes z.0) is, ap (λ (z : Entry). view z.1) is)) (λ later. inr (entry_has es e later)) there
+entry_has (f ∷ es) e there = ⊎_elim (λ is. inl (ap (λ (z : Entry). string_bytes z.0) is, ap (λ (z : Entry). view z.1) is))
+    (λ later. inr (entry_has es e later)) there
 
 has_entry : (es : List Entry) (k : List ℕ) (d : Data) → Has k d (members_view es) → (e : Entry) × In e es × (string_bytes e.0 ≡ k) × (view e.1 ≡ d)
 has_entry [] k d has = absurd has
@@ -109,7 +114,8 @@ has_entry (f ∷ es) k d has = ⊎_elim (λ h. (f, inl refl, h.0, h.1)) (λ h. l
 module _ (es : List Entry) (ms : List Member) (view_is : members_view es ≡ object_of ms) where
   -- an entry of an object is one of its members
   pub member_of : (e : Entry) → In e es → (m : Member) × In m ms × (m.0 ≡ string_bytes e.0) × (m.1 ≡ view e.1)
-  member_of e there = ⊎_elim (λ found. found) (λ none. absurd none) (from_all (string_bytes e.0) (view e.1) ms no_members (subst (Has (string_bytes e.0) (view e.1)) view_is (entry_has es e there)))
+  member_of e there = ⊎_elim (λ found. found) (λ none. absurd none)
+      (from_all (string_bytes e.0) (view e.1) ms no_members (subst (Has (string_bytes e.0) (view e.1)) view_is (entry_has es e there)))
 
   -- and each member has an entry where none took the place of another
   pub entry_for : members_len (object_of ms) ≡ length ms → (m : Member) → In m ms → (e : Entry) × In e es × (string_bytes e.0 ≡ m.0) × (view e.1 ≡ m.1)

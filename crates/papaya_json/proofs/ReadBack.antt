@@ -29,17 +29,20 @@ module _ {K V S Z : Type 0} (eq : K → K → Bool) (law : IsEquivalence eq) (te
   Near a b = (eq a.0 b.0 ≡ true) × (same a.1 b.1 ≡ true)
 
   -- what is read of an entry that a pair's member stands in is near that pair
-  near_by : (p : K × V) (m : Member) → IsMember text_of data_of p m → (e : Entry) → string_bytes e.0 ≡ m.0 → view e.1 ≡ m.1 → (b : K × V) → IsPair key_of value_of e b → Near p b
+  near_by : (p : K × V) (m : Member) → IsMember text_of data_of p m → (e : Entry) → string_bytes e.0 ≡ m.0 → view e.1 ≡ m.1 → (b : K × V)
+      → IsPair key_of value_of e b → Near p b
   near_by p m is e bytes shown b read = (
     texts p.0 b.0 is.text is.text_is (subst (λ (k : List ℕ). key_of k (Some b.0)) (bytes ∙ sym is.bytes) read.0),
     values p.1 b.1 is.value e.1 is.value_is (shown ∙ sym is.shown) read.1,
   )
 
-  pub map_back : AreApart eq (λ p. p.key) (content eq s.store) → (v : Value) → IsObject text_of data_of (pairs_of eq s.store) v → IsMapOf key_of value_of eq v t → AreEqual eq same s.store t.store
+  pub map_back : AreApart eq (λ p. p.key) (content eq s.store) → (v : Value) → IsObject text_of data_of (pairs_of eq s.store) v
+      → IsMapOf key_of value_of eq v t → AreEqual eq same s.store t.store
   map_back apart v written (members, is, read) =
       let one : object (members_view members.entries) ≡ object (object_of written.members) = sym (view-Object members) ∙ ap view (sym is) ∙ written.value in
       let view_is : members_view members.entries ≡ object_of written.members = cc one in
-      let many : members_len (object_of written.members) ≡ length written.members = written.apart ∙ sym (AllZip-long (IsMember text_of data_of) (pairs_of eq s.store) written.members written.each) in
+      let many : members_len (object_of written.members) ≡ length written.members = written.apart
+      ∙ sym (AllZip-long (IsMember text_of data_of) (pairs_of eq s.store) written.members written.each) in
       let zipped = zip_seen (IsMember text_of data_of) entry_of (content eq s.store) written.members written.each in
       let there : (p : Stored K V) → In p (content eq s.store) → (b : K × V) × In b read.done × Near (entry_of p) b = λ p within.
       let m = zip_right (λ (p : Stored K V). IsMember text_of data_of (entry_of p)) (content eq s.store) written.members zipped p within in
@@ -67,10 +70,12 @@ module _ {K S Z : Type 0} (eq : K → K → Bool) (law : IsEquivalence eq) (data
   abbrev NearKey : K × Unit {0} → K × Unit {0} → Type 0
   NearKey a b = eq a.0 b.0 ≡ true
 
-  pub set_back : AreApart eq (λ p. p.key) (content eq s.store) → (v : Value) → IsArray data_of (keys_of eq s.store) v → IsSetOf key_of eq v t → HaveSameKeys eq s.store t.store
+  pub set_back : AreApart eq (λ p. p.key) (content eq s.store) → (v : Value) → IsArray data_of (keys_of eq s.store) v → IsSetOf key_of eq v t
+      → HaveSameKeys eq s.store t.store
   set_back apart v (array, is, written) (again, is_too, read) =
       let one : array.items ≡ again.items = sym (items_of array) ∙ ap (λ v. items_in (out-Value v)) (sym is ∙ is_too) ∙ items_of again in
-      let zipped = zip_seen (λ (k : K) (item : Value). data_of k (Some item)) (λ (p : Stored K (Unit {0})). p.key) (content eq s.store) again.items (subst (AllZip (λ (k : K) (item : Value). data_of k (Some item)) (keys_of eq s.store)) one written) in
+      let zipped = zip_seen (λ (k : K) (item : Value). data_of k (Some item)) (λ (p : Stored K (Unit {0})). p.key) (content eq s.store) again.items
+      (subst (AllZip (λ (k : K) (item : Value). data_of k (Some item)) (keys_of eq s.store)) one written) in
       let there : (p : Stored K (Unit {0})) → In p (content eq s.store) → (b : K) × In b read.done × NearKey (entry_of p) (entry_of_key b) = λ p within.
       let item = zip_right (λ (p : Stored K (Unit {0})) (item : Value). data_of p.key (Some item)) (content eq s.store) again.items zipped p within in
       let b = zip_right (IsKey key_of) again.items read.done read.each item.0 item.1 in
@@ -79,4 +84,5 @@ module _ {K S Z : Type 0} (eq : K → K → Bool) (law : IsEquivalence eq) (data
       let item = zip_left (IsKey key_of) again.items read.done read.each b within in
       let p = zip_left (λ (p : Stored K (Unit {0})) (item : Value). data_of p.key (Some item)) (content eq s.store) again.items zipped item.0 item.1 in
       (p.0, p.1, items p.0.key b item.0 p.2 item.2) in
-      same_keys eq s.store t.store (λ p q. NearKey (entry_of p) (entry_of q)) (agree eq law entry_of_key NearKey (λ a b near. near) (λ e a b key value. key) s.store t.store read.done apart there from read.just.entries)
+      same_keys eq s.store t.store (λ p q. NearKey (entry_of p) (entry_of q))
+      (agree eq law entry_of_key NearKey (λ a b near. near) (λ e a b key value. key) s.store t.store read.done apart there from read.just.entries)

@@ -1,4 +1,5 @@
--- JSON objects that are made of the pairs of maps, and maps that are made of the members of objects.
+-- JSON objects that are made of the pairs of maps, and maps that are made of the members
+-- of objects.
 use Rattle.std.specs.Prelude.{◌≡◌, ◌≢◌, ℕ, Bool, ◌<◌, ◌⊎◌, List, length, map, Option, Some, None, String, string_bytes, fold}
 use Rattle.std.specs.declared.alloc.Global.{Global}
 use Rattle.std.specs.BTreeMap.{BTreeMap}

@@ -9,8 +9,8 @@ use Rattle.papaya_seq.specs.Map.{IsMakeRefusal}
 abbrev pub IsEachRead : {A B : Type 0} → (A → B → Type 0) → List A → Type 0
 IsEachRead {B = B} reads items = (done : List B) × AllZip reads items done
 
--- Why nothing was made of the items: there was no memory, or no room, or nothing was read of one of
--- them.
+-- Why nothing was made of the items: there was no memory, or no room, or nothing was read of one
+-- of them.
 abbrev pub IsUnread : {A : Type 0} → (A → Type 0) → Refused → List A → Type 0
 IsUnread unread refused items = IsMakeRefusal refused ⊎ ((refused ≡ Item) × Any unread items)
 

@@ -133,8 +133,8 @@ fn push(items: &mut Vec<Value>, item: Value) -> Result<(), Refused>
 
 /// The array of these keys: for each an item, which the function answers.
 ///
-/// `Refused::Item` at the first key for which it answered none. `Refused::Memory` where a growth was
-/// refused.
+/// `Refused::Item` at the first key for which it answered none. `Refused::Memory` where a growth
+/// was refused.
 pub(crate) fn array_from<'a, K, U, T>(alloc: Global, keys: U, key: T) -> Result<Value, Refused>
 where
     K: 'a,
@@ -164,11 +164,11 @@ where
     Ok(Value::Array(items))
 }
 
-/// The set as a JSON array, in the order of a walk: of each key an item, which the function answers.
-/// It stands for the implementation of `Serialize` in 0.2.5.
+/// The set as a JSON array, in the order of a walk: of each key an item, which the function
+/// answers. It stands for the implementation of `Serialize` in 0.2.5.
 ///
-/// `Refused::Item` at the first key for which it answered none. `Refused::Memory` where a growth was
-/// refused.
+/// `Refused::Item` at the first key for which it answered none. `Refused::Memory` where a growth
+/// was refused.
 pub fn set_to_value<K: Hash + Eq, S: BuildHasher, T: Fn(&K) -> Option<Value>>(
     alloc: Global,
     set: &HashSet<K, S>,

@@ -13,8 +13,7 @@ use std::sync::atomic::{AtomicU64, Ordering};
 /// crate `equivalent`.
 ///
 /// There its law is the author's word. Here each impl proves that a query hashes as the keys that
-/// it
-/// matches, and that it matches just the keys that equal one of them.
+/// it matches, and that it matches just the keys that equal one of them.
 pub trait Equivalent<K: Hash + Eq>: Hash {
     ghost matches: { Self → K → Bool };
 
@@ -84,8 +83,7 @@ impl Model for Collector {
 
 impl Collector {
     /// A collector of this number. Nothing stops a second one of the same number, and its guards
-    /// count
-    /// as this one's.
+    /// count as this one's.
     pub fn new(number: u64) -> Collector
         ensures { result ≡ number }
     {
@@ -124,10 +122,8 @@ impl Collector {
 /// A stretch of calls, as `seize`'s trait of that name.
 ///
 /// There a guard keeps what was loaded under it from being freed. Here it holds two numbers, on
-/// which
-/// no safety depends. In place of `collector` it has `collector_number`, and in place of
-/// `thread_id` its
-/// own `number`.
+/// which no safety depends. In place of `collector` it has `collector_number`, and in place of
+/// `thread_id` its own `number`.
 pub trait Guard {
     ghost collector_number: { Self → ℕ };
 
@@ -138,9 +134,8 @@ pub trait Guard {
         ensures { result ≡ collector_number self.now };
 
     /// The guard's own number, the same at each call. It picks the shard of the count that the
-    /// calls
-    /// under this guard add to. The guards of a collector mostly differ in it, but nothing promises
-    /// so.
+    /// calls under this guard add to. The guards of a collector mostly differ in it, but nothing
+    /// promises so.
     fn number(&self) -> u64
         ensures { result ≡ number self.now };
 }

@@ -1,6 +1,9 @@
 -- Two settings that see pairs alike allow the same exchanges, whatever types their keys have: an exchange asks of keys only what the pairs' keys are to each other and where their places are.
 use Rattle.std.proofs.Common.{MatchOption, true, ◌≡◌, inl, inr, ⊎_elim, ℕ, suc, ◌<◌, Bool, cond, List, [], ◌∷◌, refl, sym, ap, ◌∙◌, subst}
-use Rattle.papaya_law.specs.Exchange.{Word, Empty, Closed, Live, Marked, Copied, Tombstone, Setting, State, Exchange, Open, Claim, Replace, Delete, Link, Mark, Close, Place, Finish, Advance, Promote, Abort, Take, after, walk}
+use Rattle.papaya_law.specs.Exchange.{Word, Empty, Closed, Live, Marked, Copied, Tombstone, Setting}
+use Rattle.papaya_law.specs.Exchange.{State, Exchange, Open, Claim, Replace, Delete, Link, Mark}
+use Rattle.papaya_law.specs.Exchange.{Close, Place, Finish, Advance, Promote, Abort, Take, after}
+use Rattle.papaya_law.specs.Exchange.{walk}
 use Rattle.papaya_law.specs.View.{View, Foreign, Here, Leaving, Gone, Grave, beyond, foreign, view, look, IsPassed, IsFull, HasWord, IsNextPlace, IsReached}
 use Rattle.papaya_law.specs.Copying.{IsSettled, IsTaker, IsTarget, IsCopied}
 use Rattle.papaya_law.specs.Allows.{Allows, AllAllowed}
@@ -111,7 +114,13 @@ module _ {K K' P : Type 0} (g : Setting K P) (g' : Setting K' P) (alike : AreAli
     pub allows_alike : (e : Exchange P) → Allows g s e → Allows g' s e
     allows_alike (Open t) may = may
     allows_alike (Claim t x p) may = record { empty = may.empty; reached = reached_alike p t may.reached; place = next_place_alike p beyond t x may.place }
-    allows_alike (Replace t x p q) may = record { live = may.live; reached = reached_alike p t may.reached; same = alike.same p q ∙ may.same; kept = alike.kept p q may.kept }
+    allows_alike (Replace t x p q) may = record {
+      live = may.live;
+      reached = reached_alike p t may.reached;
+      same = alike.same p q
+          ∙ may.same;
+      kept = alike.kept p q may.kept;
+    }
     allows_alike (Delete t x p) may = record { live = may.live; reached = reached_alike p t may.reached }
     allows_alike (Link t n) may = record {
       last = may.last;
@@ -122,7 +131,8 @@ module _ {K K' P : Type 0} (g : Setting K P) (g' : Setting K' P) (alike : AreAli
           (λ h. inl (h.0, λ b. h.1 (sym alike.blocking ∙ b)))
           (λ h. inr (alike.blocking ∙ h.0, h.1, target_alike may.from t h.2, h.3))
           may.linking;
-      covers = λ x lt. subst (λ y. y < g'.chunks n) (sym (alike.chunk_of x)) (subst (λ y. g.chunk_of x < y) (sym (alike.chunks n)) (may.covers x (subst (λ y. x < y) (alike.size may.from) lt)));
+      covers = λ x lt. subst (λ y. y < g'.chunks n) (sym (alike.chunk_of x))
+          (subst (λ y. g.chunk_of x < y) (sym (alike.chunks n)) (may.covers x (subst (λ y. x < y) (alike.size may.from) lt)));
     }
     allows_alike (Mark t x p) may = record { live = may.live; was = may.was; further = may.further }
     allows_alike (Close t x) may = record { empty = may.empty; was = may.was; further = may.further }
@@ -143,7 +153,13 @@ module _ {K K' P : Type 0} (g : Setting K P) (g' : Setting K' P) (alike : AreAli
       in_chunk = alike.chunk_of may.slot ∙ may.in_chunk;
       settled = λ x lo hi. settled_alike n (s.slot may.from x) (may.settled x (subst (λ y. x < y) (alike.size may.from) lo) (sym (alike.chunk_of x) ∙ hi));
     }
-    allows_alike (Promote t n) may = record { root = may.root; made = may.made; target = target_alike t n may.target; whole = λ x lt. subst (λ y. s.done n y ≡ true) (sym (alike.chunk_of x)) (may.whole x (subst (λ y. x < y) (alike.size t) lt)) }
+    allows_alike (Promote t n) may = record {
+      root = may.root;
+      made = may.made;
+      target = target_alike t n may.target;
+      whole = λ x lt.
+          subst (λ y. s.done n y ≡ true) (sym (alike.chunk_of x)) (may.whole x (subst (λ y. x < y) (alike.size t) lt));
+    }
     allows_alike (Abort n) may = record {
       before = may.before;
       mode = alike.blocking ∙ may.mode;

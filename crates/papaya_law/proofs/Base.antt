@@ -1,5 +1,6 @@
 -- What every allowed exchange keeps in both modes, of all words.
-use Rattle.std.proofs.Common.{◌≡◌, ◌⊎◌, inl, inr, ⊎_elim, ℕ, zero, suc, ◌<◌, ◌≤◌, Bool, true, false, ◌==◌, ◌&&◌, Some, refl, sym, ap, ◌∙◌, subst, arith, eqb-true, eq-eqb}
+use Rattle.std.proofs.Common.{◌≡◌, ◌⊎◌, inl, inr, ⊎_elim, ℕ, zero, suc, ◌<◌, ◌≤◌, Bool, true, false}
+use Rattle.std.proofs.Common.{◌==◌, ◌&&◌, Some, refl, sym, ap, ◌∙◌, subst, arith, eqb-true, eq-eqb}
 use Rattle.std.proofs.lemmas.Bool.{and_parts, cases_Bool, cond-true, cond-false}
 use Rattle.papaya_law.specs.Exchange.{Word, Setting, State, Open, Link, Advance, Promote, Take, start, after, at_put, done_put, slot_put, walk}
 use Rattle.papaya_law.specs.View.{View, view, look, IsNextPlace}
@@ -31,8 +32,10 @@ done_stays f n c u d h = ⊎_elim
 
 module _ {K P : Type 0} (g : Setting K P) (s : State P) where
   -- a slot's turn, by what a key sees of the old word and the new one
-  pub turn_own : (k : K) (t x : ℕ) (w w' : Word P) (a b : View P) → s.slot t x ≡ w → view g k w ≡ a → view g k w' ≡ b → IsTurn (g.place k) (look g s k) (look g (slot_put s t x w') k) t x a b
-  turn_own k t x w w' a b old e f = recast (g.place k) (look g s k) (look g (slot_put s t x w') k) t x (view g k w) (view g k w') a b (slot_turn g s k t x w w' old) e f
+  pub turn_own : (k : K) (t x : ℕ) (w w' : Word P) (a b : View P) → s.slot t x ≡ w → view g k w ≡ a → view g k w' ≡ b
+      → IsTurn (g.place k) (look g s k) (look g (slot_put s t x w') k) t x a b
+  turn_own k t x w w' a b old e f = recast (g.place k) (look g s k) (look g (slot_put s t x w') k) t x (view g k w) (view g k w') a b
+      (slot_turn g s k t x w w' old) e f
 
   module _ (law : IsLawful g) where
     -- equal keys have the same next place
@@ -50,7 +53,8 @@ module _ {K P : Type 0} (g : Setting K P) (s : State P) where
 
   module _ (sound : IsSound g s) where
     -- a pair of the class stands at a place of the key
-    pub own_place : (law : IsLawful g) (k : K) (t x : ℕ) (p : P) → g.same k (g.key p) ≡ true → named (s.slot t x) ≡ Some p → (j : ℕ) × (j < g.places t) × (g.place k t j ≡ x)
+    pub own_place : (law : IsLawful g) (k : K) (t x : ℕ) (p : P) → g.same k (g.key p) ≡ true → named (s.slot t x) ≡ Some p → (j : ℕ)
+        × (j < g.places t) × (g.place k t j ≡ x)
     own_place law k t x p h e =
         let r = sound.placed t x p e in (r.at, r.within, law.places_same k (g.key p) h t r.at ∙ r.is)
 
@@ -64,7 +68,8 @@ module _ {K P : Type 0} (g : Setting K P) (s : State P) where
 
     -- where there is no root, there is no chain
     pub no_root : s.root ≡ 0 → (u : ℕ) → IsOn s.first s.next u → ⊥
-    no_root e u (h, (k, w)) = let f : s.first ≡ 0 = ⊎_elim (λ r. r.1) (λ on. absurd (omega (arith, on.0))) sound.root in let z : walk s.next k s.first ≡ 0 = ap (walk s.next k) f ∙ zeros k in omega arith
+    no_root e u (h, (k, w)) = let f : s.first ≡ 0 = ⊎_elim (λ r. r.1) (λ on. absurd (omega (arith, on.0))) sound.root in
+        let z : walk s.next k s.first ≡ 0 = ap (walk s.next k) f ∙ zeros k in omega arith
       where
         zeros : (k : ℕ) → walk s.next k 0 ≡ 0
         zeros zero = refl
@@ -76,9 +81,11 @@ module _ {K P : Type 0} (g : Setting K P) (s : State P) where
     linking_on from t on (inr h) = (sound.was from h.1).0
 
     -- a slot's word changes
-    pub slot_sound : (t x : ℕ) (w' : Word P) → IsOn s.first s.next t → ((p : P) → named w' ≡ Some p → IsPlaceOf g t x p) → (shut w' ≡ true → 0 < s.next t) → IsSound g (slot_put s t x w')
+    pub slot_sound : (t x : ℕ) (w' : Word P) → IsOn s.first s.next t → ((p : P) → named w' ≡ Some p → IsPlaceOf g t x p)
+        → (shut w' ≡ true → 0 < s.next t) → IsSound g (slot_put s t x w')
     slot_sound t x w' on new next = record {
-      further = λ u y h. ⊎_elim (λ r. sound.further u y (ap shut (sym r.0) ∙ h)) (λ r. subst (λ a. 0 < s.next a) (sym r.0) (next (ap shut (sym r.2) ∙ h))) (slot_cases s t x w' u y);
+      further = λ u y h. ⊎_elim (λ r. sound.further u y (ap shut (sym r.0) ∙ h))
+          (λ r. subst (λ a. 0 < s.next a) (sym r.0) (next (ap shut (sym r.2) ∙ h))) (slot_cases s t x w' u y);
       rises = sound.rises;
       linked = sound.linked;
       root = sound.root;
@@ -86,7 +93,8 @@ module _ {K P : Type 0} (g : Setting K P) (s : State P) where
       root_was = sound.root_was;
       done_on = sound.done_on;
       slots_on = λ u y h. ⊎_elim (λ r. sound.slots_on u y (λ e. h (r.0 ∙ e))) (λ r. subst (IsOn s.first s.next) (sym r.0) on) (slot_cases s t x w' u y);
-      placed = λ u y p e. ⊎_elim (λ r. sound.placed u y p (ap named (sym r.0) ∙ e)) (λ r. subst (λ a. IsPlaceOf g a y p) (sym r.0) (subst (λ a. IsPlaceOf g t a p) (sym r.1) (new p (ap named (sym r.2) ∙ e)))) (slot_cases s t x w' u y);
+      placed = λ u y p e. ⊎_elim (λ r. sound.placed u y p (ap named (sym r.0) ∙ e))
+          (λ r. subst (λ a. IsPlaceOf g a y p) (sym r.0) (subst (λ a. IsPlaceOf g t a p) (sym r.1) (new p (ap named (sym r.2) ∙ e)))) (slot_cases s t x w' u y);
     }
 
     -- the first root is set

@@ -57,7 +57,8 @@ module _ {P : Type 0} (On : ℕ → Type 0) (n n' : ℕ → ℕ) (V : ℕ → �
     incremental_class_agrees : (m : Option P) → IsIncrementalClass On n S V m → IsIncrementalClass On n' S' V m
     incremental_class_agrees m k = record {
       base = base_agrees k.base;
-      order = λ t u j on lt l h. ⊎_elim (λ p. inl (passed_agrees t on p)) (λ (c : IsCopy On n V t u (V u j)). inr (copy t u j on c)) (k.order t u j on lt (back u j (k.base.on u j h) l) h);
+      order = λ t u j on lt l h. ⊎_elim (λ p. inl (passed_agrees t on p)) (λ (c : IsCopy On n V t u (V u j)). inr (copy t u j on c))
+          (k.order t u j on lt (back u j (k.base.on u j h) l) h);
       gone = λ t i p lt e. let on = k.base.on t i (ap own e) in gone_to t (k.gone t i p (back t i on lt) e);
       tied = tied m k.tied;
     }
@@ -69,14 +70,31 @@ module _ {P : Type 0} (On : ℕ → Type 0) (n n' : ℕ → ℕ) (V : ℕ → �
         copy t u j on c = record { at = c.at; pair = c.pair; within = to t c.at on c.within; leaving = c.leaving; copy = c.copy; full = all_full t u c.full }
 
         gone_to : (t : ℕ) → IsGoneTo On n V t → IsGoneTo On n' V t
-        gone_to t c = record { table = c.table; at = c.at; on = c.on; later = c.later; within = to c.table c.at c.on c.within; word = c.word; full = all_full t c.table c.full }
+        gone_to t c = record {
+          table = c.table;
+          at = c.at;
+          on = c.on;
+          later = c.later;
+          within = to c.table c.at c.on c.within;
+          word = c.word;
+          full = all_full t c.table c.full;
+        }
 
         tied : (v : Option P) → IsTied On n V v → IsTied On n' V v
         tied None h = λ t j lt e. h t j (back t j (k.base.on t j (active-own (V t j) (held-active (V t j) e))) lt) e
-        tied (Some p) o = record { table = o.table; at = o.at; on = o.on; within = to o.table o.at o.on o.within; has = o.has; front = λ l on lt. passed_agrees l on (o.front l on lt) }
+        tied (Some p) o = record {
+          table = o.table;
+          at = o.at;
+          on = o.on;
+          within = to o.table o.at o.on o.within;
+          has = o.has;
+          front = λ l on lt.
+              passed_agrees l on (o.front l on lt);
+        }
 
     -- with blocking
-    blocking_class_agrees : (was aborted : ℕ → Bool) (r : ℕ) (m : Option P) → IsBlockingClass On was aborted r n S V m → IsBlockingClass On was aborted r n' S' V m
+    blocking_class_agrees : (was aborted : ℕ → Bool) (r : ℕ) (m : Option P) → IsBlockingClass On was aborted r n S V m
+        → IsBlockingClass On was aborted r n' S' V m
     blocking_class_agrees was aborted r m k = record {
       base = base_agrees k.base;
       ahead = λ u j lt l h. copy u j (k.ahead u j lt (back u j (k.base.on u j h) l) h);
@@ -85,11 +103,23 @@ module _ {P : Type 0} (On : ℕ → Type 0) (n n' : ℕ → ℕ) (V : ℕ → �
     }
       where
         copy : (u j : ℕ) → IsRootCopy On aborted n V r u (V u j) → IsRootCopy On aborted n' V r u (V u j)
-        copy u j c = record { at = c.at; pair = c.pair; within = to r c.at (k.base.on r c.at (ap own c.leaving)) c.within; leaving = c.leaving; copy = c.copy; between = c.between }
+        copy u j c = record {
+          at = c.at;
+          pair = c.pair;
+          within = to r c.at (k.base.on r c.at (ap own c.leaving)) c.within;
+          leaving = c.leaving;
+          copy = c.copy;
+          between = c.between;
+        }
 
         tied : (v : Option P) → IsRootTied n V r v → IsRootTied n' V r v
         tied None h = λ j lt e. h j (back r j (k.base.on r j (active-own (V r j) (held-active (V r j) e))) lt) e
-        tied (Some p) o = record { at = o.at; within = to r o.at (k.base.on r o.at (active-own (V r o.at) (held-active (V r o.at) (held_of (V r o.at) p o.has)))) o.within; has = o.has }
+        tied (Some p) o = record {
+          at = o.at;
+          within = to r o.at
+              (k.base.on r o.at (active-own (V r o.at) (held-active (V r o.at) (held_of (V r o.at) p o.has)))) o.within;
+          has = o.has;
+        }
 
 -- Empty, or not
 empty_or_not : {P : Type 0} (w : Word P) → (w ≡ Empty) ⊎ (w ≡ Empty → ⊥)
@@ -170,13 +200,19 @@ module _ {K P : Type 0} (g g' : Setting K P) (s : State P) (sound : IsSound g s)
     placed = λ t x p e.
         let r = sound.placed t x p e in
         let on = sound.slots_on t x (λ q. let f = ap named q in cc (f, e)) in
-        record { at = r.at; within = subst (λ y. r.at < y) (sym (agrees.places t on)) r.within; is = ap (λ k. g'.place k t r.at) (agrees.key p) ∙ (agrees.place (g.key p) t r.at on ∙ r.is) };
+        record {
+          at = r.at;
+          within = subst (λ y. r.at < y) (sym (agrees.places t on)) r.within;
+          is = ap (λ k. g'.place k t r.at) (agrees.key p)
+              ∙ (agrees.place (g.key p) t r.at on ∙ r.is);
+        };
   }
 
   -- a table has a word for each chunk of another, both of the chain
   pub covers_carries : (t n : ℕ) → IsOn s.first s.next t → IsOn s.first s.next n → Covers g t n → Covers g' t n
   covers_carries t n on on-n covers x lt =
-      subst (λ y. y < g'.chunks n) (sym (agrees.chunk_of x)) (subst (λ y. g.chunk_of x < y) (sym (agrees.chunks n on-n)) (covers x (subst (λ y. x < y) (agrees.size t on) lt)))
+      subst (λ y. y < g'.chunks n) (sym (agrees.chunk_of x))
+      (subst (λ y. g.chunk_of x < y) (sym (agrees.chunks n on-n)) (covers x (subst (λ y. x < y) (agrees.size t on) lt)))
 
   -- a slot tells a key one thing
   one_slot : (k : K) (t i j : ℕ) → g'.place k t i ≡ g'.place k t j → look g s k t i ≡ look g s k t j
@@ -193,7 +229,8 @@ module _ {K P : Type 0} (g g' : Setting K P) (s : State P) (sound : IsSound g s)
         covers_carries t (s.next t) on (next_on s.next sound.rises s.first t on h) (holds.covered t h);
     class = λ k.
         subst (λ W. IsIncrementalClass (IsOn s.first s.next) g'.places (g'.place k) W (m k)) (sym (look_agrees k))
-        (incremental_class_agrees (IsOn s.first s.next) g.places g'.places (look g s k) agrees.places (g.place k) (g'.place k) (agrees.place k) (one_slot k) (m k) (holds.class k));
+        (incremental_class_agrees (IsOn s.first s.next) g.places g'.places (look g s k) agrees.places (g.place k) (g'.place k) (agrees.place k)
+        (one_slot k) (m k) (holds.class k));
   }
 
   -- with blocking
@@ -206,25 +243,47 @@ module _ {K P : Type 0} (g g' : Setting K P) (s : State P) (sound : IsSound g s)
     copied = holds.copied;
     given_up = λ t a lt.
         let v = holds.given_up t a lt in
-        record { on = v.on; between = v.between; slot = v.slot; pair = v.pair; marked = v.marked; full = full_carries (look g s (g.key v.pair)) (look g' s (g'.key v.pair)) (look_pair v.pair) t v.on v.full };
+        record {
+          on = v.on;
+          between = v.between;
+          slot = v.slot;
+          pair = v.pair;
+          marked = v.marked;
+          full = full_carries (look g s (g.key v.pair))
+              (look g' s (g'.key v.pair)) (look_pair v.pair) t v.on v.full;
+        };
     done_to = λ t c lt some.
         let v = holds.done_to t c lt some in
         let on = holds.done_on t c some in
-        record { between = v.between; settled = λ x h i. settled_carries t on (s.slot s.root x) (v.settled x (subst (λ y. s.done t y ≡ true) (agrees.chunk_of x) h) (subst (λ y. x < y) (agrees.size s.root (root_on t on)) i)) };
+        record {
+          between = v.between;
+          settled = λ x h i.
+              settled_carries t on (s.slot s.root x) (v.settled x (subst (λ y. s.done t y ≡ true) (agrees.chunk_of x) h)
+              (subst (λ y. x < y) (agrees.size s.root (root_on t on)) i));
+        };
     linked_by = holds.linked_by;
     covered = λ t n was target.
         let on = (sound.was t was).0 in
-        let old : IsTarget g s t n = record { links = target.links; is = target.is; made = target.made; over = target.over; mode = ⊎_elim (λ e. inl e) (λ b. inr (sym agrees.blocking ∙ b)) target.mode } in
+        let old : IsTarget g s t n = record {
+          links = target.links;
+          is = target.is;
+          made = target.made;
+          over = target.over;
+          mode =
+              ⊎_elim (λ e. inl e) (λ b. inr (sym agrees.blocking ∙ b)) target.mode;
+        } in
         covers_carries t n on (target_aborted g s sound t n on old).0 (holds.covered t n was old);
     class = λ k.
         subst (λ W. IsBlockingClass (IsOn s.first s.next) s.was_root s.aborted s.root g'.places (g'.place k) W (m k)) (sym (look_agrees k))
-        (blocking_class_agrees (IsOn s.first s.next) g.places g'.places (look g s k) agrees.places (g.place k) (g'.place k) (agrees.place k) (one_slot k) s.was_root s.aborted s.root (m k) (holds.class k));
+        (blocking_class_agrees (IsOn s.first s.next) g.places g'.places (look g s k) agrees.places (g.place k) (g'.place k) (agrees.place k)
+        (one_slot k) s.was_root s.aborted s.root (m k) (holds.class k));
   }
     where
       root_on : (t : ℕ) → IsOn s.first s.next t → IsOn s.first s.next s.root
       root_on t on = ⊎_elim (λ r. absurd (no_root g s sound r.0 t on)) (λ h. h) sound.root
 
 -- The law of tables that come later: what is kept doesn't ask what they are.
-pub keeping_carries : {K P : Type 0} (g g' : Setting K P) (s : State P) (m : K → Option P) → Agrees (IsOn s.first s.next) g g' → IsKeeping g s m → IsKeeping g' s m
+pub keeping_carries : {K P : Type 0} (g g' : Setting K P) (s : State P) (m : K → Option P) → Agrees (IsOn s.first s.next) g g' → IsKeeping g s m
+    → IsKeeping g' s m
 keeping_carries g g' s m agrees (inl h) = inl (agrees.blocking ∙ h.0, incremental_carries g g' s h.1.sound agrees m h.1)
 keeping_carries g g' s m agrees (inr h) = inr (agrees.blocking ∙ h.0, blocking_carries g g' s h.1.sound agrees m h.1)

@@ -75,7 +75,8 @@ module _ (next : ℕ → ℕ) (rises : Rises next) where
         where
           all_zero : (d n : ℕ) → walk next n first ≡ 0 → 0 < walk next (d + n) first → ⊥
           all_zero zero n z h = let e : walk next (zero + n) first ≡ walk next n first = ap (λ y. walk next y first) (omega arith) in omega arith
-          all_zero (suc d) n z h = let e : suc d + n ≡ suc (d + n) = omega arith in all_zero d n z (walk_back (d + n) first (subst (λ y. 0 < walk next y first) e h))
+          all_zero (suc d) n z h = let e : suc d + n ≡ suc (d + n) = omega arith in
+              all_zero d n z (walk_back (d + n) first (subst (λ y. 0 < walk next y first) e h))
 
   -- a walk from a table of the chain stays on the chain
   pub walk_on : (first from n : ℕ) → IsOn first next from → 0 < walk next n from → IsOn first next (walk next n from)
@@ -85,7 +86,8 @@ module _ (next : ℕ → ℕ) (rises : Rises next) where
       (h, (suc (prev.1.0), ap next (prev.1.1)))
 
   -- what lies on the chain from a table on and before the end of a walk is on that walk
-  pub on_walk : (first from l n : ℕ) → IsOn first next from → IsOn first next l → from ≤ l → 0 < walk next n from → l < walk next n from → (i : ℕ) × (i < n) × (walk next i from ≡ l)
+  pub on_walk : (first from l n : ℕ) → IsOn first next from → IsOn first next l → from ≤ l → 0 < walk next n from → l < walk next n from → (i : ℕ)
+      × (i < n) × (walk next i from ≡ l)
   on_walk first from l zero on onl lo h hi = absurd (omega arith)
   on_walk first from l (suc n) on onl lo h hi =
       let back : 0 < walk next n from = walk_back n from h in
@@ -122,7 +124,8 @@ module _ (next : ℕ → ℕ) (rises : Rises next) where
   next_on first t on h = (h, (suc (on.1.0), ap next on.1.1))
 
   -- a walk from a table of the chain on: where it ends, and that what lies between is on it
-  pub walk_between : (Q : ℕ → Type 0) (first t links n : ℕ) → IsOn first next t → walk next (suc links) t ≡ n → 0 < n → ((i : ℕ) → i < links → Q (walk next (suc i) t))
+  pub walk_between : (Q : ℕ → Type 0) (first t links n : ℕ) → IsOn first next t → walk next (suc links) t ≡ n → 0 < n
+      → ((i : ℕ) → i < links → Q (walk next (suc i) t))
       → IsOn first next n × (t < n) × ((l : ℕ) → IsOn first next l → t < l → l < n → Q l)
   walk_between Q first t links n on is made over =
       let up : 0 < walk next (suc links) t = subst (λ y. 0 < y) (sym is) made in
@@ -144,8 +147,13 @@ module _ (next : ℕ → ℕ) (rises : Rises next) (t n : ℕ) (none : next t �
   pub link_rises : Rises (at_put next t n)
   link_rises u =
       ⊎_elim
-      (λ (h : (u == t) ≡ true). inr (subst (λ y. 0 < y) (sym (eqb-true u t h)) some, subst (λ y. u < y) (sym (cond-true (u == t) n (next u) h)) (subst (λ y. y < n) (sym (eqb-true u t h)) up)))
-      (λ (h : (u == t) ≡ false). let e : at_put next t n u ≡ next u = cond-false (u == t) n (next u) h in ⊎_elim (λ z. inl (e ∙ z)) (λ r. inr (r.0, subst (λ y. u < y) (sym e) r.1)) (rises u))
+      (λ (h : (u == t) ≡ true). inr (
+        subst (λ y. 0 < y) (sym (eqb-true u t h)) some,
+        subst (λ y. u < y) (sym (cond-true (u == t) n (next u) h))
+            (subst (λ y. y < n) (sym (eqb-true u t h)) up),
+      ))
+      (λ (h : (u == t) ≡ false). let e : at_put next t n u ≡ next u = cond-false (u == t) n (next u) h in
+      ⊎_elim (λ z. inl (e ∙ z)) (λ r. inr (r.0, subst (λ y. u < y) (sym e) r.1)) (rises u))
       (cases_Bool (u == t))
 
   -- a walk along old links stays
@@ -172,7 +180,8 @@ module _ (next : ℕ → ℕ) (rises : Rises next) (t n : ℕ) (none : next t �
       let h : 0 < walk next kl first = pos_before next rises kl ku first (omega arith) hu in
       (pl, (kl, sym (link_walk kl first h) ∙ el)))
       (λ (c : ku ≤ kl).
-      let h : walk (at_put next t n) ku first ≤ walk (at_put next t n) kl first = walk_le (at_put next t n) link_rises ku kl first c (subst (λ y. 0 < y) (sym el) pl) in
+      let h : walk (at_put next t n) ku first ≤ walk (at_put next t n) kl first = walk_le (at_put next t n) link_rises ku kl first c
+      (subst (λ y. 0 < y) (sym el) pl) in
       let e : walk (at_put next t n) ku first ≡ walk next ku first = link_walk ku first hu in
       absurd (omega arith))
       (cases_lt kl ku)

@@ -1,5 +1,7 @@
 -- What the tables of the chain have together is the map, as a list in which no key stands twice.
-use Rattle.std.proofs.Common.{◌≡◌, ◌⊎◌, ⊎_elim, ℕ, zero, suc, ◌<◌, ◌≤◌, ◌==◌, true, false, Option, None, Some, List, [], refl, sym, ap, ◌∙◌, subst, arith, eqb-true, eq-eqb}
+use Rattle.std.proofs.Common.{◌≡◌, ◌⊎◌, ⊎_elim, ℕ, zero, suc, ◌<◌, ◌≤◌, ◌==◌, true, false, Option}
+use Rattle.std.proofs.Common.{None, Some, List, [], refl, sym, ap, ◌∙◌, subst, arith, eqb-true}
+use Rattle.std.proofs.Common.{eq-eqb}
 use Rattle.std.proofs.lemmas.Bool.{cases_Bool, cases_lt, cond-true, cond-false}
 use Rattle.papaya_law.specs.Exchange.{Setting, State, walk}
 use Rattle.papaya_law.specs.View.{Here, Leaving, look, held}
@@ -46,13 +48,15 @@ module _ {K P : Type 0} (g : Setting K P) (law : IsLawful g) (s : State P) where
     chain_apart zero t = tt
     chain_apart (suc n) t =
         ⊎_elim
-        (λ (some : 0 < t). subst (AreApart g.same g.key) (sym (chain_more n t some)) (joined_apart g law (table t) (chain_from g s n (s.next t)) (apart_in g law s m keeps t (g.size t)) (chain_apart n (s.next t))))
+        (λ (some : 0 < t). subst (AreApart g.same g.key) (sym (chain_more n t some))
+        (joined_apart g law (table t) (chain_from g s n (s.next t)) (apart_in g law s m keeps t (g.size t)) (chain_apart n (s.next t))))
         (λ (none : t ≤ 0). subst (AreApart g.same g.key) (sym (chain_end (suc n) t (omega (arith, none)))) tt)
         (cases_lt 0 t)
 
     module _ (k : K) where
       -- a table's pair of the key stands at a place of the key
-      found_in : (t : ℕ) (p : P) → lookup g.same g.key (table t) k ≡ Some p → (j : ℕ) × (j < g.places t) × ((look g s k t j ≡ Here p) ⊎ (look g s k t j ≡ Leaving p))
+      found_in : (t : ℕ) (p : P) → lookup g.same g.key (table t) k ≡ Some p → (j : ℕ) × (j < g.places t)
+          × ((look g s k t j ≡ Here p) ⊎ (look g s k t j ≡ Leaving p))
       found_in t p e =
           let r = table_found g (s.slot t) (g.size t) k p e in
           let a = at_place g law s m keeps t r.0 p r.2 k r.3 in
@@ -84,7 +88,8 @@ module _ {K P : Type 0} (g : Setting K P) (law : IsLawful g) (s : State P) where
           (λ (none : t ≤ 0). ap (λ ps. lookup g.same g.key ps k) (chain_end (suc n) t (omega (arith, none))))
           (cases_lt 0 t)
         where
-          behind : (((u : ℕ) → s.next t ≤ u → lookup g.same g.key (table u) k ≡ None) → lookup g.same g.key (chain_from g s n (s.next t)) k ≡ None) → lookup g.same g.key (chain_from g s n (s.next t)) k ≡ None
+          behind : (((u : ℕ) → s.next t ≤ u → lookup g.same g.key (table u) k ≡ None) → lookup g.same g.key (chain_from g s n (s.next t)) k ≡ None)
+              → lookup g.same g.key (chain_from g s n (s.next t)) k ≡ None
           behind ih =
               ⊎_elim
               (λ (e : s.next t ≡ 0). ap (λ ps. lookup g.same g.key ps k) (chain_end n (s.next t) e))
@@ -92,25 +97,30 @@ module _ {K P : Type 0} (g : Setting K P) (law : IsLawful g) (s : State P) where
               ((keeping_sound g s m keeps).rises t)
 
       -- where table u of the chain has the key's pair, and no table of the chain before it has one, the chain has that pair
-      chain_some : (p : P) (u : ℕ) → IsOn s.first s.next u → lookup g.same g.key (table u) k ≡ Some p → (n t : ℕ) → IsOn s.first s.next t → t ≤ u → walk s.next n t ≡ 0
+      chain_some : (p : P) (u : ℕ) → IsOn s.first s.next u → lookup g.same g.key (table u) k ≡ Some p → (n t : ℕ) → IsOn s.first s.next t → t ≤ u
+          → walk s.next n t ≡ 0
           → ((l : ℕ) → IsOn s.first s.next l → t ≤ l → l < u → lookup g.same g.key (table l) k ≡ None) → lookup g.same g.key (chain_from g s n t) k ≡ Some p
       chain_some p u onu has zero t on le ends before = absurd (let some = on.0 in omega (arith, some, ends))
       chain_some p u onu has (suc n) t on le ends before =
           ap (λ ps. lookup g.same g.key ps k) (chain_more n t on.0)
           ∙ ⊎_elim
-          (λ (lt : t < u). joined_rest g law (table t) (chain_from g s n (s.next t)) k (before t on (omega arith) lt) ∙ behind lt (chain_some p u onu has n (s.next t)))
-          (λ (ge : u ≤ t). joined_first g law (table t) (chain_from g s n (s.next t)) k p (let e : u ≡ t = omega (arith, le, ge) in subst (λ v. lookup g.same g.key (table v) k ≡ Some p) e has))
+          (λ (lt : t < u). joined_rest g law (table t) (chain_from g s n (s.next t)) k (before t on (omega arith) lt)
+          ∙ behind lt (chain_some p u onu has n (s.next t)))
+          (λ (ge : u ≤ t). joined_first g law (table t) (chain_from g s n (s.next t)) k p
+          (let e : u ≡ t = omega (arith, le, ge) in subst (λ v. lookup g.same g.key (table v) k ≡ Some p) e has))
           (cases_lt t u)
         where
           behind : t < u
               → (IsOn s.first s.next (s.next t) → s.next t ≤ u → walk s.next n (s.next t) ≡ 0
-              → ((l : ℕ) → IsOn s.first s.next l → s.next t ≤ l → l < u → lookup g.same g.key (table l) k ≡ None) → lookup g.same g.key (chain_from g s n (s.next t)) k ≡ Some p)
+              → ((l : ℕ) → IsOn s.first s.next l → s.next t ≤ l → l < u → lookup g.same g.key (table l) k ≡ None)
+              → lookup g.same g.key (chain_from g s n (s.next t)) k ≡ Some p)
               → lookup g.same g.key (chain_from g s n (s.next t)) k ≡ Some p
           behind lt ih =
               let rises = (keeping_sound g s m keeps).rises in
               let some : 0 < s.next t = has_next s.next rises s.first t u on onu lt in
               let up : t < s.next t = ⊎_elim (λ e. absurd (omega (arith, e, some))) (λ r. r.1) (rises t) in
-              let low : s.next t ≤ u = ⊎_elim (λ (c : u < s.next t). absurd (none_between s.next rises s.first t u on onu lt c)) (λ (c : s.next t ≤ u). c) (cases_lt u (s.next t)) in
+              let low : s.next t ≤ u = ⊎_elim (λ (c : u < s.next t). absurd (none_between s.next rises s.first t u on onu lt c))
+              (λ (c : s.next t ≤ u). c) (cases_lt u (s.next t)) in
               ih (next_on s.next rises s.first t on some) low (sym (walk_first s.next n t) ∙ ends)
               (λ l onl le' lt'. before l onl (omega (arith, up, le')) lt')
 
@@ -128,21 +138,26 @@ module _ {K P : Type 0} (g : Setting K P) (law : IsLawful g) (s : State P) where
 
             first_table : (p : P) → m k ≡ Some p → IsOwner (IsOn s.first s.next) g.places (look g s k) p → lookup g.same g.key (chain_content g s n) k ≡ Some p
             first_table p e o =
-                let front : IsFront (IsOn s.first s.next) g.places (look g s k) s.root = (reached_front g law inc s m holds k s.root (root_reached g s m keeps k some)).1 in
+                let front : IsFront (IsOn s.first s.next) g.places (look g s k)
+                s.root = (reached_front g law inc s m holds k s.root (root_reached g s m keeps k some)).1 in
                 let there : held (look g s k o.table o.at) ≡ true = held_of (look g s k o.table o.at) p o.has in
                 let low : s.root ≤ o.table =
                 ⊎_elim
-                (λ (c : o.table < s.root). absurd (passed_not_held (IsOn s.first s.next) g.places (g.place k) (look g s k) (holds.class k).base o.table o.at (front o.table o.on c) o.within there))
+                (λ (c : o.table < s.root). absurd (passed_not_held (IsOn s.first s.next) g.places (g.place k) (look g s k) (holds.class k).base
+                o.table o.at (front o.table o.on c) o.within there))
                 (λ (c : s.root ≤ o.table). c)
                 (cases_lt o.table s.root) in
                 chain_some p o.table o.on (its_pair there (lookup g.same g.key (table o.table) k) refl) n s.root root_on low ends
-                (λ l onl le lt. table_without l (λ j h. passed_not_held (IsOn s.first s.next) g.places (g.place k) (look g s k) (holds.class k).base l j (o.front l onl lt) h))
+                (λ l onl le lt. table_without l (λ j h. passed_not_held (IsOn s.first s.next) g.places (g.place k) (look g s k) (holds.class k).base l
+                j (o.front l onl lt) h))
               where
-                its_pair : held (look g s k o.table o.at) ≡ true → (v : Option P) → lookup g.same g.key (table o.table) k ≡ v → lookup g.same g.key (table o.table) k ≡ Some p
+                its_pair : held (look g s k o.table o.at) ≡ true → (v : Option P) → lookup g.same g.key (table o.table) k ≡ v
+                    → lookup g.same g.key (table o.table) k ≡ Some p
                 its_pair there None f = absurd (none_in o.table f o.at o.within there)
                 its_pair there (Some q) f =
                     let r = found_in o.table q f in
-                    let is : m k ≡ Some q = found_is (IsOn s.first s.next) g.places (g.place k) (look g s k) (m k) (holds.class k) o.table r.0 q o.on o.front r.1 r.2 in
+                    let is : m k ≡ Some q = found_is (IsOn s.first s.next) g.places (g.place k) (look g s k) (m k) (holds.class k) o.table r.0 q o.on
+                    o.front r.1 r.2 in
                     f ∙ (sym is ∙ e)
 
             by_value : (v : Option P) → m k ≡ v → lookup g.same g.key (chain_content g s n) k ≡ m k
@@ -179,5 +194,6 @@ module _ {K P : Type 0} (g : Setting K P) (law : IsLawful g) (s : State P) where
     chain_is n ends k =
         ⊎_elim
         (λ (some : 0 < s.root). ⊎_elim (λ h. chain_incremental k n ends some h.0 h.1) (λ h. chain_blocking k n ends some h.0 h.1) keeps)
-        (λ (low : s.root ≤ 0). let none : s.root ≡ 0 = omega (arith, low) in ap (λ ps. lookup g.same g.key ps k) (no_chain none n) ∙ sym ((means g law s m keeps k).no_root none))
+        (λ (low : s.root ≤ 0). let none : s.root ≡ 0 = omega (arith, low) in
+        ap (λ ps. lookup g.same g.key ps k) (no_chain none n) ∙ sym ((means g law s m keeps k).no_root none))
         (cases_lt 0 s.root)

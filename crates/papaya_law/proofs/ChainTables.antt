@@ -1,5 +1,7 @@
 -- Over how many tables the list of a chain goes, how long it is, when it is the root's own, and what else is equal to it.
-use Rattle.std.proofs.Common.{◌≡◌, ◌⊎◌, inl, inr, ⊎_elim, ℕ, zero, suc, ◌+◌, ◌*◌, ◌<◌, ◌≤◌, ◌++◌, false, Option, None, Some, List, [], ◌∷◌, length, refl, sym, ap, ◌∙◌, arith}
+use Rattle.std.proofs.Common.{◌≡◌, ◌⊎◌, inl, inr, ⊎_elim, ℕ, zero, suc, ◌+◌, ◌*◌, ◌<◌, ◌≤◌, ◌++◌}
+use Rattle.std.proofs.Common.{false, Option, None, Some, List, [], ◌∷◌, length, refl, sym, ap, ◌∙◌}
+use Rattle.std.proofs.Common.{arith}
 use Rattle.std.proofs.lemmas.Bool.{cases_lt}
 use Rattle.std.proofs.lemmas.List.{append-nil, length-append}
 use mathlib.Core.Path.{fun_ext}
@@ -40,7 +42,8 @@ table_few slot zero = omega arith
 table_few slot (suc n) =
     let first = table_few slot n in
     let last = word_few (slot n) in
-    let all : length (pairs_in slot n ++ pairs_of_word (slot n)) ≡ length (pairs_in slot n) + length (pairs_of_word (slot n)) = length-append (pairs_in slot n) (pairs_of_word (slot n)) in
+    let all : length (pairs_in slot n ++ pairs_of_word (slot n)) ≡ length (pairs_in slot n) + length (pairs_of_word (slot n)) = length-append
+    (pairs_in slot n) (pairs_of_word (slot n)) in
     omega (arith, first, last, all)
 
 -- a list that adds no length is empty
@@ -60,7 +63,8 @@ module _ {K P : Type 0} (g : Setting K P) where
   missing_few ps (q ∷ qs) =
       let here = found_few (lookup g.same g.key ps (g.key q)) q in
       let rest = missing_few ps qs in
-      let all : length (missing_in g.same g.key ps (q ∷ qs)) ≡ length (unless_found (lookup g.same g.key ps (g.key q)) q) + length (missing_in g.same g.key ps qs) = length-append (unless_found (lookup g.same g.key ps (g.key q)) q) (missing_in g.same g.key ps qs) in
+      let all : length (missing_in g.same g.key ps (q ∷ qs)) ≡ length (unless_found (lookup g.same g.key ps (g.key q)) q) + length
+      (missing_in g.same g.key ps qs) = length-append (unless_found (lookup g.same g.key ps (g.key q)) q) (missing_in g.same g.key ps qs) in
       omega (arith, here, rest, all)
 
   module _ (law : IsLawful g) (s : State P) where
@@ -71,7 +75,8 @@ module _ {K P : Type 0} (g : Setting K P) where
     chain_enough (suc n) (suc now) t e f =
         ⊎_elim
         (λ (some : 0 < t).
-        let behind : chain_from g s n (s.next t) ≡ chain_from g s now (s.next t) = chain_enough n now (s.next t) (sym (walk_first s.next n t) ∙ e) (sym (walk_first s.next now t) ∙ f) in
+        let behind : chain_from g s n (s.next t) ≡ chain_from g s now (s.next t) = chain_enough n now (s.next t) (sym (walk_first s.next n t) ∙ e)
+        (sym (walk_first s.next now t) ∙ f) in
         chain_more g law s n t some ∙ (ap (λ qs. joined g.same g.key (pairs_in (s.slot t) (g.size t)) qs) behind ∙ sym (chain_more g law s now t some)))
         (λ (none : t ≤ 0). let z : t ≡ 0 = omega (arith, none) in chain_end g law s (suc n) t z ∙ sym (chain_end g law s (suc now) t z))
         (cases_lt 0 t)
@@ -105,31 +110,38 @@ module _ {K P : Type 0} (g : Setting K P) where
           of_root : chain_content g s (suc n) ≡ joined g.same g.key (content g s) (chain_from g s n (s.next s.root)) → chain_content g s (suc n) ≡ content g s
           of_root is =
               let long : length (chain_content g s (suc n)) ≡ length (content g s) =
-              one_length g law (chain_content g s (suc n)) (content g s) (chain_apart g law s m keeps (suc n) s.root) (apart_in g law s m keeps s.root (g.size s.root))
+              one_length g law (chain_content g s (suc n)) (content g s) (chain_apart g law s m keeps (suc n) s.root)
+              (apart_in g law s m keeps s.root (g.size s.root))
               (λ k. chain_is g law s m keeps (suc n) ends k ∙ sym (content_is g law s m keeps last k)) in
-              let none : missing_in g.same g.key (content g s) (chain_from g s n (s.next s.root)) ≡ [] = adds_none (content g s) (missing_in g.same g.key (content g s) (chain_from g s n (s.next s.root))) (ap length (sym is) ∙ long) in
+              let none : missing_in g.same g.key (content g s) (chain_from g s n (s.next s.root)) ≡ [] = adds_none (content g s)
+              (missing_in g.same g.key (content g s) (chain_from g s n (s.next s.root))) (ap length (sym is) ∙ long) in
               is ∙ (ap (λ zs. content g s ++ zs) none ∙ append-nil (content g s))
 
       -- behind a table of the chain is another one, or none
       next_or_end : (t : ℕ) → (t ≡ 0) ⊎ IsOn s.first s.next t → (s.next t ≡ 0) ⊎ IsOn s.first s.next (s.next t)
       next_or_end t (inl e) = inl (ap s.next e ∙ next_zero s.next (keeping_sound g s m keeps).rises)
-      next_or_end t (inr on) = ⊎_elim (λ e. inl e) (λ r. inr (next_on s.next (keeping_sound g s m keeps).rises s.first t on (let up = r.1 in omega (arith, up)))) ((keeping_sound g s m keeps).rises t)
+      next_or_end t (inr on) = ⊎_elim (λ e. inl e)
+          (λ r. inr (next_on s.next (keeping_sound g s m keeps).rises s.first t on (let up = r.1 in omega (arith, up)))) ((keeping_sound g s m keeps).rises t)
 
       -- so is the root
       root_or_none : (s.root ≡ 0) ⊎ IsOn s.first s.next s.root
       root_or_none = ⊎_elim (λ r. inl r.0) (λ on. inr on) (keeping_sound g s m keeps).root
 
       -- n tables of b slots at most have n times b pairs at most
-      pub chain_few : (b : ℕ) → ((t : ℕ) → IsOn s.first s.next t → g.size t ≤ b) → (n t : ℕ) → (t ≡ 0) ⊎ IsOn s.first s.next t → length (chain_from g s n t) ≤ n * b
+      pub chain_few : (b : ℕ) → ((t : ℕ) → IsOn s.first s.next t → g.size t ≤ b) → (n t : ℕ) → (t ≡ 0) ⊎ IsOn s.first s.next t
+          → length (chain_from g s n t) ≤ n * b
       chain_few b sized zero t h = omega arith
       chain_few b sized (suc n) t (inl e) = let none : length (chain_from g s (suc n) t) ≡ 0 = ap length (chain_end g law s (suc n) t e) in omega (arith, none)
       chain_few b sized (suc n) t (inr on) =
           let rest : length (chain_from g s n (s.next t)) ≤ n * b = chain_few b sized n (s.next t) (next_or_end t (inr on)) in
           let here : length (pairs_in (s.slot t) (g.size t)) ≤ g.size t = table_few (s.slot t) (g.size t) in
           let size : g.size t ≤ b = sized t on in
-          let more : length (missing_in g.same g.key (pairs_in (s.slot t) (g.size t)) (chain_from g s n (s.next t))) ≤ length (chain_from g s n (s.next t)) = missing_few (pairs_in (s.slot t) (g.size t)) (chain_from g s n (s.next t)) in
-          let all : length (chain_from g s (suc n) t) ≡ length (pairs_in (s.slot t) (g.size t)) + length (missing_in g.same g.key (pairs_in (s.slot t) (g.size t)) (chain_from g s n (s.next t))) =
-          ap length (chain_more g law s n t on.0) ∙ length-append (pairs_in (s.slot t) (g.size t)) (missing_in g.same g.key (pairs_in (s.slot t) (g.size t)) (chain_from g s n (s.next t))) in
+          let more : length (missing_in g.same g.key (pairs_in (s.slot t) (g.size t)) (chain_from g s n (s.next t))) ≤ length
+          (chain_from g s n (s.next t)) = missing_few (pairs_in (s.slot t) (g.size t)) (chain_from g s n (s.next t)) in
+          let all : length (chain_from g s (suc n) t) ≡ length (pairs_in (s.slot t) (g.size t)) + length
+          (missing_in g.same g.key (pairs_in (s.slot t) (g.size t)) (chain_from g s n (s.next t))) =
+          ap length (chain_more g law s n t on.0) ∙ length-append (pairs_in (s.slot t) (g.size t))
+          (missing_in g.same g.key (pairs_in (s.slot t) (g.size t)) (chain_from g s n (s.next t))) in
           let times : suc n * b ≡ b + n * b = omega arith in
           omega (arith, rest, here, size, more, all, times)
 
@@ -145,7 +157,8 @@ module _ {K P : Type 0} (g : Setting K P) where
         alike_from (suc n) t (inl e) = ap (list (suc n)) e ∙ (end n ∙ sym (chain_end g law s (suc n) t e))
         alike_from (suc n) t (inr on) =
             more n t on
-            ∙ (ap (λ qs. joined g.same g.key (pairs_in (s.slot t) (g.size t)) qs) (alike_from n (s.next t) (next_or_end t (inr on))) ∙ sym (chain_more g law s n t on.0))
+            ∙ (ap (λ qs. joined g.same g.key (pairs_in (s.slot t) (g.size t)) qs) (alike_from n (s.next t) (next_or_end t (inr on)))
+            ∙ sym (chain_more g law s n t on.0))
 
         -- from the root
         pub content_alike : (n : ℕ) → list n s.root ≡ chain_content g s n
@@ -155,7 +168,8 @@ module _ {K P : Type 0} (g : Setting K P) where
       pub content_later : (g' : Setting K P) → IsLawful g' → Agrees (IsOn s.first s.next) g g' → (n : ℕ) → chain_content g' s n ≡ chain_content g s n
       content_later g' law' agrees n = content_alike (chain_from g' s) (λ t. refl) (λ d. chain_end g' law' s (suc d) 0 refl) each n
         where
-          each : (d t : ℕ) → IsOn s.first s.next t → chain_from g' s (suc d) t ≡ joined g.same g.key (pairs_in (s.slot t) (g.size t)) (chain_from g' s d (s.next t))
+          each : (d t : ℕ) → IsOn s.first s.next t
+              → chain_from g' s (suc d) t ≡ joined g.same g.key (pairs_in (s.slot t) (g.size t)) (chain_from g' s d (s.next t))
           each d t on =
               let same : g'.same ≡ g.same = fun_ext (λ k. fun_ext (λ l. agrees.same k l)) in
               let key : g'.key ≡ g.key = fun_ext agrees.key in

@@ -50,7 +50,8 @@ module _ {P : Type 0} where
         (cases_order t u)
 
   -- nothing of the key stands behind a table that a search doesn't pass, but a copy of what leaves it
-  pub passed_or_copy : (On : ℕ → Type 0) (n : ℕ → ℕ) (S : ℕ → ℕ → ℕ) (V : ℕ → ℕ → View P) (m : Option P) (k : IsIncrementalClass On n S V m) → (t u j : ℕ) (p : P) → On t → t < u → j < n u → V u j ≡ Leaving p → IsPassed n V t
+  pub passed_or_copy : (On : ℕ → Type 0) (n : ℕ → ℕ) (S : ℕ → ℕ → ℕ) (V : ℕ → ℕ → View P) (m : Option P) (k : IsIncrementalClass On n S V m)
+      → (t u j : ℕ) (p : P) → On t → t < u → j < n u → V u j ≡ Leaving p → IsPassed n V t
   passed_or_copy On n S V m k t u j p a lt lu e =
       elim (k.order t u j a lt lu (ap own e)) [ inl h ↦ h | inr c ↦ absurd (let q = c.copy in cc (q, e)) ]
 
@@ -65,7 +66,8 @@ module _ {P : Type 0} where
       let e : t ≡ o.table = front_once On n S V k.base t o.table j o.at a o.on f o.front lt o.within here there in
       let within : o.at < n t = subst (λ u. o.at < n u) (sym e) o.within in
       let has : (V t o.at ≡ Here q) ⊎ (V t o.at ≡ Leaving q) = subst (λ u. (V u o.at ≡ Here q) ⊎ (V u o.at ≡ Leaving q)) (sym e) o.has in
-      let s : V t j ≡ V t o.at = same_active On n S V k.base t j o.at lt within (held-active (V t j) here) (held-active (V t o.at) (held_of (V t o.at) q has)) in
+      let s : V t j ≡ V t o.at = same_active On n S V k.base t j o.at lt within (held-active (V t j) here)
+      (held-active (V t o.at) (held_of (V t o.at) q has)) in
       ⊎_elim
       (λ (x : V t j ≡ Here p). ⊎_elim (λ (y : V t o.at ≡ Here q). cc) (λ (y : V t o.at ≡ Leaving q). cc) has)
       (λ (x : V t j ≡ Leaving p). ⊎_elim (λ (y : V t o.at ≡ Here q). cc) (λ (y : V t o.at ≡ Leaving q). cc) has)
@@ -73,7 +75,8 @@ module _ {P : Type 0} where
 
   -- where a search that comes to t can't find the pair in it or before it, and nothing but copies can stand behind it, the map has none
   pub none_is : (On : ℕ → Type 0) (n : ℕ → ℕ) (S : ℕ → ℕ → ℕ) (V : ℕ → ℕ → View P) (m : Option P) (k : IsIncrementalClass On n S V m) (t : ℕ)
-      → IsFront On n V t → ((i : ℕ) → i < n t → held (V t i) ≡ true → ⊥) → ((u j : ℕ) → On u → t < u → j < n u → held (V u j) ≡ true → IsFront On n V u → ⊥) → m ≡ None
+      → IsFront On n V t → ((i : ℕ) → i < n t → held (V t i) ≡ true → ⊥)
+      → ((u j : ℕ) → On u → t < u → j < n u → held (V u j) ≡ true → IsFront On n V u → ⊥) → m ≡ None
   none_is On n S V None k t f here later = refl
   none_is On n S V (Some q) k t f here later =
       let o : IsOwner On n V q = k.tied in
@@ -162,7 +165,8 @@ module _ {P : Type 0} where
       turn_same_slot : (u i j : ℕ) → S u i ≡ S u j → V' u i ≡ V' u j
       turn_same_slot u i j e = go (turn.each u i) (turn.each u j)
         where
-          go : ((V' u i ≡ V u i) × ((u ≡ t) × (S u i ≡ x) → ⊥)) ⊎ ((u ≡ t) × (S u i ≡ x) × (V u i ≡ a) × (V' u i ≡ b)) → ((V' u j ≡ V u j) × ((u ≡ t) × (S u j ≡ x) → ⊥)) ⊎ ((u ≡ t) × (S u j ≡ x) × (V u j ≡ a) × (V' u j ≡ b)) → V' u i ≡ V' u j
+          go : ((V' u i ≡ V u i) × ((u ≡ t) × (S u i ≡ x) → ⊥)) ⊎ ((u ≡ t) × (S u i ≡ x) × (V u i ≡ a) × (V' u i ≡ b))
+              → ((V' u j ≡ V u j) × ((u ≡ t) × (S u j ≡ x) → ⊥)) ⊎ ((u ≡ t) × (S u j ≡ x) × (V u j ≡ a) × (V' u j ≡ b)) → V' u i ≡ V' u j
           go (inl p) (inl q) = p.0 ∙ (k.same_slot u i j e ∙ sym q.0)
           go (inl p) (inr q) = absurd (p.1 (q.0, e ∙ q.1))
           go (inr p) (inl q) = absurd (q.1 (p.0, sym e ∙ p.1))
@@ -189,14 +193,17 @@ module _ {P : Type 0} where
       turn_one : (u i j : ℕ) → i < n u → j < n u → active (V' u i) ≡ true → active (V' u j) ≡ true → S u i ≡ S u j
       turn_one u i j li lj p q = go (turn.each u i) (turn.each u j)
         where
-          mixed : (i j : ℕ) → i < n u → j < n u → active (V' u i) ≡ true → active (V' u j) ≡ true → (u ≡ t) × (S u i ≡ x) × (V u i ≡ a) × (V' u i ≡ b) → V' u j ≡ V u j → S u i ≡ S u j
+          mixed : (i j : ℕ) → i < n u → j < n u → active (V' u i) ≡ true → active (V' u j) ≡ true → (u ≡ t) × (S u i ≡ x) × (V u i ≡ a) × (V' u i ≡ b)
+              → V' u j ≡ V u j → S u i ≡ S u j
           mixed i j li lj p q r s =
               ⊎_elim
               (λ (o : active a ≡ true). k.one u i j li lj (ap active r.2 ∙ o) (ap active (sym s) ∙ q))
-              (λ (none : (j : ℕ) → j < n t → active (V t j) ≡ true → ⊥). absurd (none j (subst (λ w. j < n w) r.0 lj) (subst (λ w. active (V w j) ≡ true) r.0 (ap active (sym s) ∙ q))))
+              (λ (none : (j : ℕ) → j < n t → active (V t j) ≡ true → ⊥).
+              absurd (none j (subst (λ w. j < n w) r.0 lj) (subst (λ w. active (V w j) ≡ true) r.0 (ap active (sym s) ∙ q))))
               (safe.lone (ap active (sym r.3) ∙ p))
 
-          go : ((V' u i ≡ V u i) × ((u ≡ t) × (S u i ≡ x) → ⊥)) ⊎ ((u ≡ t) × (S u i ≡ x) × (V u i ≡ a) × (V' u i ≡ b)) → ((V' u j ≡ V u j) × ((u ≡ t) × (S u j ≡ x) → ⊥)) ⊎ ((u ≡ t) × (S u j ≡ x) × (V u j ≡ a) × (V' u j ≡ b)) → S u i ≡ S u j
+          go : ((V' u i ≡ V u i) × ((u ≡ t) × (S u i ≡ x) → ⊥)) ⊎ ((u ≡ t) × (S u i ≡ x) × (V u i ≡ a) × (V' u i ≡ b))
+              → ((V' u j ≡ V u j) × ((u ≡ t) × (S u j ≡ x) → ⊥)) ⊎ ((u ≡ t) × (S u j ≡ x) × (V u j ≡ a) × (V' u j ≡ b)) → S u i ≡ S u j
           go (inl r) (inl s) = k.one u i j li lj (ap active (sym r.0) ∙ p) (ap active (sym s.0) ∙ q)
           go (inl r) (inr s) = sym (mixed j i lj li q p s r.0)
           go (inr r) (inl s) = mixed i j li lj p q r s.0
@@ -211,7 +218,15 @@ module _ {P : Type 0} where
       copy_on : (u w j : ℕ) → (c : IsCopy On n V u w (V w j)) → V' w j ≡ V w j → IsPassed n V' u ⊎ IsCopy On n V' u w (V' w j)
       copy_on u w j c e =
           ⊎_elim
-          (λ r. inr (record { at = c.at; pair = c.pair; within = c.within; leaving = r.0 ∙ c.leaving; copy = e ∙ c.copy; full = all_full_on safe.changes u w c.full }))
+          (λ r. inr (record {
+            at = c.at;
+            pair = c.pair;
+            within = c.within;
+            leaving = r.0 ∙ c.leaving;
+            copy = e
+                ∙ c.copy;
+            full = all_full_on safe.changes u w c.full;
+          }))
           (λ r. inl (inl (c.at, c.pair, c.within, r.3 ∙ safe.leaves c.pair (sym r.2 ∙ c.leaving))))
           (turn.each u c.at)
 
@@ -219,7 +234,8 @@ module _ {P : Type 0} where
       turn_order : (u w j : ℕ) → On u → u < w → j < n w → own (V' w j) ≡ true → IsPassed n V' u ⊎ IsCopy On n V' u w (V' w j)
       turn_order u w j o l lt h = go (turn.each w j)
         where
-          go : ((V' w j ≡ V w j) × ((w ≡ t) × (S w j ≡ x) → ⊥)) ⊎ ((w ≡ t) × (S w j ≡ x) × (V w j ≡ a) × (V' w j ≡ b)) → IsPassed n V' u ⊎ IsCopy On n V' u w (V' w j)
+          go : ((V' w j ≡ V w j) × ((w ≡ t) × (S w j ≡ x) → ⊥)) ⊎ ((w ≡ t) × (S w j ≡ x) × (V w j ≡ a) × (V' w j ≡ b)) → IsPassed n V' u
+              ⊎ IsCopy On n V' u w (V' w j)
           go (inl r) =
               ⊎_elim
               (λ p. inl (passed_on safe.changes u p))
@@ -230,14 +246,30 @@ module _ {P : Type 0} where
               (λ p. inl (passed_on safe.changes u p))
               (λ (c : IsCopy On n V u t b).
               ⊎_elim
-              (λ s. inr (record { at = c.at; pair = c.pair; within = c.within; leaving = s.0 ∙ c.leaving; copy = r.3 ∙ c.copy; full = subst (AllFull On n V' u) (sym r.0) (all_full_on safe.changes u t c.full) }))
+              (λ s. inr (record {
+                at = c.at;
+                pair = c.pair;
+                within = c.within;
+                leaving = s.0 ∙ c.leaving;
+                copy = r.3
+                    ∙ c.copy;
+                full = subst (AllFull On n V' u) (sym r.0) (all_full_on safe.changes u t c.full);
+              }))
               (λ s. inl (inl (c.at, c.pair, c.within, s.3 ∙ safe.leaves c.pair (sym s.2 ∙ c.leaving))))
               (turn.each u c.at))
               (safe.order (ap own (sym r.3) ∙ h) u o (subst (λ y. u < y) r.0 l))
 
       -- where a copy went it stays
       gone_on : (u : ℕ) → IsGoneTo On n V u → IsGoneTo On n V' u
-      gone_on u g = record { table = g.table; at = g.at; on = g.on; later = g.later; within = g.within; word = own_on safe.stays g.table g.at g.word; full = all_full_on safe.changes u g.table g.full }
+      gone_on u g = record {
+        table = g.table;
+        at = g.at;
+        on = g.on;
+        later = g.later;
+        within = g.within;
+        word = own_on safe.stays g.table g.at g.word;
+        full = all_full_on safe.changes u g.table g.full;
+      }
 
       -- what is Copied came to a later table
       turn_gone : (u i : ℕ) (p : P) → i < n u → V' u i ≡ Gone p → IsGoneTo On n V' u
@@ -256,11 +288,13 @@ module _ {P : Type 0} where
   longer_base On On' n S V more k = record { same_slot = k.same_slot; on = λ t j h. more t (k.on t j h); filled = k.filled; one = k.one }
 
   -- the chain grows at its end
-  pub longer_kept : (On On' : ℕ → Type 0) (n : ℕ → ℕ) (S : ℕ → ℕ → ℕ) (V : ℕ → ℕ → View P) (m : Option P) → ((t : ℕ) → On t → On' t) → ((l u : ℕ) → On' l → On u → l < u → On l)
+  pub longer_kept : (On On' : ℕ → Type 0) (n : ℕ → ℕ) (S : ℕ → ℕ → ℕ) (V : ℕ → ℕ → View P) (m : Option P) → ((t : ℕ) → On t → On' t)
+      → ((l u : ℕ) → On' l → On u → l < u → On l)
       → IsIncrementalClass On n S V m → IsIncrementalClass On' n S V m
   longer_kept On On' n S V m more older k = record {
     base = longer_base On On' n S V more k.base;
-    order = λ t u j on lt l h. ⊎_elim (λ p. inl p) (λ (c : IsCopy On n V t u (V u j)). inr (copy u (k.base.on u j h) c)) (k.order t u j (older t u on (k.base.on u j h) lt) lt l h);
+    order = λ t u j on lt l h. ⊎_elim (λ p. inl p) (λ (c : IsCopy On n V t u (V u j)). inr (copy u (k.base.on u j h) c))
+        (k.order t u j (older t u on (k.base.on u j h) lt) lt l h);
     gone = λ t i p lt e. gone' t (k.gone t i p lt e);
     tied = tied' m k.tied;
   }
@@ -272,8 +306,25 @@ module _ {P : Type 0} where
       copy {t} u on c = record { at = c.at; pair = c.pair; within = c.within; leaving = c.leaving; copy = c.copy; full = full' t u on c.full }
 
       gone' : (t : ℕ) → IsGoneTo On n V t → IsGoneTo On' n V t
-      gone' t q = record { table = q.table; at = q.at; on = more q.table q.on; later = q.later; within = q.within; word = q.word; full = full' t q.table q.on q.full }
+      gone' t q = record {
+        table = q.table;
+        at = q.at;
+        on = more q.table q.on;
+        later = q.later;
+        within = q.within;
+        word = q.word;
+        full = full' t
+            q.table q.on q.full;
+      }
 
       tied' : (v : Option P) → IsTied On n V v → IsTied On' n V v
       tied' None h = h
-      tied' (Some p) o = record { table = o.table; at = o.at; on = more o.table o.on; within = o.within; has = o.has; front = λ l on lt. o.front l (older l o.table on o.on lt) lt }
+      tied' (Some p) o = record {
+        table = o.table;
+        at = o.at;
+        on = more o.table o.on;
+        within = o.within;
+        has = o.has;
+        front = λ l on lt.
+            o.front l (older l o.table on o.on lt) lt;
+      }

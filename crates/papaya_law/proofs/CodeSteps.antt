@@ -1,7 +1,10 @@
 -- Each exchange of a slot is a legal step of the numbers that stand for its words.
 use Rattle.std.proofs.Common.{◌≡◌, ℕ, Some, refl, sym, ◌∙◌, subst}
 use Rattle.papaya_words.specs.Word.{IsSlotStep, MayBecome, NamesSamePair, kind_of}
-use Rattle.papaya_law.specs.Exchange.{Word, Empty, Closed, Live, Marked, Copied, Tombstone, Setting, State, Exchange, Open, Claim, Replace, Delete, Link, Mark, Close, Place, Finish, Advance, Promote, Abort, Take, after, slot_put}
+use Rattle.papaya_law.specs.Exchange.{Word, Empty, Closed, Live, Marked, Copied, Tombstone, Setting}
+use Rattle.papaya_law.specs.Exchange.{State, Exchange, Open, Claim, Replace, Delete, Link, Mark}
+use Rattle.papaya_law.specs.Exchange.{Close, Place, Finish, Advance, Promote, Abort, Take, after}
+use Rattle.papaya_law.specs.Exchange.{slot_put}
 use Rattle.papaya_law.specs.Allows.{Allows}
 use Rattle.papaya_law.specs.Invariant.{named}
 use Rattle.papaya_law.specs.Code.{Coding, IsLawfulCoding, code, kind, ChangesSlot}
@@ -12,11 +15,13 @@ module _ {K P : Type 0} (g : Setting K P) (c : Coding K P) where
   -- what the kinds of two words ask of their numbers
   step_of_words : (v w : Word P) → MayBecome (kind v) (kind w) (code g c v) (code g c w) → IsSlotStep (code g c v) (code g c w)
   step_of_words v w h =
-      let first : MayBecome (kind_of (code g c v)) (kind w) (code g c v) (code g c w) = subst (λ a. MayBecome a (kind w) (code g c v) (code g c w)) (sym (code_kind g c v)) h in
+      let first : MayBecome (kind_of (code g c v)) (kind w) (code g c v) (code g c w) = subst (λ a. MayBecome a (kind w) (code g c v) (code g c w))
+      (sym (code_kind g c v)) h in
       subst (λ b. MayBecome (kind_of (code g c v)) b (code g c v) (code g c w)) (sym (code_kind g c w)) first
 
   -- at the slot that an exchange changes
-  step_there : (s : State P) (t x : ℕ) (v w : Word P) (u y : ℕ) → s.slot t x ≡ v → (t ≡ u) × (x ≡ y) → MayBecome (kind v) (kind w) (code g c v) (code g c w) → IsSlotStep (code g c (s.slot u y)) (code g c ((slot_put s t x w).slot u y))
+  step_there : (s : State P) (t x : ℕ) (v w : Word P) (u y : ℕ) → s.slot t x ≡ v → (t ≡ u) × (x ≡ y)
+      → MayBecome (kind v) (kind w) (code g c v) (code g c w) → IsSlotStep (code g c (s.slot u y)) (code g c ((slot_put s t x w).slot u y))
   step_there s t x v w u y old e h =
       let r = put_there s t x w u y e in
       let first : IsSlotStep (code g c (s.slot u y)) (code g c w) = subst (λ a. IsSlotStep (code g c a) (code g c w)) (sym (r.1 ∙ old)) (step_of_words v w h) in
@@ -28,7 +33,8 @@ module _ {K P : Type 0} (g : Setting K P) (c : Coding K P) where
     same_pair v w p a b = code_pair g c law v p a ∙ sym (code_pair g c law w p b)
 
     -- the step of an allowed exchange
-    pub code_step : (s : State P) (e : Exchange P) → Allows g s e → (t x : ℕ) → ChangesSlot e t x → IsSlotStep (code g c (s.slot t x)) (code g c ((after s e).slot t x))
+    pub code_step : (s : State P) (e : Exchange P) → Allows g s e → (t x : ℕ) → ChangesSlot e t x
+        → IsSlotStep (code g c (s.slot t x)) (code g c ((after s e).slot t x))
     code_step s (Open u) may t x is = absurd is
     code_step s (Claim u y p) may t x is = step_there s u y Empty (Live p) t x may.empty is refl
     code_step s (Replace u y p q) may t x is = step_there s u y (Live p) (Live q) t x may.live is tt

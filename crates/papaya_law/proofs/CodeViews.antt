@@ -43,7 +43,8 @@ module _ {K P : Type 0} (g : Setting K P) where
 
     -- so a search goes past a Tombstone and a Closed one without comparing
     pub past_tombstone : (k : K) (w : Word P) → kind_of (code g c w) ≡ kinds.Tombstone → beyond (view g k w) ≡ true
-    past_tombstone k w e = let r : IsOfKind kinds.Tombstone w = subst (λ a. IsOfKind a w) e (word_of_kind w) in ap (λ v. beyond (view g k v)) r.1 ∙ tombstone_beyond k r.0
+    past_tombstone k w e = let r : IsOfKind kinds.Tombstone w = subst (λ a. IsOfKind a w) e (word_of_kind w) in
+        ap (λ v. beyond (view g k v)) r.1 ∙ tombstone_beyond k r.0
 
     -- and a Closed one
     pub past_closed : (k : K) (w : Word P) → kind_of (code g c w) ≡ kinds.Closed → beyond (view g k w) ≡ true

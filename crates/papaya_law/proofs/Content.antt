@@ -23,7 +23,8 @@ module _ {K P : Type 0} (g : Setting K P) where
       let is : w ≡ Live p = view_here g k w p e in
       ⊎_elim
       (λ (y : g.same k (g.key p) ≡ true). (p, inl is, y))
-      (λ (n : g.same k (g.key p) ≡ false). absurd (let f : Here p ≡ Foreign = sym e ∙ ap (view g k) is ∙ cond-false (g.same k (g.key p)) (Here p) Foreign n in cc f))
+      (λ (n : g.same k (g.key p) ≡ false). absurd
+      (let f : Here p ≡ Foreign = sym e ∙ ap (view g k) is ∙ cond-false (g.same k (g.key p)) (Here p) Foreign n in cc f))
       (cases_Bool (g.same k (g.key p)))
   held_word k w (Leaving p) e h = let r = view_leaving g k w p e in (p, inr r.0, r.1)
   held_word k w (Gone p) e h = absurd cc
@@ -31,7 +32,8 @@ module _ {K P : Type 0} (g : Setting K P) where
 
   module _ (law : IsLawful g) (s : State P) (m : K → Option P) (keeps : IsKeeping g s m) where
     -- a pair stands at a place of each key that is equal to its own
-    pub at_place : (t x : ℕ) (p : P) → Holds (s.slot t x) p → (k : K) → g.same k (g.key p) ≡ true → (j : ℕ) × (j < g.places t) × (g.place k t j ≡ x) × ((look g s k t j ≡ Here p) ⊎ (look g s k t j ≡ Leaving p))
+    pub at_place : (t x : ℕ) (p : P) → Holds (s.slot t x) p → (k : K) → g.same k (g.key p) ≡ true → (j : ℕ) × (j < g.places t) × (g.place k t j ≡ x)
+        × ((look g s k t j ≡ Here p) ⊎ (look g s k t j ≡ Leaving p))
     at_place t x p h k same =
         let name : named (s.slot t x) ≡ Some p = ⊎_elim (λ e. ap named e) (λ e. ap named e) h in
         let o = (keeping_sound g s m keeps).placed t x p name in
@@ -48,10 +50,12 @@ module _ {K P : Type 0} (g : Setting K P) where
     -- no two slots of a table have pairs of one key
     one_slot : (t x y : ℕ) (p q : P) → Holds (s.slot t x) p → Holds (s.slot t y) q → g.same (g.key q) (g.key p) ≡ true → x ≡ y
     one_slot t x y p q hx hy same =
-        let base : IsBase (IsOn s.first s.next) g.places (g.place (g.key q)) (look g s (g.key q)) = ⊎_elim (λ h. (h.1.class (g.key q)).base) (λ h. (h.1.class (g.key q)).base) keeps in
+        let base : IsBase (IsOn s.first s.next) g.places (g.place (g.key q)) (look g s (g.key q)) =
+        ⊎_elim (λ h. (h.1.class (g.key q)).base) (λ h. (h.1.class (g.key q)).base) keeps in
         let a = at_place t x p hx (g.key q) same in
         let b = at_place t y q hy (g.key q) (law.itself (g.key q)) in
-        let one = base.one t a.0 b.0 a.1 b.1 (held-active (look g s (g.key q) t a.0) (held_of (look g s (g.key q) t a.0) p a.3)) (held-active (look g s (g.key q) t b.0) (held_of (look g s (g.key q) t b.0) q b.3)) in
+        let one = base.one t a.0 b.0 a.1 b.1 (held-active (look g s (g.key q) t a.0) (held_of (look g s (g.key q) t a.0) p a.3))
+        (held-active (look g s (g.key q) t b.0) (held_of (look g s (g.key q) t b.0) q b.3)) in
         sym a.2 ∙ one ∙ b.2
 
     -- so in a table no key stands twice
@@ -89,7 +93,8 @@ module _ {K P : Type 0} (g : Setting K P) where
         missing e (Some p) f =
             let o = root_holds g law s m keeps last k p f in
             let w = held_word k (s.slot s.root (g.place k s.root o.0)) (look g s k s.root o.0) refl o.2 in
-            absurd (let no = table_none g (s.slot s.root) (g.size s.root) k e (g.place k s.root o.0) (law.within k s.root o.0 o.1) w.0 w.1 in let same = w.2 in cc (no, same))
+            absurd (let no = table_none g (s.slot s.root) (g.size s.root) k e (g.place k s.root o.0) (law.within k s.root o.0 o.1) w.0 w.1 in
+            let same = w.2 in cc (no, same))
 
         by_found : 0 < s.root → (v : Option P) → lookup g.same g.key (content g s) k ≡ v → lookup g.same g.key (content g s) k ≡ m k
         by_found some None e = e ∙ sym (missing e (m k) refl)

@@ -47,7 +47,8 @@ last_root g s m keeps t was last =
     (cases_order t s.root)
 
 -- what a copier knows of the pair that it carries lasts
-pub putting_lasts : {K P : Type 0} (g : Setting K P) → IsLawful g → (s s' : State P) → s.next 0 ≡ 0 → IsLater g s s' → (t x : ℕ) (p : P) (n j : ℕ) → IsPutting g s t x p n j → IsPutting g s' t x p n j
+pub putting_lasts : {K P : Type 0} (g : Setting K P) → IsLawful g → (s s' : State P) → s.next 0 ≡ 0 → IsLater g s s' → (t x : ℕ) (p : P) (n j : ℕ)
+    → IsPutting g s t x p n j → IsPutting g s' t x p n j
 putting_lasts g law s s' zero_next later t x p n j r =
     let all = lasts g law s s' zero_next later in
     record {
@@ -60,11 +61,13 @@ putting_lasts g law s s' zero_next later t x p n j r =
     }
 
 -- slots that are settled stay so
-pub settled_lasts : {K P : Type 0} (g : Setting K P) → IsLawful g → (s s' : State P) → s.next 0 ≡ 0 → IsLater g s s' → (t n a b : ℕ) → ((x : ℕ) → a ≤ x → x < b → IsSettled g s n (s.slot t x)) → (x : ℕ) → a ≤ x → x < b → IsSettled g s' n (s'.slot t x)
+pub settled_lasts : {K P : Type 0} (g : Setting K P) → IsLawful g → (s s' : State P) → s.next 0 ≡ 0 → IsLater g s s' → (t n a b : ℕ)
+    → ((x : ℕ) → a ≤ x → x < b → IsSettled g s n (s.slot t x)) → (x : ℕ) → a ≤ x → x < b → IsSettled g s' n (s'.slot t x)
 settled_lasts g law s s' zero_next later t n a b h x lo hi = (lasts g law s s' zero_next later).settled n t x (h x lo hi)
 
 -- without blocking: where the slot is settled in which a call met its key's pair leaving, the search goes past the table
-pub moved : {K P : Type 0} (g : Setting K P) (s : State P) → g.blocking ≡ false → (k : K) (t j n : ℕ) (p : P) → j < g.places t → (look g s k t j ≡ Leaving p) ⊎ (look g s k t j ≡ Gone p) → IsSettled g s n (s.slot t (g.place k t j)) → IsPassed g.places (look g s k) t
+pub moved : {K P : Type 0} (g : Setting K P) (s : State P) → g.blocking ≡ false → (k : K) (t j n : ℕ) (p : P) → j < g.places t
+    → (look g s k t j ≡ Leaving p) ⊎ (look g s k t j ≡ Gone p) → IsSettled g s n (s.slot t (g.place k t j)) → IsPassed g.places (look g s k) t
 moved g s inc k t j n p lt (inr e) settled = inl (j, p, lt, e)
 moved g s inc k t j n p lt (inl e) settled =
     let w = view_leaving g k (s.slot t (g.place k t j)) p e in

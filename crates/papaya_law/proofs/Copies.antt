@@ -18,7 +18,9 @@ module _ {K P : Type 0} (g : Setting K P) (s : State P) where
     is = ap s.next r.is;
     made = some;
     mode = inr blocks;
-    over = λ i lt. ⊎_elim (λ (c : i < r.links). r.over i c) (λ (c : r.links ≤ i). let e : r.links ≡ i = omega arith in subst (λ y. s.aborted (walk s.next (suc y) t) ≡ true) e (ap s.aborted r.is ∙ gone)) (cases_lt i r.links);
+    over = λ i lt. ⊎_elim (λ (c : i < r.links). r.over i c)
+        (λ (c : r.links ≤ i). let e : r.links ≡ i = omega arith in subst (λ y. s.aborted (walk s.next (suc y) t) ≡ true) e (ap s.aborted r.is ∙ gone))
+        (cases_lt i r.links);
   }
 
   -- a target takes each pair
@@ -36,7 +38,11 @@ module _ {K P : Type 0} (g : Setting K P) (s : State P) where
     links = suc r.links;
     is = ap s.next r.is;
     made = some;
-    over = λ i lt. ⊎_elim (λ (c : i < r.links). r.over i c) (λ (c : r.links ≤ i). let e : r.links ≡ i = omega arith in subst (λ y. ((g.blocking ≡ true) × (s.aborted (walk s.next (suc y) t) ≡ true)) ⊎ ((g.blocking ≡ false) × IsFull g.places (look g s k) (walk s.next (suc y) t))) e (inr (inc, subst (IsFull g.places (look g s k)) (sym r.is) full))) (cases_lt i r.links);
+    over = λ i lt. ⊎_elim (λ (c : i < r.links). r.over i c)
+        (λ (c : r.links ≤ i). let e : r.links ≡ i = omega arith in
+        subst (λ y. ((g.blocking ≡ true) × (s.aborted (walk s.next (suc y) t) ≡ true))
+        ⊎ ((g.blocking ≡ false) × IsFull g.places (look g s k) (walk s.next (suc y) t))) e
+        (inr (inc, subst (IsFull g.places (look g s k)) (sym r.is) full))) (cases_lt i r.links);
   }
 
   -- the pair that is put is one to be copied
@@ -44,15 +50,18 @@ module _ {K P : Type 0} (g : Setting K P) (s : State P) where
   putting_copied t x p n j r = record { from = t; slot = x; stood = r.stood; taker = r.taker }
 
   -- what a copier meets next: another key's word or Closed, and it goes on; an empty place; or a word of the key
-  pub meets : (t x : ℕ) (p : P) (n j : ℕ) → IsPutting g s t x p n j → IsPutting g s t x p n (suc j) ⊎ (look g s (g.key p) n j ≡ Free) ⊎ (own (look g s (g.key p) n j) ≡ true)
+  pub meets : (t x : ℕ) (p : P) (n j : ℕ) → IsPutting g s t x p n j → IsPutting g s t x p n (suc j) ⊎ (look g s (g.key p) n j ≡ Free)
+      ⊎ (own (look g s (g.key p) n j) ≡ true)
   meets t x p n j r = by_view (look g s (g.key p) n j) refl
     where
-      by_view : (v : View P) → look g s (g.key p) n j ≡ v → IsPutting g s t x p n (suc j) ⊎ (look g s (g.key p) n j ≡ Free) ⊎ (own (look g s (g.key p) n j) ≡ true)
+      by_view : (v : View P) → look g s (g.key p) n j ≡ v → IsPutting g s t x p n (suc j) ⊎ (look g s (g.key p) n j ≡ Free)
+          ⊎ (own (look g s (g.key p) n j) ≡ true)
       by_view Free e = inr (inl e)
       by_view Foreign e = inl (record {
         stood = r.stood;
         taker = r.taker;
-        before = λ i lt. ⊎_elim (λ (c : i < j). r.before i c) (λ (c : j ≤ i). let q : j ≡ i = omega arith in subst (λ y. foreign (look g s (g.key p) n y) ≡ true) q (ap foreign e)) (cases_lt i j);
+        before = λ i lt. ⊎_elim (λ (c : i < j). r.before i c)
+            (λ (c : j ≤ i). let q : j ≡ i = omega arith in subst (λ y. foreign (look g s (g.key p) n y) ≡ true) q (ap foreign e)) (cases_lt i j);
       })
       by_view (Here q) e = inr (inr (ap own e))
       by_view (Leaving q) e = inr (inr (ap own e))
@@ -60,8 +69,13 @@ module _ {K P : Type 0} (g : Setting K P) (s : State P) where
       by_view (Grave q) e = inr (inr (ap own e))
 
   -- at an Empty place it may be placed
-  pub may_place : (t x : ℕ) (p : P) (n j : ℕ) → IsPutting g s t x p n j → j < g.places n → s.slot n (g.place (g.key p) n j) ≡ Empty → MayPlace g s n (g.place (g.key p) n j) p
-  may_place t x p n j r lt old = record { empty = old; source = putting_copied t x p n j r; place = record { at = j; within = lt; is = refl; before = r.before } }
+  pub may_place : (t x : ℕ) (p : P) (n j : ℕ) → IsPutting g s t x p n j → j < g.places n → s.slot n (g.place (g.key p) n j) ≡ Empty
+      → MayPlace g s n (g.place (g.key p) n j) p
+  may_place t x p n j r lt old = record {
+    empty = old;
+    source = putting_copied t x p n j r;
+    place = record { at = j; within = lt; is = refl; before = r.before };
+  }
 
   -- no place is left
   put_full : (t x : ℕ) (p : P) (n : ℕ) → IsPutting g s t x p n (g.places n) → IsFull g.places (look g s (g.key p)) n
@@ -73,8 +87,14 @@ module _ {K P : Type 0} (g : Setting K P) (s : State P) where
 
   -- without blocking the copier goes on to the next table
   pub put_next : (t x : ℕ) (p : P) (n : ℕ) → IsPutting g s t x p n (g.places n) → g.blocking ≡ false → 0 < s.next n → IsPutting g s t x p (s.next n) 0
-  put_next t x p n r inc some = record { stood = r.stood; taker = next_takes inc (g.key p) t n r.taker (put_full t x p n r) some; before = λ i lt. absurd (omega arith) }
+  put_next t x p n r inc some = record {
+    stood = r.stood;
+    taker = next_takes inc (g.key p) t n r.taker (put_full t x p n r) some;
+    before = λ i lt.
+        absurd (omega arith);
+  }
 
   -- where a word of the key stands, without blocking, the mark may be finished
-  pub may_finish : (t x : ℕ) (p : P) (n j : ℕ) → IsPutting g s t x p n j → HasWord g.places (look g s (g.key p)) n → g.blocking ≡ false → s.slot t x ≡ Marked p → MayFinish g s t x p
+  pub may_finish : (t x : ℕ) (p : P) (n j : ℕ) → IsPutting g s t x p n j → HasWord g.places (look g s (g.key p)) n → g.blocking ≡ false
+      → s.slot t x ≡ Marked p → MayFinish g s t x p
   may_finish t x p n j r has inc old = record { marked = old; mode = inc; to = n; taker = r.taker; has = has }

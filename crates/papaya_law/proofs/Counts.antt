@@ -1,6 +1,8 @@
 -- How many pairs one table has after each exchange, while no table has a next one.
 use Rattle.std.proofs.Common.{◌≡◌, ⊎_elim, ℕ, zero, suc, ◌+◌, ◌<◌, Option, Some, length, refl, sym, ap, ◌∙◌, subst, arith}
-use Rattle.papaya_law.specs.Exchange.{Word, Live, Tombstone, Setting, State, Exchange, Open, Claim, Replace, Delete, Link, Mark, Close, Place, Finish, Advance, Promote, Abort, Take, after, slot_put, walk}
+use Rattle.papaya_law.specs.Exchange.{Word, Live, Tombstone, Setting, State, Exchange, Open, Claim}
+use Rattle.papaya_law.specs.Exchange.{Replace, Delete, Link, Mark, Close, Place, Finish, Advance}
+use Rattle.papaya_law.specs.Exchange.{Promote, Abort, Take, after, slot_put, walk}
 use Rattle.papaya_law.specs.View.{IsReached}
 use Rattle.papaya_law.specs.Allows.{Allows}
 use Rattle.papaya_law.specs.Meaning.{IsLawful}
@@ -38,9 +40,11 @@ module _ {K P : Type 0} (g : Setting K P) (law : IsLawful g) (s : State P) (m : 
       sound.root
 
   -- the root's table after a word is put into one of its slots
-  put_count : (t x : ℕ) (w : Word P) → t ≡ s.root → x < g.size t → length (content g (slot_put s t x w)) + length (pairs_of_word (s.slot t x)) ≡ length (content g s) + length (pairs_of_word w)
+  put_count : (t x : ℕ) (w : Word P) → t ≡ s.root → x < g.size t
+      → length (content g (slot_put s t x w)) + length (pairs_of_word (s.slot t x)) ≡ length (content g s) + length (pairs_of_word w)
   put_count t x w root lt =
-      let change = table_change g (s.slot s.root) ((slot_put s t x w).slot s.root) x (g.size s.root) (λ y other. put_elsewhere s t x w s.root y (λ e. other (sym e.1))) (subst (λ u. x < g.size u) root lt) in
+      let change = table_change g (s.slot s.root) ((slot_put s t x w).slot s.root) x (g.size s.root)
+      (λ y other. put_elsewhere s t x w s.root y (λ e. other (sym e.1))) (subst (λ u. x < g.size u) root lt) in
       let there = put_there s t x w s.root x (root, refl) in
       let new : length (pairs_of_word ((slot_put s t x w).slot s.root x)) ≡ length (pairs_of_word w) = ap (λ v. length (pairs_of_word v)) there.0 in
       let old : length (pairs_of_word (s.slot s.root x)) ≡ length (pairs_of_word (s.slot t x)) = ap (λ v. length (pairs_of_word v)) there.1 in
@@ -48,13 +52,15 @@ module _ {K P : Type 0} (g : Setting K P) (law : IsLawful g) (s : State P) (m : 
 
   -- where a word names a pair there is a slot
   slot_within : (t x : ℕ) (p : P) (w : Word P) → s.slot t x ≡ w → named w ≡ Some p → x < g.size t
-  slot_within t x p w e name = let o = (keeping_sound g s m keeps).placed t x p (ap named e ∙ name) in subst (λ y. y < g.size t) o.is (law.within (g.key p) t o.at o.within)
+  slot_within t x p w e name = let o = (keeping_sound g s m keeps).placed t x p (ap named e ∙ name) in
+      subst (λ y. y < g.size t) o.is (law.within (g.key p) t o.at o.within)
 
   -- a table that isn't there has no pair
   opened : (t : ℕ) → s.root ≡ 0 → 0 < t → pairs_in (s.slot t) (g.size t) ≡ pairs_in (s.slot s.root) (g.size s.root)
   opened t none some =
       let first : s.first ≡ 0 = ⊎_elim (λ h. h.1) (λ on. absurd (let z = on.0 in omega (arith, z, none))) (keeping_sound g s m keeps).root in
-      table_empty g (s.slot t) (g.size t) (empty_off g law s m keeps t (λ on. let e = on_first t on in omega (arith, e, first, some))) ∙ sym (no_content g law s m keeps none)
+      table_empty g (s.slot t) (g.size t) (empty_off g law s m keeps t (λ on. let e = on_first t on in omega (arith, e, first, some)))
+      ∙ sym (no_content g law s m keeps none)
 
   -- each exchange
   pub count_after : (e : Exchange P) → Allows g s e → IsCountAfter e (length (content g s)) (length (content g (after s e)))

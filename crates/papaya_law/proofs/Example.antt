@@ -17,7 +17,16 @@ same_through k l m a b = eq-eqb k m (eqb-true k l a ∙ eqb-true l m b)
 
 -- the first setting is lawful
 pub by_two_lawful : IsLawful by_two
-by_two_lawful = record { itself = λ k. eq-eqb k k refl; back = same_back; through = same_through; places_same = λ k l e t j. refl; within = λ k t j lt. lt; some_place = λ t. omega arith; some_slot = λ t. omega arith }
+by_two_lawful = record {
+  itself = λ k. eq-eqb k k refl;
+  back = same_back;
+  through = same_through;
+  places_same = λ k l e t j.
+      refl;
+  within = λ k t j lt. lt;
+  some_place = λ t. omega arith;
+  some_slot = λ t. omega arith;
+}
 
 -- a table of one slot or of two
 place_within : (b : Bool) (j : ℕ) → j < cond b 1 2 → cond b 0 j < cond b 1 2
@@ -31,7 +40,16 @@ some_slot false = omega arith
 
 -- the second setting is lawful
 pub of_one_lawful : IsLawful of_one
-of_one_lawful = record { itself = λ k. eq-eqb k k refl; back = same_back; through = same_through; places_same = λ k l e t j. refl; within = λ k t j lt. place_within (t == 2) j lt; some_place = λ t. some_slot (t == 2); some_slot = λ t. some_slot (t == 2) }
+of_one_lawful = record {
+  itself = λ k. eq-eqb k k refl;
+  back = same_back;
+  through = same_through;
+  places_same = λ k l e t j.
+      refl;
+  within = λ k t j lt. place_within (t == 2) j lt;
+  some_place = λ t. some_slot (t == 2);
+  some_slot = λ t. some_slot (t == 2);
+}
 
 -- the numbers below 2
 below_two : (Q : ℕ → Type 0) → Q 0 → Q 1 → (x : ℕ) → x < 2 → Q x
@@ -50,9 +68,36 @@ one_walk = (
   (
     (refl, omega arith),
     (
-      record { empty = refl; reached = record { from = 1; links = 0; was = refl; is = refl; made = omega arith; mode = inl refl; passed = λ i lt. absurd (omega arith) }; place = record { at = 0; within = omega arith; is = refl; before = λ i lt. absurd (omega arith) } },
+      record {
+        empty = refl;
+        reached = record {
+          from = 1;
+          links = 0;
+          was = refl;
+          is = refl;
+          made = omega arith;
+          mode = inl refl;
+          passed = λ i lt.
+              absurd (omega arith);
+        };
+        place = record { at = 0; within = omega arith; is = refl; before = λ i lt. absurd (omega arith) };
+      },
       (
-        record { live = refl; reached = record { from = 1; links = 0; was = refl; is = refl; made = omega arith; mode = inl refl; passed = λ i lt. absurd (omega arith) }; same = refl; kept = refl },
+        record {
+          live = refl;
+          reached = record {
+            from = 1;
+            links = 0;
+            was = refl;
+            is = refl;
+            made = omega arith;
+            mode = inl refl;
+            passed = λ i lt.
+                absurd (omega arith);
+          };
+          same = refl;
+          kept = refl;
+        },
         (
           record { last = refl; on = (omega arith, (0, refl)); rises = omega arith; from = 1; linking = inl (refl, λ b. refl); covers = λ x lt. omega arith },
           (
@@ -60,11 +105,22 @@ one_walk = (
             (
               record {
                 empty = refl;
-                source = record { from = 1; slot = 0; stood = inl refl; taker = record { links = 0; is = refl; made = omega arith; over = λ i lt. absurd (omega arith) } };
+                source = record {
+                  from = 1;
+                  slot = 0;
+                  stood = inl refl;
+                  taker = record { links = 0; is = refl; made = omega arith; over = λ i lt. absurd (omega arith) };
+                };
                 place = record { at = 0; within = omega arith; is = refl; before = λ i lt. absurd (omega arith) };
               },
               (
-                record { marked = refl; mode = refl; to = 2; taker = record { links = 0; is = refl; made = omega arith; over = λ i lt. absurd (omega arith) }; has = (0, omega arith, refl) },
+                record {
+                  marked = refl;
+                  mode = refl;
+                  to = 2;
+                  taker = record { links = 0; is = refl; made = omega arith; over = λ i lt. absurd (omega arith) };
+                  has = (0, omega arith, refl);
+                },
                 (
                   record { empty = refl; was = refl; further = omega arith },
                   (
@@ -78,9 +134,25 @@ one_walk = (
                       settled = λ x lo hi. below_two (λ y. IsSettled by_two eight 2 (eight.slot 1 y)) tt tt x lo;
                     },
                     (
-                      record { root = refl; made = omega arith; target = record { links = 0; is = refl; made = omega arith; mode = inl refl; over = λ i lt. absurd (omega arith) }; whole = λ x lt. refl },
+                      record {
+                        root = refl;
+                        made = omega arith;
+                        target = record { links = 0; is = refl; made = omega arith; mode = inl refl; over = λ i lt. absurd (omega arith) };
+                        whole = λ x lt. refl;
+                      },
                       (
-                        record { live = refl; reached = record { from = 2; links = 0; was = refl; is = refl; made = omega arith; mode = inl refl; passed = λ i lt. absurd (omega arith) } },
+                        record {
+                          live = refl;
+                          reached = record {
+                            from = 2;
+                            links = 0;
+                            was = refl;
+                            is = refl;
+                            made = omega arith;
+                            mode = inl refl;
+                            passed = λ i lt. absurd (omega arith);
+                          };
+                        },
                         tt,
                       ),
                     ),
@@ -117,12 +189,31 @@ pub one_abort : AllAllowed of_one start three_tables
 one_abort = (
   (refl, omega arith),
   (
-    record { empty = refl; reached = record { from = 1; links = 0; was = refl; is = refl; made = omega arith; mode = inl refl; passed = λ i lt. absurd (omega arith) }; place = record { at = 0; within = omega arith; is = refl; before = λ i lt. absurd (omega arith) } },
+    record {
+      empty = refl;
+      reached = record {
+        from = 1;
+        links = 0;
+        was = refl;
+        is = refl;
+        made = omega arith;
+        mode = inl refl;
+        passed = λ i lt.
+            absurd (omega arith);
+      };
+      place = record { at = 0; within = omega arith; is = refl; before = λ i lt. absurd (omega arith) };
+    },
     (
       record {
         empty = refl;
         reached = record { from = 1; links = 0; was = refl; is = refl; made = omega arith; mode = inl refl; passed = λ i lt. absurd (omega arith) };
-        place = record { at = 1; within = omega arith; is = refl; before = λ i lt. below_one (λ y. beyond (look of_one (run (Open 1 ∷ Claim 1 0 70 ∷ []) start) 8 1 y) ≡ true) refl i lt };
+        place = record {
+          at = 1;
+          within = omega arith;
+          is = refl;
+          before = λ i lt.
+              below_one (λ y. beyond (look of_one (run (Open 1 ∷ Claim 1 0 70 ∷ []) start) 8 1 y) ≡ true) refl i lt;
+        };
       },
       (
         record { last = refl; on = (omega arith, (0, refl)); rises = omega arith; from = 1; linking = inl (refl, λ b. refl); covers = λ x lt. omega arith },
@@ -133,7 +224,12 @@ one_abort = (
             (
               record {
                 empty = refl;
-                source = record { from = 1; slot = 0; stood = inl refl; taker = record { links = 0; is = refl; made = omega arith; over = λ i lt. absurd (omega arith) } };
+                source = record {
+                  from = 1;
+                  slot = 0;
+                  stood = inl refl;
+                  taker = record { links = 0; is = refl; made = omega arith; over = λ i lt. absurd (omega arith) };
+                };
                 place = record { at = 0; within = omega arith; is = refl; before = λ i lt. absurd (omega arith) };
               },
               (
@@ -141,22 +237,63 @@ one_abort = (
                   before = refl;
                   mode = refl;
                   pair = 80;
-                  source = record { from = 1; slot = 1; stood = inl refl; taker = record { links = 0; is = refl; made = omega arith; over = λ i lt. absurd (omega arith) } };
+                  source = record {
+                    from = 1;
+                    slot = 1;
+                    stood = inl refl;
+                    taker = record { links = 0; is = refl; made = omega arith; over = λ i lt. absurd (omega arith) };
+                  };
                   full = λ i lt. below_one (λ y. foreign (look of_one at_seven 8 2 y) ≡ true) refl i lt;
                 },
                 (
-                  record { last = refl; on = (omega arith, (1, refl)); rises = omega arith; from = 1; linking = inr (refl, refl, record { links = 0; is = refl; made = omega arith; mode = inr refl; over = λ i lt. absurd (omega arith) }, refl); covers = λ x lt. omega arith },
+                  record {
+                    last = refl;
+                    on = (omega arith, (1, refl));
+                    rises = omega arith;
+                    from = 1;
+                    linking = inr
+                        (refl, refl, record { links = 0; is = refl; made = omega arith; mode = inr refl; over = λ i lt. absurd (omega arith) }, refl);
+                    covers = λ x lt. omega arith;
+                  },
                   (
                     record {
                       empty = refl;
-                      source = record { from = 1; slot = 0; stood = inl refl; taker = record { links = 1; is = refl; made = omega arith; over = λ i lt. inl (refl, below_one (λ y. at_nine.aborted (walk at_nine.next (suc y) 1) ≡ true) refl i lt) } };
+                      source = record {
+                        from = 1;
+                        slot = 0;
+                        stood = inl refl;
+                        taker = record {
+                          links = 1;
+                          is = refl;
+                          made = omega arith;
+                          over = λ i lt.
+                              inl (refl, below_one (λ y. at_nine.aborted (walk at_nine.next (suc y) 1) ≡ true) refl i lt);
+                        };
+                      };
                       place = record { at = 0; within = omega arith; is = refl; before = λ i lt. absurd (omega arith) };
                     },
                     (
                       record {
                         empty = refl;
-                        source = record { from = 1; slot = 1; stood = inl refl; taker = record { links = 1; is = refl; made = omega arith; over = λ i lt. inl (refl, below_one (λ y. at_nine.aborted (walk at_nine.next (suc y) 1) ≡ true) refl i lt) } };
-                        place = record { at = 1; within = omega arith; is = refl; before = λ i lt. below_one (λ y. foreign (look of_one (run (Place 3 0 70 ∷ []) at_nine) 8 3 y) ≡ true) refl i lt };
+                        source = record {
+                          from = 1;
+                          slot = 1;
+                          stood = inl refl;
+                          taker = record {
+                            links = 1;
+                            is = refl;
+                            made = omega arith;
+                            over = λ i lt.
+                                inl (refl, below_one (λ y. at_nine.aborted (walk at_nine.next (suc y) 1) ≡ true) refl i lt);
+                          };
+                        };
+                        place = record {
+                          at = 1;
+                          within = omega arith;
+                          is = refl;
+                          before = λ i lt.
+                              below_one (λ y. foreign (look of_one (run (Place 3 0 70 ∷ []) at_nine) 8 3 y) ≡ true) refl i lt;
+                        };
                       },
                       (
                         record {
@@ -165,15 +302,30 @@ one_abort = (
                           slot = 0;
                           in_chunk = refl;
                           within = omega arith;
-                          target = record { links = 1; is = refl; made = omega arith; mode = inr refl; over = λ i lt. below_one (λ y. at_eleven.aborted (walk at_eleven.next (suc y) 1) ≡ true) refl i lt };
-                          settled = λ x lo hi. below_two (λ y. IsSettled of_one at_eleven 3 (at_eleven.slot 1 y)) (refl, (0, omega arith, refl)) (refl, (1, omega arith, refl)) x lo;
+                          target = record {
+                            links = 1;
+                            is = refl;
+                            made = omega arith;
+                            mode = inr refl;
+                            over = λ i lt.
+                                below_one (λ y. at_eleven.aborted (walk at_eleven.next (suc y) 1) ≡ true) refl i lt;
+                          };
+                          settled = λ x lo hi. below_two (λ y. IsSettled of_one at_eleven 3 (at_eleven.slot 1 y)) (refl, (0, omega arith, refl))
+                              (refl, (1, omega arith, refl)) x lo;
                         },
                         (
                           record {
                             root = refl;
                             made = omega arith;
                             whole = λ x lt. refl;
-                            target = record { links = 1; is = refl; made = omega arith; mode = inr refl; over = λ i lt. below_one (λ y. at_eleven.aborted (walk at_eleven.next (suc y) 1) ≡ true) refl i lt };
+                            target = record {
+                              links = 1;
+                              is = refl;
+                              made = omega arith;
+                              mode = inr refl;
+                              over = λ i lt.
+                                  below_one (λ y. at_eleven.aborted (walk at_eleven.next (suc y) 1) ≡ true) refl i lt;
+                            };
                           },
                           tt,
                         ),

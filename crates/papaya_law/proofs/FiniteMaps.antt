@@ -34,7 +34,8 @@ module _ {K P : Type 0} (g : Setting K P) where
   without_length (q ∷ a) k p e =
       ⊎_elim
       (λ (y : g.same k (g.key q) ≡ true). ap (λ l. suc (length l)) (sym (without_here q a k y)))
-      (λ (n : g.same k (g.key q) ≡ false). ap suc (without_length a k p (sym (look_behind q a k n) ∙ e)) ∙ ap (λ l. suc (length l)) (sym (without_behind q a k n)))
+      (λ (n : g.same k (g.key q) ≡ false). ap suc (without_length a k p (sym (look_behind q a k n) ∙ e))
+      ∙ ap (λ l. suc (length l)) (sym (without_behind q a k n)))
       (cases_Bool (g.same k (g.key q)))
 
   module _ (law : IsLawful g) where
@@ -60,7 +61,8 @@ module _ {K P : Type 0} (g : Setting K P) where
     without_same [] k l h e = refl
     without_same (p ∷ a) k l h e =
         ⊎_elim
-        (λ (y : g.same k (g.key p) ≡ true). ap (λ b. lookup g.same g.key b l) (without_here p a k y) ∙ (lookup_same a l (g.key p) (law.through l k (g.key p) e y) ∙ h.0))
+        (λ (y : g.same k (g.key p) ≡ true). ap (λ b. lookup g.same g.key b l) (without_here p a k y)
+        ∙ (lookup_same a l (g.key p) (law.through l k (g.key p) e y) ∙ h.0))
         (λ (n : g.same k (g.key p) ≡ false).
         ap (λ b. lookup g.same g.key b l) (without_behind p a k n)
         ∙ ⊎_elim
@@ -104,7 +106,8 @@ module _ {K P : Type 0} (g : Setting K P) where
         (cases_Bool (g.same k (g.key p)))
 
     -- lists of one map are of one length
-    pub one_length : (a b : List P) → AreApart g.same g.key a → AreApart g.same g.key b → ((k : K) → lookup g.same g.key a k ≡ lookup g.same g.key b k) → length a ≡ length b
+    pub one_length : (a b : List P) → AreApart g.same g.key a → AreApart g.same g.key b
+        → ((k : K) → lookup g.same g.key a k ≡ lookup g.same g.key b k) → length a ≡ length b
     one_length [] [] ha hb all = refl
     one_length [] (q ∷ b) ha hb all = absurd (let e = all (g.key q) in let f = look_here q b (g.key q) (law.itself (g.key q)) in cc (e, f))
     one_length (p ∷ a) b ha hb all =
@@ -116,7 +119,8 @@ module _ {K P : Type 0} (g : Setting K P) where
         (cases_Bool (g.same k (g.key p))) in
         ap suc (one_length a (without b (g.key p)) ha.1 (without_apart b (g.key p) hb) rest) ∙ sym (without_length b (g.key p) p there)
 
-    module _ (m : K → Option P) (a b : List P) (ha : AreApart g.same g.key a) (hb : AreApart g.same g.key b) (before : (k : K) → lookup g.same g.key a k ≡ m k) where
+    module _ (m : K → Option P) (a b : List P) (ha : AreApart g.same g.key a) (hb : AreApart g.same g.key b)
+        (before : (k : K) → lookup g.same g.key a k ≡ m k) where
       -- lists whose maps differ in one key alone are of one length without it
       but_one : (k : K) → ((l : K) → g.same l k ≡ false → lookup g.same g.key b l ≡ m l) → length (without a k) ≡ length (without b k)
       but_one k other =
@@ -139,16 +143,22 @@ module _ {K P : Type 0} (g : Setting K P) where
       -- how long the list of the map is after an exchange
       pub length_after : (e : Exchange P) → IsLegal g m e → ((k : K) → lookup g.same g.key b k ≡ map_after g m e k) → IsCountAfter e (length a) (length b)
       length_after (Claim t x p) legal now =
-          let here : lookup g.same g.key b (g.key p) ≡ Some p = now (g.key p) ∙ cond-true (g.same (g.key p) (g.key p)) (Some p) (m (g.key p)) (law.itself (g.key p)) in
+          let here : lookup g.same g.key b (g.key p) ≡ Some p = now (g.key p)
+          ∙ cond-true (g.same (g.key p) (g.key p)) (Some p) (m (g.key p)) (law.itself (g.key p)) in
           without_length b (g.key p) p here
-          ∙ ap suc (sym (but_one (g.key p) (λ l n. now l ∙ cond-false (g.same l (g.key p)) (Some p) (m l) n)) ∙ without_none a (g.key p) (before (g.key p) ∙ legal))
+          ∙ ap suc (sym (but_one (g.key p) (λ l n. now l ∙ cond-false (g.same l (g.key p)) (Some p) (m l) n))
+          ∙ without_none a (g.key p) (before (g.key p) ∙ legal))
       length_after (Replace t x p q) legal now =
-          let here : lookup g.same g.key b (g.key p) ≡ Some q = now (g.key p) ∙ cond-true (g.same (g.key p) (g.key p)) (Some q) (m (g.key p)) (law.itself (g.key p)) in
+          let here : lookup g.same g.key b (g.key p) ≡ Some q = now (g.key p)
+          ∙ cond-true (g.same (g.key p) (g.key p)) (Some q) (m (g.key p)) (law.itself (g.key p)) in
           without_length b (g.key p) q here
-          ∙ (ap suc (sym (but_one (g.key p) (λ l n. now l ∙ cond-false (g.same l (g.key p)) (Some q) (m l) n))) ∙ sym (without_length a (g.key p) p (before (g.key p) ∙ legal)))
+          ∙ (ap suc (sym (but_one (g.key p) (λ l n. now l ∙ cond-false (g.same l (g.key p)) (Some q) (m l) n)))
+          ∙ sym (without_length a (g.key p) p (before (g.key p) ∙ legal)))
       length_after (Delete t x p) legal now =
-          let gone : lookup g.same g.key b (g.key p) ≡ None = now (g.key p) ∙ cond-true (g.same (g.key p) (g.key p)) None (m (g.key p)) (law.itself (g.key p)) in
-          ap suc (sym (without_none b (g.key p) gone) ∙ sym (but_one (g.key p) (λ l n. now l ∙ cond-false (g.same l (g.key p)) None (m l) n))) ∙ sym (without_length a (g.key p) p (before (g.key p) ∙ legal))
+          let gone : lookup g.same g.key b (g.key p) ≡ None = now (g.key p)
+          ∙ cond-true (g.same (g.key p) (g.key p)) None (m (g.key p)) (law.itself (g.key p)) in
+          ap suc (sym (without_none b (g.key p) gone) ∙ sym (but_one (g.key p) (λ l n. now l ∙ cond-false (g.same l (g.key p)) None (m l) n)))
+          ∙ sym (without_length a (g.key p) p (before (g.key p) ∙ legal))
       length_after (Open t) legal now = sym (one_length a b ha hb (λ k. before k ∙ sym (now k)))
       length_after (Link t n) legal now = sym (one_length a b ha hb (λ k. before k ∙ sym (now k)))
       length_after (Mark t x p) legal now = sym (one_length a b ha hb (λ k. before k ∙ sym (now k)))
@@ -174,10 +184,12 @@ module _ {K P : Type 0} (g : Setting K P) where
           (cases_Bool (g.same k (g.key p)))
 
       -- a replacement does both
-      list_replace : (p q : P) → g.same (g.key p) (g.key q) ≡ true → (k : K) → lookup g.same g.key (q ∷ without a (g.key p)) k ≡ cond (g.same k (g.key p)) (Some q) (m k)
+      list_replace : (p q : P) → g.same (g.key p) (g.key q) ≡ true → (k : K)
+          → lookup g.same g.key (q ∷ without a (g.key p)) k ≡ cond (g.same k (g.key p)) (Some q) (m k)
       list_replace p q same k =
           ⊎_elim
-          (λ (y : g.same k (g.key p) ≡ true). look_here q (without a (g.key p)) k (law.through k (g.key p) (g.key q) y same) ∙ sym (cond-true (g.same k (g.key p)) (Some q) (m k) y))
+          (λ (y : g.same k (g.key p) ≡ true). look_here q (without a (g.key p)) k (law.through k (g.key p) (g.key q) y same)
+          ∙ sym (cond-true (g.same k (g.key p)) (Some q) (m k) y))
           (λ (n : g.same k (g.key p) ≡ false).
           let n' : g.same k (g.key q) ≡ false =
           ⊎_elim
@@ -188,9 +200,14 @@ module _ {K P : Type 0} (g : Setting K P) where
           (cases_Bool (g.same k (g.key p)))
 
       -- the map after an exchange has a list too
-      pub list_after : (s : State P) (e : Exchange P) → Allows g s e → IsLegal g m e → (b : List P) × AreApart g.same g.key b × ((k : K) → lookup g.same g.key b k ≡ map_after g m e k)
+      pub list_after : (s : State P) (e : Exchange P) → Allows g s e → IsLegal g m e → (b : List P) × AreApart g.same g.key b
+          × ((k : K) → lookup g.same g.key b k ≡ map_after g m e k)
       list_after s (Claim t x p) may legal = (p ∷ a, (before (g.key p) ∙ legal, ha), list_claim p legal)
-      list_after s (Replace t x p q) may legal = (q ∷ without a (g.key p), (without_same a (g.key p) (g.key q) ha (law.back (g.key p) (g.key q) may.same), without_apart a (g.key p) ha), list_replace p q may.same)
+      list_after s (Replace t x p q) may legal = (
+        q ∷ without a (g.key p),
+        (without_same a (g.key p) (g.key q) ha (law.back (g.key p) (g.key q) may.same), without_apart a (g.key p) ha),
+        list_replace p q may.same,
+      )
       list_after s (Delete t x p) may legal = (without a (g.key p), without_apart a (g.key p) ha, list_delete p)
       list_after s (Open t) may legal = (a, ha, before)
       list_after s (Link t n) may legal = (a, ha, before)

@@ -18,7 +18,19 @@ module _ {K P : Type 0} (g : Setting K P) (matches : K → Bool) (hash : ℕ) wh
 
   -- pairs are seen alike with the further key and without
   pub key_alike : AreAlike g (with_key g matches hash)
-  key_alike = record { blocking = refl; size = λ t. refl; chunk_of = λ x. refl; chunks = λ t. refl; most = refl; places = λ t. refl; place = λ p t j. refl; same = λ p q. refl; kept = λ p q e. ap Some e; kept_back = λ p q e. some_key (g.key p) (g.key q) e }
+  key_alike = record {
+    blocking = refl;
+    size = λ t. refl;
+    chunk_of = λ x. refl;
+    chunks = λ t. refl;
+    most = refl;
+    places = λ t. refl;
+    place = λ p t j.
+        refl;
+    same = λ p q. refl;
+    kept = λ p q e. ap Some e;
+    kept_back = λ p q e. some_key (g.key p) (g.key q) e;
+  }
 
   -- a word has the number that it had
   pub key_code : (c : Coding K P) (w : Word P) → code (with_key g matches hash) (coding_with c hash) w ≡ code g c w
@@ -93,11 +105,29 @@ module _ {K P : Type 0} (g : Setting K P) (matches : K → Bool) (hash : ℕ) wh
 
 -- a key of the map is a lawful further key
 pub own_key_lawful : {K P : Type 0} (g : Setting K P) (c : Coding K P) → IsHashed g c → (k : K) → IsLawfulKey g c (g.same k) (c.hash k)
-own_key_lawful g c law k = record { class = λ l e m. same_test g law.lawful k l m e; hash_is = λ l e. law.coding.respects k l e; hash_fits = law.coding.hash_fits k }
+own_key_lawful g c law k = record {
+  class = λ l e m. same_test g law.lawful k l m e;
+  hash_is = λ l e.
+      law.coding.respects k l e;
+  hash_fits = law.coding.hash_fits k;
+}
 
 -- settings that agree on some tables do so with the further key
-pub key_agrees : {K P : Type 0} (On : ℕ → Type 0) (g g' : Setting K P) → Agrees On g g' → (matches : K → Bool) (hash : ℕ) → Agrees On (with_key g matches hash) (with_key g' matches hash)
-key_agrees {K = K} On g g' agrees matches hash = record { blocking = agrees.blocking; key = λ p. ap Some (agrees.key p); same = same; size = agrees.size; chunk_of = agrees.chunk_of; chunks = agrees.chunks; most = agrees.most; places = agrees.places; place = places }
+pub key_agrees : {K P : Type 0} (On : ℕ → Type 0) (g g' : Setting K P) → Agrees On g g' → (matches : K → Bool) (hash : ℕ)
+    → Agrees On (with_key g matches hash) (with_key g' matches hash)
+key_agrees {K = K} On g g' agrees matches
+    hash = record {
+      blocking = agrees.blocking;
+      key = λ p.
+          ap Some (agrees.key p);
+      same = same;
+      size = agrees.size;
+      chunk_of = agrees.chunk_of;
+      chunks = agrees.chunks;
+      most = agrees.most;
+      places = agrees.places;
+      place = places;
+    }
   where
     same : (k l : Option K) → same_with g'.same matches k l ≡ same_with g.same matches k l
     same (Some k) (Some l) = agrees.same k l
@@ -110,14 +140,28 @@ key_agrees {K = K} On g g' agrees matches hash = record { blocking = agrees.bloc
     places None t j on = ap (λ n. place hash n j) (agrees.size t on)
 
 -- where keys are looked for by their hash, so is the further one
-pub key_planned : {K P : Type 0} (blocking : Bool) (chunk_of : ℕ → ℕ) (most : Option ℕ) (key : P → K) (same : K → K → Bool) (hash_of : K → ℕ) (size places chunks : ℕ → ℕ) (matches : K → Bool) (hash : ℕ)
-    → with_key (planned (hashed blocking chunk_of most key same hash_of) size places chunks) matches hash ≡ planned (hashed blocking chunk_of most (λ p. Some (key p)) (same_with same matches) (hash_with hash_of hash)) size places chunks
+pub key_planned : {K P : Type 0} (blocking : Bool) (chunk_of : ℕ → ℕ) (most : Option ℕ) (key : P → K) (same : K → K → Bool) (hash_of : K → ℕ)
+    (size places chunks : ℕ → ℕ) (matches : K → Bool) (hash : ℕ)
+    → with_key (planned (hashed blocking chunk_of most key same hash_of) size places chunks) matches hash ≡ planned
+    (hashed blocking chunk_of most (λ p. Some (key p)) (same_with same matches) (hash_with hash_of hash)) size places chunks
 key_planned {K = K} {P = P} blocking chunk_of most key same hash_of size places chunks matches hash =
     ap
     {B = Setting (Option K) P}
-    (λ S. record { blocking = blocking; size = size; chunk_of = chunk_of; chunks = chunks; most = most; places = places; place = S; key = λ p. Some (key p); same = same_with same matches })
+    (λ S. record {
+      blocking = blocking;
+      size = size;
+      chunk_of = chunk_of;
+      chunks = chunks;
+      most = most;
+      places = places;
+      place = S;
+      key = λ p.
+          Some (key p);
+      same = same_with same matches;
+    })
     (fun_ext (λ k. fun_ext (λ t. fun_ext (λ j. slot k t j))))
   where
-    slot : (k : Option K) (t j : ℕ) → place_with (planned (hashed blocking chunk_of most key same hash_of) size places chunks) hash k t j ≡ place (hash_with hash_of hash k) (size t) j
+    slot : (k : Option K) (t j : ℕ) → place_with (planned (hashed blocking chunk_of most key same hash_of) size places chunks) hash k t j ≡ place
+        (hash_with hash_of hash k) (size t) j
     slot (Some k) t j = refl
     slot None t j = refl

@@ -1,7 +1,12 @@
 -- What a caller saw, an exchange or a list of them that is allowed under one setting, is so under each that agrees with it on the tables of the chain.
-use Rattle.std.proofs.Common.{MatchOption, ◌≡◌, inl, inr, ⊎_elim, ℕ, suc, ◌<◌, ◌≤◌, ◌==◌, Bool, true, cond, Option, None, Some, List, [], ◌∷◌, refl, sym, ap, ◌∙◌, subst, arith, eqb-true, eq-eqb}
+use Rattle.std.proofs.Common.{MatchOption, ◌≡◌, inl, inr, ⊎_elim, ℕ, suc, ◌<◌, ◌≤◌, ◌==◌, Bool}
+use Rattle.std.proofs.Common.{true, cond, Option, None, Some, List, [], ◌∷◌, refl, sym, ap, ◌∙◌}
+use Rattle.std.proofs.Common.{subst, arith, eqb-true, eq-eqb}
 use Rattle.std.proofs.lemmas.Bool.{cond-true}
-use Rattle.papaya_law.specs.Exchange.{Word, Empty, Closed, Live, Tombstone, Marked, Copied, Setting, Exchange, Open, Claim, Replace, Delete, Link, Mark, Close, Place, Finish, Advance, Promote, Abort, Take, State, after, at_put, run, walk}
+use Rattle.papaya_law.specs.Exchange.{Word, Empty, Closed, Live, Tombstone, Marked, Copied, Setting}
+use Rattle.papaya_law.specs.Exchange.{Exchange, Open, Claim, Replace, Delete, Link, Mark, Close}
+use Rattle.papaya_law.specs.Exchange.{Place, Finish, Advance, Promote, Abort, Take, State, after}
+use Rattle.papaya_law.specs.Exchange.{at_put, run, walk}
 use Rattle.papaya_law.specs.View.{View, beyond, foreign, look, IsNextPlace, IsReached}
 use Rattle.papaya_law.specs.Copying.{IsSettled, IsTaker, IsTarget, IsCopied, IsLinking}
 use Rattle.papaya_law.specs.Allows.{Allows, AllAllowed}
@@ -19,7 +24,8 @@ use mathlib.Core.Path.{fun_ext}
 module _ {K P : Type 0} (g g' : Setting K P) (s : State P) (sound : IsSound g s) (agrees : Agrees (IsOn s.first s.next) g g') where
   -- each table that a walk from a table of the chain comes to is on the chain
   on_way : (from links n i : ℕ) → IsOn s.first s.next from → walk s.next links from ≡ n → 0 < n → i ≤ links → IsOn s.first s.next (walk s.next i from)
-  on_way from links n i on is made le = walk_on s.next sound.rises s.first from i on (pos_before s.next sound.rises i links from le (subst (λ y. 0 < y) (sym is) made))
+  on_way from links n i on is made le = walk_on s.next sound.rises s.first from i on
+      (pos_before s.next sound.rises i links from le (subst (λ y. 0 < y) (sym is) made))
 
   -- a search comes where it came
   pub reached_carries : (k : K) (t : ℕ) → IsReached g s k t → IsReached g' s k t
@@ -30,7 +36,8 @@ module _ {K P : Type 0} (g g' : Setting K P) (s : State P) (sound : IsSound g s)
     is = r.is;
     made = r.made;
     mode = ⊎_elim (λ e. inl e) (λ b. inr (agrees.blocking ∙ b)) r.mode;
-    passed = λ i lt. passed_carries g g' s sound agrees (look g s k) (look g' s k) (look_agrees g g' s sound agrees k) (walk s.next i r.from) (on_way r.from r.links t i (sound.was r.from r.was).0 r.is r.made (omega arith)) (r.passed i lt);
+    passed = λ i lt. passed_carries g g' s sound agrees (look g s k) (look g' s k) (look_agrees g g' s sound agrees k) (walk s.next i r.from)
+        (on_way r.from r.links t i (sound.was r.from r.was).0 r.is r.made (omega arith)) (r.passed i lt);
   }
 
   -- the same by a pair's key
@@ -45,7 +52,11 @@ module _ {K P : Type 0} (g g' : Setting K P) (s : State P) (sound : IsSound g s)
     made = r.made;
     over = λ i lt. ⊎_elim
         (λ h. inl (agrees.blocking ∙ h.0, h.1))
-        (λ h. inr (agrees.blocking ∙ h.0, full_carries g g' s sound agrees (look g s (g.key p)) (look g' s (g'.key p)) (look_pair g g' s sound agrees p) (walk s.next (suc i) t) (on_way t (suc r.links) n (suc i) on r.is r.made (omega arith)) h.1))
+        (λ h. inr (
+          agrees.blocking ∙ h.0,
+          full_carries g g' s sound agrees (look g s (g.key p)) (look g' s (g'.key p))
+              (look_pair g g' s sound agrees p) (walk s.next (suc i) t) (on_way t (suc r.links) n (suc i) on r.is r.made (omega arith)) h.1,
+        ))
         (r.over i lt);
   }
 
@@ -54,7 +65,8 @@ module _ {K P : Type 0} (g g' : Setting K P) (s : State P) (sound : IsSound g s)
   target_carries t n r = record { links = r.links; is = r.is; made = r.made; over = r.over; mode = ⊎_elim (λ e. inl e) (λ b. inr (agrees.blocking ∙ b)) r.mode }
 
   -- the first place that is left
-  pub next_place_carries : (p : P) (test : View P → Bool) (t x : ℕ) → IsOn s.first s.next t → IsNextPlace g s (g.key p) test t x → IsNextPlace g' s (g'.key p) test t x
+  pub next_place_carries : (p : P) (test : View P → Bool) (t x : ℕ) → IsOn s.first s.next t → IsNextPlace g s (g.key p) test t x
+      → IsNextPlace g' s (g'.key p) test t x
   next_place_carries p test t x on r = record {
     at = r.at;
     within = subst (λ y. r.at < y) (sym (agrees.places t on)) r.within;
@@ -88,7 +100,12 @@ module _ {K P : Type 0} (g g' : Setting K P) (s : State P) (sound : IsSound g s)
   allows_carries (Open t) chunks may = may
   allows_carries (Claim t x p) chunks may =
       let r = may.reached in
-      record { empty = may.empty; reached = reached_pair p t r; place = next_place_carries p beyond t x (end_on r.from r.links t (sound.was r.from r.was).0 r.is r.made) may.place }
+      record {
+        empty = may.empty;
+        reached = reached_pair p t r;
+        place = next_place_carries p beyond t x
+            (end_on r.from r.links t (sound.was r.from r.was).0 r.is r.made) may.place;
+      }
   allows_carries (Replace t x p q) chunks may = record {
     live = may.live;
     reached = reached_pair p t may.reached;
@@ -105,13 +122,19 @@ module _ {K P : Type 0} (g g' : Setting K P) (s : State P) (sound : IsSound g s)
         from = may.from;
         linking = linking_carries may.from t may.linking;
         covers = λ x lt.
-            subst (λ y. y < g'.chunks n) (sym (agrees.chunk_of x)) (subst (λ y. g.chunk_of x < y) (sym (chunks n (eq-eqb n n refl))) (may.covers x (subst (λ y. x < y) (agrees.size may.from on) lt)));
+            subst (λ y. y < g'.chunks n) (sym (agrees.chunk_of x))
+            (subst (λ y. g.chunk_of x < y) (sym (chunks n (eq-eqb n n refl))) (may.covers x (subst (λ y. x < y) (agrees.size may.from on) lt)));
       }
   allows_carries (Mark t x p) chunks may = record { live = may.live; was = may.was; further = may.further }
   allows_carries (Close t x) chunks may = record { empty = may.empty; was = may.was; further = may.further }
   allows_carries (Place n x p) chunks may =
       let c = may.source in
-      record { empty = may.empty; source = copied_carries n p c; place = next_place_carries p foreign n x (taker_on (g.key p) c.from n (source_on n p c) c.taker) may.place }
+      record {
+        empty = may.empty;
+        source = copied_carries n p c;
+        place = next_place_carries p foreign n x
+            (taker_on (g.key p) c.from n (source_on n p c) c.taker) may.place;
+      }
   allows_carries (Finish t x p) chunks may =
       let on = filled_on g s sound t x p (Marked p) may.marked refl in
       record {
@@ -119,7 +142,8 @@ module _ {K P : Type 0} (g g' : Setting K P) (s : State P) (sound : IsSound g s)
         mode = agrees.blocking ∙ may.mode;
         to = may.to;
         taker = taker_carries p t may.to on may.taker;
-        has = has_carries g g' s sound agrees (look g s (g.key p)) (look g' s (g'.key p)) (look_pair g g' s sound agrees p) may.to (taker_on (g.key p) t may.to on may.taker) may.has;
+        has = has_carries g g' s sound agrees (look g s (g.key p)) (look g' s (g'.key p)) (look_pair g g' s sound agrees p) may.to
+            (taker_on (g.key p) t may.to on may.taker) may.has;
       }
   allows_carries (Advance n c) chunks may =
       let r = may.target in
@@ -131,11 +155,18 @@ module _ {K P : Type 0} (g g' : Setting K P) (s : State P) (sound : IsSound g s)
         slot = may.slot;
         within = subst (λ y. may.slot < y) (sym (agrees.size may.from on)) may.within;
         in_chunk = agrees.chunk_of may.slot ∙ may.in_chunk;
-        settled = λ x lo hi. settled_carries g g' s sound agrees n (end_on may.from (suc r.links) n on r.is r.made) (s.slot may.from x) (may.settled x (subst (λ y. x < y) (agrees.size may.from on) lo) (sym (agrees.chunk_of x) ∙ hi));
+        settled = λ x lo hi. settled_carries g g' s sound agrees n (end_on may.from (suc r.links) n on r.is r.made) (s.slot may.from x)
+            (may.settled x (subst (λ y. x < y) (agrees.size may.from on) lo) (sym (agrees.chunk_of x) ∙ hi));
       }
   allows_carries (Promote t n) chunks may =
       let on = ⊎_elim (λ h. absurd (let e = may.root in let some = may.made in omega (arith, h.0))) (λ h. subst (IsOn s.first s.next) may.root h) sound.root in
-      record { root = may.root; made = may.made; target = target_carries t n may.target; whole = λ x lt. subst (λ y. s.done n y ≡ true) (sym (agrees.chunk_of x)) (may.whole x (subst (λ y. x < y) (agrees.size t on) lt)) }
+      record {
+        root = may.root;
+        made = may.made;
+        target = target_carries t n may.target;
+        whole = λ x lt.
+            subst (λ y. s.done n y ≡ true) (sym (agrees.chunk_of x)) (may.whole x (subst (λ y. x < y) (agrees.size t on) lt));
+      }
   allows_carries (Abort n) chunks may =
       let c = may.source in
       record {
@@ -143,7 +174,8 @@ module _ {K P : Type 0} (g g' : Setting K P) (s : State P) (sound : IsSound g s)
         mode = agrees.blocking ∙ may.mode;
         pair = may.pair;
         source = copied_carries n may.pair c;
-        full = full_carries g g' s sound agrees (look g s (g.key may.pair)) (look g' s (g'.key may.pair)) (look_pair g g' s sound agrees may.pair) n (taker_on (g.key may.pair) c.from n (source_on n may.pair c) c.taker) may.full;
+        full = full_carries g g' s sound agrees (look g s (g.key may.pair)) (look g' s (g'.key may.pair)) (look_pair g g' s sound agrees may.pair) n
+            (taker_on (g.key may.pair) c.from n (source_on n may.pair c) c.taker) may.full;
       }
   allows_carries (Take m) chunks may = (may.0, subst (λ o. MatchOption o (Unit {0}) (λ n. m < n)) (sym agrees.most) may.1)
 
@@ -182,7 +214,15 @@ module _ {K P : Type 0} (g g' : Setting K P) (On : ℕ → Type 0) (agrees : Agr
 
   -- a later state stays later
   pub later_carries : (s s' : State P) → IsLater g s s' → IsLater g' s s'
-  later_carries s s' l = record { was = l.was; next = l.next; aborted = l.aborted; done = l.done; made = l.made; words = λ t x. becomes_carries (s.slot t x) (s'.slot t x) (l.words t x) }
+  later_carries s s' l = record {
+    was = l.was;
+    next = l.next;
+    aborted = l.aborted;
+    done = l.done;
+    made = l.made;
+    words = λ t x.
+        becomes_carries (s.slot t x) (s'.slot t x) (l.words t x);
+  }
 
   -- an exchange does the same to the map
   map_after_at : (m : K → Option P) (e : Exchange P) (k : K) → map_after g' m e k ≡ map_after g m e k
@@ -228,7 +268,9 @@ module _ {K P : Type 0} (g : Setting K P) (law : IsLawful g) where
   brought_on s sound (Link u n) may t b =
       let here : at_put s.next u n u ≡ n = cond-true (u == u) n (s.next u) (eq-eqb u u refl) in
       let up : 0 < at_put s.next u n u = subst (λ y. 0 < y) (sym here) (omega (arith, may.rises)) in
-      subst (IsOn s.first (at_put s.next u n)) (here ∙ eqb-true n t b) (next_on (at_put s.next u n) (link_rises s.next sound.rises u n may.last may.on.0 may.rises) s.first u (link_more g s sound u n may.last may.on.0 may.rises u may.on) up)
+      subst (IsOn s.first (at_put s.next u n)) (here ∙ eqb-true n t b)
+      (next_on (at_put s.next u n) (link_rises s.next sound.rises u n may.last may.on.0 may.rises) s.first u
+      (link_more g s sound u n may.last may.on.0 may.rises u may.on) up)
   brought_on s sound (Claim u x p) may t b = absurd cc
   brought_on s sound (Replace u x p q) may t b = absurd cc
   brought_on s sound (Delete u x p) may t b = absurd cc
@@ -242,14 +284,20 @@ module _ {K P : Type 0} (g : Setting K P) (law : IsLawful g) where
   brought_on s sound (Take n) may t b = absurd cc
 
   -- and at a list of them
-  pub on_run : (es : List (Exchange P)) (s : State P) (m : K → Option P) → IsKeeping g s m → AllAllowed g s es → (t : ℕ) → IsOn s.first s.next t → IsOn (run es s).first (run es s).next t
+  pub on_run : (es : List (Exchange P)) (s : State P) (m : K → Option P) → IsKeeping g s m → AllAllowed g s es → (t : ℕ) → IsOn s.first s.next t
+      → IsOn (run es s).first (run es s).next t
   on_run [] s m keeps may t on = on
-  on_run (e ∷ es) s m keeps may t on = on_run es (after s e) (map_after g m e) (step_keeps g law s m keeps e may.0).1 may.1 t (on_after s (keeping_sound g s m keeps) e may.0 t on)
+  on_run (e ∷ es) s m keeps may t on = on_run es (after s e) (map_after g m e) (step_keeps g law s m keeps e may.0).1 may.1 t
+      (on_after s (keeping_sound g s m keeps) e may.0 t on)
 
   -- Of a list: it's enough that the settings agree on the chain that it leaves.
-  pub all_carries : (g' : Setting K P) (es : List (Exchange P)) (s : State P) (m : K → Option P) → IsKeeping g s m → AllAllowed g s es → Agrees (IsOn (run es s).first (run es s).next) g g' → AllAllowed g' s es
+  pub all_carries : (g' : Setting K P) (es : List (Exchange P)) (s : State P) (m : K → Option P) → IsKeeping g s m → AllAllowed g s es
+      → Agrees (IsOn (run es s).first (run es s).next) g g' → AllAllowed g' s es
   all_carries g' [] s m keeps may agrees = tt
   all_carries g' (e ∷ es) s m keeps may agrees = (
-    allows_carries g g' s (keeping_sound g s m keeps) (agrees_on_fewer g g' (IsOn (run es (after s e)).first (run es (after s e)).next) agrees (IsOn s.first s.next) (on_run (e ∷ es) s m keeps may)) e (λ n b. agrees.chunks n (on_run es (after s e) (map_after g m e) (step_keeps g law s m keeps e may.0).1 may.1 n (brought_on s (keeping_sound g s m keeps) e may.0 n b))) may.0,
+    allows_carries g g' s (keeping_sound g s m keeps)
+        (agrees_on_fewer g g' (IsOn (run es (after s e)).first (run es (after s e)).next) agrees (IsOn s.first s.next) (on_run (e ∷ es) s m keeps may))
+        e (λ n b. agrees.chunks n (on_run es (after s e) (map_after g m e) (step_keeps g law s m keeps e may.0).1 may.1 n
+        (brought_on s (keeping_sound g s m keeps) e may.0 n b))) may.0,
     all_carries g' es (after s e) (map_after g m e) (step_keeps g law s m keeps e may.0).1 may.1 agrees,
   )

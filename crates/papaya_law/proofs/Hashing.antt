@@ -7,7 +7,8 @@ use Rattle.std.proofs.Math.Nat.{mod-lt}
 
 -- the plan by hash
 pub hashed_lawful : {K P : Type 0} (blocking : Bool) (chunk_of : ℕ → ℕ) (most : Option ℕ) (key : P → K) (same : K → K → Bool) (hash : K → ℕ)
-    → ((k : K) → same k k ≡ true) → ((k l : K) → same k l ≡ true → same l k ≡ true) → ((k l m : K) → same k l ≡ true → same l m ≡ true → same k m ≡ true) → ((k l : K) → same k l ≡ true → hash k ≡ hash l)
+    → ((k : K) → same k k ≡ true) → ((k l : K) → same k l ≡ true → same l k ≡ true)
+    → ((k l m : K) → same k l ≡ true → same l m ≡ true → same k m ≡ true) → ((k l : K) → same k l ≡ true → hash k ≡ hash l)
     → IsLawfulPlan (hashed blocking chunk_of most key same hash)
 hashed_lawful blocking chunk_of most key same hash itself back through respects = record {
   itself = itself;

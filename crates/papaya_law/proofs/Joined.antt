@@ -10,15 +10,18 @@ use Rattle.papaya_law.proofs.FiniteMaps.{lookup_same, look_here, look_behind}
 
 module _ {K P : Type 0} (g : Setting K P) where
   -- a pair whose key the first list has stays out
-  missing_out : (ps : List P) (q : P) (qs : List P) (p : P) → lookup g.same g.key ps (g.key q) ≡ Some p → missing_in g.same g.key ps (q ∷ qs) ≡ missing_in g.same g.key ps qs
+  missing_out : (ps : List P) (q : P) (qs : List P) (p : P) → lookup g.same g.key ps (g.key q) ≡ Some p
+      → missing_in g.same g.key ps (q ∷ qs) ≡ missing_in g.same g.key ps qs
   missing_out ps q qs p e = ap (λ v. unless_found v q ++ missing_in g.same g.key ps qs) e
 
   -- another one comes in
-  missing_put : (ps : List P) (q : P) (qs : List P) → lookup g.same g.key ps (g.key q) ≡ None → missing_in g.same g.key ps (q ∷ qs) ≡ q ∷ missing_in g.same g.key ps qs
+  missing_put : (ps : List P) (q : P) (qs : List P) → lookup g.same g.key ps (g.key q) ≡ None
+      → missing_in g.same g.key ps (q ∷ qs) ≡ q ∷ missing_in g.same g.key ps qs
   missing_put ps q qs e = ap (λ v. unless_found v q ++ missing_in g.same g.key ps qs) e
 
   -- a list behind another one that has none of its keys
-  append_apart : (ps zs : List P) → AreApart g.same g.key ps → AreApart g.same g.key zs → ((k : K) (p : P) → lookup g.same g.key ps k ≡ Some p → lookup g.same g.key zs k ≡ None) → ((k : K) → g.same k k ≡ true) → AreApart g.same g.key (ps ++ zs)
+  append_apart : (ps zs : List P) → AreApart g.same g.key ps → AreApart g.same g.key zs
+      → ((k : K) (p : P) → lookup g.same g.key ps k ≡ Some p → lookup g.same g.key zs k ≡ None) → ((k : K) → g.same k k ≡ true) → AreApart g.same g.key (ps ++ zs)
   append_apart [] zs hp hz other itself = hz
   append_apart (p ∷ ps) zs hp hz other itself = (
     lookup_rest g ps zs (g.key p) hp.0 ∙ other (g.key p) p (look_here g p ps (g.key p) (itself (g.key p))),
@@ -40,7 +43,8 @@ module _ {K P : Type 0} (g : Setting K P) where
         (cases_Bool (g.same k (g.key q)))
 
     -- the same, the other way round
-    differs_back : (ps : List P) (k : K) (q : P) (p : P) → lookup g.same g.key ps k ≡ None → lookup g.same g.key ps (g.key q) ≡ Some p → g.same k (g.key q) ≡ false
+    differs_back : (ps : List P) (k : K) (q : P) (p : P) → lookup g.same g.key ps k ≡ None → lookup g.same g.key ps (g.key q) ≡ Some p
+        → g.same k (g.key q) ≡ false
     differs_back ps k q p none e =
         ⊎_elim
         (λ (y : g.same k (g.key q) ≡ true). absurd (let same = lookup_same g law ps k (g.key q) y in cc (same, e, none)))
@@ -52,7 +56,8 @@ module _ {K P : Type 0} (g : Setting K P) where
     missing_none ps [] k p e = refl
     missing_none ps (q ∷ qs) k p e = by_found (missing_none ps qs k p e) (lookup g.same g.key ps (g.key q)) refl
       where
-        by_found : lookup g.same g.key (missing_in g.same g.key ps qs) k ≡ None → (v : Option P) → lookup g.same g.key ps (g.key q) ≡ v → lookup g.same g.key (missing_in g.same g.key ps (q ∷ qs)) k ≡ None
+        by_found : lookup g.same g.key (missing_in g.same g.key ps qs) k ≡ None → (v : Option P) → lookup g.same g.key ps (g.key q) ≡ v
+            → lookup g.same g.key (missing_in g.same g.key ps (q ∷ qs)) k ≡ None
         by_found ih None f =
             ap (λ zs. lookup g.same g.key zs k) (missing_put ps q qs f)
             ∙ (look_behind g q (missing_in g.same g.key ps qs) k (differs ps k q p e f) ∙ ih)
@@ -88,7 +93,8 @@ module _ {K P : Type 0} (g : Setting K P) where
     missing_apart ps [] h = tt
     missing_apart ps (q ∷ qs) h = by_found (missing_apart ps qs h.1) (lookup g.same g.key ps (g.key q)) refl
       where
-        by_found : AreApart g.same g.key (missing_in g.same g.key ps qs) → (v : Option P) → lookup g.same g.key ps (g.key q) ≡ v → AreApart g.same g.key (missing_in g.same g.key ps (q ∷ qs))
+        by_found : AreApart g.same g.key (missing_in g.same g.key ps qs) → (v : Option P) → lookup g.same g.key ps (g.key q) ≡ v
+            → AreApart g.same g.key (missing_in g.same g.key ps (q ∷ qs))
         by_found ih None f =
             let both : AreApart g.same g.key (q ∷ missing_in g.same g.key ps qs) = (missing_some ps qs (g.key q) f ∙ h.0, ih) in
             subst (AreApart g.same g.key) (sym (missing_put ps q qs f)) both

@@ -1,7 +1,11 @@
 -- What an allowed exchange can't undo, so that what a caller saw at an earlier moment still serves.
-use Rattle.std.proofs.Common.{◌≡◌, ◌⊎◌, inl, inr, ⊎_elim, ℕ, zero, suc, ◌<◌, ◌≤◌, Bool, true, false, cond, ◌==◌, List, [], ◌∷◌, refl, sym, ap, ◌∙◌, subst, arith, eqb-true}
+use Rattle.std.proofs.Common.{◌≡◌, ◌⊎◌, inl, inr, ⊎_elim, ℕ, zero, suc, ◌<◌, ◌≤◌, Bool, true, false}
+use Rattle.std.proofs.Common.{cond, ◌==◌, List, [], ◌∷◌, refl, sym, ap, ◌∙◌, subst, arith, eqb-true}
 use Rattle.std.proofs.lemmas.Bool.{cases_lt, cases_Bool, cond-true, cond-false}
-use Rattle.papaya_law.specs.Exchange.{Word, Empty, Closed, Live, Marked, Copied, Tombstone, Setting, State, Exchange, Open, Claim, Replace, Delete, Link, Mark, Close, Place, Finish, Advance, Promote, Abort, Take, slot_put, at_put, after, run, walk}
+use Rattle.papaya_law.specs.Exchange.{Word, Empty, Closed, Live, Marked, Copied, Tombstone, Setting}
+use Rattle.papaya_law.specs.Exchange.{State, Exchange, Open, Claim, Replace, Delete, Link, Mark}
+use Rattle.papaya_law.specs.Exchange.{Close, Place, Finish, Advance, Promote, Abort, Take, slot_put}
+use Rattle.papaya_law.specs.Exchange.{at_put, after, run, walk}
 use Rattle.papaya_law.specs.View.{View, Free, Foreign, Here, Leaving, Gone, Grave, view, look, own, beyond, foreign, IsPassed, IsFull, HasWord, IsReached}
 use Rattle.papaya_law.specs.Copying.{IsTaker, IsTarget, IsSettled}
 use Rattle.papaya_law.specs.Allows.{Allows, AllAllowed}
@@ -89,7 +93,15 @@ module _ {K P : Type 0} (g : Setting K P) (law : IsLawful g) where
 
   -- a state is later than itself
   pub later_itself : (s : State P) → IsLater g s s
-  later_itself s = record { was = λ t h. h; next = λ t h. refl; aborted = λ t h. h; done = λ t c h. h; made = omega arith; words = λ t x. becomes_itself (s.slot t x) }
+  later_itself s = record {
+    was = λ t h. h;
+    next = λ t h. refl;
+    aborted = λ t h. h;
+    done = λ t c h. h;
+    made = omega arith;
+    words = λ t x.
+        becomes_itself (s.slot t x);
+  }
 
   -- and later than what it is later than is
   pub later_through : (s s' s'' : State P) → IsLater g s s' → IsLater g s' s'' → IsLater g s s''
@@ -118,7 +130,8 @@ module _ {K P : Type 0} (g : Setting K P) (law : IsLawful g) where
 
   -- nothing of this asks that the words are as they have to be
   pub later_step : (s : State P) (e : Exchange P) → Allows g s e → IsLater g s (after s e)
-  later_step s (Open t) may = let l = later_itself s in record { was = put_on s.was_root t; next = l.next; aborted = l.aborted; done = l.done; made = l.made; words = l.words }
+  later_step s (Open t) may = let l = later_itself s in
+      record { was = put_on s.was_root t; next = l.next; aborted = l.aborted; done = l.done; made = l.made; words = l.words }
   later_step s (Claim t x p) may = slot_later s t x Empty (Live p) may.empty tt
   later_step s (Replace t x p q) may = slot_later s t x (Live p) (Live q) may.live may.kept
   later_step s (Delete t x p) may = slot_later s t x (Live p) (Tombstone p) may.live refl
@@ -128,7 +141,8 @@ module _ {K P : Type 0} (g : Setting K P) (law : IsLawful g) where
     done = l.done;
     made = l.made;
     words = l.words;
-    next = λ u h. ⊎_elim (λ (q : (u == t) ≡ true). let e = ap s.next (eqb-true u t q) in let z = may.last in absurd (omega arith)) (λ (q : (u == t) ≡ false). cond-false (u == t) n (s.next u) q) (cases_Bool (u == t));
+    next = λ u h. ⊎_elim (λ (q : (u == t) ≡ true). let e = ap s.next (eqb-true u t q) in let z = may.last in absurd (omega arith))
+        (λ (q : (u == t) ≡ false). cond-false (u == t) n (s.next u) q) (cases_Bool (u == t));
   }
   later_step s (Mark t x p) may = slot_later s t x (Live p) (Marked p) may.live refl
   later_step s (Close t x) may = slot_later s t x Empty Closed may.empty tt
@@ -142,9 +156,12 @@ module _ {K P : Type 0} (g : Setting K P) (law : IsLawful g) where
     words = l.words;
     done = λ u d h. done_stays s.done n c u d h;
   }
-  later_step s (Promote t n) may = let l = later_itself s in record { was = put_on s.was_root n; next = l.next; aborted = l.aborted; done = l.done; made = l.made; words = l.words }
-  later_step s (Abort n) may = let l = later_itself s in record { was = l.was; next = l.next; aborted = put_on s.aborted n; done = l.done; made = l.made; words = l.words }
-  later_step s (Take m) may = let l = later_itself s in record { was = l.was; next = l.next; aborted = l.aborted; done = l.done; made = let e = may.0 in omega arith; words = l.words }
+  later_step s (Promote t n) may = let l = later_itself s in
+      record { was = put_on s.was_root n; next = l.next; aborted = l.aborted; done = l.done; made = l.made; words = l.words }
+  later_step s (Abort n) may = let l = later_itself s in
+      record { was = l.was; next = l.next; aborted = put_on s.aborted n; done = l.done; made = l.made; words = l.words }
+  later_step s (Take m) may = let l = later_itself s in
+      record { was = l.was; next = l.next; aborted = l.aborted; done = l.done; made = let e = may.0 in omega arith; words = l.words }
 
   -- the same of a list
   pub later_run : (es : List (Exchange P)) (s : State P) → AllAllowed g s es → IsLater g s (run es s)
@@ -152,7 +169,8 @@ module _ {K P : Type 0} (g : Setting K P) (law : IsLawful g) where
   later_run (e ∷ es) s may = later_through s (after s e) (run es (after s e)) (later_step s e may.0) (later_run es (after s e) may.1)
 
   -- what a key sees of a word that becomes another
-  live_sees : (k : K) (p q : P) (v : View P) → g.same (g.key p) (g.key q) ≡ true → own v ≡ true → (b : Bool) → g.same k (g.key p) ≡ b → Sees (cond b (Here p) Foreign) (cond (g.same k (g.key q)) v Foreign)
+  live_sees : (k : K) (p q : P) (v : View P) → g.same (g.key p) (g.key q) ≡ true → own v ≡ true → (b : Bool) → g.same k (g.key p) ≡ b
+      → Sees (cond b (Here p) Foreign) (cond (g.same k (g.key q)) v Foreign)
   live_sees k p q v h o true e = ap own (cond-true (g.same k (g.key q)) v Foreign (sym (same_right g law k (g.key p) (g.key q) h) ∙ e)) ∙ o
   live_sees k p q v h o false e = cond-false (g.same k (g.key q)) v Foreign (sym (same_right g law k (g.key p) (g.key q) h) ∙ e)
 
@@ -178,8 +196,10 @@ module _ {K P : Type 0} (g : Setting K P) (law : IsLawful g) where
   sees_later k (Marked p) w b = marked (g.same k (g.key p)) refl
     where
       marked : (c : Bool) → g.same k (g.key p) ≡ c → Sees (cond c (Leaving p) Foreign) (view g k w)
-      marked true e = ⊎_elim (λ h. inl (ap (view g k) h ∙ cond-true (g.same k (g.key p)) (Leaving p) Foreign e)) (λ h. inr (ap (view g k) h ∙ cond-true (g.same k (g.key p)) (Gone p) Foreign e)) b
-      marked false e = ⊎_elim (λ h. ap (view g k) h ∙ cond-false (g.same k (g.key p)) (Leaving p) Foreign e) (λ h. ap (view g k) h ∙ cond-false (g.same k (g.key p)) (Gone p) Foreign e) b
+      marked true e = ⊎_elim (λ h. inl (ap (view g k) h ∙ cond-true (g.same k (g.key p)) (Leaving p) Foreign e))
+          (λ h. inr (ap (view g k) h ∙ cond-true (g.same k (g.key p)) (Gone p) Foreign e)) b
+      marked false e = ⊎_elim (λ h. ap (view g k) h ∙ cond-false (g.same k (g.key p)) (Leaving p) Foreign e)
+          (λ h. ap (view g k) h ∙ cond-false (g.same k (g.key p)) (Gone p) Foreign e) b
   sees_later k (Copied p) w b = sees_itself (Gone p) (g.same k (g.key p)) (view g k w) (ap (view g k) b) refl (λ u e. e)
   sees_later k (Tombstone p) w b = sees_itself (Grave p) (g.same k (g.key p)) (view g k w) (ap (view g k) b) refl (λ u e. e)
 
@@ -206,14 +226,18 @@ module _ {K P : Type 0} (g : Setting K P) (law : IsLawful g) where
     walk_later : (n t : ℕ) → 0 < walk s.next n t → walk s'.next n t ≡ walk s.next n t
     walk_later zero t h = refl
     walk_later (suc n) t h =
-        let some : 0 < walk s.next n t = ⊎_elim (λ c. c) (λ (c : walk s.next n t ≤ 0). let e : walk s.next n t ≡ 0 = omega arith in let z : s.next (walk s.next n t) ≡ 0 = ap s.next e ∙ zero' in absurd (omega arith)) (cases_lt 0 (walk s.next n t)) in
+        let some : 0 < walk s.next n t = ⊎_elim (λ c. c)
+        (λ (c : walk s.next n t ≤ 0). let e : walk s.next n t ≡ 0 = omega arith in let z : s.next (walk s.next n t) ≡ 0 = ap s.next e ∙ zero' in
+        absurd (omega arith)) (cases_lt 0 (walk s.next n t)) in
         ap s'.next (walk_later n t some) ∙ l.next (walk s.next n t) h
 
     -- a walk that ends at a table is at tables before
     some_before : (i n t : ℕ) → i ≤ n → 0 < walk s.next n t → 0 < walk s.next i t
     some_before i zero t le h = let e : i ≡ 0 = omega arith in subst (λ y. 0 < walk s.next y t) (sym e) h
     some_before i (suc n) t le h =
-        let some : 0 < walk s.next n t = ⊎_elim (λ c. c) (λ (c : walk s.next n t ≤ 0). let e : walk s.next n t ≡ 0 = omega arith in let z : s.next (walk s.next n t) ≡ 0 = ap s.next e ∙ zero' in absurd (omega arith)) (cases_lt 0 (walk s.next n t)) in
+        let some : 0 < walk s.next n t = ⊎_elim (λ c. c)
+        (λ (c : walk s.next n t ≤ 0). let e : walk s.next n t ≡ 0 = omega arith in let z : s.next (walk s.next n t) ≡ 0 = ap s.next e ∙ zero' in
+        absurd (omega arith)) (cases_lt 0 (walk s.next n t)) in
         ⊎_elim
         (λ (c : i < suc n). some_before i n t (omega arith) some)
         (λ (c : suc n ≤ i). let e : i ≡ suc n = omega arith in subst (λ y. 0 < walk s.next y t) (sym e) h)
@@ -230,7 +254,8 @@ module _ {K P : Type 0} (g : Setting K P) (law : IsLawful g) where
           is = walk_later r.links r.from some ∙ r.is;
           made = r.made;
           mode = r.mode;
-          passed = λ i lt. subst (IsPassed g.places (look g s' k)) (sym (walk_later i r.from (some_before i r.links r.from (omega arith) some))) (passed_later k (walk s.next i r.from) (r.passed i lt));
+          passed = λ i lt. subst (IsPassed g.places (look g s' k)) (sym (walk_later i r.from (some_before i r.links r.from (omega arith) some)))
+              (passed_later k (walk s.next i r.from) (r.passed i lt));
         }
 
     -- a table that takes a pair takes it still
@@ -268,7 +293,8 @@ module _ {K P : Type 0} (g : Setting K P) (law : IsLawful g) where
     settled_later n Empty w' b h = absurd h
     settled_later n Closed w' b h = subst (IsSettled g s' n) (sym b) tt
     settled_later n (Live p) w' b h = absurd h
-    settled_later n (Marked p) w' b h = ⊎_elim (λ e. subst (IsSettled g s' n) (sym e) (h.0, has_later (g.key p) n h.1)) (λ e. subst (IsSettled g s' n) (sym e) tt) b
+    settled_later n (Marked p) w' b h = ⊎_elim (λ e. subst (IsSettled g s' n) (sym e) (h.0, has_later (g.key p) n h.1))
+        (λ e. subst (IsSettled g s' n) (sym e) tt) b
     settled_later n (Copied p) w' b h = subst (IsSettled g s' n) (sym b) tt
     settled_later n (Tombstone p) w' b h = subst (IsSettled g s' n) (sym b) tt
 
@@ -285,8 +311,20 @@ module _ {K P : Type 0} (g : Setting K P) (law : IsLawful g) where
       has = has_later;
       beyond_at = λ k t j h. beyond_sees (look g s k t j) (look g s' k t j) (look_later k t j) h;
       foreign_at = λ k t j h. foreign_sees (look g s k t j) (look g s' k t j) (look_later k t j) h;
-      next_place = λ k t x r. record { at = r.at; within = r.within; is = r.is; before = λ i lt. beyond_sees (look g s k t i) (look g s' k t i) (look_later k t i) (r.before i lt) };
-      copy_place = λ k t x r. record { at = r.at; within = r.within; is = r.is; before = λ i lt. foreign_sees (look g s k t i) (look g s' k t i) (look_later k t i) (r.before i lt) };
+      next_place = λ k t x r. record {
+        at = r.at;
+        within = r.within;
+        is = r.is;
+        before = λ i lt.
+            beyond_sees (look g s k t i) (look g s' k t i) (look_later k t i) (r.before i lt);
+      };
+      copy_place = λ k t x r. record {
+        at = r.at;
+        within = r.within;
+        is = r.is;
+        before = λ i lt.
+            foreign_sees (look g s k t i) (look g s' k t i) (look_later k t i) (r.before i lt);
+      };
       reached = reached_later;
       taker = taker_later;
       target = target_later;

@@ -1,6 +1,9 @@
 -- Moments of a list of exchanges, and what a caller that is slow finds with blocking.
 use Rattle.std.proofs.Common.{◌≡◌, ◌⊎◌, inl, inr, ⊎_elim, ℕ, ◌<◌, true, false, Option, List, [], ◌∷◌, ◌++◌, refl, sym, ap, ◌∙◌, subst, arith}
-use Rattle.papaya_law.specs.Exchange.{Word, Empty, Closed, Live, Marked, Copied, Tombstone, Setting, State, Exchange, Open, Claim, Replace, Delete, Link, Mark, Close, Place, Finish, Advance, Promote, Abort, Take, after, run}
+use Rattle.papaya_law.specs.Exchange.{Word, Empty, Closed, Live, Marked, Copied, Tombstone, Setting}
+use Rattle.papaya_law.specs.Exchange.{State, Exchange, Open, Claim, Replace, Delete, Link, Mark}
+use Rattle.papaya_law.specs.Exchange.{Close, Place, Finish, Advance, Promote, Abort, Take, after}
+use Rattle.papaya_law.specs.Exchange.{run}
 use Rattle.papaya_law.specs.View.{view, look}
 use Rattle.papaya_law.specs.Allows.{Allows, AllAllowed, MayPromote}
 use Rattle.papaya_law.specs.Meaning.{map_after, map_of, IsLawful}
@@ -53,7 +56,8 @@ module _ {K P : Type 0} (g : Setting K P) where
         let whole = may.whole x lt in
         let low : s.root < n = subst (λ y. y < n) (sym may.root) target.1 in
         let d = holds.done_to n (g.chunk_of x) low whole in
-        subst (λ y. plain (s.slot y x) ≡ false) may.root (settled_not_plain g s n (s.slot s.root x) (d.settled x whole (subst (λ y. x < g.size y) (sym may.root) lt)))
+        subst (λ y. plain (s.slot y x) ≡ false) may.root
+        (settled_not_plain g s n (s.slot s.root x) (d.settled x whole (subst (λ y. x < g.size y) (sym may.root) lt)))
 
     -- a word that no copier has to come to stands
     stands : (u w : Word P) → plain u ≡ false → ((p : P) → w ≡ Copied p → ⊥) → Becomes g u w → w ≡ u
@@ -81,12 +85,14 @@ module _ {K P : Type 0} (g : Setting K P) where
     keeps_root s t is some (Take n) may = inl is
 
     -- a root of the past was seen so at a moment when it was the root
-    pub root_moment : (fs : List (Exchange P)) (s : State P) (m : K → Option P) → IsBlockingState g s m → AllAllowed g s fs → (t : ℕ) → s.root ≡ t → 0 < t → IsRootMoment s t fs
+    pub root_moment : (fs : List (Exchange P)) (s : State P) (m : K → Option P) → IsBlockingState g s m → AllAllowed g s fs → (t : ℕ) → s.root ≡ t
+        → 0 < t → IsRootMoment s t fs
     root_moment [] s m holds may t is some = record { so_far = []; rest = []; is = refl; root = is; sees = λ k j lt. refl }
     root_moment (e ∷ fs) s m holds may t is some =
         first (root_moment fs (after s e) (map_after g m e) (step_blocking g law blocks s m holds e may.0).1 may.1 t) (keeps_root s t is some e may.0)
       where
-        first : ((after s e).root ≡ t → 0 < t → IsRootMoment (after s e) t fs) → ((after s e).root ≡ t) ⊎ ((n : ℕ) × MayPromote g s t n) → IsRootMoment s t (e ∷ fs)
+        first : ((after s e).root ≡ t → 0 < t → IsRootMoment (after s e) t fs) → ((after s e).root ≡ t) ⊎ ((n : ℕ) × MayPromote g s t n)
+            → IsRootMoment s t (e ∷ fs)
         first ih (inl same) = let r = ih same some in record { so_far = e ∷ r.so_far; rest = r.rest; is = ap (λ l. e ∷ l) r.is; root = r.root; sees = r.sees }
         first ih (inr (n, p)) = record {
           so_far = [];
@@ -95,5 +101,6 @@ module _ {K P : Type 0} (g : Setting K P) where
           root = is;
           sees = λ k j lt.
               let x : ℕ = g.place k t j in
-              ap (view g k) (stands (s.slot t x) ((run (e ∷ fs) s).slot t x) (promoted s m holds t n p x (law.within k t j lt)) ((run_blocking g law blocks (e ∷ fs) s m holds may).copied t x) ((later_run g law (e ∷ fs) s may).words t x));
+              ap (view g k) (stands (s.slot t x) ((run (e ∷ fs) s).slot t x) (promoted s m holds t n p x (law.within k t j lt))
+              ((run_blocking g law blocks (e ∷ fs) s m holds may).copied t x) ((later_run g law (e ∷ fs) s may).words t x));
         }

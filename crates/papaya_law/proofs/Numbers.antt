@@ -1,6 +1,8 @@
 -- Numbers for pairs are taken one by one, and no more than the limit lets.
 use Rattle.std.proofs.Common.{◌≡◌, ℕ, ◌<◌, ◌≤◌, Some, MatchOption, List, [], ◌∷◌, subst, arith}
-use Rattle.papaya_law.specs.Exchange.{Setting, State, Exchange, Open, Claim, Replace, Delete, Link, Mark, Close, Place, Finish, Advance, Promote, Abort, Take, after, run}
+use Rattle.papaya_law.specs.Exchange.{Setting, State, Exchange, Open, Claim, Replace, Delete, Link}
+use Rattle.papaya_law.specs.Exchange.{Mark, Close, Place, Finish, Advance, Promote, Abort, Take}
+use Rattle.papaya_law.specs.Exchange.{after, run}
 use Rattle.papaya_law.specs.Allows.{Allows, AllAllowed}
 
 module _ {K P : Type 0} (g : Setting K P) (n : ℕ) (most : g.most ≡ Some n) where

@@ -42,7 +42,16 @@ module _ {K P : Type 0} (g : Setting K P) (s : State P) (m : K → Option P) (ke
 
   -- the root that a load finds is reached for each key
   pub root_reached : (k : K) → 0 < s.root → IsReached g s k s.root
-  root_reached k some = record { from = s.root; links = 0; was = keeping_sound.root_was some; is = refl; made = some; mode = inl refl; passed = λ i lt. absurd (omega arith) }
+  root_reached k some = record {
+    from = s.root;
+    links = 0;
+    was = keeping_sound.root_was some;
+    is = refl;
+    made = some;
+    mode = inl refl;
+    passed = λ i
+        lt. absurd (omega arith);
+  }
 
 module _ {K P : Type 0} (g : Setting K P) (law : IsLawful g) where
   -- before the first exchange the map is empty
@@ -50,7 +59,8 @@ module _ {K P : Type 0} (g : Setting K P) (law : IsLawful g) where
   start_keeps = ⊎_elim (λ b. inr (b, start_blocking g)) (λ b. inl (b, start_incremental g b)) (cases_Bool g.blocking)
 
   -- the law of one step
-  pub step_keeps : (s : State P) (m : K → Option P) → IsKeeping g s m → (e : Exchange P) → Allows g s e → IsLegal g m e × IsKeeping g (after s e) (map_after g m e)
+  pub step_keeps : (s : State P) (m : K → Option P) → IsKeeping g s m → (e : Exchange P) → Allows g s e → IsLegal g m e
+      × IsKeeping g (after s e) (map_after g m e)
   step_keeps s m (inl h) e may = let r = step_incremental g law h.0 s m h.1 e may in (r.0, inl (h.0, r.1))
   step_keeps s m (inr h) e may = let r = step_blocking g law h.0 s m h.1 e may in (r.0, inr (h.0, r.1))
 
@@ -116,15 +126,19 @@ module _ {K P : Type 0} (g : Setting K P) (law : IsLawful g) where
       now = sym (run-append es fs start)
 
       -- it finds a pair
-      pub reader_found : (j : ℕ) (p : P) → j < g.places t → (look g (run (es ++ fs) start) k t j ≡ Here p) ⊎ (look g (run (es ++ fs) start) k t j ≡ Leaving p) → IsAtMoment g (map_left g es) fs k (Some p)
-      reader_found j p lt h = slow_found g law blocks (run es start) (map_left g es) holds t root some fs (allowed_rest g es fs start may) k j p lt (subst (λ s. (look g s k t j ≡ Here p) ⊎ (look g s k t j ≡ Leaving p)) (sym now) h)
+      pub reader_found : (j : ℕ) (p : P) → j < g.places t → (look g (run (es ++ fs) start) k t j ≡ Here p)
+          ⊎ (look g (run (es ++ fs) start) k t j ≡ Leaving p) → IsAtMoment g (map_left g es) fs k (Some p)
+      reader_found j p lt h = slow_found g law blocks (run es start) (map_left g es) holds t root some fs (allowed_rest g es fs start may) k j p lt
+          (subst (λ s. (look g s k t j ≡ Here p) ⊎ (look g s k t j ≡ Leaving p)) (sym now) h)
 
       -- it comes to an Empty place
-      pub reader_empty : (j : ℕ) → j < g.places t → ((i : ℕ) → i < j → beyond (look g (run (es ++ fs) start) k t i) ≡ true) → look g (run (es ++ fs) start) k t j ≡ Free → IsAtMoment g (map_left g es) fs k None
+      pub reader_empty : (j : ℕ) → j < g.places t → ((i : ℕ) → i < j → beyond (look g (run (es ++ fs) start) k t i) ≡ true)
+          → look g (run (es ++ fs) start) k t j ≡ Free → IsAtMoment g (map_left g es) fs k None
       reader_empty j lt before free =
           slow_empty g law blocks (run es start) (map_left g es) holds t root some fs (allowed_rest g es fs start may) k j lt
           (subst (λ s. (i : ℕ) → i < j → beyond (look g s k t i) ≡ true) (sym now) before) (subst (λ s. look g s k t j ≡ Free) (sym now) free)
 
       -- it comes to the table's end
       pub reader_over : IsPassed g.places (look g (run (es ++ fs) start) k) t → IsAtMoment g (map_left g es) fs k None
-      reader_over h = slow_over g law blocks (run es start) (map_left g es) holds t root some fs (allowed_rest g es fs start may) k (subst (λ s. IsPassed g.places (look g s k) t) (sym now) h)
+      reader_over h = slow_over g law blocks (run es start) (map_left g es) holds t root some fs (allowed_rest g es fs start may) k
+          (subst (λ s. IsPassed g.places (look g s k) t) (sym now) h)

@@ -8,7 +8,8 @@ use Rattle.papaya_law.specs.Invariant.{IsBlockingState}
 use Rattle.papaya_law.proofs.Blocking.Steps.{run_blocking, meaning_blocking}
 use Rattle.papaya_law.proofs.Moments.{IsRootMoment, root_moment, allowed_first}
 
-module _ {K P : Type 0} (g : Setting K P) (law : IsLawful g) (blocks : g.blocking ≡ true) (s : State P) (m : K → Option P) (holds : IsBlockingState g s m) (t : ℕ) (root : s.root ≡ t) (some : 0 < t) (fs : List (Exchange P)) (may : AllAllowed g s fs) (k : K) where
+module _ {K P : Type 0} (g : Setting K P) (law : IsLawful g) (blocks : g.blocking ≡ true) (s : State P) (m : K → Option P)
+    (holds : IsBlockingState g s m) (t : ℕ) (root : s.root ≡ t) (some : 0 < t) (fs : List (Exchange P)) (may : AllAllowed g s fs) (k : K) where
   -- a moment when t was the root and was seen so
   pub moment : IsRootMoment g s t fs
   moment = root_moment g law blocks fs s m holds may t root some
@@ -39,12 +40,15 @@ module _ {K P : Type 0} (g : Setting K P) (law : IsLawful g) (blocks : g.blockin
 
   -- a pair that is found in t
   pub slow_found : (j : ℕ) (p : P) → j < g.places t → (look g (run fs s) k t j ≡ Here p) ⊎ (look g (run fs s) k t j ≡ Leaving p) → IsAtMoment g m fs k (Some p)
-  slow_found j p lt h = at_moment (Some p) (then_means.found t j p then_reached (λ b. moment.root) lt (⊎_elim (λ e. inl (sym (moment.sees k j lt) ∙ e)) (λ e. inr (sym (moment.sees k j lt) ∙ e)) h))
+  slow_found j p lt h = at_moment (Some p)
+      (then_means.found t j p then_reached (λ b. moment.root) lt (⊎_elim (λ e. inl (sym (moment.sees k j lt) ∙ e)) (λ e. inr (sym (moment.sees k j lt) ∙ e)) h))
 
   -- an Empty place that is come to in t
-  pub slow_empty : (j : ℕ) → j < g.places t → ((i : ℕ) → i < j → beyond (look g (run fs s) k t i) ≡ true) → look g (run fs s) k t j ≡ Free → IsAtMoment g m fs k None
+  pub slow_empty : (j : ℕ) → j < g.places t → ((i : ℕ) → i < j → beyond (look g (run fs s) k t i) ≡ true) → look g (run fs s) k t j ≡ Free
+      → IsAtMoment g m fs k None
   slow_empty j lt before free =
-      at_moment None (then_means.empty t j then_reached (λ b. moment.root) lt (λ i l. ap beyond (sym (moment.sees k i (omega arith))) ∙ before i l) (sym (moment.sees k j lt) ∙ free))
+      at_moment None (then_means.empty t j then_reached (λ b. moment.root) lt (λ i l. ap beyond (sym (moment.sees k i (omega arith))) ∙ before i l)
+      (sym (moment.sees k j lt) ∙ free))
 
   -- t is passed
   pub slow_over : IsPassed g.places (look g (run fs s) k) t → IsAtMoment g m fs k None

@@ -8,18 +8,24 @@ use Rattle.papaya_law.proofs.Class.{IsTurn}
 use mathlib.Core.Path.{fun_ext}
 
 -- a slot is the one that changed or another
-pub slot_cases : {P : Type 0} → (s : State P) (t x : ℕ) (w : Word P) (u y : ℕ) → (((slot_put s t x w).slot u y ≡ s.slot u y) × ((u ≡ t) × (y ≡ x) → ⊥)) ⊎ ((u ≡ t) × (y ≡ x) × ((slot_put s t x w).slot u y ≡ w))
+pub slot_cases : {P : Type 0} → (s : State P) (t x : ℕ) (w : Word P) (u y : ℕ)
+    → (((slot_put s t x w).slot u y ≡ s.slot u y) × ((u ≡ t) × (y ≡ x) → ⊥)) ⊎ ((u ≡ t) × (y ≡ x) × ((slot_put s t x w).slot u y ≡ w))
 slot_cases s t x w u y =
     ⊎_elim
     (λ (h : ((u == t) && (y == x)) ≡ true).
     let e = and_parts (u == t) (y == x) h in
     inr (eqb-true u t e.0, eqb-true y x e.1, cond-true ((u == t) && (y == x)) w (s.slot u y) h))
     (λ (h : ((u == t) && (y == x)) ≡ false).
-    inl (cond-false ((u == t) && (y == x)) w (s.slot u y) h, λ e. let b : ((u == t) && (y == x)) ≡ true = and_from (u == t) (y == x) (eq-eqb u t e.0) (eq-eqb y x e.1) in cc (b, h)))
+    inl (
+      cond-false ((u == t) && (y == x)) w (s.slot u y) h,
+      λ e.
+          let b : ((u == t) && (y == x)) ≡ true = and_from (u == t) (y == x) (eq-eqb u t e.0) (eq-eqb y x e.1) in cc (b, h),
+    ))
     (cases_Bool ((u == t) && (y == x)))
 
 -- the slot that a word is put into holds it
-pub put_there : {P : Type 0} → (s : State P) (t x : ℕ) (w : Word P) (u y : ℕ) → (t ≡ u) × (x ≡ y) → ((slot_put s t x w).slot u y ≡ w) × (s.slot u y ≡ s.slot t x)
+pub put_there : {P : Type 0} → (s : State P) (t x : ℕ) (w : Word P) (u y : ℕ) → (t ≡ u) × (x ≡ y) → ((slot_put s t x w).slot u y ≡ w)
+    × (s.slot u y ≡ s.slot t x)
 put_there s t x w u y e =
     ⊎_elim (λ h. absurd (h.1 (sym e.0, sym e.1))) (λ h. (h.2, ap (λ v. s.slot v y) h.0 ∙ ap (s.slot t) h.1)) (slot_cases s t x w u y)
 
@@ -29,7 +35,8 @@ put_elsewhere s t x w u y other = ⊎_elim (λ h. h.0) (λ h. absurd (other (sym
 
 module _ {K P : Type 0} (g : Setting K P) where
   -- a slot's change is a turn for each key
-  pub slot_turn : (s : State P) (k : K) (t x : ℕ) (w w' : Word P) → s.slot t x ≡ w → IsTurn (g.place k) (look g s k) (look g (slot_put s t x w') k) t x (view g k w) (view g k w')
+  pub slot_turn : (s : State P) (k : K) (t x : ℕ) (w w' : Word P) → s.slot t x ≡ w
+      → IsTurn (g.place k) (look g s k) (look g (slot_put s t x w') k) t x (view g k w) (view g k w')
   slot_turn s k t x w w' old = record {
     each = λ u j.
         ⊎_elim
@@ -42,37 +49,56 @@ module _ {K P : Type 0} (g : Setting K P) where
   pub view_leaving : (k : K) (w : Word P) (p : P) → view g k w ≡ Leaving p → (w ≡ Marked p) × (g.same k (g.key p) ≡ true)
   view_leaving k Empty p e = absurd cc
   view_leaving k Closed p e = absurd cc
-  view_leaving k (Live q) p e = ⊎_elim (λ h. let c = cond-true (g.same k (g.key q)) (Here q) Foreign h in absurd (cc (c, e))) (λ h. let c = cond-false (g.same k (g.key q)) (Here q) Foreign h in absurd (cc (c, e))) (cases_Bool (g.same k (g.key q)))
-  view_leaving k (Marked q) p e = ⊎_elim (λ h. let c = cond-true (g.same k (g.key q)) (Leaving q) Foreign h in let same : q ≡ p = cc (c, e) in (ap Marked same, ap (λ y. g.same k (g.key y)) (sym same) ∙ h)) (λ h. let c = cond-false (g.same k (g.key q)) (Leaving q) Foreign h in absurd (cc (c, e))) (cases_Bool (g.same k (g.key q)))
-  view_leaving k (Copied q) p e = ⊎_elim (λ h. let c = cond-true (g.same k (g.key q)) (Gone q) Foreign h in absurd (cc (c, e))) (λ h. let c = cond-false (g.same k (g.key q)) (Gone q) Foreign h in absurd (cc (c, e))) (cases_Bool (g.same k (g.key q)))
-  view_leaving k (Tombstone q) p e = ⊎_elim (λ h. let c = cond-true (g.same k (g.key q)) (Grave q) Foreign h in absurd (cc (c, e))) (λ h. let c = cond-false (g.same k (g.key q)) (Grave q) Foreign h in absurd (cc (c, e))) (cases_Bool (g.same k (g.key q)))
+  view_leaving k (Live q) p e = ⊎_elim (λ h. let c = cond-true (g.same k (g.key q)) (Here q) Foreign h in absurd (cc (c, e)))
+      (λ h. let c = cond-false (g.same k (g.key q)) (Here q) Foreign h in absurd (cc (c, e))) (cases_Bool (g.same k (g.key q)))
+  view_leaving k (Marked q) p e = ⊎_elim (λ h. let c = cond-true (g.same k (g.key q)) (Leaving q) Foreign h in let same : q ≡ p = cc (c, e) in
+      (ap Marked same, ap (λ y. g.same k (g.key y)) (sym same) ∙ h))
+      (λ h. let c = cond-false (g.same k (g.key q)) (Leaving q) Foreign h in absurd (cc (c, e))) (cases_Bool (g.same k (g.key q)))
+  view_leaving k (Copied q) p e = ⊎_elim (λ h. let c = cond-true (g.same k (g.key q)) (Gone q) Foreign h in absurd (cc (c, e)))
+      (λ h. let c = cond-false (g.same k (g.key q)) (Gone q) Foreign h in absurd (cc (c, e))) (cases_Bool (g.same k (g.key q)))
+  view_leaving k (Tombstone q) p e = ⊎_elim (λ h. let c = cond-true (g.same k (g.key q)) (Grave q) Foreign h in absurd (cc (c, e)))
+      (λ h. let c = cond-false (g.same k (g.key q)) (Grave q) Foreign h in absurd (cc (c, e))) (cases_Bool (g.same k (g.key q)))
 
   -- of a Copied one
   pub view_gone : (k : K) (w : Word P) (p : P) → view g k w ≡ Gone p → (w ≡ Copied p) × (g.same k (g.key p) ≡ true)
   view_gone k Empty p e = absurd cc
   view_gone k Closed p e = absurd cc
-  view_gone k (Live q) p e = ⊎_elim (λ h. let c = cond-true (g.same k (g.key q)) (Here q) Foreign h in absurd (cc (c, e))) (λ h. let c = cond-false (g.same k (g.key q)) (Here q) Foreign h in absurd (cc (c, e))) (cases_Bool (g.same k (g.key q)))
-  view_gone k (Marked q) p e = ⊎_elim (λ h. let c = cond-true (g.same k (g.key q)) (Leaving q) Foreign h in absurd (cc (c, e))) (λ h. let c = cond-false (g.same k (g.key q)) (Leaving q) Foreign h in absurd (cc (c, e))) (cases_Bool (g.same k (g.key q)))
-  view_gone k (Copied q) p e = ⊎_elim (λ h. let c = cond-true (g.same k (g.key q)) (Gone q) Foreign h in let same : q ≡ p = cc (c, e) in (ap Copied same, ap (λ y. g.same k (g.key y)) (sym same) ∙ h)) (λ h. let c = cond-false (g.same k (g.key q)) (Gone q) Foreign h in absurd (cc (c, e))) (cases_Bool (g.same k (g.key q)))
-  view_gone k (Tombstone q) p e = ⊎_elim (λ h. let c = cond-true (g.same k (g.key q)) (Grave q) Foreign h in absurd (cc (c, e))) (λ h. let c = cond-false (g.same k (g.key q)) (Grave q) Foreign h in absurd (cc (c, e))) (cases_Bool (g.same k (g.key q)))
+  view_gone k (Live q) p e = ⊎_elim (λ h. let c = cond-true (g.same k (g.key q)) (Here q) Foreign h in absurd (cc (c, e)))
+      (λ h. let c = cond-false (g.same k (g.key q)) (Here q) Foreign h in absurd (cc (c, e))) (cases_Bool (g.same k (g.key q)))
+  view_gone k (Marked q) p e = ⊎_elim (λ h. let c = cond-true (g.same k (g.key q)) (Leaving q) Foreign h in absurd (cc (c, e)))
+      (λ h. let c = cond-false (g.same k (g.key q)) (Leaving q) Foreign h in absurd (cc (c, e))) (cases_Bool (g.same k (g.key q)))
+  view_gone k (Copied q) p e = ⊎_elim (λ h. let c = cond-true (g.same k (g.key q)) (Gone q) Foreign h in let same : q ≡ p = cc (c, e) in
+      (ap Copied same, ap (λ y. g.same k (g.key y)) (sym same) ∙ h))
+      (λ h. let c = cond-false (g.same k (g.key q)) (Gone q) Foreign h in absurd (cc (c, e))) (cases_Bool (g.same k (g.key q)))
+  view_gone k (Tombstone q) p e = ⊎_elim (λ h. let c = cond-true (g.same k (g.key q)) (Grave q) Foreign h in absurd (cc (c, e)))
+      (λ h. let c = cond-false (g.same k (g.key q)) (Grave q) Foreign h in absurd (cc (c, e))) (cases_Bool (g.same k (g.key q)))
 
   -- of a Tombstone one
   pub view_grave : (k : K) (w : Word P) (p : P) → view g k w ≡ Grave p → (w ≡ Tombstone p) × (g.same k (g.key p) ≡ true)
   view_grave k Empty p e = absurd cc
   view_grave k Closed p e = absurd cc
-  view_grave k (Live q) p e = ⊎_elim (λ h. let c = cond-true (g.same k (g.key q)) (Here q) Foreign h in absurd (cc (c, e))) (λ h. let c = cond-false (g.same k (g.key q)) (Here q) Foreign h in absurd (cc (c, e))) (cases_Bool (g.same k (g.key q)))
-  view_grave k (Marked q) p e = ⊎_elim (λ h. let c = cond-true (g.same k (g.key q)) (Leaving q) Foreign h in absurd (cc (c, e))) (λ h. let c = cond-false (g.same k (g.key q)) (Leaving q) Foreign h in absurd (cc (c, e))) (cases_Bool (g.same k (g.key q)))
-  view_grave k (Copied q) p e = ⊎_elim (λ h. let c = cond-true (g.same k (g.key q)) (Gone q) Foreign h in absurd (cc (c, e))) (λ h. let c = cond-false (g.same k (g.key q)) (Gone q) Foreign h in absurd (cc (c, e))) (cases_Bool (g.same k (g.key q)))
-  view_grave k (Tombstone q) p e = ⊎_elim (λ h. let c = cond-true (g.same k (g.key q)) (Grave q) Foreign h in let same : q ≡ p = cc (c, e) in (ap Tombstone same, ap (λ y. g.same k (g.key y)) (sym same) ∙ h)) (λ h. let c = cond-false (g.same k (g.key q)) (Grave q) Foreign h in absurd (cc (c, e))) (cases_Bool (g.same k (g.key q)))
+  view_grave k (Live q) p e = ⊎_elim (λ h. let c = cond-true (g.same k (g.key q)) (Here q) Foreign h in absurd (cc (c, e)))
+      (λ h. let c = cond-false (g.same k (g.key q)) (Here q) Foreign h in absurd (cc (c, e))) (cases_Bool (g.same k (g.key q)))
+  view_grave k (Marked q) p e = ⊎_elim (λ h. let c = cond-true (g.same k (g.key q)) (Leaving q) Foreign h in absurd (cc (c, e)))
+      (λ h. let c = cond-false (g.same k (g.key q)) (Leaving q) Foreign h in absurd (cc (c, e))) (cases_Bool (g.same k (g.key q)))
+  view_grave k (Copied q) p e = ⊎_elim (λ h. let c = cond-true (g.same k (g.key q)) (Gone q) Foreign h in absurd (cc (c, e)))
+      (λ h. let c = cond-false (g.same k (g.key q)) (Gone q) Foreign h in absurd (cc (c, e))) (cases_Bool (g.same k (g.key q)))
+  view_grave k (Tombstone q) p e = ⊎_elim (λ h. let c = cond-true (g.same k (g.key q)) (Grave q) Foreign h in let same : q ≡ p = cc (c, e) in
+      (ap Tombstone same, ap (λ y. g.same k (g.key y)) (sym same) ∙ h))
+      (λ h. let c = cond-false (g.same k (g.key q)) (Grave q) Foreign h in absurd (cc (c, e))) (cases_Bool (g.same k (g.key q)))
 
   -- of a Live one
   pub view_here : (k : K) (w : Word P) (p : P) → view g k w ≡ Here p → w ≡ Live p
   view_here k Empty p e = absurd cc
   view_here k Closed p e = absurd cc
-  view_here k (Live q) p e = ⊎_elim (λ h. let c = cond-true (g.same k (g.key q)) (Here q) Foreign h in let same : q ≡ p = cc (c, e) in ap Live same) (λ h. let c = cond-false (g.same k (g.key q)) (Here q) Foreign h in absurd (cc (c, e))) (cases_Bool (g.same k (g.key q)))
-  view_here k (Marked q) p e = ⊎_elim (λ h. let c = cond-true (g.same k (g.key q)) (Leaving q) Foreign h in absurd (cc (c, e))) (λ h. let c = cond-false (g.same k (g.key q)) (Leaving q) Foreign h in absurd (cc (c, e))) (cases_Bool (g.same k (g.key q)))
-  view_here k (Copied q) p e = ⊎_elim (λ h. let c = cond-true (g.same k (g.key q)) (Gone q) Foreign h in absurd (cc (c, e))) (λ h. let c = cond-false (g.same k (g.key q)) (Gone q) Foreign h in absurd (cc (c, e))) (cases_Bool (g.same k (g.key q)))
-  view_here k (Tombstone q) p e = ⊎_elim (λ h. let c = cond-true (g.same k (g.key q)) (Grave q) Foreign h in absurd (cc (c, e))) (λ h. let c = cond-false (g.same k (g.key q)) (Grave q) Foreign h in absurd (cc (c, e))) (cases_Bool (g.same k (g.key q)))
+  view_here k (Live q) p e = ⊎_elim (λ h. let c = cond-true (g.same k (g.key q)) (Here q) Foreign h in let same : q ≡ p = cc (c, e) in ap Live same)
+      (λ h. let c = cond-false (g.same k (g.key q)) (Here q) Foreign h in absurd (cc (c, e))) (cases_Bool (g.same k (g.key q)))
+  view_here k (Marked q) p e = ⊎_elim (λ h. let c = cond-true (g.same k (g.key q)) (Leaving q) Foreign h in absurd (cc (c, e)))
+      (λ h. let c = cond-false (g.same k (g.key q)) (Leaving q) Foreign h in absurd (cc (c, e))) (cases_Bool (g.same k (g.key q)))
+  view_here k (Copied q) p e = ⊎_elim (λ h. let c = cond-true (g.same k (g.key q)) (Gone q) Foreign h in absurd (cc (c, e)))
+      (λ h. let c = cond-false (g.same k (g.key q)) (Gone q) Foreign h in absurd (cc (c, e))) (cases_Bool (g.same k (g.key q)))
+  view_here k (Tombstone q) p e = ⊎_elim (λ h. let c = cond-true (g.same k (g.key q)) (Grave q) Foreign h in absurd (cc (c, e)))
+      (λ h. let c = cond-false (g.same k (g.key q)) (Grave q) Foreign h in absurd (cc (c, e))) (cases_Bool (g.same k (g.key q)))
 
   module _ (law : IsLawful g) where
     -- equal keys are equal to the same keys

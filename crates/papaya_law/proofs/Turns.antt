@@ -1,7 +1,10 @@
 -- The exchange by which a slot came to what it holds.
 use Rattle.std.proofs.Common.{◌≡◌, ⊎_elim, ℕ, Bool, true, false, Option, None, List, [], ◌∷◌, ◌++◌, refl, sym, ap, ◌∙◌, subst}
 use Rattle.std.proofs.lemmas.Bool.{cond-true}
-use Rattle.papaya_law.specs.Exchange.{Word, Empty, Closed, Live, Marked, Copied, Tombstone, Setting, State, Exchange, Open, Claim, Replace, Delete, Link, Mark, Close, Place, Finish, Advance, Promote, Abort, Take, after, run, slot_put}
+use Rattle.papaya_law.specs.Exchange.{Word, Empty, Closed, Live, Marked, Copied, Tombstone, Setting}
+use Rattle.papaya_law.specs.Exchange.{State, Exchange, Open, Claim, Replace, Delete, Link, Mark}
+use Rattle.papaya_law.specs.Exchange.{Close, Place, Finish, Advance, Promote, Abort, Take, after}
+use Rattle.papaya_law.specs.Exchange.{run, slot_put}
 use Rattle.papaya_law.specs.Allows.{Allows, AllAllowed}
 use Rattle.papaya_law.specs.Meaning.{map_after, map_of, IsLawful, IsAtMoment}
 use Rattle.papaya_law.specs.Later.{Becomes}
@@ -39,20 +42,33 @@ pub record IsTurnOf {K P : Type 0} (g : Setting K P) (test : Word P → Bool) (s
 
 module _ {K P : Type 0} (g : Setting K P) where
   -- a slot whose word meets a test now, and didn't, came to it by an exchange
-  pub turn_of : (test : Word P → Bool) (t x : ℕ) (fs : List (Exchange P)) (s : State P) → AllAllowed g s fs → test (s.slot t x) ≡ false → test ((run fs s).slot t x) ≡ true → IsTurnOf g test s t x fs
+  pub turn_of : (test : Word P → Bool) (t x : ℕ) (fs : List (Exchange P)) (s : State P) → AllAllowed g s fs → test (s.slot t x) ≡ false
+      → test ((run fs s).slot t x) ≡ true → IsTurnOf g test s t x fs
   turn_of test t x [] s may old new = absurd (cc (old, new))
   turn_of test t x (e ∷ fs) s may old new = first (turn_of test t x fs (after s e) may.1) (test ((after s e).slot t x)) refl
     where
-      first : (test ((after s e).slot t x) ≡ false → test ((run fs (after s e)).slot t x) ≡ true → IsTurnOf g test (after s e) t x fs) → (b : Bool) → test ((after s e).slot t x) ≡ b → IsTurnOf g test s t x (e ∷ fs)
+      first : (test ((after s e).slot t x) ≡ false → test ((run fs (after s e)).slot t x) ≡ true → IsTurnOf g test (after s e) t x fs) → (b : Bool)
+          → test ((after s e).slot t x) ≡ b → IsTurnOf g test s t x (e ∷ fs)
       first ih true h = record { so_far = []; by = e; rest = fs; is = refl; may = may.0; old = old; new = h }
-      first ih false h = let r = ih h new in record { so_far = e ∷ r.so_far; by = r.by; rest = r.rest; is = ap (λ l. e ∷ l) r.is; may = r.may; old = r.old; new = r.new }
+      first ih false h = let r = ih h new in record {
+        so_far = e ∷ r.so_far;
+        by = r.by;
+        rest = r.rest;
+        is = ap (λ l. e ∷ l) r.is;
+        may = r.may;
+        old = r.old;
+        new = r.new;
+      }
 
   -- a slot's word that doesn't meet a test and then does was changed in that slot
-  changed : (test : Word P → Bool) (s : State P) (t x u y : ℕ) (w : Word P) → test (s.slot t x) ≡ false → test ((slot_put s u y w).slot t x) ≡ true → (t ≡ u) × (x ≡ y) × (test w ≡ true)
-  changed test s t x u y w old new = ⊎_elim (λ r. absurd (let e = ap test r.0 in cc (e, old, new))) (λ r. (r.0, r.1, ap test (sym r.2) ∙ new)) (slot_cases s u y w t x)
+  changed : (test : Word P → Bool) (s : State P) (t x u y : ℕ) (w : Word P) → test (s.slot t x) ≡ false → test ((slot_put s u y w).slot t x) ≡ true
+      → (t ≡ u) × (x ≡ y) × (test w ≡ true)
+  changed test s t x u y w old new = ⊎_elim (λ r. absurd (let e = ap test r.0 in cc (e, old, new))) (λ r. (r.0, r.1, ap test (sym r.2) ∙ new))
+      (slot_cases s u y w t x)
 
   -- only a deletion deletes
-  by_deletion : (s : State P) (t x : ℕ) (e : Exchange P) → Allows g s e → tombstone (s.slot t x) ≡ false → tombstone ((after s e).slot t x) ≡ true → (p : P) × (e ≡ Delete t x p)
+  by_deletion : (s : State P) (t x : ℕ) (e : Exchange P) → Allows g s e → tombstone (s.slot t x) ≡ false → tombstone ((after s e).slot t x) ≡ true
+      → (p : P) × (e ≡ Delete t x p)
   by_deletion s t x (Open u) may old new = absurd (cc (old, new))
   by_deletion s t x (Claim u y p) may old new = absurd (let r = changed tombstone s t x u y (Live p) old new in let f = r.2 in cc f)
   by_deletion s t x (Replace u y p q) may old new = absurd (let r = changed tombstone s t x u y (Live q) old new in let f = r.2 in cc f)
@@ -68,7 +84,8 @@ module _ {K P : Type 0} (g : Setting K P) where
   by_deletion s t x (Take n) may old new = absurd (cc (old, new))
 
   -- only a finish makes a word Copied
-  pub by_finish : (s : State P) (t x : ℕ) (e : Exchange P) → Allows g s e → copied (s.slot t x) ≡ false → copied ((after s e).slot t x) ≡ true → (p : P) × (s.slot t x ≡ Marked p) × (e ≡ Finish t x p)
+  pub by_finish : (s : State P) (t x : ℕ) (e : Exchange P) → Allows g s e → copied (s.slot t x) ≡ false → copied ((after s e).slot t x) ≡ true
+      → (p : P) × (s.slot t x ≡ Marked p) × (e ≡ Finish t x p)
   by_finish s t x (Open u) may old new = absurd (cc (old, new))
   by_finish s t x (Claim u y p) may old new = absurd (let r = changed copied s t x u y (Live p) old new in let f = r.2 in cc f)
   by_finish s t x (Replace u y p q) may old new = absurd (let r = changed copied s t x u y (Live q) old new in let f = r.2 in cc f)
@@ -84,15 +101,19 @@ module _ {K P : Type 0} (g : Setting K P) where
   by_finish s t x (Take n) may old new = absurd (cc (old, new))
 
   -- a slot whose word of key k was no Tombstone one, and now is: at a moment since then the map had none
-  pub none_since : (law : IsLawful g) (m : K → Option P) (k : K) (t x : ℕ) (fs : List (Exchange P)) (s : State P) → AllAllowed g s fs → tombstone (s.slot t x) ≡ false → (p : P) → (run fs s).slot t x ≡ Tombstone p → g.same k (g.key p) ≡ true → IsAtMoment g m fs k None
+  pub none_since : (law : IsLawful g) (m : K → Option P) (k : K) (t x : ℕ) (fs : List (Exchange P)) (s : State P) → AllAllowed g s fs
+      → tombstone (s.slot t x) ≡ false → (p : P) → (run fs s).slot t x ≡ Tombstone p → g.same k (g.key p) ≡ true → IsAtMoment g m fs k None
   none_since law m k t x fs s may old p now same =
       let r = turn_of tombstone t x fs s may old (ap tombstone now) in
       let b = by_deletion (run r.so_far s) t x r.by r.may r.old r.new in
       let may' : AllAllowed g s (r.so_far ++ r.by ∷ r.rest) = subst (AllAllowed g s) (sym r.is) may in
       let late = later_run g law r.rest (after (run r.so_far s) r.by) (allowed_rest g r.so_far (r.by ∷ r.rest) s may').1 in
-      let end : (run fs s).slot t x ≡ (run r.rest (after (run r.so_far s) r.by)).slot t x = ap (λ l. (run l s).slot t x) (sym r.is) ∙ ap (λ z. z.slot t x) (run-append r.so_far (r.by ∷ r.rest) s) in
-      let then' : (after (run r.so_far s) r.by).slot t x ≡ Tombstone b.0 = ap (λ e. (after (run r.so_far s) e).slot t x) b.1 ∙ written (run r.so_far s) t x (Tombstone b.0) in
-      let stays : (run r.rest (after (run r.so_far s) r.by)).slot t x ≡ Tombstone b.0 = subst (λ w. Becomes g w ((run r.rest (after (run r.so_far s) r.by)).slot t x)) then' (late.words t x) in
+      let end : (run fs s).slot t x ≡ (run r.rest (after (run r.so_far s) r.by)).slot t x = ap (λ l. (run l s).slot t x) (sym r.is)
+      ∙ ap (λ z. z.slot t x) (run-append r.so_far (r.by ∷ r.rest) s) in
+      let then' : (after (run r.so_far s) r.by).slot t x ≡ Tombstone b.0 = ap (λ e. (after (run r.so_far s) e).slot t x) b.1
+      ∙ written (run r.so_far s) t x (Tombstone b.0) in
+      let stays : (run r.rest (after (run r.so_far s) r.by)).slot t x ≡ Tombstone
+      b.0 = subst (λ w. Becomes g w ((run r.rest (after (run r.so_far s) r.by)).slot t x)) then' (late.words t x) in
       let q : b.0 ≡ p = cc (end, stays, now) in
       record {
         so_far = r.so_far ++ r.by ∷ [];

@@ -21,7 +21,8 @@ use Rattle.papaya_law.proofs.Turns.{tombstone, copied, IsTurnOf, none_since, tur
 
 module _ {K P : Type 0} (g : Setting K P) (law : IsLawful g) where
   -- a root without a next table holds each pair of the map
-  root_holds_incremental : g.blocking ≡ false → (s : State P) (m : K → Option P) → IsIncrementalState g s m → s.next s.root ≡ 0 → (k : K) (p : P) → m k ≡ Some p → (j : ℕ) × (j < g.places s.root) × (held (look g s k s.root j) ≡ true)
+  root_holds_incremental : g.blocking ≡ false → (s : State P) (m : K → Option P) → IsIncrementalState g s m → s.next s.root ≡ 0 → (k : K) (p : P)
+      → m k ≡ Some p → (j : ℕ) × (j < g.places s.root) × (held (look g s k s.root j) ≡ true)
   root_holds_incremental inc s m holds last k p e =
       let o : IsOwner (IsOn s.first s.next) g.places (look g s k) p = subst (IsTied (IsOn s.first s.next) g.places (look g s k)) e (holds.class k).tied in
       let there : held (look g s k o.table o.at) ≡ true = held_of (look g s k o.table o.at) p o.has in
@@ -29,7 +30,8 @@ module _ {K P : Type 0} (g : Setting K P) (law : IsLawful g) where
       (λ q. q)
       (⊎_elim
       (λ (c : o.table < s.root). absurd (before o c there))
-      (λ (c : s.root < o.table). absurd (let on = ⊎_elim (λ r. absurd (omega (arith, r.0, o.on.0, none o r.0))) (λ h. h) holds.root in let n = has_next s.next holds.rises s.first s.root o.table on o.on c in omega arith)))
+      (λ (c : s.root < o.table). absurd (let on = ⊎_elim (λ r. absurd (omega (arith, r.0, o.on.0, none o r.0))) (λ h. h) holds.root in
+      let n = has_next s.next holds.rises s.first s.root o.table on o.on c in omega arith)))
       (cases_order o.table s.root) in
       (o.at, subst (λ t. o.at < g.places t) is o.within, subst (λ t. held (look g s k t o.at) ≡ true) is there)
     where
@@ -39,17 +41,28 @@ module _ {K P : Type 0} (g : Setting K P) (law : IsLawful g) where
       before : (o : IsOwner (IsOn s.first s.next) g.places (look g s k) p) → o.table < s.root → held (look g s k o.table o.at) ≡ true → ⊥
       before o c h =
           let some : 0 < s.root = omega arith in
-          let r : IsReached g s k s.root = record { from = s.root; links = 0; was = holds.root_was some; is = refl; made = some; mode = inl refl; passed = λ i lt. absurd (omega arith) } in
-          passed_not_held (IsOn s.first s.next) g.places (g.place k) (look g s k) (holds.class k).base o.table o.at ((reached_front g law inc s m holds k s.root r).1 o.table o.on c) o.within h
+          let r : IsReached g s k s.root = record {
+            from = s.root;
+            links = 0;
+            was = holds.root_was some;
+            is = refl;
+            made = some;
+            mode = inl refl;
+            passed = λ i lt. absurd (omega arith);
+          } in
+          passed_not_held (IsOn s.first s.next) g.places (g.place k) (look g s k) (holds.class k).base o.table o.at
+          ((reached_front g law inc s m holds k s.root r).1 o.table o.on c) o.within h
 
   -- the same with blocking, of any root
-  root_holds_blocking : (s : State P) (m : K → Option P) → IsBlockingState g s m → (k : K) (p : P) → m k ≡ Some p → (j : ℕ) × (j < g.places s.root) × (held (look g s k s.root j) ≡ true)
+  root_holds_blocking : (s : State P) (m : K → Option P) → IsBlockingState g s m → (k : K) (p : P) → m k ≡ Some p → (j : ℕ) × (j < g.places s.root)
+      × (held (look g s k s.root j) ≡ true)
   root_holds_blocking s m holds k p e =
       let o : IsRootOwner g.places (look g s k) s.root p = subst (IsRootTied g.places (look g s k) s.root) e (holds.class k).tied in
       (o.at, o.within, held_of (look g s k s.root o.at) p o.has)
 
   -- in both modes
-  pub root_holds : (s : State P) (m : K → Option P) → IsKeeping g s m → (g.blocking ≡ false → s.next s.root ≡ 0) → (k : K) (p : P) → m k ≡ Some p → (j : ℕ) × (j < g.places s.root) × (held (look g s k s.root j) ≡ true)
+  pub root_holds : (s : State P) (m : K → Option P) → IsKeeping g s m → (g.blocking ≡ false → s.next s.root ≡ 0) → (k : K) (p : P) → m k ≡ Some p
+      → (j : ℕ) × (j < g.places s.root) × (held (look g s k s.root j) ≡ true)
   root_holds s m (inl h) last k p e = root_holds_incremental h.0 s m h.1 (last h.0) k p e
   root_holds s m (inr h) last k p e = root_holds_blocking s m h.1 k p e
 
@@ -72,7 +85,8 @@ module _ {K P : Type 0} (g : Setting K P) (law : IsLawful g) where
   stood_tombstone (Tombstone q) p h b = sym b
 
   -- a Tombstone where it wasn't: at a moment since the map had none
-  pub tombstone_since : (m : K → Option P) (k : K) (t j : ℕ) (p : P) (fs : List (Exchange P)) (s : State P) → AllAllowed g s fs → (look g s k t j ≡ Grave p → ⊥) → look g (run fs s) k t j ≡ Grave p → IsAtMoment g m fs k None
+  pub tombstone_since : (m : K → Option P) (k : K) (t j : ℕ) (p : P) (fs : List (Exchange P)) (s : State P) → AllAllowed g s fs
+      → (look g s k t j ≡ Grave p → ⊥) → look g (run fs s) k t j ≡ Grave p → IsAtMoment g m fs k None
   tombstone_since m k t j p fs s may old now =
       let x : ℕ = g.place k t j in
       let w = view_grave g k ((run fs s).slot t x) p now in
@@ -86,8 +100,12 @@ module _ {K P : Type 0} (g : Setting K P) (law : IsLawful g) where
       none_since g law m k t x fs s may not_yet p w.0 w.1
 
   -- where a slot had the key's pair, its word shows a pair of the key still, or the map had none at a moment since
-  pub still_there : (m : K → Option P) (k : K) (t j : ℕ) (fs : List (Exchange P)) (s : State P) → AllAllowed g s fs → held (look g s k t j) ≡ true → (active (look g (run fs s) k t j) ≡ true) ⊎ IsAtMoment g m fs k None
-  still_there m k t j fs s may h = by_view (look g (run fs s) k t j) refl (own_sees (look g s k t j) (look g (run fs s) k t j) (sees_later g law k (s.slot t (g.place k t j)) ((run fs s).slot t (g.place k t j)) ((later_run g law fs s may).words t (g.place k t j))) (active-own (look g s k t j) (held-active (look g s k t j) h)))
+  pub still_there : (m : K → Option P) (k : K) (t j : ℕ) (fs : List (Exchange P)) (s : State P) → AllAllowed g s fs → held (look g s k t j) ≡ true
+      → (active (look g (run fs s) k t j) ≡ true) ⊎ IsAtMoment g m fs k None
+  still_there m k t j fs s may h = by_view (look g (run fs s) k t j) refl
+      (own_sees (look g s k t j) (look g (run fs s) k t j)
+      (sees_later g law k (s.slot t (g.place k t j)) ((run fs s).slot t (g.place k t j)) ((later_run g law fs s may).words t (g.place k t j)))
+      (active-own (look g s k t j) (held-active (look g s k t j) h)))
     where
       by_view : (v : View P) → look g (run fs s) k t j ≡ v → own v ≡ true → (active v ≡ true) ⊎ IsAtMoment g m fs k None
       by_view Free e o = absurd cc
@@ -98,7 +116,8 @@ module _ {K P : Type 0} (g : Setting K P) (law : IsLawful g) where
       by_view (Grave p) e o = inr (tombstone_since m k t j p fs s may (λ q. cc (q, h)) e)
 
   -- a Copied word where it wasn't: its pair was the map's at a moment since
-  pub copied_since : g.blocking ≡ false → (s : State P) (m : K → Option P) → IsIncrementalState g s m → (k : K) (t j : ℕ) (p : P) (fs : List (Exchange P)) → AllAllowed g s fs → IsReached g s k t → j < g.places t
+  pub copied_since : g.blocking ≡ false → (s : State P) (m : K → Option P) → IsIncrementalState g s m
+      → (k : K) (t j : ℕ) (p : P) (fs : List (Exchange P)) → AllAllowed g s fs → IsReached g s k t → j < g.places t
       → (look g s k t j ≡ Gone p → ⊥) → look g (run fs s) k t j ≡ Gone p → IsAtMoment g m fs k (Some p)
   copied_since inc s m holds k t j p fs may reached lt old now =
       let x : ℕ = g.place k t j in
@@ -116,19 +135,25 @@ module _ {K P : Type 0} (g : Setting K P) (law : IsLawful g) where
       let holds' = run_incremental g law inc r.so_far s m holds may-first in
       let pair : b.0 ≡ p = same_pair r b.0 b.1 b.2 w.0 in
       let marked : (run r.so_far s).slot t x ≡ Marked p = subst (λ q. (run r.so_far s).slot t x ≡ Marked q) pair b.1 in
-      let leaving : look g (run r.so_far s) k t j ≡ Leaving p = subst (λ y. view g k y ≡ Leaving p) (sym marked) (cond-true (g.same k (g.key p)) (Leaving p) Foreign w.1) in
+      let leaving : look g (run r.so_far s) k t j ≡ Leaving p = subst (λ y. view g k y ≡ Leaving p) (sym marked)
+      (cond-true (g.same k (g.key p)) (Leaving p) Foreign w.1) in
       let reached' = (lasts g law s (run r.so_far s) (next_zero s.next holds.rises) (later_run g law r.so_far s may-first)).reached k t reached in
       record {
         so_far = r.so_far;
         rest = r.by ∷ r.rest;
         is = r.is;
-        value_is = (meaning_incremental g law inc (run r.so_far s) (map_of g m r.so_far) holds' k).found t j p reached' (λ c. absurd (cc (inc, c))) lt (inr leaving);
+        value_is = (meaning_incremental g law inc (run r.so_far s) (map_of g m r.so_far) holds' k).found t j p reached' (λ c. absurd (cc (inc, c))) lt
+            (inr leaving);
       }
     where
-      same_pair : (r : IsTurnOf g copied s t (g.place k t j) fs) → (q : P) → (run r.so_far s).slot t (g.place k t j) ≡ Marked q → r.by ≡ Finish t (g.place k t j) q → (run fs s).slot t (g.place k t j) ≡ Copied p → q ≡ p
+      same_pair : (r : IsTurnOf g copied s t (g.place k t j) fs) → (q : P) → (run r.so_far s).slot t (g.place k t j) ≡ Marked q
+          → r.by ≡ Finish t (g.place k t j) q → (run fs s).slot t (g.place k t j) ≡ Copied p → q ≡ p
       same_pair r q marked by end =
           let may-first : AllAllowed g (run r.so_far s) (r.by ∷ r.rest) = allowed_rest g r.so_far (r.by ∷ r.rest) s (subst (AllAllowed g s) (sym r.is) may) in
           let late = later_run g law (r.by ∷ r.rest) (run r.so_far s) may-first in
-          let final : (run (r.by ∷ r.rest) (run r.so_far s)).slot t (g.place k t j) ≡ (run fs s).slot t (g.place k t j) = ap (λ z. z.slot t (g.place k t j)) (sym (run-append r.so_far (r.by ∷ r.rest) s)) ∙ ap (λ l. (run l s).slot t (g.place k t j)) r.is in
-          let b : ((run (r.by ∷ r.rest) (run r.so_far s)).slot t (g.place k t j) ≡ Marked q) ⊎ ((run (r.by ∷ r.rest) (run r.so_far s)).slot t (g.place k t j) ≡ Copied q) = subst (λ w. Becomes g w ((run (r.by ∷ r.rest) (run r.so_far s)).slot t (g.place k t j))) marked (late.words t (g.place k t j)) in
+          let final : (run (r.by ∷ r.rest) (run r.so_far s)).slot t (g.place k t j) ≡ (run fs s).slot t (g.place k t j) = ap
+          (λ z. z.slot t (g.place k t j)) (sym (run-append r.so_far (r.by ∷ r.rest) s)) ∙ ap (λ l. (run l s).slot t (g.place k t j)) r.is in
+          let b : ((run (r.by ∷ r.rest) (run r.so_far s)).slot t (g.place k t j) ≡ Marked q)
+          ⊎ ((run (r.by ∷ r.rest) (run r.so_far s)).slot t (g.place k t j) ≡ Copied q) =
+          subst (λ w. Becomes g w ((run (r.by ∷ r.rest) (run r.so_far s)).slot t (g.place k t j))) marked (late.words t (g.place k t j)) in
           ⊎_elim (λ e. cc (e, final, end)) (λ e. cc (e, final, end)) b

@@ -2,13 +2,15 @@
 -- itself holds, no later exchange undoes it (`proofs/Law/Later.antt`), so "was" and "stood" are
 -- read off the words as they are now.
 use Rattle.std.specs.Prelude.{◌≡◌, ℕ, ◌<◌, MatchOption, true, false, List, [], ◌∷◌}
-use Rattle.papaya_law.specs.Exchange.{Empty, Live, Marked, Setting, Exchange, Open, Claim, Replace, Delete, Link, Mark, Close, Place, Finish, Advance, Promote, Abort, Take, State, after}
+use Rattle.papaya_law.specs.Exchange.{Empty, Live, Marked, Setting, Exchange, Open, Claim, Replace}
+use Rattle.papaya_law.specs.Exchange.{Delete, Link, Mark, Close, Place, Finish, Advance, Promote}
+use Rattle.papaya_law.specs.Exchange.{Abort, Take, State, after}
 use Rattle.papaya_law.specs.View.{look, beyond, foreign, IsFull, HasWord, IsNextPlace, IsReached}
 use Rattle.papaya_law.specs.Class.{IsOn}
 use Rattle.papaya_law.specs.Copying.{IsTaker, IsTarget, IsCopied, IsSettled, IsLinking, Covers}
 
--- Claim: an insertion puts p at the first place that is left, in a table where a search for its key
--- comes.
+-- Claim: an insertion puts p at the first place that is left, in a table where a search for its
+-- key comes.
 pub record MayClaim {K P : Type 0} (g : Setting K P) (s : State P) (t x : ℕ) (p : P) : Type 0 where
   pub empty : s.slot t x ≡ Empty
   pub reached : IsReached g s (g.key p) t
@@ -67,8 +69,8 @@ pub record MayFinish {K P : Type 0} (g : Setting K P) (s : State P) (t x : ℕ) 
   pub taker : IsTaker g s (g.key p) t to
   pub has : HasWord g.places (look g s (g.key p)) to
 
--- Advance: the slots of chunk c are settled, of a table whose copies go to n; there is one at least,
--- so that no word speaks of slots that aren't there.
+-- Advance: the slots of chunk c are settled, of a table whose copies go to n; there is one at
+-- least, so that no word speaks of slots that aren't there.
 pub record MayAdvance {K P : Type 0} (g : Setting K P) (s : State P) (n c : ℕ) : Type 0 where
   pub done : s.done n c ≡ false
   pub from : ℕ

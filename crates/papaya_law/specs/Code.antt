@@ -3,7 +3,8 @@ use Rattle.std.specs.Prelude.{◌≡◌, ℕ, ◌<◌, ◌^◌, true, Some}
 use Rattle.papaya_words.specs.declared.word.Kind.{Kind}
 use Rattle.papaya_words.specs.declared.word.Kind.TheVariants as kinds
 use Rattle.papaya_words.specs.Word.{live_word, marked_word, copied_word, tombstone_word}
-use Rattle.papaya_law.specs.Exchange.{Word, Empty, Closed, Live, Marked, Copied, Tombstone, Setting, Exchange, Claim, Replace, Delete, Mark, Close, Place, Finish}
+use Rattle.papaya_law.specs.Exchange.{Word, Empty, Closed, Live, Marked, Copied, Tombstone, Setting}
+use Rattle.papaya_law.specs.Exchange.{Exchange, Claim, Replace, Delete, Mark, Close, Place, Finish}
 use Rattle.papaya_law.specs.Invariant.{named}
 use Rattle.papaya_law.specs.Meaning.{IsLawful}
 use Rattle.papaya_words.specs.Probe.{place}

@@ -25,8 +25,8 @@ pub record IsTarget {K P : Type 0} (g : Setting K P) (s : State P) (t n : ℕ) :
 abbrev pub Covers : {K P : Type 0} → Setting K P → ℕ → ℕ → Type 0
 Covers g t n = (x : ℕ) → x < g.size t → g.chunk_of x < g.chunks n
 
--- `from` is copied to the table that is linked to t: t is that table, with blocking one that was the
--- root, or t was given up when `from` was copied to it
+-- `from` is copied to the table that is linked to t: t is that table, with blocking one that was
+-- the root, or t was given up when `from` was copied to it
 abbrev pub IsLinking : {K P : Type 0} → Setting K P → State P → ℕ → ℕ → Type 0
 IsLinking g s from t = ((from ≡ t) × (g.blocking ≡ true → s.was_root t ≡ true))
     ⊎ ((g.blocking ≡ true) × (s.was_root from ≡ true) × IsTarget g s from t

@@ -17,8 +17,8 @@ by_two = record {
   same = λ k l. k == l;
 }
 
--- a number is taken for a pair, a pair is replaced, the new one copied to a second table, and removed
--- there
+-- a number is taken for a pair, a pair is replaced, the new one copied to a second table, and
+-- removed there
 abbrev pub two_tables : List (Exchange ℕ)
 two_tables = Take 0 ∷ Open 1 ∷ Claim 1 0 70 ∷ Replace 1 0 70 71 ∷ Link 1 2 ∷ Mark 1 0 71
     ∷ Place 2 0 71 ∷ Finish 1 0 71 ∷ Close 1 1 ∷ Advance 2 0 ∷ Promote 1 2 ∷ Delete 2 0 71 ∷ []

@@ -20,8 +20,8 @@ abbrev pub hash_with : {K : Type 0} → (K → ℕ) → ℕ → Option K → ℕ
 hash_with hash_of hash (Some k) = hash_of k
 hash_with hash_of hash None = hash
 
--- the slot of the j-th place of a key in table t, where the further one's places begin at its own
--- hash
+-- the slot of the j-th place of a key in table t, where the further one's places begin at its
+-- own hash
 abbrev pub place_with : {K P : Type 0} → Setting K P → ℕ → Option K → ℕ → ℕ → ℕ
 place_with g hash (Some k) t j = g.place k t j
 place_with g hash None t j = place hash (g.size t) j

@@ -3,8 +3,8 @@
 use Rattle.std.specs.Prelude.{◌≡◌, ◌⊎◌, ℕ, ◌<◌, ◌==◌, ◌||◌, Bool, true, false, cond, List, [], ◌∷◌, Option}
 use Rattle.papaya_law.specs.Exchange.{Setting, State, Exchange, Open, Link}
 
--- g' says of modes, keys and the tables of the chain what g says; of other tables it may say
--- anything
+-- g' says of modes, keys and the tables of the chain what g says; of other tables it may
+-- say anything
 pub record Agrees {K P : Type 0} (On : ℕ → Type 0) (g g' : Setting K P) : Type 0 where
   pub blocking : g'.blocking ≡ g.blocking
   pub key : (p : P) → g'.key p ≡ g.key p
@@ -34,8 +34,8 @@ pub record IsLawfulPlan {K P : Type 0} (h : Plan K P) : Type 0 where
   pub probe_same : (k l : K) → h.same k l ≡ true → (n j : ℕ) → h.probe k n j ≡ h.probe l n j
   pub within : (k : K) (n j : ℕ) → 0 < n → h.probe k n j < n
 
--- the setting of a plan, where table t has size t slots, places t places and chunks t words for
--- chunks
+-- the setting of a plan, where table t has size t slots, places t places and chunks t words
+-- for chunks
 abbrev pub planned : {K P : Type 0} → Plan K P → (size places chunks : ℕ → ℕ) → Setting K P
 planned h size places chunks = record {
   blocking = h.blocking;

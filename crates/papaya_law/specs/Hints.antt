@@ -1,5 +1,5 @@
--- What a hint says of the word of its slot: nothing, the byte of the key whose pair stands there, or
--- that the slot is Closed. A copy of it may be old: what it says lasts (`hints`).
+-- What a hint says of the word of its slot: nothing, the byte of the key whose pair stands there,
+-- or that the slot is Closed. A copy of it may be old: what it says lasts (`hints`).
 use Rattle.std.specs.Prelude.{◌≡◌, ◌⊎◌, ℕ}
 use Rattle.papaya_words.specs.Word.{hint_of, shut_hint}
 use Rattle.papaya_law.specs.Exchange.{Word, Empty, Closed, Live, Marked, Copied, Tombstone, Setting, State}

@@ -108,8 +108,8 @@ pub record IsBlockingState {K P : Type 0} (g : Setting K P) (s : State P)
   pub class : (k : K) → IsBlockingClass (IsOn s.first s.next) s.was_root s.aborted s.root g.places
       (g.place k) (look g s k) (m k)
 
--- The state keeps the map m, in the mode that the setting has. This is what a backend's invariant
--- says.
+-- The state keeps the map m, in the mode that the setting has. This is what a backend's
+-- invariant says.
 abbrev pub IsKeeping : {K P : Type 0} → Setting K P → State P → (K → Option P) → Type 0
 IsKeeping g s m = ((g.blocking ≡ false) × IsIncrementalState g s m)
     ⊎ ((g.blocking ≡ true) × IsBlockingState g s m)

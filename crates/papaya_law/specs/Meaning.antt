@@ -3,8 +3,8 @@ use Rattle.std.specs.Prelude.{◌≡◌, ◌⊎◌, ℕ, ◌<◌, ◌++◌, true
 use Rattle.papaya_law.specs.Exchange.{Setting, Exchange, Claim, Replace, Delete, State}
 use Rattle.papaya_law.specs.View.{Free, Here, Leaving, look, beyond, IsPassed, IsReached}
 
--- Equal keys have equal places, a table has a slot, and a search looks within it, at one place at
--- least.
+-- Equal keys have equal places, a table has a slot, and a search looks within it, at one place
+-- at least.
 pub record IsLawful {K P : Type 0} (g : Setting K P) : Type 0 where
   pub itself : (k : K) → g.same k k ≡ true
   pub back : (k l : K) → g.same k l ≡ true → g.same l k ≡ true

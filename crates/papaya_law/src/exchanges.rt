@@ -259,8 +259,8 @@ pub fn hints<K, P>()
         → IsHintOf g c w shut_hint }
 {}
 
-/// Keys that are looked for by their hash have a lawful plan, and a lawful plan gives lawful
-/// settings.
+/// Keys that are looked for by their hash have a lawful plan, and a lawful plan gives
+/// lawful settings.
 pub fn plans_by_hash<K, P>()
     ensures plan { (blocking : Bool) (chunk_of : ℕ → ℕ) (most : Option ℕ) (key : P → K)
         (same : K → K → Bool) (hash : K → ℕ) → ((k : K) → same k k ≡ true)
@@ -380,9 +380,9 @@ pub fn lists_of_a_chain<K, P>()
         → chain_content g' s n ≡ chain_content g s n }
 {}
 
-/// The map as a list in which no key stands twice, whatever tables there are: one stays to be had
-/// after each exchange, all of them are of one length, and that length follows the claims and
-/// deletions.
+/// The map as a list in which no key stands twice, whatever tables there are: one stays to be
+/// had after each exchange, all of them are of one length, and that length follows the claims
+/// and deletions.
 pub fn finite_maps<K, P>()
     ensures list { (g : Setting K P) → IsLawful g → (s : State P) (m : K → Option P)
         → IsKeeping g s m → (e : Exchange P) → Allows g s e → (a : List P) → AreApart g.same g.key a
@@ -399,8 +399,8 @@ pub fn finite_maps<K, P>()
         → IsCountAfter e (length a) (length b) }
 {}
 
-/// The conditions can be met: two lists in lawful settings, one in each mode, together of every
-/// kind.
+/// The conditions can be met: two lists in lawful settings, one in each mode, together of
+/// every kind.
 pub fn examples()
     ensures incremental { IsLawful by_two × AllAllowed by_two start two_tables }
     ensures blocking { IsLawful of_one × AllAllowed of_one start three_tables }

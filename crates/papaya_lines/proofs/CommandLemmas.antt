@@ -50,7 +50,8 @@ no_parts : (text word name rest : List ℕ) → ¬ (Contains word 32) → Parts 
 no_parts text word name rest none parts e = none (has_cut word name rest (sym e ∙ parts.0))
 
 -- a word and a number
-keyed_parts : (text word name rest : List ℕ) (k : ℕ) → ¬ (Contains word 32) → Parts text name rest → (key : List ℕ) × WritesNumber key k × (text ≡ word ++ 32 ∷ key) → (word ≡ name) × WritesNumber rest k
+keyed_parts : (text word name rest : List ℕ) (k : ℕ) → ¬ (Contains word 32) → Parts text name rest → (key : List ℕ) × WritesNumber key k
+    × (text ≡ word ++ 32 ∷ key) → (word ≡ name) × WritesNumber rest k
 keyed_parts text word name rest k none parts (key, w, e) =
     let cut : (word ≡ name) × (key ≡ rest) = cut_once word key name rest (sym e ∙ parts.0) none parts.1 in
     let P : List ℕ → Type 0 = λ t. WritesNumber t k in
@@ -91,12 +92,15 @@ bare_command text Clear w = w
 bare_command text Walk w = w
 
 -- what a text without a space says as a word, it says as a command
-pub bare_is : (text : List ℕ) (r : Option Command) → ¬ (Contains text 32) → MatchOption r ((command : Command) → ¬ (WritesBare text command)) (WritesBare text) → MatchOption r ((command : Command) → ¬ (WritesCommand text command)) (WritesCommand text)
+pub bare_is : (text : List ℕ) (r : Option Command) → ¬ (Contains text 32)
+    → MatchOption r ((command : Command) → ¬ (WritesBare text command)) (WritesBare text)
+    → MatchOption r ((command : Command) → ¬ (WritesCommand text command)) (WritesCommand text)
 bare_is text None none other = no_bare text none other
 bare_is text (Some command) none w = bare_command text command w
 
 -- a command of another name is none
-pub no_name : (text name rest : List ℕ) → Parts text name rest → ((called : Keyed) → name ≢ keyed_word called) → (command : Command) → ¬ (WritesCommand text command)
+pub no_name : (text name rest : List ℕ) → Parts text name rest → ((called : Keyed) → name ≢ keyed_word called) → (command : Command)
+    → ¬ (WritesCommand text command)
 no_name text name rest parts none (Insert k v) w = none keyed.Insert (sym (command_parts text name rest (Insert k v) parts w).0)
 no_name text name rest parts none (Get k) w = none keyed.Get (sym (command_parts text name rest (Get k) parts w).0)
 no_name text name rest parts none (Remove k) w = none keyed.Remove (sym (command_parts text name rest (Remove k) parts w).0)
@@ -107,13 +111,16 @@ no_name text name rest parts none Clear w = command_parts text name rest Clear p
 no_name text name rest parts none Walk w = command_parts text name rest Walk parts w
 
 -- what an insertion has behind its name
-inserts : (text name rest : List ℕ) → Parts text name rest → name ≡ codes "i" → (command : Command) → WritesCommand text command → ((k v : ℕ) (key value : List ℕ) → WritesNumber key k → WritesNumber value v → rest ≡ key ++ 32 ∷ value → ⊥) → ⊥
+inserts : (text name rest : List ℕ) → Parts text name rest → name ≡ codes "i" → (command : Command) → WritesCommand text command
+    → ((k v : ℕ) (key value : List ℕ) → WritesNumber key k → WritesNumber value v → rest ≡ key ++ 32 ∷ value → ⊥) → ⊥
 inserts text name rest parts named (Insert k v) w then =
     let p : CommandParts name rest (Insert k v) = command_parts text name rest (Insert k v) parts w in
     then k v p.1 p.2 p.3 p.4 p.5
 inserts text name rest parts named (Get k) w then = let h : 103 ≡ 105 = ap first ((command_parts text name rest (Get k) parts w).0 ∙ named) in omega (arith, h)
-inserts text name rest parts named (Remove k) w then = let h : 114 ≡ 105 = ap first ((command_parts text name rest (Remove k) parts w).0 ∙ named) in omega (arith, h)
-inserts text name rest parts named (Update k) w then = let h : 117 ≡ 105 = ap first ((command_parts text name rest (Update k) parts w).0 ∙ named) in omega (arith, h)
+inserts text name rest parts named (Remove k) w then = let h : 114 ≡ 105 = ap first ((command_parts text name rest (Remove k) parts w).0 ∙ named) in
+    omega (arith, h)
+inserts text name rest parts named (Update k) w then = let h : 117 ≡ 105 = ap first ((command_parts text name rest (Update k) parts w).0 ∙ named) in
+    omega (arith, h)
 inserts text name rest parts named Len w then = command_parts text name rest Len parts w
 inserts text name rest parts named Slots w then = command_parts text name rest Slots parts w
 inserts text name rest parts named Clear w then = command_parts text name rest Clear parts w
@@ -124,7 +131,8 @@ pub no_value : (text name rest : List ℕ) → Parts text name rest → name ≡
 no_value text name rest parts named none command w = inserts text name rest parts named command w (λ k v key value u s e. none (has_cut rest key value e))
 
 -- an insertion whose key or value is no number
-pub no_number : (text name rest key value : List ℕ) → Parts text name rest → name ≡ codes "i" → Parts rest key value → (((n : ℕ) → ¬ (WritesNumber key n)) ⊎ ((n : ℕ) → ¬ (WritesNumber value n))) → (command : Command) → ¬ (WritesCommand text command)
+pub no_number : (text name rest key value : List ℕ) → Parts text name rest → name ≡ codes "i" → Parts rest key value
+    → (((n : ℕ) → ¬ (WritesNumber key n)) ⊎ ((n : ℕ) → ¬ (WritesNumber value n))) → (command : Command) → ¬ (WritesCommand text command)
 no_number text name rest key value parts named split none command w = inserts text name rest parts named command w (λ k v own other u s e.
     let cut : (own ≡ key) × (other ≡ value) = cut_once own other key value (sym e ∙ split.0) (number_no_space own k u) split.1 in
     let P : List ℕ → Type 0 = λ t. WritesNumber t k in
@@ -132,5 +140,7 @@ no_number text name rest key value parts named split none command w = inserts te
     elim none [ inl h ↦ h k (subst P cut.0 u) | inr h ↦ h v (subst R cut.1 s) ])
 
 -- what a refusal says, of a result that is None
-pub none_command : (text : List ℕ) (r : Option Command) → r ≡ None → ((command : Command) → ¬ (WritesCommand text command)) → MatchOption r ((command : Command) → ¬ (WritesCommand text command)) (WritesCommand text)
-none_command text r e h = let P : Option Command → Type 0 = λ o. MatchOption o ((command : Command) → ¬ (WritesCommand text command)) (WritesCommand text) in subst P (sym e) h
+pub none_command : (text : List ℕ) (r : Option Command) → r ≡ None → ((command : Command) → ¬ (WritesCommand text command))
+    → MatchOption r ((command : Command) → ¬ (WritesCommand text command)) (WritesCommand text)
+none_command text r e h = let P : Option Command
+    → Type 0 = λ o. MatchOption o ((command : Command) → ¬ (WritesCommand text command)) (WritesCommand text) in subst P (sym e) h

@@ -1,5 +1,7 @@
 -- A line read through its end, and the lines that are left.
-use Rattle.std.proofs.Common.{◌≡◌, ℕ, zero, suc, ◌+◌, ◌-◌, Bool, true, false, cond, eqb, None, Some, IfSome, List, [], ◌∷◌, ◌++◌, length, take, slice_index, Ok, Err, refl, sym, ap, subst, ◌∙◌, arith, not, eq-eqb, ne_eqb, ⊎_elim}
+use Rattle.std.proofs.Common.{◌≡◌, ℕ, zero, suc, ◌+◌, ◌-◌, Bool, true, false, cond, eqb, None, Some}
+use Rattle.std.proofs.Common.{IfSome, List, [], ◌∷◌, ◌++◌, length, take, slice_index, Ok, Err, refl}
+use Rattle.std.proofs.Common.{sym, ap, subst, ◌∙◌, arith, not, eq-eqb, ne_eqb, ⊎_elim}
 use Rattle.std.specs.Prelude.{IfOk, MatchResult, OnOk, Option, Result, nat_lt, ◌&&◌}
 use Rattle.std.proofs.lemmas.Bool.{cond-true, cond-false, cases_eq, lt-ltb}
 use Rattle.std.proofs.lemmas.List.{append-nil}
@@ -57,14 +59,16 @@ ended x xs hit =
 
 -- the first line of a text and those behind it
 pub first_of_lines : (x : ℕ) (xs : List ℕ) → lines_of (x ∷ xs) ≡ strip_last 10 (take_through 10 (x ∷ xs)) ∷ lines_of (drop_through 10 (x ∷ xs))
-first_of_lines x [] = ⊎_elim (λ same. ended x [] (eq-eqb x 10 same)) (λ other. longer x [] (ne_eqb x 10 other) (λ y ys is. absurd (nil_cons is))) (cases_eq x 10)
+first_of_lines x [] = ⊎_elim (λ same. ended x [] (eq-eqb x 10 same)) (λ other. longer x [] (ne_eqb x 10 other) (λ y ys is. absurd (nil_cons is)))
+    (cases_eq x 10)
   where
     nil_cons : {y : ℕ} {ys : List ℕ} → [] ≡ y ∷ ys → ⊥
     nil_cons is = let no : ⊥ = omega (arith, ap length is) in no
 first_of_lines x (z ∷ zs) = let rest = first_of_lines z zs in
     ⊎_elim (λ same. ended x (z ∷ zs) (eq-eqb x 10 same)) (λ other. after rest (ne_eqb x 10 other)) (cases_eq x 10)
   where
-    after : lines_of (z ∷ zs) ≡ strip_last 10 (take_through 10 (z ∷ zs)) ∷ lines_of (drop_through 10 (z ∷ zs)) → eqb x 10 ≡ false → lines_of (x ∷ z ∷ zs) ≡ strip_last 10 (take_through 10 (x ∷ z ∷ zs)) ∷ lines_of (drop_through 10 (x ∷ z ∷ zs))
+    after : lines_of (z ∷ zs) ≡ strip_last 10 (take_through 10 (z ∷ zs)) ∷ lines_of (drop_through 10 (z ∷ zs)) → eqb x 10 ≡ false
+        → lines_of (x ∷ z ∷ zs) ≡ strip_last 10 (take_through 10 (x ∷ z ∷ zs)) ∷ lines_of (drop_through 10 (x ∷ z ∷ zs))
     after rest miss = longer x (z ∷ zs) miss (λ y ys is. subst (λ l. lines_of l ≡ strip_last 10 (take_through 10 l) ∷ lines_of (drop_through 10 l)) is rest)
 
 -- a count of bytes read
@@ -73,7 +77,8 @@ number (Ok n) = n
 number (Err e) = 0
 
 -- a text was read through its first line end, or to its end
-pub line_read : {E F : Type 0} (r : Result ℕ E) (told : Result ℕ F) (n : ℕ) (Q : E → Type 0) (old new : Option (List ℕ)) (before read line : List ℕ) (short long : ℕ)
+pub line_read : {E F : Type 0} (r : Result ℕ E) (told : Result ℕ F) (n : ℕ) (Q : E → Type 0) (old new : Option (List ℕ)) (before read line : List ℕ)
+    (short long : ℕ)
     → told ≡ Ok n → MatchResult r (λ m. told ≡ Ok m) Q → ((e : E) → Q e → ⊥) → before ≡ [] → short ≡ length before → long ≡ length read
     → OnOk r (IfSome old (λ xs. read ≡ before ++ take_through 10 xs)) → OnOk r (DropsThrough old new 10) → IfOk r (λ m. long ≡ short + m)
     → IfOk r (λ m. m ≡ 0 → IsAtEnd old) → line ≡ strip_last 10 read → IfSome old (λ text. IsNextLine text (not (eqb n 0)) line new)
@@ -89,4 +94,5 @@ line_read (Ok m) told (suc n) Q (Some []) new before read line short long tells 
 line_read (Ok m) told (suc n) Q (Some (x ∷ xs)) new before read line short long tells was never none s l is drops count end cut =
     let whole : read ≡ take_through 10 (x ∷ xs) = is ∙ ap (λ l. l ++ take_through 10 (x ∷ xs)) none in
     let more : eqb (suc n) 0 ≡ false = ne_eqb (suc n) 0 (λ is. let no : ⊥ = omega (arith, is) in no) in
-    subst (λ b. IsNextLine (x ∷ xs) (not b) line new) (sym more) (drop_through 10 (x ∷ xs), drops, first_of_lines x xs ∙ ap (λ l. l ∷ lines_of (drop_through 10 (x ∷ xs))) (sym (cut ∙ ap (strip_last 10) whole)))
+    subst (λ b. IsNextLine (x ∷ xs) (not b) line new) (sym more)
+    (drop_through 10 (x ∷ xs), drops, first_of_lines x xs ∙ ap (λ l. l ∷ lines_of (drop_through 10 (x ∷ xs))) (sym (cut ∙ ap (strip_last 10) whole)))

@@ -45,7 +45,8 @@ word_of (Step c true) = codes "refuse"
 word_of (Finish c n) = codes "finish"
 
 -- a line that asks for a turn begins with its word and a space
-turn_word : (line : List ℕ) (turn : Turn ℕ ℕ Answering) → WritesTurn line turn → (rest : List ℕ) × (line ≡ word_of turn ++ 32 ∷ rest) × ¬ (Contains (word_of turn) 32)
+turn_word : (line : List ℕ) (turn : Turn ℕ ℕ Answering) → WritesTurn line turn → (rest : List ℕ) × (line ≡ word_of turn ++ 32 ∷ rest)
+    × ¬ (Contains (word_of turn) 32)
 turn_word line (Begin c what) (caller, call, w, u, e) = (caller ++ 32 ∷ call, e, begin_no_space)
 turn_word line (Step c false) (caller, w, e) = (caller, e, step_no_space)
 turn_word line (Step c true) (caller, w, e) = (caller, e, refuse_no_space)
@@ -71,19 +72,25 @@ no_verb line word rest parts none (Step c true) w = none verb.Refuse (sym (turn_
 no_verb line word rest parts none (Finish c n) w = none verb.Finish (sym (turn_first line word rest parts (Finish c n) w))
 
 -- what a begin has behind its verb
-begins : (line word rest : List ℕ) → Parts line word rest → word ≡ codes "begin" → (turn : Turn ℕ ℕ Answering) → WritesTurn line turn → ((c : ℕ) (what : Call ℕ ℕ Answering) (caller call : List ℕ) → WritesCaller caller c → WritesCall call what → rest ≡ caller ++ 32 ∷ call → ⊥) → ⊥
+begins : (line word rest : List ℕ) → Parts line word rest → word ≡ codes "begin" → (turn : Turn ℕ ℕ Answering) → WritesTurn line turn
+    → ((c : ℕ) (what : Call ℕ ℕ Answering) (caller call : List ℕ) → WritesCaller caller c → WritesCall call what → rest ≡ caller ++ 32 ∷ call → ⊥) → ⊥
 begins line word rest parts named (Begin c what) (caller, call, w, u, e) then =
     then c what caller call w u (sym (cut_once (codes "begin") (caller ++ 32 ∷ call) word rest (sym e ∙ parts.0) begin_no_space parts.1).1)
-begins line word rest parts named (Step c false) w then = let h : 115 ≡ 98 = ap first (turn_first line word rest parts (Step c false) w ∙ named) in omega (arith, h)
-begins line word rest parts named (Step c true) w then = let h : 114 ≡ 98 = ap first (turn_first line word rest parts (Step c true) w ∙ named) in omega (arith, h)
+begins line word rest parts named (Step c false) w then = let h : 115 ≡ 98 = ap first (turn_first line word rest parts (Step c false) w ∙ named) in
+    omega (arith, h)
+begins line word rest parts named (Step c true) w then = let h : 114 ≡ 98 = ap first (turn_first line word rest parts (Step c true) w ∙ named) in
+    omega (arith, h)
 begins line word rest parts named (Finish c n) w then = let h : 102 ≡ 98 = ap first (turn_first line word rest parts (Finish c n) w ∙ named) in omega (arith, h)
 
 -- a begin with no space behind its caller
-pub no_call : (line word rest : List ℕ) → Parts line word rest → word ≡ codes "begin" → ¬ (Contains rest 32) → (turn : Turn ℕ ℕ Answering) → ¬ (WritesTurn line turn)
+pub no_call : (line word rest : List ℕ) → Parts line word rest → word ≡ codes "begin" → ¬ (Contains rest 32) → (turn : Turn ℕ ℕ Answering)
+    → ¬ (WritesTurn line turn)
 no_call line word rest parts named none turn w = begins line word rest parts named turn w (λ c what caller call u s e. none (has_cut rest caller call e))
 
 -- a begin whose caller or call is none
-pub no_begin : (line word rest caller call : List ℕ) → Parts line word rest → word ≡ codes "begin" → Parts rest caller call → (((c : ℕ) → ¬ (WritesCaller caller c)) ⊎ ((what : Call ℕ ℕ Answering) → ¬ (WritesCall call what))) → (turn : Turn ℕ ℕ Answering) → ¬ (WritesTurn line turn)
+pub no_begin : (line word rest caller call : List ℕ) → Parts line word rest → word ≡ codes "begin" → Parts rest caller call
+    → (((c : ℕ) → ¬ (WritesCaller caller c)) ⊎ ((what : Call ℕ ℕ Answering) → ¬ (WritesCall call what))) → (turn : Turn ℕ ℕ Answering)
+    → ¬ (WritesTurn line turn)
 no_begin line word rest caller call parts named split none turn w = begins line word rest parts named turn w (λ c what own other u s e.
     let cut : (own ≡ caller) × (other ≡ call) = cut_once own other caller call (sym e ∙ split.0) (number_no_space own c u.0) split.1 in
     let P : List ℕ → Type 0 = λ t. WritesCaller t c in
@@ -91,8 +98,12 @@ no_begin line word rest caller call parts named split none turn w = begins line 
     elim none [ inl h ↦ h c (subst P cut.0 u) | inr h ↦ h what (subst R cut.1 s) ])
 
 -- what a refusal says, of a result that is None
-pub none_call : (text : List ℕ) (r : Option (Call ℕ ℕ Answering)) → r ≡ None → ((call : Call ℕ ℕ Answering) → ¬ (WritesCall text call)) → MatchOption r ((call : Call ℕ ℕ Answering) → ¬ (WritesCall text call)) (WritesCall text)
-none_call text r e h = let P : Option (Call ℕ ℕ Answering) → Type 0 = λ o. MatchOption o ((call : Call ℕ ℕ Answering) → ¬ (WritesCall text call)) (WritesCall text) in subst P (sym e) h
+pub none_call : (text : List ℕ) (r : Option (Call ℕ ℕ Answering)) → r ≡ None → ((call : Call ℕ ℕ Answering) → ¬ (WritesCall text call))
+    → MatchOption r ((call : Call ℕ ℕ Answering) → ¬ (WritesCall text call)) (WritesCall text)
+none_call text r e h = let P : Option (Call ℕ ℕ Answering)
+    → Type 0 = λ o. MatchOption o ((call : Call ℕ ℕ Answering) → ¬ (WritesCall text call)) (WritesCall text) in subst P (sym e) h
 
-pub none_turn : (line : List ℕ) (r : Option (Turn ℕ ℕ Answering)) → r ≡ None → ((turn : Turn ℕ ℕ Answering) → ¬ (WritesTurn line turn)) → MatchOption r ((turn : Turn ℕ ℕ Answering) → ¬ (WritesTurn line turn)) (WritesTurn line)
-none_turn line r e h = let P : Option (Turn ℕ ℕ Answering) → Type 0 = λ o. MatchOption o ((turn : Turn ℕ ℕ Answering) → ¬ (WritesTurn line turn)) (WritesTurn line) in subst P (sym e) h
+pub none_turn : (line : List ℕ) (r : Option (Turn ℕ ℕ Answering)) → r ≡ None → ((turn : Turn ℕ ℕ Answering) → ¬ (WritesTurn line turn))
+    → MatchOption r ((turn : Turn ℕ ℕ Answering) → ¬ (WritesTurn line turn)) (WritesTurn line)
+none_turn line r e h = let P : Option (Turn ℕ ℕ Answering)
+    → Type 0 = λ o. MatchOption o ((turn : Turn ℕ ℕ Answering) → ¬ (WritesTurn line turn)) (WritesTurn line) in subst P (sym e) h

@@ -45,8 +45,8 @@ abbrev pub AddsLine : Script → ℕ → List ℕ → Script → Type 0
 AddsLine old number line new = ((turn : Turn ℕ ℕ Answering) × AddsTurn old number line new turn)
     ⊎ NotesBad old number line new
 
--- the script is handed the line of this number: an empty one, and one behind a bad one, is passed
--- over
+-- the script is handed the line of this number: an empty one, and one behind a bad one, is
+-- passed over
 abbrev pub Adds : Script → ℕ → List ℕ → Script → Type 0
 Adds old number line new = ((IsSome old.bad_line ⊎ (line ≡ [])) × (new ≡ old))
     ⊎ ((old.bad_line ≡ None) × (line ≢ []) × AddsLine old number line new)

@@ -1,5 +1,7 @@
 -- What the lines of a script print of the trace of its run.
-use Rattle.std.specs.Prelude.{◌≡◌, ◌≢◌, ℕ, ◌+◌, ◌==◌, nat_lt, Bool, true, false, ◌||◌, not, if◌then◌else◌, List, [], ◌∷◌, ◌++◌, filter_map, replicate, reverse, set, get_or, Option, Some, None, option_map, ◌⊎◌, codes}
+use Rattle.std.specs.Prelude.{◌≡◌, ◌≢◌, ℕ, ◌+◌, ◌==◌, nat_lt, Bool, true, false, ◌||◌, not}
+use Rattle.std.specs.Prelude.{if◌then◌else◌, List, [], ◌∷◌, ◌++◌, filter_map, replicate, reverse}
+use Rattle.std.specs.Prelude.{set, get_or, Option, Some, None, option_map, ◌⊎◌, codes}
 use Rattle.std.specs.Fmt.{decimal}
 use Rattle.papaya_ask.specs.declared.call.Reply.{Reply}
 use Rattle.papaya_ask.specs.declared.call.Reply.TheVariants.{Done}
@@ -39,7 +41,8 @@ abbrev pub reply_among : List Entry → Option Reply
 reply_among [] = None
 reply_among (entry ∷ entries) = reply_or (reply_among entries) entry.event
 
--- the pairs that a call gave: this event's, if it gave one, after those before; none before it began
+-- the pairs that a call gave: this event's, if it gave one, after those before; none before
+-- it began
 abbrev pub gave_by : List ℕ → Event → List ℕ
 gave_by before Begun = []
 gave_by before (Gave n) = n ∷ before
@@ -109,9 +112,9 @@ module _ {S : Type 0} (store : StoreState ℕ ℕ S) where
   IsTold kind line given (Some reply) text = (p : Option Printed)
       × Replies kind given reply p × (text ≡ reply_text line.caller p)
 
-  -- What the lines print one after the other, of which the first has this turn, and whose entries
-  -- these are. A turn that has no entry was passed over: then its line and those behind it print
-  -- nothing.
+  -- What the lines print one after the other, of which the first has this turn, and whose
+  -- entries these are. A turn that has no entry was passed over: then its line and those behind
+  -- it print nothing.
   abbrev pub Tells : (trace : List Entry) → List Part → List Line → (turn : ℕ) → List Entry
       → List ℕ → (passed_over : Option ℕ) → Type 0
   Tells trace calls [] turn entries text passed = (text ≡ []) × (passed ≡ None)

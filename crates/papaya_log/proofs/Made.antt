@@ -28,7 +28,8 @@ bytes n = vstruct (of_list (vint w64 n ∷ token ∷ token ∷ []))
 
 module _ {M : Type 1} {𝓤 : Ura M} (𝓛 : Logic 𝓤) (R : RattleType) where
   pub pushed_made : (w : Where R.Denot) (x : Fields R w) (n : ℕ) → n ≡ x.0.number → n < 2 ^ 64
-      → ent 𝓤 (sep 𝓤 (sem 𝓛 (written (row_row R) x.0.row.of x.0.row.value)) (sem 𝓛 (written R x.0.item.of x.0.item.value))) (sem 𝓛 ((token_row R).own_val w (bytes n ∷ [])))
+      → ent 𝓤 (sep 𝓤 (sem 𝓛 (written (row_row R) x.0.row.of x.0.row.value)) (sem 𝓛 (written R x.0.item.of x.0.item.value)))
+      (sem 𝓛 ((token_row R).own_val w (bytes n ∷ [])))
   pushed_made w x n en fn =
       let vs : List Val = bytes n ∷ [] in
       let S = shape (Inside.the_type R) in

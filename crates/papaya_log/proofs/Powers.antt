@@ -10,5 +10,6 @@ module _ (n top : ℕ) (low : 2 ^ top ≤ n) (high : n < 2 * 2 ^ top) where
 
   pub top_is_from : (k : ℕ) → 2 ^ k ≤ n → k ≤ top
   top_is_from k h =
-      let below : k < suc top = lt_of_not-le (λ (le : suc top ≤ k). let p : 2 ^ suc top ≤ 2 ^ k = pow_mono le in let q : 2 ^ suc top ≡ 2 ^ top * 2 = pow-suc 2 top in omega arith) in
+      let below : k < suc top = lt_of_not-le (λ (le : suc top ≤ k). let p : 2 ^ suc top ≤ 2 ^ k = pow_mono le in
+      let q : 2 ^ suc top ≡ 2 ^ top * 2 = pow-suc 2 top in omega arith) in
       omega arith

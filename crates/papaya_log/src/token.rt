@@ -1,7 +1,7 @@
 //! What shows which value lies at a number.
 //!
-//! The book of a map keeps what a token shows, but not a token's bytes: a token is told, and whoever
-//! finds the number in a word has the token again.
+//! The book of a map keeps what a token shows, but not a token's bytes: a token is told, and
+//! whoever finds the number in a word has the token again.
 ghost use Rattle.std.specs.Prelude.{◌≡◌};
 ghost use Rattle.boxcar.specs.Table.{Where, where_coded};
 

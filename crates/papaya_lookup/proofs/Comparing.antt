@@ -13,7 +13,11 @@ use Rattle.papaya_ask.specs.declared.call.Reply.TheVariants.{Found}
 use Rattle.papaya_ask.specs.declared.call.Task.TheVariants.{Get}
 use Rattle.papaya_call.specs.declared.machine.Machine.{Machine}
 use Rattle.papaya_call.specs.declared.machine.State.{State as Stage}
-use Rattle.papaya_call.specs.declared.machine.State.TheVariants.{AtRoot, Making, Opening, Searching, Writing, Offering, Showing, Pairing, Putting, Deleting, Counting, Noting, Uncounting, Leaving, Growing, Ended}
+use Rattle.papaya_call.specs.declared.machine.State.TheVariants.{AtRoot, Making, Opening, Searching}
+use Rattle.papaya_call.specs.declared.machine.State.TheVariants.{Writing, Offering, Showing}
+use Rattle.papaya_call.specs.declared.machine.State.TheVariants.{Pairing, Putting, Deleting}
+use Rattle.papaya_call.specs.declared.machine.State.TheVariants.{Counting, Noting, Uncounting}
+use Rattle.papaya_call.specs.declared.machine.State.TheVariants.{Leaving, Growing, Ended}
 use Rattle.papaya_call.specs.declared.compute.Remembered.{Remembered}
 use Rattle.papaya_ask.specs.declared.search.Search.TheVariants.{Sizing, Looking, Reading, Comparing}
 use Rattle.papaya_ask.specs.declared.search.Probed.{Probed}
@@ -49,31 +53,38 @@ passes_unfound : (mode : ResizeMode) (fill : Option ℕ) (t n : ℕ) → passes 
 passes_unfound (Incremental chunk) fill t n e = cc e
 passes_unfound Blocking fill t n e = cc e
 
-module _ {K P : Type 0} (g : Setting K P) (c : Coding K P) (hashed : IsHashed g c) (begun since : List (Exchange P)) (may : AllAllowed g start (begun ++ since)) (k : K) (loaded : LoadedPairs P) where
+module _ {K P : Type 0} (g : Setting K P) (c : Coding K P) (hashed : IsHashed g c) (begun since : List (Exchange P))
+    (may : AllAllowed g start (begun ++ since)) (k : K) (loaded : LoadedPairs P) where
   -- the pair last told of was the key's at a moment of the call
   abbrev pub WasLast : Type 0
   WasLast = (p : P) × (loaded.last ≡ Some p) × WasAtMoment g c begun since k (Some p)
 
   -- what a search found is the pair last told of
-  found_last : (mode : ResizeMode) (remembered : Remembered) (s : Probed) → ReliesProbed g c hashed begun since k loaded s → (n : ℕ) → goes_as Get mode remembered s ≡ Ended (Found n) → WasLast
+  found_last : (mode : ResizeMode) (remembered : Remembered) (s : Probed) → ReliesProbed g c hashed begun since k loaded s → (n : ℕ)
+      → goes_as Get mode remembered s ≡ Ended (Found n) → WasLast
   found_last mode remembered (seen.On search) r n e = absurd (cc e)
   found_last mode remembered (seen.Empty at) r n e = absurd (cc e)
   found_last mode remembered (seen.Over t) r n e = absurd (passes_unfound mode remembered.fill t n e)
   found_last mode remembered (seen.Here at word) r n e =
       let p : P = r.0 in
-      let shows : held (view g k r.2.was) ≡ true = ⊎_elim (λ l. ap (λ w. held (view g k w)) l ∙ ap (λ b. held (Rattle.std.specs.Prelude.cond b (Here p) Foreign)) r.3) (λ l. ap (λ w. held (view g k w)) l ∙ ap (λ b. held (Rattle.std.specs.Prelude.cond b (View_leaving p) Foreign)) r.3) r.4 in
+      let shows : held (view g k r.2.was) ≡ true =
+      ⊎_elim (λ l. ap (λ w. held (view g k w)) l ∙ ap (λ b. held (Rattle.std.specs.Prelude.cond b (Here p) Foreign)) r.3)
+      (λ l. ap (λ w. held (view g k w)) l ∙ ap (λ b. held (Rattle.std.specs.Prelude.cond b (View_leaving p) Foreign)) r.3) r.4 in
       (p, r.1, r.2.had shows)
 
   module _ (hash initial : ℕ) (mode : ResizeMode) (made : Made) (remembered : Remembered) where
     -- the lookup stands where it compares; the pair is the one that it was told of last
-    pub yes_found : (s : Stage) → IsStandingState Get s → ReliesStage g c begun since k loaded Get s → (n : ℕ) (same : Bool) → ((p : P) → loaded.last ≡ Some p → same ≡ g.same k (g.key p)) → asks made hash s ≡ SameKey n → (m : ℕ) → (after (lookup hash initial mode made remembered s) (Yes same)).state ≡ Ended (Found m) → WasLast
+    pub yes_found : (s : Stage) → IsStandingState Get s → ReliesStage g c begun since k loaded Get s → (n : ℕ) (same : Bool)
+        → ((p : P) → loaded.last ≡ Some p → same ≡ g.same k (g.key p)) → asks made hash s ≡ SameKey n → (m : ℕ)
+        → (after (lookup hash initial mode made remembered s) (Yes same)).state ≡ Ended (Found m) → WasLast
     yes_found AtRoot stands r n same is e m f = absurd cc
     yes_found Making stands r n same is e m f = absurd stands
     yes_found (Opening u) stands r n same is e m f = absurd stands
     yes_found (Searching (Sizing u)) stands r n same is e m f = absurd cc
     yes_found (Searching (Looking at)) stands r n same is e m f = absurd cc
     yes_found (Searching (Reading at)) stands r n same is e m f = absurd cc
-    yes_found (Searching (Comparing at word)) stands r n same is e m f = found_last mode remembered (at_yes (Comparing at word) same) (compared g c hashed begun since may k at word r.0 r.2 loaded r.1 same (sym (is r.0 r.1))) m f
+    yes_found (Searching (Comparing at word)) stands r n same is e m f = found_last mode remembered (at_yes (Comparing at word) same)
+        (compared g c hashed begun since may k at word r.0 r.2 loaded r.1 same (sym (is r.0 r.1))) m f
     yes_found (Writing write) stands r n same is e m f = absurd stands.0
     yes_found (Offering gap) stands r n same is e m f = absurd stands.0
     yes_found (Showing removal) stands r n same is e m f = absurd stands.0
@@ -87,9 +98,11 @@ module _ {K P : Type 0} (g : Setting K P) (c : Coding K P) (hashed : IsHashed g 
     yes_found (Growing u) stands r n same is e m f = absurd stands
     yes_found (Ended reply) stands r n same is e m f = absurd cc
 
-module _ {K V S H : Type 0} (eq : K → K → Bool) (input : K → List (List ℕ)) (build : S → H) (write : H → List ℕ → H) (finish : H → ℕ) (classes : IsEquivalence eq) (respects : (x y : K) → eq x y ≡ true → input x ≡ input y)
+module _ {K V S H : Type 0} (eq : K → K → Bool) (input : K → List (List ℕ)) (build : S → H) (write : H → List ℕ → H) (finish : H → ℕ)
+    (classes : IsEquivalence eq) (respects : (x y : K) → eq x y ≡ true → input x ≡ input y)
     (b : Begun K V S) (matches : K → Bool) (query : List (List ℕ)) (lawful : IsQuery eq input matches query) (begun : List (Exchange (Stored K V)))
-    (log : List (Event K V S)) (m : Machine) (table : Option (Bor Sheet)) (pair : Option (Stored K V)) (r : Rested eq input build write finish classes respects b matches query lawful begun log m table pair) (stands : IsStandingState Get m.state) where
+    (log : List (Event K V S)) (m : Machine) (table : Option (Bor Sheet)) (pair : Option (Stored K V))
+    (r : Rested eq input build write finish classes respects b matches query lawful begun log m table pair) (stands : IsStandingState Get m.state) where
   abbrev hash : S → K → ℕ
   hash = hash_of input build write finish
 
@@ -119,7 +132,8 @@ module _ {K V S H : Type 0} (eq : K → K → Bool) (input : K → List (List �
       let came = table_held t step.0.names lent has in
       let may = subst (AllAllowed g start) (sym r.is) (allowed_with eq input build write finish classes respects b matches query lawful log r.lawful) in
       let hashed = hashed_with eq input build write finish classes respects b matches query lawful log r.lawful in
-      let named = slot_named g c hashed begun r.since may None (ask_of m) (ask_named g c hashed begun r.since may None r.loaded m.task m.hash m.made m.state r.relies.stage) t x (inl e) in
+      let named = slot_named g c hashed begun r.since may None (ask_of m)
+      (ask_named g c hashed begun r.since may None r.loaded m.task m.hash m.made m.state r.relies.stage) t x (inl e) in
       (came, subst (λ n. x < n) ((sizes (steps_of log) t came.0 came.1).0 ∙ ap (λ (z : Sheet). length z.slots) came.2) named.1)
 
   -- and so is one whose hint is
@@ -129,23 +143,27 @@ module _ {K V S H : Type 0} (eq : K → K → Bool) (input : K → List (List �
       let came = table_held t step.0.names lent has in
       let may = subst (AllAllowed g start) (sym r.is) (allowed_with eq input build write finish classes respects b matches query lawful log r.lawful) in
       let hashed = hashed_with eq input build write finish classes respects b matches query lawful log r.lawful in
-      let named = hint_named g c hashed begun r.since may None (ask_of m) (ask_named g c hashed begun r.since may None r.loaded m.task m.hash m.made m.state r.relies.stage) t x (inl e) in
+      let named = hint_named g c hashed begun r.since may None (ask_of m)
+      (ask_named g c hashed begun r.since may None r.loaded m.task m.hash m.made m.state r.relies.stage) t x (inl e) in
       (came, subst (λ n. x < n) ((sizes (steps_of log) t came.0 came.1).0 ∙ ap (λ (z : Sheet). length z.slots) came.2) named.1)
 
   -- the table has the size that it says
-  pub size_read : (t : ℕ) (sheet : Sheet) → IsTable log t sheet → (slots limit : ℕ) → slots ≡ length sheet.slots → limit ≡ sheet.limit → IsSize slots limit → ask_of m ≡ SizeOf t
+  pub size_read : (t : ℕ) (sheet : Sheet) → IsTable log t sheet → (slots limit : ℕ) → slots ≡ length sheet.slots → limit ≡ sheet.limit
+      → IsSize slots limit → ask_of m ≡ SizeOf t
       → IsGoing eq input build write finish classes respects b matches query lawful begun log m (Size slots limit) table pair
   size_read t sheet came slots limit slots_is limit_is size e =
       let all = sizes (steps_of log) t came.0 came.1 in
       let is : came.0.value ≡ sheet = came.2 in
       let many : slots ≡ g.size t = slots_is ∙ sym (all.0 ∙ ap (λ (z : Sheet). length z.slots) is) in
       let places : limit + 1 ≡ g.places t = ap (λ n. n + 1) limit_is ∙ sym (all.1 ∙ ap (λ (z : Sheet). z.limit + 1) is) in
-      let told : IsTold g c None (state_of log) (kind_of_ask m) r.loaded (SizeOf t) (Size slots limit) [] r.loaded = ((limit, places, ap (λ n. Size n limit) many), (refl, refl)) in
+      let told : IsTold g c None (state_of log) (kind_of_ask m) r.loaded (SizeOf t) (Size slots limit) []
+      r.loaded = ((limit, places, ap (λ n. Size n limit) many), (refl, refl)) in
       let further = learned eq input build write finish classes respects b matches query lawful begun log r.lawful m r.loaded on (Size slots limit) r.loaded
       (subst (λ (a : Ask). IsTold g c None (state_of log) (kind_of_ask m) r.loaded a (Size slots limit) [] r.loaded) (sym e) told) in
       let step = size_step m.hash m.initial m.mode m.made m.remembered m.state (stands) t slots limit size.few e in
       let get = of_get m r.task_is in
-      let to : (after m (Size slots limit)).state ≡ (after (lookup m.hash m.initial m.mode m.made m.remembered m.state) (Size slots limit)).state = ap (λ (z : Machine). (after z (Size slots limit)).state) get in
+      let to : (after m (Size slots limit)).state ≡ (after (lookup m.hash m.initial m.mode m.made m.remembered m.state) (Size slots limit)).state = ap
+      (λ (z : Machine). (after z (Size slots limit)).state) get in
       let in_it : IsStepIn t m.state (after m (Size slots limit)).state = subst (IsStepIn t m.state) (sym to) step.0 in record {
         reading = record {
           lawful = r.lawful;
@@ -154,7 +172,8 @@ module _ {K V S H : Type 0} (eq : K → K → Bool) (input : K → List (List �
           loaded = r.loaded;
           task_is = r.task_is;
           relies = further;
-          holds_table = held_on log log same_log t (table_of (after m (Size slots limit)).state) in_it.table table (subst (λ o. HoldsTable log o table) in_it.names r.holds_table);
+          holds_table = held_on log log same_log t (table_of (after m (Size slots limit)).state) in_it.table table
+              (subst (λ o. HoldsTable log o table) in_it.names r.holds_table);
           holds_pair = r.holds_pair;
           found = λ n f. absurd (step.1 n (sym to ∙ f));
         };
@@ -165,14 +184,16 @@ module _ {K V S H : Type 0} (eq : K → K → Bool) (input : K → List (List �
   pub same_read : (n : ℕ) (p : Stored K V) (same : Bool) → pair ≡ Some p → same ≡ matches (key_of p) → ask_of m ≡ SameKey n
       → IsGoing eq input build write finish classes respects b matches query lawful begun log m (Yes same) table pair
   same_read n p same has is e =
-      let matched : (q : Stored K V) → r.loaded.last ≡ Some q → same ≡ g.same None (g.key q) = λ q e'. let one : p ≡ q = cc (has, r.holds_pair.0, e') in is ∙ ap (λ (z : Stored K V). matches (key_of z)) one in
+      let matched : (q : Stored K V) → r.loaded.last ≡ Some q
+      → same ≡ g.same None (g.key q) = λ q e'. let one : p ≡ q = cc (has, r.holds_pair.0, e') in is ∙ ap (λ (z : Stored K V). matches (key_of z)) one in
       let told : IsTold g c None (state_of log) (kind_of_ask m) r.loaded (SameKey n) (Yes same) [] r.loaded = (λ p e' f. ap Yes (matched p e'), (refl, refl)) in
       let further = learned eq input build write finish classes respects b matches query lawful begun log r.lawful m r.loaded on (Yes same) r.loaded
       (subst (λ (a : Ask). IsTold g c None (state_of log) (kind_of_ask m) r.loaded a (Yes same) [] r.loaded) (sym e) told) in
       let step = yes_step m.hash m.initial m.mode m.made m.remembered m.state (stands) n same e in
       let t = step.0 in
       let get = of_get m r.task_is in
-      let to : (after m (Yes same)).state ≡ (after (lookup m.hash m.initial m.mode m.made m.remembered m.state) (Yes same)).state = ap (λ (z : Machine). (after z (Yes same)).state) get in
+      let to : (after m (Yes same)).state ≡ (after (lookup m.hash m.initial m.mode m.made m.remembered m.state) (Yes same)).state = ap
+      (λ (z : Machine). (after z (Yes same)).state) get in
       let in_it : IsStepIn t m.state (after m (Yes same)).state = subst (IsStepIn t m.state) (sym to) step.1 in record {
         reading = record {
           lawful = r.lawful;
@@ -181,11 +202,13 @@ module _ {K V S H : Type 0} (eq : K → K → Bool) (input : K → List (List �
           loaded = r.loaded;
           task_is = r.task_is;
           relies = further;
-          holds_table = held_on log log same_log t (table_of (after m (Yes same)).state) in_it.table table (subst (λ o. HoldsTable log o table) in_it.names r.holds_table);
+          holds_table = held_on log log same_log t (table_of (after m (Yes same)).state) in_it.table table
+              (subst (λ o. HoldsTable log o table) in_it.names r.holds_table);
           holds_pair = r.holds_pair;
           found = λ j f.
               yes_found g c (hashed_with eq input build write finish classes respects b matches query lawful log r.lawful) begun r.since
-              (subst (AllAllowed g start) (sym r.is) (allowed_with eq input build write finish classes respects b matches query lawful log r.lawful)) None r.loaded m.hash m.initial m.mode m.made m.remembered m.state (stands)
+              (subst (AllAllowed g start) (sym r.is) (allowed_with eq input build write finish classes respects b matches query lawful log r.lawful))
+              None r.loaded m.hash m.initial m.mode m.made m.remembered m.state (stands)
               (subst (λ t. ReliesStage g c begun r.since None r.loaded t m.state) r.task_is r.relies.stage) n same matched e j (sym to ∙ f);
         };
         fewer = in_it.fewer;

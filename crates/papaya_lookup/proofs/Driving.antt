@@ -52,13 +52,16 @@ one_made (Some p) q (inr one) = absurd one
 pub is_made : {P : Type 0} (made : Option P) (q : P) → made ≡ Some q → IsOneOf (made_list made) q
 is_made made q is = subst (λ o. IsOneOf (made_list o) q) (sym is) (inl refl)
 
-module _ {K V K' : Type 0} (g : Setting K' (Stored K V)) (c : Coding K' (Stored K V)) (k : K') (numbers : (p : Stored K V) → c.number p ≡ p.index) (keys : (p q : Stored K V) → key_of q ≡ key_of p → g.key q ≡ g.key p)
+module _ {K V K' : Type 0} (g : Setting K' (Stored K V)) (c : Coding K' (Stored K V)) (k : K') (numbers : (p : Stored K V) → c.number p ≡ p.index)
+    (keys : (p q : Stored K V) → key_of q ≡ key_of p → g.key q ≡ g.key p)
     (loaded loaded' : LoadedPairs (Stored K V)) (made : (q : Stored K V) → IsOneOf loaded.made q → IsOneOf loaded'.made q) where
   own_word : (new : ℕ) (q : Stored K V) → IsOwnWord Numbered loaded new q → IsOwnWord c loaded' new q
   own_word new q own = record { made = made q own.made; named = numbers q ∙ own.named }
 
   -- What a call asks for is what its machine asks for, where a pair that it claims has its key. It depends on the pairs that it made and on their numbers, and not on the pair last loaded.
-  pub asked_by_made : (kind : Option StepKind) (at : At) (new : ℕ) (s : State (Stored K V)) (e : Exchange (Stored K V)) → (kind ≡ Some kinds.Claim → (q : Stored K V) → IsOneOf loaded.made q → g.key q ≡ k) → IsCallAsked kind at new s loaded e → IsAsked g c k kind at new s loaded' e
+  pub asked_by_made : (kind : Option StepKind) (at : At) (new : ℕ) (s : State (Stored K V)) (e : Exchange (Stored K V))
+      → (kind ≡ Some kinds.Claim → (q : Stored K V) → IsOneOf loaded.made q → g.key q ≡ k) → IsCallAsked kind at new s loaded e
+      → IsAsked g c k kind at new s loaded' e
   asked_by_made None at new s e own a = absurd a
   asked_by_made (Some kinds.Open) Root new s e own a = a
   asked_by_made (Some kinds.Open) (Next t) new s e own a = absurd a
@@ -117,8 +120,10 @@ word_same g g' c s (Done t chunk) = refl
 word_same g g' c s (Slot t x) = code_same g g' c (s.slot t x)
 word_same g g' c s Made = refl
 
-module _ {K V S H : Type 0} (eq : K → K → Bool) (input : K → List (List ℕ)) (build : S → H) (write : H → List ℕ → H) (finish : H → ℕ) (classes : IsEquivalence eq) (respects : (x y : K) → eq x y ≡ true → input x ≡ input y)
-    (b : Begun K V S) (matches : K → Bool) (query : List (List ℕ)) (lawful : IsQuery eq input matches query) (k : Option K) (begun : List (Exchange (Stored K V))) where
+module _ {K V S H : Type 0} (eq : K → K → Bool) (input : K → List (List ℕ)) (build : S → H) (write : H → List ℕ → H) (finish : H → ℕ)
+    (classes : IsEquivalence eq) (respects : (x y : K) → eq x y ≡ true → input x ≡ input y)
+    (b : Begun K V S) (matches : K → Bool) (query : List (List ℕ)) (lawful : IsQuery eq input matches query) (k : Option K)
+    (begun : List (Exchange (Stored K V))) where
   abbrev hash : S → K → ℕ
   hash = hash_of input build write finish
 
@@ -148,23 +153,27 @@ module _ {K V S H : Type 0} (eq : K → K → Bool) (input : K → List (List �
   pub word_wide : (log log' : List (Event K V S)) (at : At) → word_of (wide log') coded (state_of log) at ≡ word_in eq hash b log at
   word_wide log log' at = key_word (plain log') matches fed_to c (state_of log) at ∙ word_same (plain log) (plain log') c (state_of log) at
 
-  module _ (log : List (Event K V S)) (l : IsLawfulLog eq hash b log) (m : Machine) (loaded : LoadedPairs (Stored K V)) (r : IsRelying log m loaded) (log' : List (Event K V S)) (l' : IsLawfulLog eq hash b log') (pre : IsPrefix log log') where
+  module _ (log : List (Event K V S)) (l : IsLawfulLog eq hash b log) (m : Machine) (loaded : LoadedPairs (Stored K V)) (r : IsRelying log m loaded)
+      (log' : List (Event K V S)) (l' : IsLawfulLog eq hash b log') (pre : IsPrefix log log') where
     -- what has come since
     abbrev more : List (Exchange (Stored K V))
     more = exchanges_of pre.0
 
     longer : begun ++ (r.since ++ more) ≡ exchanges_of log'
-    longer = sym (append_assoc begun r.since more) ∙ (ap (λ (z : List (Exchange (Stored K V))). z ++ more) r.is ∙ (sym (exchanges_of-append log pre.0) ∙ ap exchanges_of pre.1))
+    longer = sym (append_assoc begun r.since more)
+        ∙ (ap (λ (z : List (Exchange (Stored K V))). z ++ more) r.is ∙ (sym (exchanges_of-append log pre.0) ∙ ap exchanges_of pre.1))
 
     -- the longer log's tables are no matter
     carried : Relies (wide log') coded begun r.since k m loaded
     carried =
         let On = IsOn (state_of log).first (state_of log).next in
-        let agree : Agrees On (wide log) (wide log') = key_agrees On (plain log) (plain log') (agrees_later eq input build write finish classes respects b log l log' pre) matches fed_to in
+        let agree : Agrees On (wide log) (wide log') = key_agrees On (plain log) (plain log')
+        (agrees_later eq input build write finish classes respects b log l log' pre) matches fed_to in
         let agree' : Agrees (IsOn (run (begun ++ r.since) start).first (run (begun ++ r.since) start).next) (wide log) (wide log') =
         subst (λ (z : List (Exchange (Stored K V))). Agrees (IsOn (run z start).first (run z start).next) (wide log) (wide log')) (sym r.is) agree in
         relies_carries (wide log) (wide log') coded (hashed_with eq input build write finish classes respects b matches query lawful log l) begun r.since
-        (subst (AllAllowed (wide log) start) (sym r.is) (allowed_with eq input build write finish classes respects b matches query lawful log l)) k agree' m loaded r.relies
+        (subst (AllAllowed (wide log) start) (sym r.is) (allowed_with eq input build write finish classes respects b matches query lawful log l)) k
+        agree' m loaded r.relies
 
     may_longer : AllAllowed (wide log') start (begun ++ (r.since ++ more))
     may_longer = subst (AllAllowed (wide log') start) (sym longer) (allowed_with eq input build write finish classes respects b matches query lawful log' l')
@@ -174,16 +183,21 @@ module _ {K V S H : Type 0} (eq : K → K → Bool) (input : K → List (List �
     relying_later = record {
       since = r.since ++ more;
       is = longer;
-      relies = relies_stable (wide log') coded (hashed_with eq input build write finish classes respects b matches query lawful log' l') begun r.since more may_longer k m loaded carried;
+      relies = relies_stable (wide log') coded (hashed_with eq input build write finish classes respects b matches query lawful log' l') begun r.since
+          more may_longer k m loaded carried;
     }
 
     -- it is told of the log's words, with which the log grew
-    pub relying_told : (answer : Answer) (loaded' : LoadedPairs (Stored K V)) → IsTold (wide log') coded k (state_of log) (kind_of_ask m) loaded (ask_of m) answer more loaded' → IsRelying log' (after m answer) loaded'
+    pub relying_told : (answer : Answer) (loaded' : LoadedPairs (Stored K V))
+        → IsTold (wide log') coded k (state_of log) (kind_of_ask m) loaded (ask_of m) answer more loaded' → IsRelying log' (after m answer) loaded'
     relying_told answer loaded' told =
-        let first : AllAllowed (wide log') start (begun ++ r.since) = allowed_first (wide log') (begun ++ r.since) more start (subst (AllAllowed (wide log') start) (sym (append_assoc begun r.since more)) may_longer) in
+        let first : AllAllowed (wide log') start (begun ++ r.since) = allowed_first (wide log') (begun ++ r.since) more start
+        (subst (AllAllowed (wide log') start) (sym (append_assoc begun r.since more)) may_longer) in
         let told' : IsTold (wide log') coded k (run (begun ++ r.since) start) (kind_of_ask m) loaded (ask_of m) answer more loaded' =
-        subst (λ (z : List (Exchange (Stored K V))). IsTold (wide log') coded k (run z start) (kind_of_ask m) loaded (ask_of m) answer more loaded') (sym r.is) told in
-        let all = machine_learns (wide log') coded (hashed_with eq input build write finish classes respects b matches query lawful log' l') begun r.since first k m loaded carried answer more loaded' told' in
+        subst (λ (z : List (Exchange (Stored K V))). IsTold (wide log') coded k (run z start) (kind_of_ask m) loaded (ask_of m) answer more loaded')
+        (sym r.is) told in
+        let all = machine_learns (wide log') coded (hashed_with eq input build write finish classes respects b matches query lawful log' l') begun
+        r.since first k m loaded carried answer more loaded' told' in
         record { since = r.since ++ more; is = longer; relies = all.1 }
 
   -- An exchange that a machine asked for may come next after this log, and writes the new word.
@@ -194,7 +208,8 @@ module _ {K V S H : Type 0} (eq : K → K → Bool) (input : K → List (List �
     pub written : IsWritten (plain log) c (state_of log) at new (after_exchange (state_of log) by)
 
   -- so may what a machine asks for, whenever the old word stands there
-  can_exchange : (v : List (Event K V S)) → IsLawfulLog eq hash b v → (m : Machine) (loaded : LoadedPairs (Stored K V)) → IsRelying v m loaded → (at : At) (old new : ℕ) → ask_of m ≡ Ask_exchange at old new
+  can_exchange : (v : List (Event K V S)) → IsLawfulLog eq hash b v → (m : Machine) (loaded : LoadedPairs (Stored K V)) → IsRelying v m loaded
+      → (at : At) (old new : ℕ) → ask_of m ≡ Ask_exchange at old new
       → (log : List (Event K V S)) → IsPrefix v log → IsLawfulLog eq hash b log → word_in eq hash b log at ≡ old → IsGranted log (kind_of_ask m) loaded at new
   can_exchange v l m loaded r at old new asks log pre l' stands =
       let now = relying_later v l m loaded r log l' pre in
@@ -205,7 +220,9 @@ module _ {K V S H : Type 0} (eq : K → K → Bool) (input : K → List (List �
       let done = machine_may (wide log) coded hashed begun now.since may k m loaded now.relies at old new asks there in
       let by = done.0 in
       let wide_allows : Allows (wide log) (state_of log) by = subst (λ (z : List (Exchange (Stored K V))). Allows (wide log) (run z start) by) now.is done.2 in
-      let written : IsWritten (wide log) coded (state_of log) at new (after_exchange (state_of log) by) = subst (λ (z : List (Exchange (Stored K V))). IsWritten (wide log) coded (run z start) at new (after_exchange (run z start) by)) now.is done.3 in
+      let written : IsWritten (wide log) coded (state_of log) at new
+      (after_exchange (state_of log) by) = subst (λ (z : List (Exchange (Stored K V))).
+      IsWritten (wide log) coded (run z start) at new (after_exchange (run z start) by)) now.is done.3 in
       let same = λ (s : State (Stored K V)). λ (at' : At). key_word (plain log) matches fed_to c s at' in record {
         by = by;
         asked = subst (λ (z : List (Exchange (Stored K V))). IsAsked (wide log) coded k (kind_of_ask m) at new (run z start) loaded by) now.is done.1;
@@ -234,7 +251,8 @@ module _ {K V S H : Type 0} (eq : K → K → Bool) (input : K → List (List �
             step = steps.Claim t x q;
             meant = record { asked = inl (q, record { made = inl refl; named = sym number }, refl); with_it = refl };
             allowed = claimed_instead (plain log) c p q key (own.named ∙ number) (state_of log) t x (subst (Allows (plain log) (state_of log)) is g.allowed);
-            written = written_instead (plain log) c p q key (own.named ∙ number) (state_of log) t x (Slot t x) new (subst (λ (e : Exchange (Stored K V)). IsWritten (plain log) c (state_of log) (Slot t x) new (after_exchange (state_of log) e)) is g.written);
+            written = written_instead (plain log) c p q key (own.named ∙ number) (state_of log) t x (Slot t x) new
+                (subst (λ (e : Exchange (Stored K V)). IsWritten (plain log) c (state_of log) (Slot t x) new (after_exchange (state_of log) e)) is g.written);
           }
 
       may_replace : HasKeyAt log t x (key_of q) → IsGranted log (Some kinds.Replace) loaded (Slot t x) new → MayPut (Some kinds.Replace)
@@ -249,7 +267,8 @@ module _ {K V S H : Type 0} (eq : K → K → Bool) (input : K → List (List �
             step = steps.Replace t x r q;
             meant = record { asked = inl (r, q, live, record { made = inl refl; named = sym number }, kept, refl); with_it = refl };
             allowed = replaced_instead (plain log) c p q key (own.named ∙ number) (state_of log) t x r (subst (Allows (plain log) (state_of log)) is g.allowed);
-            written = written_instead (plain log) c p q key (own.named ∙ number) (state_of log) t x (Slot t x) new (subst (λ (e : Exchange (Stored K V)). IsWritten (plain log) c (state_of log) (Slot t x) new (after_exchange (state_of log) e)) is g.written);
+            written = written_instead (plain log) c p q key (own.named ∙ number) (state_of log) t x (Slot t x) new
+                (subst (λ (e : Exchange (Stored K V)). IsWritten (plain log) c (state_of log) (Slot t x) new (after_exchange (state_of log) e)) is g.written);
           }
 
       may_put : (kind : Option StepKind) → IsPutting kind → IsKeyFor log kind t x (key_of q) → IsGranted log kind loaded (Slot t x) new → MayPut kind
@@ -271,22 +290,29 @@ module _ {K V S H : Type 0} (eq : K → K → Bool) (input : K → List (List �
         })
 
   -- which it may later too, since the key of a filled slot stays
-  key_for_stays : (v log : List (Event K V S)) → IsLawfulLog eq hash b log → IsPrefix v log → (kind : Option StepKind) (t x : ℕ) (key : K) → IsKeyFor v kind t x key → IsKeyFor log kind t x key
+  key_for_stays : (v log : List (Event K V S)) → IsLawfulLog eq hash b log → IsPrefix v log → (kind : Option StepKind) (t x : ℕ) (key : K)
+      → IsKeyFor v kind t x key → IsKeyFor log kind t x key
   key_for_stays v log l pre kind t x key for = (for.0, λ is. key_at_stays eq input build write finish classes respects b v log l pre t x key (for.1 is))
 
-  module _ (v : List (Event K V S)) (l : IsLawfulLog eq hash b v) (m : Machine) (loaded : LoadedPairs (Stored K V)) (r : IsRelying v m loaded) (t x old new : ℕ) (asks : ask_of m ≡ Ask_exchange (Slot t x) old new) where
+  module _ (v : List (Event K V S)) (l : IsLawfulLog eq hash b v) (m : Machine) (loaded : LoadedPairs (Stored K V)) (r : IsRelying v m loaded)
+      (t x old new : ℕ) (asks : ask_of m ≡ Ask_exchange (Slot t x) old new) where
     -- An exchange that puts a pair in may be tried with any pair that has the number asked for and the right key.
-    pub can_put : IsPutting (kind_of_ask m) → (q : Stored K V) → IsKeyFor v (kind_of_ask m) t x (key_of q) → pair_of new ≡ q.index → CanExchange eq hash b (Slot t x) (kind_of_ask m) old new (Some q) (names.Pair q) v
+    pub can_put : IsPutting (kind_of_ask m) → (q : Stored K V) → IsKeyFor v (kind_of_ask m) t x (key_of q) → pair_of new ≡ q.index
+        → CanExchange eq hash b (Slot t x) (kind_of_ask m) old new (Some q) (names.Pair q) v
     can_put kind q for number log pre l' stands =
-        may_put log loaded t x new q number (kind_of_ask m) kind (key_for_stays v log l' pre (kind_of_ask m) t x (key_of q) for) (can_exchange v l m loaded r (Slot t x) old new asks log pre l' stands)
+        may_put log loaded t x new q number (kind_of_ask m) kind (key_for_stays v log l' pre (kind_of_ask m) t x (key_of q) for)
+        (can_exchange v l m loaded r (Slot t x) old new asks log pre l' stands)
 
     -- An exchange that takes a pair out may be tried with no pair, whatever the call has made.
     pub can_delete : kind_of_ask m ≡ Some kinds.Delete → CanExchange eq hash b (Slot t x) (kind_of_ask m) old new None names.Nothing v
-    can_delete kind log pre l' stands = may_delete log loaded t x new (kind_of_ask m) kind (can_exchange v l m loaded r (Slot t x) old new asks log pre l' stands)
+    can_delete kind log pre l' stands = may_delete log loaded t x new (kind_of_ask m) kind
+        (can_exchange v l m loaded r (Slot t x) old new asks log pre l' stands)
 
-  module _ (log : List (Event K V S)) (loaded : LoadedPairs (Stored K V)) (new : ℕ) (by : Exchange (Stored K V)) (allowed : Allows (plain log) (state_of log) by) (written : IsWritten (plain log) c (state_of log) Made new (after_exchange (state_of log) by)) where
+  module _ (log : List (Event K V S)) (loaded : LoadedPairs (Stored K V)) (new : ℕ) (by : Exchange (Stored K V))
+      (allowed : Allows (plain log) (state_of log) by) (written : IsWritten (plain log) c (state_of log) Made new (after_exchange (state_of log) by)) where
     -- a number is taken
-    may_take : (kind : Option StepKind) → IsAsked (wide log) coded k kind Made new (state_of log) loaded by → MayStep eq hash b Made kind new None names.Nothing log
+    may_take : (kind : Option StepKind) → IsAsked (wide log) coded k kind Made new (state_of log) loaded by
+        → MayStep eq hash b Made kind new None names.Nothing log
     may_take None asked = absurd asked
     may_take (Some kinds.Open) asked = absurd asked
     may_take (Some kinds.Claim) asked = absurd asked
@@ -308,5 +334,7 @@ module _ {K V S H : Type 0} (eq : K → K → Bool) (input : K → List (List �
     }
 
   -- A number for a pair may be taken whenever so many were taken as the machine was told.
-  pub can_take : (v : List (Event K V S)) → IsLawfulLog eq hash b v → (m : Machine) (loaded : LoadedPairs (Stored K V)) → IsRelying v m loaded → (old new : ℕ) → ask_of m ≡ Ask_exchange Made old new → CanExchange eq hash b Made (kind_of_ask m) old new None names.Nothing v
-  can_take v l m loaded r old new asks log pre l' stands = let g = can_exchange v l m loaded r Made old new asks log pre l' stands in may_take log loaded new g.by g.allowed g.written (kind_of_ask m) g.asked
+  pub can_take : (v : List (Event K V S)) → IsLawfulLog eq hash b v → (m : Machine) (loaded : LoadedPairs (Stored K V)) → IsRelying v m loaded
+      → (old new : ℕ) → ask_of m ≡ Ask_exchange Made old new → CanExchange eq hash b Made (kind_of_ask m) old new None names.Nothing v
+  can_take v l m loaded r old new asks log pre l' stands = let g = can_exchange v l m loaded r Made old new asks log pre l' stands in
+      may_take log loaded new g.by g.allowed g.written (kind_of_ask m) g.asked

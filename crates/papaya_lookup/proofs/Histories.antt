@@ -2,7 +2,9 @@
 use Rattle.std.proofs.Common.{◌≡◌, ℕ, Bool, true, Option, None, List, [], ◌∷◌, ◌++◌, append_assoc, refl, sym, ap, ◌∙◌, subst}
 use Rattle.std.specs.Cmp.{IsEquivalence}
 use mathlib.Core.List.{IsPrefix}
-use Rattle.papaya_law.specs.Exchange.{Claim, Replace, Delete, Open, Link, Mark, Close, Place, Finish, Advance, Promote, Abort, Take, Exchange, Setting, State, after, start}
+use Rattle.papaya_law.specs.Exchange.{Claim, Replace, Delete, Open, Link, Mark, Close, Place}
+use Rattle.papaya_law.specs.Exchange.{Finish, Advance, Promote, Abort, Take, Exchange, Setting}
+use Rattle.papaya_law.specs.Exchange.{State, after, start}
 use Rattle.papaya_law.specs.Allows.{AllAllowed}
 use Rattle.papaya_law.specs.Meaning.{AllLegal, IsLawful, map_after, map_left, map_of}
 use Rattle.papaya_law.proofs.OneMap.{legal_changes as all_legal}
@@ -19,7 +21,8 @@ module _ {K P : Type 0} (key : P → K) where
   -- the changes of two lists
   pub changes-append : (es fs : List (Exchange P)) → changes_of key (es ++ fs) ≡ changes_of key es ++ changes_of key fs
   changes-append [] fs = refl
-  changes-append (e ∷ es) fs = ap (λ (cs : List (Change K P)). change_of key e ++ cs) (changes-append es fs) ∙ sym (append_assoc (change_of key e) (changes_of key es) (changes_of key fs))
+  changes-append (e ∷ es) fs = ap (λ (cs : List (Change K P)). change_of key e ++ cs) (changes-append es fs)
+      ∙ sym (append_assoc (change_of key e) (changes_of key es) (changes_of key fs))
 
   -- a beginning of a list has a beginning of its changes
   pub changes_begin : (es fs gs : List (Exchange P)) → es ++ fs ≡ gs → IsPrefix (changes_of key es) (changes_of key gs)
@@ -48,7 +51,8 @@ module _ {K P : Type 0} (g : Setting K P) where
   replay_left es = replay_is (λ k. None) es
 
   -- the changes of exchanges that are legal and allowed are legal
-  pub legal_changes : IsLawful g → (s : State P) (m : K → Option P) (es : List (Exchange P)) → AllAllowed g s es → AllLegal g m es → AllLegalChanges g.same g.key m (changes_of g.key es)
+  pub legal_changes : IsLawful g → (s : State P) (m : K → Option P) (es : List (Exchange P)) → AllAllowed g s es → AllLegal g m es
+      → AllLegalChanges g.same g.key m (changes_of g.key es)
   legal_changes law s m [] may legal = tt
   legal_changes law s m (Open t ∷ es) may legal = legal_changes law (after s (Open t)) m es may.1 legal.1
   legal_changes law s m (Claim t x p ∷ es) may legal = (
@@ -85,10 +89,12 @@ module _ {K P : Type 0} (g : Setting K P) where
 
 -- the history of a longer log begins as that of the shorter one
 pub history_since : {K V S : Type 0} (log log' : List (Event K V S)) → IsPrefix log log' → IsPrefix (history_of log) (history_of log')
-history_since log log' pre = changes_begin key_of (exchanges_of log) (exchanges_of pre.0) (exchanges_of log') (sym (exchanges_of-append log pre.0) ∙ ap exchanges_of pre.1)
+history_since log log' pre = changes_begin key_of (exchanges_of log) (exchanges_of pre.0) (exchanges_of log')
+    (sym (exchanges_of-append log pre.0) ∙ ap exchanges_of pre.1)
 
 -- the history of a log that keeps to the rule is legal
-pub history_legal : {K V S H : Type 0} (eq : K → K → Bool) (input : K → List (List ℕ)) (build : S → H) (write : H → List ℕ → H) (finish : H → ℕ) → IsEquivalence eq → ((x y : K) → eq x y ≡ true → input x ≡ input y) → (b : Begun K V S) (log : List (Event K V S))
+pub history_legal : {K V S H : Type 0} (eq : K → K → Bool) (input : K → List (List ℕ)) (build : S → H) (write : H → List ℕ → H) (finish : H → ℕ)
+    → IsEquivalence eq → ((x y : K) → eq x y ≡ true → input x ≡ input y) → (b : Begun K V S) (log : List (Event K V S))
     → IsLawfulLog eq (hash_of input build write finish) b log → IsLegalHistory eq key_of (history_of log)
 history_legal eq input build write finish classes respects b log l =
     let g = setting_of eq (hash_of input build write finish b.hasher) b.mode b.limit log in

@@ -9,7 +9,11 @@ use Rattle.papaya_ask.specs.declared.call.Reply.TheVariants.{Absent, Found, Inse
 use Rattle.papaya_ask.specs.declared.call.Task.TheVariants.{Get}
 use Rattle.papaya_call.specs.declared.machine.Machine.{Machine}
 use Rattle.papaya_call.specs.declared.machine.State.{State as Stage}
-use Rattle.papaya_call.specs.declared.machine.State.TheVariants.{AtRoot, Making, Opening, Searching, Writing, Offering, Showing, Pairing, Putting, Deleting, Counting, Noting, Uncounting, Leaving, Growing, Ended}
+use Rattle.papaya_call.specs.declared.machine.State.TheVariants.{AtRoot, Making, Opening, Searching}
+use Rattle.papaya_call.specs.declared.machine.State.TheVariants.{Writing, Offering, Showing}
+use Rattle.papaya_call.specs.declared.machine.State.TheVariants.{Pairing, Putting, Deleting}
+use Rattle.papaya_call.specs.declared.machine.State.TheVariants.{Counting, Noting, Uncounting}
+use Rattle.papaya_call.specs.declared.machine.State.TheVariants.{Leaving, Growing, Ended}
 use Rattle.papaya_ask.specs.declared.search.Search.TheVariants.{Sizing, Looking, Reading, Comparing}
 use Rattle.papaya_call.specs.declared.made.Made.{Made}
 use Rattle.papaya_law.specs.Code.{Coding}
@@ -66,36 +70,60 @@ module _ {K P : Type 0} (g : Setting K P) (c : Coding K P) (begun since : List (
   get_reply Done r none = absurd r
   get_reply (Refused refused) r none = absurd r
 
-module _ {K V S H : Type 0} (eq : K → K → Bool) (input : K → List (List ℕ)) (build : S → H) (write : H → List ℕ → H) (finish : H → ℕ) (classes : IsEquivalence eq) (respects : (x y : K) → eq x y ≡ true → input x ≡ input y)
-    (b : Begun K V S) (matches : K → Bool) (query : List (List ℕ)) (lawful : IsQuery eq input matches query) (old began : List (Event K V S)) (pre : IsPrefix old began)
-    (log : List (Event K V S)) (m : Machine) (table : Option (Bor Sheet)) (pair : Option (Stored K V)) (r : Rested eq input build write finish classes respects b matches query lawful (exchanges_of began) log m table pair) (stands : IsStandingState Get m.state) where
+module _ {K V S H : Type 0} (eq : K → K → Bool) (input : K → List (List ℕ)) (build : S → H) (write : H → List ℕ → H) (finish : H → ℕ)
+    (classes : IsEquivalence eq) (respects : (x y : K) → eq x y ≡ true → input x ≡ input y)
+    (b : Begun K V S) (matches : K → Bool) (query : List (List ℕ)) (lawful : IsQuery eq input matches query) (old began : List (Event K V S))
+    (pre : IsPrefix old began)
+    (log : List (Event K V S)) (m : Machine) (table : Option (Bor Sheet)) (pair : Option (Stored K V))
+    (r : Rested eq input build write finish classes respects b matches query lawful (exchanges_of began) log m table pair)
+    (stands : IsStandingState Get m.state) where
   abbrev hash : S → K → ℕ
   hash = hash_of input build write finish
 
   -- the history at a moment of the call
-  history_then : (value : Option (Stored K V)) → WasAtMoment (setting eq input build write finish classes respects b matches query lawful log) (coding eq input build write finish classes respects b matches query lawful) (exchanges_of began) r.since None value → IsHistory eq matches old log value
+  history_then : (value : Option (Stored K V))
+      → WasAtMoment (setting eq input build write finish classes respects b matches query lawful log)
+      (coding eq input build write finish classes respects b matches query lawful) (exchanges_of began) r.since None value → IsHistory eq matches old log value
   history_then value was = matched_history eq input build write finish classes respects b matches query lawful old began pre log r.lawful r.since r.is value was
 
   -- a pair was found, and is the one that is held
-  pub found_answer : (n : ℕ) → ask_of m ≡ Done (Found n) → (q : Stored K V) → pair ≡ Some q → (hit : Hit K V S H) → hit.key.now ≡ key_of q → hit.value.now ≡ q.value.value → IsHitAnsweredBetween eq matches (history_of old) (history_of log) (Some hit)
+  pub found_answer : (n : ℕ) → ask_of m ≡ Done (Found n) → (q : Stored K V) → pair ≡ Some q → (hit : Hit K V S H) → hit.key.now ≡ key_of q
+      → hit.value.now ≡ q.value.value → IsHitAnsweredBetween eq matches (history_of old) (history_of log) (Some hit)
   found_answer n e q has hit key_is value_is =
       let last = r.found n (done_state m.made m.hash m.state (stands) (Found n) e) in
       let p = last.0 in
       let h = history_then (Some p) last.2 in
       let match' = h.found p refl in
       let one : q ≡ p = cc (has, r.holds_pair.0, last.1) in
-      record { seen = h.seen; since = h.since; until = h.until; is = (p, match', h.had p.value.key.value match', (key_is ∙ ap (λ (z : Stored K V). key_of z) one, value_is ∙ ap (λ (z : Stored K V). z.value.value) one)) }
+      record {
+        seen = h.seen;
+        since = h.since;
+        until = h.until;
+        is = (
+          p,
+          match',
+          h.had p.value.key.value match',
+          (key_is ∙ ap (λ (z : Stored K V). key_of z) one, value_is ∙ ap (λ (z : Stored K V). z.value.value) one),
+        );
+      }
 
   -- none was found
-  pub absent_answer : (reply : Reply) → ask_of m ≡ Done reply → ((n : ℕ) → reply ≡ Found n → ⊥) → IsHitAnsweredBetween {S = S} {H = H} eq matches (history_of old) (history_of log) None
+  pub absent_answer : (reply : Reply) → ask_of m ≡ Done reply → ((n : ℕ) → reply ≡ Found n → ⊥)
+      → IsHitAnsweredBetween {S = S} {H = H} eq matches (history_of old) (history_of log) None
   absent_answer reply e none =
-      let g = setting eq input build write finish classes respects b matches query lawful log in let c = coding eq input build write finish classes respects b matches query lawful in
+      let g = setting eq input build write finish classes respects b matches query lawful log in
+      let c = coding eq input build write finish classes respects b matches query lawful in
       let ended = done_state m.made m.hash m.state (stands) reply e in
-      let stage : ReliesStage g c (exchanges_of began) r.since None r.loaded Get (Ended reply) = subst (λ z. ReliesStage g c (exchanges_of began) r.since None r.loaded Get z) ended (subst (λ t. ReliesStage g c (exchanges_of began) r.since None r.loaded t m.state) r.task_is r.relies.stage) in
-      let h = history_then None (get_reply g c (exchanges_of began) r.since None r.loaded reply stage none) in record { seen = h.seen; since = h.since; until = h.until; is = h.had }
+      let stage : ReliesStage g c (exchanges_of began) r.since None r.loaded Get
+      (Ended reply) = subst (λ z. ReliesStage g c (exchanges_of began) r.since None r.loaded Get z) ended
+      (subst (λ t. ReliesStage g c (exchanges_of began) r.since None r.loaded t m.state) r.task_is r.relies.stage) in
+      let h = history_then None (get_reply g c (exchanges_of began) r.since None r.loaded reply stage none) in
+      record { seen = h.seen; since = h.since; until = h.until; is = h.had }
 
 -- what an answer tells of the pair that was found, another tells that says less of it
-found_as : {K V A B : Type 0} (is : A → Stored K V → Type 0) (is' : B → Stored K V → Type 0) (f : A → B) → ((a : A) (p : Stored K V) → is a p → is' (f a) p) → (eq : K → K → Bool) (matches : K → Bool) (old new : List (Change K (Stored K V))) (answer : Option A) (less : Option B) → option_map f answer ≡ less
+found_as : {K V A B : Type 0} (is : A → Stored K V → Type 0) (is' : B → Stored K V → Type 0) (f : A → B)
+    → ((a : A) (p : Stored K V) → is a p → is' (f a) p)
+    → (eq : K → K → Bool) (matches : K → Bool) (old new : List (Change K (Stored K V))) (answer : Option A) (less : Option B) → option_map f answer ≡ less
     → IsFoundBetween is eq matches old new answer → IsFoundBetween is' eq matches old new less
 found_as is is' f less_of eq matches old new answer less same a = subst (IsFoundBetween is' eq matches old new) same (mapped answer a)
   where
@@ -105,13 +133,19 @@ found_as is is' f less_of eq matches old new answer less same a = subst (IsFound
 
 module _ {K V : Type 0} (eq : K → K → Bool) (matches : K → Bool) (old new : List (Change K (Stored K V))) where
   -- the value of the pair that was found
-  pub value_answer : (answer : Option (Bor K × Bor V)) (value : Option (Bor V)) → option_map (λ pair. pair.1) answer ≡ value → IsPairAnsweredBetween eq matches old new answer → IsAnsweredBetween eq matches old new value
-  value_answer = found_as (λ pair p. (pair.0.now ≡ key_of p) × (pair.1.now ≡ p.value.value)) (λ value p. value.now ≡ p.value.value) (λ pair. pair.1) (λ pair p is. is.1) eq matches old new
+  pub value_answer : (answer : Option (Bor K × Bor V)) (value : Option (Bor V)) → option_map (λ pair. pair.1) answer ≡ value
+      → IsPairAnsweredBetween eq matches old new answer → IsAnsweredBetween eq matches old new value
+  value_answer = found_as (λ pair p. (pair.0.now ≡ key_of p) × (pair.1.now ≡ p.value.value)) (λ value p. value.now ≡ p.value.value) (λ pair. pair.1)
+      (λ pair p is. is.1) eq matches old new
 
   -- and its key too
-  pub pair_answer : {S H : Type 0} (answer : Option (Hit K V S H)) (pair : Option (Bor K × Bor V)) → option_map (λ hit. (hit.key, hit.value)) answer ≡ pair → IsHitAnsweredBetween eq matches old new answer → IsPairAnsweredBetween eq matches old new pair
-  pair_answer = found_as (λ hit p. (hit.key.now ≡ key_of p) × (hit.value.now ≡ p.value.value)) (λ pair p. (pair.0.now ≡ key_of p) × (pair.1.now ≡ p.value.value)) (λ hit. (hit.key, hit.value)) (λ hit p is. is) eq matches old new
+  pub pair_answer : {S H : Type 0} (answer : Option (Hit K V S H)) (pair : Option (Bor K × Bor V))
+      → option_map (λ hit. (hit.key, hit.value)) answer ≡ pair → IsHitAnsweredBetween eq matches old new answer → IsPairAnsweredBetween eq matches old new pair
+  pair_answer = found_as (λ hit p. (hit.key.now ≡ key_of p) × (hit.value.now ≡ p.value.value))
+      (λ pair p. (pair.0.now ≡ key_of p) × (pair.1.now ≡ p.value.value)) (λ hit. (hit.key, hit.value)) (λ hit p is. is) eq matches old new
 
 -- what was answered since more was seen
-pub answered_since : {K V A : Type 0} (is_of : A → Stored K V → Type 0) (eq : K → K → Bool) (matches : K → Bool) (old mid new : List (Change K (Stored K V))) (answer : Option A) → IsPrefix old mid → IsFoundBetween is_of eq matches mid new answer → IsFoundBetween is_of eq matches old new answer
+pub answered_since : {K V A : Type 0} (is_of : A → Stored K V → Type 0) (eq : K → K → Bool) (matches : K → Bool)
+    (old mid new : List (Change K (Stored K V))) (answer : Option A) → IsPrefix old mid → IsFoundBetween is_of eq matches mid new answer
+    → IsFoundBetween is_of eq matches old new answer
 answered_since is_of eq matches old mid new answer pre f = record { seen = f.seen; since = prefix_trans old mid f.seen pre f.since; until = f.until; is = f.is }

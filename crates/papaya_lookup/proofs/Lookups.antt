@@ -19,7 +19,11 @@ use Rattle.papaya_ask.specs.declared.search.Probed.{Probed}
 use Rattle.papaya_ask.specs.declared.search.Probed.TheVariants.{On, Over}
 use Rattle.papaya_call.specs.declared.made.Made.{Made}
 use Rattle.papaya_call.specs.declared.machine.State.{State}
-use Rattle.papaya_call.specs.declared.machine.State.TheVariants.{AtRoot, Making, Opening, Searching, Writing, Offering, Showing, Pairing, Putting, Deleting, Counting, Noting, Uncounting, Leaving, Growing, Ended}
+use Rattle.papaya_call.specs.declared.machine.State.TheVariants.{AtRoot, Making, Opening, Searching}
+use Rattle.papaya_call.specs.declared.machine.State.TheVariants.{Writing, Offering, Showing}
+use Rattle.papaya_call.specs.declared.machine.State.TheVariants.{Pairing, Putting, Deleting}
+use Rattle.papaya_call.specs.declared.machine.State.TheVariants.{Counting, Noting, Uncounting}
+use Rattle.papaya_call.specs.declared.machine.State.TheVariants.{Leaving, Growing, Ended}
 use Rattle.papaya_call.specs.declared.machine.Machine.{Machine}
 use Rattle.papaya_ask.specs.Search.{next_place, go_on, hinted, look_at, match_at, at_yes as search_compared}
 use Rattle.papaya_call.specs.Machine.{IsStandingState, after, asks, passes, goes_as}
@@ -99,10 +103,12 @@ unfound_passes (Incremental chunk) fill u = λ n e. cc e
 unfound_passes Blocking fill u = λ n e. cc e
 
 unfound_on : (mode : ResizeMode) (held : Remembered) (at : Place) → IsUnfound (goes_as Get mode held (go_on at))
-unfound_on mode held at = chosen (λ s. IsUnfound (goes_as Get mode held s)) (nat_lt at.probe.len at.limit) (On (Looking (next_place at))) (Over at.table) (λ e n h. cc h) (λ e. unfound_passes mode held.fill at.table)
+unfound_on mode held at = chosen (λ s. IsUnfound (goes_as Get mode held s)) (nat_lt at.probe.len at.limit) (On (Looking (next_place at)))
+    (Over at.table) (λ e n h. cc h) (λ e. unfound_passes mode held.fill at.table)
 
 unfound_hinted : (mode : ResizeMode) (held : Remembered) (at : Place) (hash hint : ℕ) → IsUnfound (goes_as Get mode held (hinted at hash hint))
-unfound_hinted mode held at hash hint = chosen (λ s. IsUnfound (goes_as Get mode held s)) (may_hold hint hash) (On (Reading at)) (go_on at) (λ e n h. cc h) (λ e. unfound_on mode held at)
+unfound_hinted mode held at hash hint = chosen (λ s. IsUnfound (goes_as Get mode held s)) (may_hold hint hash) (On (Reading at)) (go_on at)
+    (λ e n h. cc h) (λ e. unfound_on mode held at)
 
 unfound_look : (mode : ResizeMode) (held : Remembered) (at : Place) (kind : Kind) (word : ℕ) → IsUnfound (goes_as Get mode held (look_at kind at word))
 unfound_look mode held at kinds.Empty word = λ n e. cc e
@@ -130,7 +136,8 @@ module _ (hash initial : ℕ) (mode : ResizeMode) (made : Made) (held : Remember
   lookup s = record { task = Get; hash = hash; mode = mode; initial = initial; made = made; remembered = held; state = s }
 
   -- a slot was loaded
-  pub slot_step : (s : State) → IsStandingState Get s → (t x word : ℕ) → asks made hash s ≡ Load (Slot t x) → IsStepIn t s (after (lookup s) (Word word)).state × IsUnfound (after (lookup s) (Word word)).state
+  pub slot_step : (s : State) → IsStandingState Get s → (t x word : ℕ) → asks made hash s ≡ Load (Slot t x)
+      → IsStepIn t s (after (lookup s) (Word word)).state × IsUnfound (after (lookup s) (Word word)).state
   slot_step AtRoot stands t x word e = absurd (cc e)
   slot_step Making stands t x word e = absurd stands
   slot_step (Opening u) stands t x word e = absurd stands
@@ -160,7 +167,8 @@ module _ (hash initial : ℕ) (mode : ResizeMode) (made : Made) (held : Remember
   slot_step (Ended reply) stands t x word e = absurd (cc e)
 
   -- the hint of a slot was loaded
-  pub hint_step : (s : State) → IsStandingState Get s → (t x word : ℕ) → asks made hash s ≡ LoadHint t x → IsStepIn t s (after (lookup s) (Word word)).state × IsUnfound (after (lookup s) (Word word)).state
+  pub hint_step : (s : State) → IsStandingState Get s → (t x word : ℕ) → asks made hash s ≡ LoadHint t x
+      → IsStepIn t s (after (lookup s) (Word word)).state × IsUnfound (after (lookup s) (Word word)).state
   hint_step AtRoot stands t x word e = absurd (cc e)
   hint_step Making stands t x word e = absurd stands
   hint_step (Opening u) stands t x word e = absurd stands
@@ -190,7 +198,8 @@ module _ (hash initial : ℕ) (mode : ResizeMode) (made : Made) (held : Remember
   hint_step (Ended reply) stands t x word e = absurd (cc e)
 
   -- the size of a table was told
-  pub size_step : (s : State) → IsStandingState Get s → (t slots limit : ℕ) → limit < 2 ^ 32 → asks made hash s ≡ SizeOf t → IsStepIn t s (after (lookup s) (Size slots limit)).state × IsUnfound (after (lookup s) (Size slots limit)).state
+  pub size_step : (s : State) → IsStandingState Get s → (t slots limit : ℕ) → limit < 2 ^ 32 → asks made hash s ≡ SizeOf t
+      → IsStepIn t s (after (lookup s) (Size slots limit)).state × IsUnfound (after (lookup s) (Size slots limit)).state
   size_step AtRoot stands t slots limit few e = absurd (cc e)
   size_step Making stands t slots limit few e = absurd stands
   size_step (Opening u) stands t slots limit few e = absurd stands
@@ -213,7 +222,8 @@ module _ (hash initial : ℕ) (mode : ResizeMode) (made : Made) (held : Remember
   size_step (Ended reply) stands t slots limit few e = absurd (cc e)
 
   -- the pair last told of was compared
-  pub yes_step : (s : State) → IsStandingState Get s → (n : ℕ) (same : Bool) → asks made hash s ≡ SameKey n → (t : ℕ) × IsStepIn t s (after (lookup s) (Yes same)).state
+  pub yes_step : (s : State) → IsStandingState Get s → (n : ℕ) (same : Bool) → asks made hash s ≡ SameKey n → (t : ℕ)
+      × IsStepIn t s (after (lookup s) (Yes same)).state
   yes_step AtRoot stands n same e = absurd (cc e)
   yes_step Making stands n same e = absurd stands
   yes_step (Opening u) stands n same e = absurd stands
@@ -221,7 +231,8 @@ module _ (hash initial : ℕ) (mode : ResizeMode) (made : Made) (held : Remember
   yes_step (Searching (Looking at)) stands n same e = absurd (cc e)
   yes_step (Searching (Reading at)) stands n same e = absurd (cc e)
   yes_step (Searching (Comparing at word)) stands n same e =
-      let f = leads_compared mode held at stands.len word same in (at.table, record { names = refl; table = f.table; fewer = let le = f.fewer in let lt = stands.len in omega (arith, le, lt) })
+      let f = leads_compared mode held at stands.len word same in
+      (at.table, record { names = refl; table = f.table; fewer = let le = f.fewer in let lt = stands.len in omega (arith, le, lt) })
   yes_step (Writing write) stands n same e = absurd stands.0
   yes_step (Offering gap) stands n same e = absurd stands.0
   yes_step (Showing removal) stands n same e = absurd stands.0
@@ -236,7 +247,8 @@ module _ (hash initial : ℕ) (mode : ResizeMode) (made : Made) (held : Remember
   yes_step (Ended reply) stands n same e = absurd (cc e)
 
   -- the number of a table was loaded, from a state with more to do
-  numbered : (s : State) (word : ℕ) → 0 < left_of s → ((word ≡ 0 → ⊥) → left_in word (3 * 2 ^ 32 + 5) < left_of s) → IsStepTo word s (if word == 0 then Ended Absent else Searching (Sizing word))
+  numbered : (s : State) (word : ℕ) → 0 < left_of s → ((word ≡ 0 → ⊥) → left_in word (3 * 2 ^ 32 + 5) < left_of s)
+      → IsStepTo word s (if word == 0 then Ended Absent else Searching (Sizing word))
   numbered s word some less =
       chosen (IsStepTo word s) (word == 0) (Ended Absent) (Searching (Sizing word))
       (λ e. record { table = λ v h. absurd (cc h); fewer = omega (arith, some); unfound = λ n h. cc h })
@@ -264,7 +276,8 @@ module _ (hash initial : ℕ) (mode : ResizeMode) (made : Made) (held : Remember
   root_step (Ended reply) stands word e = absurd (cc e)
 
   -- a next table has a greater number, which is no more than a table's may be
-  pub next_step : (s : State) → IsStandingState Get s → (t word : ℕ) → ((word ≡ 0 → ⊥) → (t < word) × (word ≤ 2 ^ 32)) → asks made hash s ≡ Load (Next t) → (table_of s ≡ Some t) × IsStepTo word s (after (lookup s) (Word word)).state
+  pub next_step : (s : State) → IsStandingState Get s → (t word : ℕ) → ((word ≡ 0 → ⊥) → (t < word) × (word ≤ 2 ^ 32))
+      → asks made hash s ≡ Load (Next t) → (table_of s ≡ Some t) × IsStepTo word s (after (lookup s) (Word word)).state
   next_step AtRoot stands t word up e = absurd (cc e)
   next_step Making stands t word up e = absurd stands
   next_step (Opening u) stands t word up e = absurd stands
@@ -282,6 +295,10 @@ module _ (hash initial : ℕ) (mode : ResizeMode) (made : Made) (held : Remember
   next_step (Noting n) stands t word up e = absurd stands
   next_step (Uncounting n) stands t word up e = absurd stands
   next_step (Leaving u) stands t word up e =
-      let is : u ≡ t = cc e in (ap Some is, numbered (Leaving u) word (omega arith) (λ some. let h = up some in let lt = h.0 in let le = h.1 in omega (arith, lt, le, is)))
+      let is : u ≡ t = cc e in (
+        ap Some is,
+        numbered (Leaving u) word (omega arith)
+            (λ some. let h = up some in let lt = h.0 in let le = h.1 in omega (arith, lt, le, is)),
+      )
   next_step (Growing u) stands t word up e = absurd stands
   next_step (Ended reply) stands t word up e = absurd (cc e)

@@ -29,9 +29,12 @@ pub record IsHistory {K V S : Type 0} (eq : K → K → Bool) (matches : K → B
   pub had : (k : K) → matches k ≡ true → replay eq seen k ≡ value
   pub found : (p : Stored K V) → value ≡ Some p → matches (key_of p) ≡ true
 
-module _ {K V S H : Type 0} (eq : K → K → Bool) (input : K → List (List ℕ)) (build : S → H) (write : H → List ℕ → H) (finish : H → ℕ) (classes : IsEquivalence eq) (respects : (x y : K) → eq x y ≡ true → input x ≡ input y)
-    (b : Begun K V S) (matches : K → Bool) (query : List (List ℕ)) (lawful : IsQuery eq input matches query) (old began : List (Event K V S)) (pre : IsPrefix old began)
-    (log : List (Event K V S)) (l : IsLawfulLog eq (hash_of input build write finish) b log) (since : List (Exchange (Stored K V))) (is : exchanges_of began ++ since ≡ exchanges_of log) where
+module _ {K V S H : Type 0} (eq : K → K → Bool) (input : K → List (List ℕ)) (build : S → H) (write : H → List ℕ → H) (finish : H → ℕ)
+    (classes : IsEquivalence eq) (respects : (x y : K) → eq x y ≡ true → input x ≡ input y)
+    (b : Begun K V S) (matches : K → Bool) (query : List (List ℕ)) (lawful : IsQuery eq input matches query) (old began : List (Event K V S))
+    (pre : IsPrefix old began)
+    (log : List (Event K V S)) (l : IsLawfulLog eq (hash_of input build write finish) b log) (since : List (Exchange (Stored K V)))
+    (is : exchanges_of began ++ since ≡ exchanges_of log) where
   abbrev hash : K → ℕ
   hash = hash_of input build write finish b.hasher
 
@@ -59,13 +62,15 @@ module _ {K V S H : Type 0} (eq : K → K → Bool) (input : K → List (List �
     es = begun ++ so_far
 
     early : exchanges_of old ++ (exchanges_of pre.0 ++ so_far) ≡ es
-    early = sym (append_assoc (exchanges_of old) (exchanges_of pre.0) so_far) ∙ ap (λ (z : List (Exchange (Stored K V))). z ++ so_far) (sym (exchanges_of-append old pre.0) ∙ ap exchanges_of pre.1)
+    early = sym (append_assoc (exchanges_of old) (exchanges_of pre.0) so_far)
+        ∙ ap (λ (z : List (Exchange (Stored K V))). z ++ so_far) (sym (exchanges_of-append old pre.0) ∙ ap exchanges_of pre.1)
 
     late : es ++ rest ≡ exchanges_of log
     late = append_assoc begun so_far rest ∙ (ap (λ (z : List (Exchange (Stored K V))). begun ++ z) parts ∙ is)
 
     -- a moment of the call is a history between the two
-    history_at : (those : K → Bool) (value : Option (Stored K V)) → ((k : K) → those k ≡ true → map_left plain es k ≡ value) → ((p : Stored K V) → value ≡ Some p → those (key_of p) ≡ true) → IsHistory eq those old log value
+    history_at : (those : K → Bool) (value : Option (Stored K V)) → ((k : K) → those k ≡ true → map_left plain es k ≡ value)
+        → ((p : Stored K V) → value ≡ Some p → those (key_of p) ≡ true) → IsHistory eq those old log value
     history_at those value had found = record {
       seen = changes_of plain.key es;
       since = changes_begin plain.key (exchanges_of old) (exchanges_of pre.0 ++ so_far) es early;
@@ -86,7 +91,8 @@ module _ {K V S H : Type 0} (eq : K → K → Bool) (input : K → List (List �
   pub matched_history : (value : Option (Stored K V)) → Was None value → IsHistory eq matches old log value
   matched_history value was =
       let f = fed eq input build write finish classes respects b matches query lawful in
-      let moment : IsMatchedAtMoment plain matches (map_left plain begun) since value = key_moment plain matches f (coding_of hash) form begun since may value was in
+      let moment : IsMatchedAtMoment plain matches (map_left plain begun) since value = key_moment plain matches f (coding_of hash) form begun since
+      may value was in
       history_at moment.so_far moment.rest moment.is matches value (λ k h. then_left moment.so_far k ∙ moment.value_is k h) moment.found
 
   -- what a key of the map had at a moment, the keys that equal it had in a history
@@ -97,9 +103,11 @@ module _ {K V S H : Type 0} (eq : K → K → Bool) (input : K → List (List �
       let then = begun ++ so_far in
       let allowed : AllAllowed plain start then = allowed_then so_far was.rest was.is in
       let left : IsMapWith plain matches (map_left plain then) (map_left wide then) = key_left plain matches f (coding_of hash) form then allowed in
-      let had : map_left plain then key ≡ value = sym (left.own key) ∙ (ap (λ (z : Option K → Option (Stored K V)). z (Some key)) (map_of-append wide begun so_far (λ i. None)) ∙ was.value_is) in
+      let had : map_left plain then key ≡ value = sym (left.own key)
+      ∙ (ap (λ (z : Option K → Option (Stored K V)). z (Some key)) (map_of-append wide begun so_far (λ i. None)) ∙ was.value_is) in
       -- the key is a further key that matches those that equal it
       let own = own_key_lawful plain (coding_of hash) (is_hashed eq input build write finish classes respects b log l) key in
-      let class : IsMapWith plain (eq key) (map_left plain then) (map_left (with_key plain (eq key) (hash key)) then) = key_left plain (eq key) (hash key) (coding_of hash) own then allowed in
+      let class : IsMapWith plain (eq key) (map_left plain then) (map_left (with_key plain (eq key) (hash key)) then) = key_left plain (eq key)
+      (hash key) (coding_of hash) own then allowed in
       let further : map_left (with_key plain (eq key) (hash key)) then None ≡ value = class.matched key (classes.refl key) ∙ had in
       history_at so_far was.rest was.is (eq key) value (λ k h. sym (class.matched k h) ∙ further) (λ p e. class.found p (further ∙ e))

@@ -28,7 +28,8 @@ module _ {K P : Type 0} (g : Setting K P) (c : Coding K P) (p q : P) (key : g.ke
   same_words s t x (Slot u y) = same_cond ((u == t) && (y == x)) (s.slot u y)
   same_words s t x Made = refl
 
-  pub written_instead : (s : State P) (t x : ℕ) (at : At) (new : ℕ) → IsWritten g c s at new (slot_put s t x (Live p)) → IsWritten g c s at new (slot_put s t x (Live q))
+  pub written_instead : (s : State P) (t x : ℕ) (at : At) (new : ℕ) → IsWritten g c s at new (slot_put s t x (Live p))
+      → IsWritten g c s at new (slot_put s t x (Live q))
   written_instead s t x at new w = record {
     here = sym (same_words s t x at) ∙ w.here;
     others = λ other differs. sym (same_words s t x other) ∙ w.others other differs;
@@ -42,4 +43,9 @@ module _ {K P : Type 0} (g : Setting K P) (c : Coding K P) (p q : P) (key : g.ke
   }
 
   pub replaced_instead : (s : State P) (t x : ℕ) (r : P) → Allows g s (Replace t x r p) → Allows g s (Replace t x r q)
-  replaced_instead s t x r may = record { live = may.live; reached = may.reached; same = subst (λ k. g.same (g.key r) k ≡ true) key may.same; kept = sym key ∙ may.kept }
+  replaced_instead s t x r may = record {
+    live = may.live;
+    reached = may.reached;
+    same = subst (λ k. g.same (g.key r) k ≡ true) key may.same;
+    kept = sym key ∙ may.kept;
+  }

@@ -36,7 +36,8 @@ use Rattle.papaya_lookup.proofs.Turning.{here_not, hint_passed, on_not, other_pa
 
 -- a search goes on within its table
 on_within : (at : Place) → IsWithin at → IsProbed (go_on at)
-on_within at within = chosen IsProbed (nat_lt at.probe.len at.limit) (On (Looking (next_place at))) (Over at.table) (λ e. next_within at within (ltb-true at.probe.len at.limit e)) (λ e. tt)
+on_within at within = chosen IsProbed (nat_lt at.probe.len at.limit) (On (Looking (next_place at))) (Over at.table)
+    (λ e. next_within at within (ltb-true at.probe.len at.limit e)) (λ e. tt)
 
 -- what the word tells, by its kind
 pub looks : (at : Place) (word : ℕ) (kind : Kind) → kind_of word ≡ kind → look at word ≡ look_at kind at word
@@ -46,8 +47,10 @@ looks at word kind is = ap (λ (k : Kind). look_at k at word) is
 pub meets : (at : Place) (word : ℕ) (same : Bool) → kind_of word ≡ kinds.Live → same ≡ true → at_yes (Comparing at word) same ≡ Here at word
 meets at word same live e = ap (at_yes (Comparing at word)) e ∙ ap (λ (k : Kind). match_at k at word) live
 
-module _ {K V S H : Type 0} (eq : K → K → Bool) (input : K → List (List ℕ)) (build : S → H) (write : H → List ℕ → H) (finish : H → ℕ) (classes : IsEquivalence eq) (respects : (x y : K) → eq x y ≡ true → input x ≡ input y)
-    (b : Begun K V S) (matches : K → Bool) (query : List (List ℕ)) (lawful : IsQuery eq input matches query) (begun : List (Exchange (Stored K V))) (h : ℕ) (name : Name) where
+module _ {K V S H : Type 0} (eq : K → K → Bool) (input : K → List (List ℕ)) (build : S → H) (write : H → List ℕ → H) (finish : H → ℕ)
+    (classes : IsEquivalence eq) (respects : (x y : K) → eq x y ≡ true → input x ≡ input y)
+    (b : Begun K V S) (matches : K → Bool) (query : List (List ℕ)) (lawful : IsQuery eq input matches query) (begun : List (Exchange (Stored K V)))
+    (h : ℕ) (name : Name) where
   abbrev hash : S → K → ℕ
   hash = hash_of input build write finish
 
@@ -57,37 +60,46 @@ module _ {K V S H : Type 0} (eq : K → K → Bool) (input : K → List (List �
   abbrev Turned : List (Event K V S) → Sheet → Turn (Met K V) (Bor K × Bor V) → Type 0
   Turned = IsTurned eq hash b name matches fed_to begun h
 
-  module _ (log : List (Event K V S)) (at : Place) (within : IsWithin at) (table : Sheet) (r : IsReadingAt eq hash b matches fed_to begun h log (Searching (Looking at)) table) (log' : List (Event K V S)) (pre : IsPrefix log log')
+  module _ (log : List (Event K V S)) (at : Place) (within : IsWithin at) (table : Sheet)
+      (r : IsReadingAt eq hash b matches fed_to begun h log (Searching (Looking at)) table) (log' : List (Event K V S)) (pre : IsPrefix log log')
       (hint : ℕ) (told : IsSlotHint eq hash b at.table at.probe.i hint log') where
     -- the hint is another key's
     pub passed_over : may_hold hint h ≡ false → Turned log' table (turn_of (go_on at))
     passed_over e =
         let is : hinted at h hint ≡ go_on at = ap (λ (o : Bool). if o then On (Reading at) else go_on at) e in
-        let all = hint_passed eq input build write finish classes respects b matches query lawful begun h name log at within table r log' pre hint told (subst IsProbed (sym is) (on_within at within)) (λ a z. read_not at a (sym is ∙ z)) in
+        let all = hint_passed eq input build write finish classes respects b matches query lawful begun h name log at within table r log' pre hint
+        told (subst IsProbed (sym is) (on_within at within)) (λ a z. read_not at a (sym is ∙ z)) in
         subst (λ (s : Probed). Turned log' table (turn_of s)) is all.0
 
     -- or says nothing, or is the key's
     pub to_read : may_hold hint h ≡ true → IsReadingAt eq hash b matches fed_to begun h log' (Searching (Reading at)) table
-    to_read e = word_next eq input build write finish classes respects b matches query lawful begun h name log at within table r log' pre hint told at (ap (λ (o : Bool). if o then On (Reading at) else go_on at) e)
+    to_read e = word_next eq input build write finish classes respects b matches query lawful begun h name log at within table r log' pre hint told at
+        (ap (λ (o : Bool). if o then On (Reading at) else go_on at) e)
 
-  module _ (log : List (Event K V S)) (at : Place) (within : IsWithin at) (table : Sheet) (r : IsReadingAt eq hash b matches fed_to begun h log (Searching (Reading at)) table) (log' : List (Event K V S)) (pre : IsPrefix log log')
+  module _ (log : List (Event K V S)) (at : Place) (within : IsWithin at) (table : Sheet)
+      (r : IsReadingAt eq hash b matches fed_to begun h log (Searching (Reading at)) table) (log' : List (Event K V S)) (pre : IsPrefix log log')
       (word : ℕ) (state : Option (Named K V)) (told : IsSlotWord eq hash b name at.table at.probe.i word log' state) where
     -- nothing was ever there
     pub none_there : kind_of word ≡ kinds.Empty → Turned log' table turns.Absent
     none_there e =
         let is = looks at word kinds.Empty e in
-        let all = passed eq input build write finish classes respects b matches query lawful begun h name log at within table r log' pre word state told (subst IsProbed (sym is) within) (λ a w z. let two : Empty at ≡ On (Comparing a w) = sym is ∙ z in cc two) in
+        let all = passed eq input build write finish classes respects b matches query lawful begun h name log at within table r log' pre word state
+        told (subst IsProbed (sym is) within) (λ a w z. let two : Empty at ≡ On (Comparing a w) = sym is ∙ z in cc two) in
         subst (λ (s : Probed). Turned log' table (turn_of s)) is all.0
 
     -- no pair is there any longer
     pub none_left : look at word ≡ go_on at → Turned log' table (turn_of (go_on at))
     none_left is =
-        let all = passed eq input build write finish classes respects b matches query lawful begun h name log at within table r log' pre word state told (subst IsProbed (sym is) (on_within at within)) (λ a w z. on_not at a w (sym is ∙ z)) in
+        let all = passed eq input build write finish classes respects b matches query lawful begun h name log at within table r log' pre word state
+        told (subst IsProbed (sym is) (on_within at within)) (λ a w z. on_not at a w (sym is ∙ z)) in
         subst (λ (s : Probed). Turned log' table (turn_of s)) is all.0
 
     -- a pair lives there, with another key
-    pub other_there : kind_of word ≡ kinds.Live → (p : Stored K V) → state ≡ Some (names.Pair p) → (same : Bool) → same ≡ matches (key_of p) → same ≡ false → Turned log' table (turn_of (go_on at))
+    pub other_there : kind_of word ≡ kinds.Live → (p : Stored K V) → state ≡ Some (names.Pair p) → (same : Bool) → same ≡ matches (key_of p)
+        → same ≡ false → Turned log' table (turn_of (go_on at))
     other_there live p is same same_is e =
         let goes : at_yes (Comparing at word) same ≡ go_on at = ap (at_yes (Comparing at word)) e in
-        let all = other_pair eq input build write finish classes respects b matches query lawful begun h name log at within table r log' pre word state told at word (looks at word kinds.Live live) p is same same_is (subst IsProbed (sym goes) (on_within at within)) (λ a w z. here_not at a w (sym goes ∙ z)) in
+        let all = other_pair eq input build write finish classes respects b matches query lawful begun h name log at within table r log' pre word
+        state told at word (looks at word kinds.Live live) p is same same_is (subst IsProbed (sym goes) (on_within at within))
+        (λ a w z. here_not at a w (sym goes ∙ z)) in
         subst (λ (s : Probed). Turned log' table (turn_of s)) goes all.0

@@ -17,18 +17,23 @@ use Rattle.papaya_book.specs.declared.rule.entry.Step.{Step}
 use Rattle.papaya_book.specs.declared.rule.entry.Step.TheVariants as steps
 use Rattle.papaya_book.specs.declared.rule.entry.Event.{Event}
 use Rattle.papaya_book.specs.Calls.{IsRoot, IsSlot, IsTable}
-use Rattle.papaya_book.specs.Logs.{Stored, coding_of, comes, entry_of, exchange_of, number_of, or_else, places_of, setting_of, slots_of, state_of, steps_of, table_if, table_in}
+use Rattle.papaya_book.specs.Logs.{Stored, coding_of, comes, entry_of, exchange_of, number_of}
+use Rattle.papaya_book.specs.Logs.{or_else, places_of, setting_of, slots_of, state_of, steps_of}
+use Rattle.papaya_book.specs.Logs.{table_if, table_in}
 
 -- an exchange brings a table of this number, or none of it
 abbrev Brought : {K V : Type 0} → Step K V → ℕ → Type 0
-Brought e t = ((brings (exchange_of e) t ≡ true) × ((w : Where Sheet) × (comes e ≡ names.Table w) × (table_if (comes e) t ≡ Some w))) ⊎ ((brings (exchange_of e) t ≡ false) × (table_if (comes e) t ≡ None))
+Brought e t = ((brings (exchange_of e) t ≡ true) × ((w : Where Sheet) × (comes e ≡ names.Table w) × (table_if (comes e) t ≡ Some w)))
+    ⊎ ((brings (exchange_of e) t ≡ false) × (table_if (comes e) t ≡ None))
 
 brought_or_not : {K V : Type 0} (e : Step K V) (t : ℕ) → Brought e t
-brought_or_not (steps.Open w) t = ⊎_elim (λ h. inl (h, (w, refl, cond-true (number_of w == t) (Some w) None h))) (λ h. inr (h, cond-false (number_of w == t) (Some w) None h)) (cases_Bool (number_of w == t))
+brought_or_not (steps.Open w) t = ⊎_elim (λ h. inl (h, (w, refl, cond-true (number_of w == t) (Some w) None h)))
+    (λ h. inr (h, cond-false (number_of w == t) (Some w) None h)) (cases_Bool (number_of w == t))
 brought_or_not (steps.Claim u x p) t = inr (refl, refl)
 brought_or_not (steps.Replace u x p q) t = inr (refl, refl)
 brought_or_not (steps.Delete u x p) t = inr (refl, refl)
-brought_or_not (steps.Link u w) t = ⊎_elim (λ h. inl (h, (w, refl, cond-true (number_of w == t) (Some w) None h))) (λ h. inr (h, cond-false (number_of w == t) (Some w) None h)) (cases_Bool (number_of w == t))
+brought_or_not (steps.Link u w) t = ⊎_elim (λ h. inl (h, (w, refl, cond-true (number_of w == t) (Some w) None h)))
+    (λ h. inr (h, cond-false (number_of w == t) (Some w) None h)) (cases_Bool (number_of w == t))
 brought_or_not (steps.Mark u x p) t = inr (refl, refl)
 brought_or_not (steps.Close u x) t = inr (refl, refl)
 brought_or_not (steps.Place u x p) t = inr (refl, refl)
@@ -39,7 +44,8 @@ brought_or_not (steps.Abort u) t = inr (refl, refl)
 brought_or_not (steps.Take m) t = inr (refl, refl)
 
 -- the size that a log gives a table is the table's own
-pub table_size : {K V : Type 0} (es : List (Step K V)) (t : ℕ) (w : Where Sheet) → table_in es t ≡ Some w → (size_in (map entry_of es) t ≡ length w.value.slots) × (places_in (map entry_of es) t ≡ w.value.limit + 1)
+pub table_size : {K V : Type 0} (es : List (Step K V)) (t : ℕ) (w : Where Sheet) → table_in es t ≡ Some w
+    → (size_in (map entry_of es) t ≡ length w.value.slots) × (places_in (map entry_of es) t ≡ w.value.limit + 1)
 table_size [] t w e = absurd (cc e)
 table_size (f ∷ es) t w e =
     ⊎_elim
@@ -57,9 +63,12 @@ table_size (f ∷ es) t w e =
     ))
     (brought_or_not f t)
 
-module _ {K V S : Type 0} (eq : K → K → Bool) (hash : S → K → ℕ) (b : Begun K V S) (log : List (Event K V S)) (k : K) (kind : Option StepKind) (loaded : LoadedPairs (Stored K V)) where
+module _ {K V S : Type 0} (eq : K → K → Bool) (hash : S → K → ℕ) (b : Begun K V S) (log : List (Event K V S)) (k : K) (kind : Option StepKind)
+    (loaded : LoadedPairs (Stored K V)) where
   -- a table's size is what a machine is to be told of it
-  pub size_told : (t : ℕ) (sheet : Sheet) → IsTable log t sheet → IsTold (setting_of eq (hash b.hasher) b.mode b.limit log) (coding_of (hash b.hasher)) k (state_of log) kind loaded (SizeOf t) (Size (length sheet.slots) sheet.limit) [] loaded
+  pub size_told : (t : ℕ) (sheet : Sheet) → IsTable log t sheet
+      → IsTold (setting_of eq (hash b.hasher) b.mode b.limit log) (coding_of (hash b.hasher)) k (state_of log) kind loaded (SizeOf t)
+      (Size (length sheet.slots) sheet.limit) [] loaded
   size_told t sheet h =
       let size = table_size (steps_of log) t h.0 h.1 in (
         (
@@ -71,10 +80,17 @@ module _ {K V S : Type 0} (eq : K → K → Bool) (hash : S → K → ℕ) (b : 
       )
 
   -- so is the number of the root
-  pub root_answer : (name : Book) (found : ℕ) (table : Option (Bor Sheet)) → IsRoot eq hash b name found log table → IsTold (setting_of eq (hash b.hasher) b.mode b.limit log) (coding_of (hash b.hasher)) k (state_of log) kind loaded (Load Root) (Word_read found) [] loaded
+  pub root_answer : (name : Book) (found : ℕ) (table : Option (Bor Sheet)) → IsRoot eq hash b name found log table
+      → IsTold (setting_of eq (hash b.hasher) b.mode b.limit log) (coding_of (hash b.hasher)) k (state_of log) kind loaded (Load Root) (Word_read found) [] loaded
   root_answer name found table r = (ap Word_read (sym r.is), refl, refl)
 
   -- and the word of a slot: the pair that it names is the one last told of
   pub slot_answer : (name : Book) (t x found : ℕ) (pair : Option (Stored K V)) → IsSlot eq hash b name t x found log pair
-      → IsTold (setting_of eq (hash b.hasher) b.mode b.limit log) (coding_of (hash b.hasher)) k (state_of log) kind loaded (Load (Slot t x)) (Word_read found) [] (record { last = or_last pair loaded.last; made = loaded.made })
-  slot_answer name t x found pair r = (ap Word_read (sym r.is), refl, ap (λ (o : Option (Stored K V)). record { last = or_last o loaded.last; made = loaded.made }) (sym r.names))
+      → IsTold (setting_of eq (hash b.hasher) b.mode b.limit log) (coding_of (hash b.hasher)) k (state_of log) kind loaded (Load (Slot t x))
+      (Word_read found) [] (record { last = or_last pair loaded.last; made = loaded.made })
+  slot_answer name t x found pair r = (
+    ap Word_read (sym r.is),
+    refl,
+    ap
+        (λ (o : Option (Stored K V)). record { last = or_last o loaded.last; made = loaded.made }) (sym r.names),
+  )

@@ -1,5 +1,7 @@
 -- A search of a table and the lookup around it: where each turn leads the machine that nothing runs.
-use Rattle.std.proofs.Common.{◌≡◌, ℕ, ◌<◌, ◌==◌, nat_lt, if◌then◌else◌, Bool, true, false, MatchOption, Option, None, Some, List, length, refl, sym, ap, ◌∙◌, subst, arith}
+use Rattle.std.proofs.Common.{◌≡◌, ℕ, ◌<◌, ◌==◌, nat_lt, if◌then◌else◌, Bool, true, false}
+use Rattle.std.proofs.Common.{MatchOption, Option, None, Some, List, length, refl, sym, ap, ◌∙◌}
+use Rattle.std.proofs.Common.{subst, arith}
 use Rattle.std.proofs.lemmas.Bool.{ne_eqb}
 use Rattle.std.specs.Cmp.{IsEquivalence}
 use mathlib.Core.List.{IsPrefix}
@@ -67,7 +69,8 @@ onward_on at = chosen IsOnward (nat_lt at.probe.len at.limit) (On (Looking (next
 -- so it is where no word is to be loaded
 onward_hinted : (at : Place) (hash hint : ℕ) → ((a : Place) → hinted at hash hint ≡ On (Reading a) → ⊥) → IsOnward (hinted at hash hint)
 onward_hinted at hash hint =
-    chosen (λ seen. ((a : Place) → seen ≡ On (Reading a) → ⊥) → IsOnward seen) (may_hold hint hash) (On (Reading at)) (go_on at) (λ e none. absurd (none at refl)) (λ e none. onward_on at)
+    chosen (λ seen. ((a : Place) → seen ≡ On (Reading a) → ⊥) → IsOnward seen) (may_hold hint hash) (On (Reading at)) (go_on at)
+    (λ e none. absurd (none at refl)) (λ e none. onward_on at)
 
 -- a word that is loaded is that of the place
 pub read_not : (at a : Place) → go_on at ≡ On (Reading a) → ⊥
@@ -75,7 +78,8 @@ read_not at a = chosen (λ s. s ≡ On (Reading a) → ⊥) (nat_lt at.probe.len
 
 pub read_hinted : (at : Place) (hash hint : ℕ) (a : Place) → hinted at hash hint ≡ On (Reading a) → hinted at hash hint ≡ On (Reading at)
 read_hinted at hash hint a =
-    chosen (λ seen. seen ≡ On (Reading a) → seen ≡ On (Reading at)) (may_hold hint hash) (On (Reading at)) (go_on at) (λ e h. refl) (λ e h. absurd (read_not at a h))
+    chosen (λ seen. seen ≡ On (Reading a) → seen ≡ On (Reading at)) (may_hold hint hash) (On (Reading at)) (go_on at) (λ e h. refl)
+    (λ e h. absurd (read_not at a h))
 
 -- and where no key is to be compared
 abbrev IsOnwardElse : Probed → Type 0
@@ -112,9 +116,11 @@ pub record IsCompared (kind : Kind) (seen : Probed) (at : Place) (word : ℕ) : 
   pub is : seen ≡ On (Comparing at word)
 
 pub on_not : (at a : Place) (w : ℕ) → go_on at ≡ On (Comparing a w) → ⊥
-on_not at a w = chosen (λ s. s ≡ On (Comparing a w) → ⊥) (nat_lt at.probe.len at.limit) (On (Looking (next_place at))) (Over at.table) (λ e h. cc h) (λ e h. cc h)
+on_not at a w = chosen (λ s. s ≡ On (Comparing a w) → ⊥) (nat_lt at.probe.len at.limit) (On (Looking (next_place at))) (Over at.table) (λ e h. cc h)
+    (λ e h. cc h)
 
-pub compared_look : (kind : Kind) (at : Place) (word : ℕ) (a : Place) (w : ℕ) → look_at kind at word ≡ On (Comparing a w) → IsCompared kind (look_at kind at word) at word
+pub compared_look : (kind : Kind) (at : Place) (word : ℕ) (a : Place) (w : ℕ) → look_at kind at word ≡ On (Comparing a w)
+    → IsCompared kind (look_at kind at word) at word
 compared_look kinds.Empty at word a w h = absurd (cc h)
 compared_look kinds.Live at word a w h = record { some = λ e. cc e; shut = λ e. cc e; is = refl }
 compared_look kinds.Marked at word a w h = record { some = λ e. cc e; shut = λ e. cc e; is = refl }
@@ -173,18 +179,23 @@ numbered_none : (n : ℕ) → n ≡ 0 → numbered n ≡ Ended replies.Absent
 numbered_none n e = ap numbered e
 
 -- A lookup was told this number, and holds the table.
-pub record IsHeld {K V S H : Type 0} (eq : K → K → Bool) (hash : S → K → ℕ) (matches : K → Bool) (query : S → ℕ) (begun : List (Exchange (Stored K V))) (h : ℕ) (book : Book K V S H) (log : List (Event K V S)) (number : ℕ) (held : Option (Bor Sheet)) : Type 0 where
+pub record IsHeld {K V S H : Type 0} (eq : K → K → Bool) (hash : S → K → ℕ) (matches : K → Bool) (query : S → ℕ)
+    (begun : List (Exchange (Stored K V))) (h : ℕ) (book : Book K V S H) (log : List (Event K V S)) (number : ℕ) (held : Option (Bor Sheet)) : Type 0 where
   pub pair : Option (Stored K V)
-  pub reading : IsReading eq hash (begun_of book.parts) matches (query book.parts.hasher) begun log (lookup_at h book.parts.mode book.parts.limit (numbered number)) held pair
+  pub reading : IsReading eq hash (begun_of book.parts) matches (query book.parts.hasher) begun log
+      (lookup_at h book.parts.mode book.parts.limit (numbered number)) held pair
   pub names : MatchOption held (number ≡ 0) (λ r. IsTable log number r.now × (r.now.book ≡ book.begun.book))
 
 -- the pair that is held is the one last told of
-holds_or : {K V S : Type 0} (b : Begun K V S) (name : Name) (last pair told : Option (Stored K V)) → IsPlaced b (Some name) (pair_named told) → HoldsPair b last pair → HoldsPair b (or_last told last) (or_last told pair)
+holds_or : {K V S : Type 0} (b : Begun K V S) (name : Name) (last pair told : Option (Stored K V)) → IsPlaced b (Some name) (pair_named told)
+    → HoldsPair b last pair → HoldsPair b (or_last told last) (or_last told pair)
 holds_or b name last pair None placed h = h
 holds_or b name last pair (Some p) placed h = (refl, placed)
 
-module _ {K V S H : Type 0} (eq : K → K → Bool) (input : K → List (List ℕ)) (build : S → H) (write : H → List ℕ → H) (finish : H → ℕ) (classes : IsEquivalence eq) (respects : (x y : K) → eq x y ≡ true → input x ≡ input y)
-    (b : Begun K V S) (matches : K → Bool) (query : List (List ℕ)) (lawful : IsQuery eq input matches query) (begun : List (Exchange (Stored K V))) (h : ℕ) (name : Name) where
+module _ {K V S H : Type 0} (eq : K → K → Bool) (input : K → List (List ℕ)) (build : S → H) (write : H → List ℕ → H) (finish : H → ℕ)
+    (classes : IsEquivalence eq) (respects : (x y : K) → eq x y ≡ true → input x ≡ input y)
+    (b : Begun K V S) (matches : K → Bool) (query : List (List ℕ)) (lawful : IsQuery eq input matches query) (begun : List (Exchange (Stored K V)))
+    (h : ℕ) (name : Name) where
   abbrev hash : S → K → ℕ
   hash = hash_of input build write finish
 
@@ -192,14 +203,16 @@ module _ {K V S H : Type 0} (eq : K → K → Bool) (input : K → List (List �
   fed_to = fed eq input build write finish classes respects b matches query lawful
 
   abbrev Reads : List (Event K V S) → Stage → Bor Sheet → Option (Stored K V) → Type 0
-  Reads log stage lent pair = Rested eq input build write finish classes respects b matches query lawful begun log (lookup_at h b.mode b.limit stage) (Some lent) pair
+  Reads log stage lent pair = Rested eq input build write finish classes respects b matches query lawful begun log (lookup_at h b.mode b.limit stage)
+      (Some lent) pair
 
   -- a turn led the machine on, and less is left
   abbrev pub Goes : List (Event K V S) → Stage → Sheet → Turn (Met K V) (Bor K × Bor V) → Type 0
   Goes log stage table turn = IsTurned eq hash b name matches fed_to begun h log table turn × (left_of (led_to b.mode 0 turn) < left_of stage)
 
   -- a search that goes on
-  goes_on : (log : List (Event K V S)) (stage : Stage) (table : Sheet) (lent : Bor Sheet) → lent.now ≡ table → (pair : Option (Stored K V)) (seen : Probed) → IsProbed seen → IsOnward seen → Reads log (goes_as Get b.mode nothing seen) lent pair
+  goes_on : (log : List (Event K V S)) (stage : Stage) (table : Sheet) (lent : Bor Sheet) → lent.now ≡ table
+      → (pair : Option (Stored K V)) (seen : Probed) → IsProbed seen → IsOnward seen → Reads log (goes_as Get b.mode nothing seen) lent pair
       → left_of (goes_as Get b.mode nothing seen) < left_of stage → Goes log stage table (turn_of seen)
   goes_on log stage table lent is pair seen within onward r fewer = (
     record {
@@ -214,45 +227,57 @@ module _ {K V S H : Type 0} (eq : K → K → Bool) (input : K → List (List �
     subst (λ (s : Stage). left_of s < left_of stage) (led_on (Met K V) (Bor K × Bor V) b.mode 0 seen onward) fewer,
   )
 
-  module _ (log : List (Event K V S)) (at : Place) (within : IsWithin at) (table : Sheet) (r : IsReadingAt eq hash b matches fed_to begun h log (Searching (Looking at)) table) where
+  module _ (log : List (Event K V S)) (at : Place) (within : IsWithin at) (table : Sheet)
+      (r : IsReadingAt eq hash b matches fed_to begun h log (Searching (Looking at)) table) where
     -- the table has the place
     pub hint_there : IsTable log at.table table × (at.probe.i < length table.slots)
     hint_there =
         subst (λ (z : Sheet). IsTable log at.table z × (at.probe.i < length z.slots)) r.1
-        (hint_held eq input build write finish classes respects b matches query lawful begun log (lookup_at h b.mode b.limit (Searching (Looking at))) (Some r.0) r.2 r.3 within at.table at.probe.i r.0 refl refl)
+        (hint_held eq input build write finish classes respects b matches query lawful begun log (lookup_at h b.mode b.limit (Searching (Looking at)))
+        (Some r.0) r.2 r.3 within at.table at.probe.i r.0 refl refl)
 
     -- its hint was loaded
     module _ (log' : List (Event K V S)) (pre : IsPrefix log log') (hint : ℕ) (told : IsSlotHint eq hash b at.table at.probe.i hint log') where
       -- so the machine was answered
-      hint_answered : Reads log' (goes_as Get b.mode nothing (hinted at h hint)) r.0 r.2 × (left_of (goes_as Get b.mode nothing (hinted at h hint)) < left_of (Searching (Looking at)))
+      hint_answered : Reads log' (goes_as Get b.mode nothing (hinted at h hint)) r.0 r.2
+          × (left_of (goes_as Get b.mode nothing (hinted at h hint)) < left_of (Searching (Looking at)))
       hint_answered =
-          let all = hint_read eq input build write finish classes respects b matches query lawful begun log log' pre told.lawful (lookup_at h b.mode b.limit (Searching (Looking at))) (Some r.0) r.2 r.3 within at.table at.probe.i hint refl told in
+          let all = hint_read eq input build write finish classes respects b matches query lawful begun log log' pre told.lawful
+          (lookup_at h b.mode b.limit (Searching (Looking at))) (Some r.0) r.2 r.3 within at.table at.probe.i hint refl told in
           (all.reading, all.fewer)
 
       -- the word is not loaded
-      pub hint_passed : IsProbed (hinted at h hint) → ((a : Place) → hinted at h hint ≡ On (Reading a) → ⊥) → Goes log' (Searching (Looking at)) table (turn_of (hinted at h hint))
-      hint_passed seen none = goes_on log' (Searching (Looking at)) table r.0 r.1 r.2 (hinted at h hint) seen (onward_hinted at h hint none) hint_answered.0 hint_answered.1
+      pub hint_passed : IsProbed (hinted at h hint) → ((a : Place) → hinted at h hint ≡ On (Reading a) → ⊥)
+          → Goes log' (Searching (Looking at)) table (turn_of (hinted at h hint))
+      hint_passed seen none = goes_on log' (Searching (Looking at)) table r.0 r.1 r.2 (hinted at h hint) seen (onward_hinted at h hint none)
+          hint_answered.0 hint_answered.1
 
       -- the word is to be loaded
       pub word_next : (a : Place) → hinted at h hint ≡ On (Reading a) → IsReadingAt eq hash b matches fed_to begun h log' (Searching (Reading at)) table
       word_next a e = (r.0, r.1, r.2, subst (λ (s : Probed). Reads log' (goes_as Get b.mode nothing s) r.0 r.2) (read_hinted at h hint a e) hint_answered.0)
 
-  module _ (log : List (Event K V S)) (at : Place) (within : IsWithin at) (table : Sheet) (r : IsReadingAt eq hash b matches fed_to begun h log (Searching (Reading at)) table) where
+  module _ (log : List (Event K V S)) (at : Place) (within : IsWithin at) (table : Sheet)
+      (r : IsReadingAt eq hash b matches fed_to begun h log (Searching (Reading at)) table) where
     -- the table has the place
     pub place_there : IsTable log at.table table × (at.probe.i < length table.slots)
     place_there =
         subst (λ (z : Sheet). IsTable log at.table z × (at.probe.i < length z.slots)) r.1
-        (slot_held eq input build write finish classes respects b matches query lawful begun log (lookup_at h b.mode b.limit (Searching (Reading at))) (Some r.0) r.2 r.3 within at.table at.probe.i r.0 refl refl)
+        (slot_held eq input build write finish classes respects b matches query lawful begun log (lookup_at h b.mode b.limit (Searching (Reading at)))
+        (Some r.0) r.2 r.3 within at.table at.probe.i r.0 refl refl)
 
     -- its word was loaded
-    module _ (log' : List (Event K V S)) (pre : IsPrefix log log') (word : ℕ) (state : Option (Named K V)) (told : IsSlotWord eq hash b name at.table at.probe.i word log' state) where
+    module _ (log' : List (Event K V S)) (pre : IsPrefix log log') (word : ℕ) (state : Option (Named K V))
+        (told : IsSlotWord eq hash b name at.table at.probe.i word log' state) where
       -- no key is compared
-      pub passed : IsProbed (look at word) → ((a : Place) (w : ℕ) → look at word ≡ On (Comparing a w) → ⊥) → Goes log' (Searching (Reading at)) table (turn_of (look at word))
+      pub passed : IsProbed (look at word) → ((a : Place) (w : ℕ) → look at word ≡ On (Comparing a w) → ⊥)
+          → Goes log' (Searching (Reading at)) table (turn_of (look at word))
       passed seen none =
           let o = named ((state_of log').slot at.table at.probe.i) in
-          let looked = slot_read eq input build write finish classes respects b matches query lawful begun log log' pre told.read.lawful (lookup_at h b.mode b.limit (Searching (Reading at))) (Some r.0) r.2 r.3 within
+          let looked = slot_read eq input build write finish classes respects b matches query lawful begun log log' pre told.read.lawful
+          (lookup_at h b.mode b.limit (Searching (Reading at))) (Some r.0) r.2 r.3 within
           at.table at.probe.i word o (or_last o r.2) refl told.read.is refl (λ last held. holds_or b name last r.2 o told.placed held) in
-          goes_on log' (Searching (Reading at)) table r.0 r.1 (or_last o r.2) (look at word) seen (onward_look (kind_of word) at word none) looked.reading looked.fewer
+          goes_on log' (Searching (Reading at)) table r.0 r.1 (or_last o r.2) (look at word) seen (onward_look (kind_of word) at word none)
+          looked.reading looked.fewer
 
       -- a key is compared
       module _ (a : Place) (w : ℕ) (e : look at word ≡ On (Comparing a w)) where
@@ -269,10 +294,13 @@ module _ {K V S H : Type 0} (eq : K → K → Bool) (input : K → List (List �
           -- its key is to be compared
           comparing : Reads log' (Searching (Comparing at word)) r.0 (Some p) × (left_of (Searching (Comparing at word)) < left_of (Searching (Reading at)))
           comparing =
-              let looked = slot_read eq input build write finish classes respects b matches query lawful begun log log' pre told.read.lawful (lookup_at h b.mode b.limit (Searching (Reading at))) (Some r.0) r.2 r.3 within
+              let looked = slot_read eq input build write finish classes respects b matches query lawful begun log log' pre told.read.lawful
+              (lookup_at h b.mode b.limit (Searching (Reading at))) (Some r.0) r.2 r.3 within
               at.table at.probe.i word (Some p) (Some p) refl told.read.is stands (λ last held. (refl, pair_placed)) in
-              let seen = (compared_look (kind_of word) at word a w e).is in
-              (subst (λ (s : Probed). Reads log' (goes_as Get b.mode nothing s) r.0 (Some p)) seen looked.reading, subst (λ (s : Probed). left_of (goes_as Get b.mode nothing s) < left_of (Searching (Reading at))) seen looked.fewer)
+              let seen = (compared_look (kind_of word) at word a w e).is in (
+                subst (λ (s : Probed). Reads log' (goes_as Get b.mode nothing s) r.0 (Some p)) seen looked.reading,
+                subst (λ (s : Probed). left_of (goes_as Get b.mode nothing s) < left_of (Searching (Reading at))) seen looked.fewer,
+              )
 
           -- the word that was loaded named it
           word_met : HasMet (setting_for eq hash b matches fed_to log') (coding_for hash b.hasher fed_to) begun comparing.0.since None at word p
@@ -283,20 +311,25 @@ module _ {K V S H : Type 0} (eq : K → K → Bool) (input : K → List (List �
 
           -- its key was compared
           module _ (same : Bool) (same_is : same ≡ matches (key_of p)) where
-            compared : Reads log' (goes_as Get b.mode nothing (at_yes (Comparing at word) same)) r.0 (Some p) × (left_of (goes_as Get b.mode nothing (at_yes (Comparing at word) same)) < left_of (Searching (Reading at)))
+            compared : Reads log' (goes_as Get b.mode nothing (at_yes (Comparing at word) same)) r.0 (Some p)
+                × (left_of (goes_as Get b.mode nothing (at_yes (Comparing at word) same)) < left_of (Searching (Reading at)))
             compared =
-                let all = same_read eq input build write finish classes respects b matches query lawful begun log' (lookup_at h b.mode b.limit (Searching (Comparing at word))) (Some r.0) (Some p) comparing.0 within (pair_of word) p same refl same_is refl in
+                let all = same_read eq input build write finish classes respects b matches query lawful begun log'
+                (lookup_at h b.mode b.limit (Searching (Comparing at word))) (Some r.0) (Some p) comparing.0 within (pair_of word) p same refl same_is refl in
                 let before : left_of (Searching (Comparing at word)) < left_of (Searching (Reading at)) = comparing.1 in
                 let less : left_of (goes_as Get b.mode nothing (at_yes (Comparing at word) same)) < left_of (Searching (Comparing at word)) = all.fewer in
                 (all.reading, omega (arith, before, less))
 
-            pub other_pair : IsProbed (at_yes (Comparing at word) same) → ((a' : Place) (w' : ℕ) → at_yes (Comparing at word) same ≡ Here a' w' → ⊥) → Goes log' (Searching (Reading at)) table (turn_of (at_yes (Comparing at word) same))
-            other_pair seen none = goes_on log' (Searching (Reading at)) table r.0 r.1 (Some p) (at_yes (Comparing at word) same) seen (onward_yes at word same none) compared.0 compared.1
+            pub other_pair : IsProbed (at_yes (Comparing at word) same) → ((a' : Place) (w' : ℕ) → at_yes (Comparing at word) same ≡ Here a' w' → ⊥)
+                → Goes log' (Searching (Reading at)) table (turn_of (at_yes (Comparing at word) same))
+            other_pair seen none = goes_on log' (Searching (Reading at)) table r.0 r.1 (Some p) (at_yes (Comparing at word) same) seen
+                (onward_yes at word same none) compared.0 compared.1
 
             abbrev met : Met K V
             met = record { place = at; word = word; stored = p }
 
-            pub pair_found : (a' : Place) (w' : ℕ) → at_yes (Comparing at word) same ≡ Here a' w' → (entry : Bor K × Bor V) → entry.0.now ≡ key_of p → entry.1.now ≡ p.value.value → IsTurned eq hash b name matches fed_to begun h log' table (turns.Found met entry)
+            pub pair_found : (a' : Place) (w' : ℕ) → at_yes (Comparing at word) same ≡ Here a' w' → (entry : Bor K × Bor V) → entry.0.now ≡ key_of p
+                → entry.1.now ≡ p.value.value → IsTurned eq hash b name matches fed_to begun h log' table (turns.Found met entry)
             pair_found a' w' here entry key_is value_is = record {
               lent = r.0;
               lent_is = r.1;
@@ -307,7 +340,8 @@ module _ {K V S H : Type 0} (eq : K → K → Bool) (input : K → List (List �
               found = λ met' entry' e'.
                   let one : met ≡ met' = cc e' in
                   let two : entry ≡ entry' = cc e' in
-                  subst (λ (z : Met K V × (Bor K × Bor V)). (Some p ≡ Some z.0.stored) × (z.1.0.now ≡ key_of z.0.stored) × (z.1.1.now ≡ z.0.stored.value.value) × HasHit eq hash b name matches fed_to begun log' table z.0) (λ i. (one i, two i)) (
+                  subst (λ (z : Met K V × (Bor K × Bor V)). (Some p ≡ Some z.0.stored) × (z.1.0.now ≡ key_of z.0.stored)
+                  × (z.1.1.now ≡ z.0.stored.value.value) × HasHit eq hash b name matches fed_to begun log' table z.0) (λ i. (one i, two i)) (
                     refl,
                     key_is,
                     value_is,
@@ -324,8 +358,10 @@ module _ {K V S H : Type 0} (eq : K → K → Bool) (input : K → List (List �
                   );
             }
 
-module _ {K V S H : Type 0} (eq : K → K → Bool) (input : K → List (List ℕ)) (build : S → H) (write : H → List ℕ → H) (finish : H → ℕ) (classes : IsEquivalence eq) (respects : (x y : K) → eq x y ≡ true → input x ≡ input y)
-    (book : Book K V S H) (matches : K → Bool) (query : List (List ℕ)) (lawful : IsQuery eq input matches query) (old began : List (Event K V S)) (pre : IsPrefix old began) (h : ℕ) where
+module _ {K V S H : Type 0} (eq : K → K → Bool) (input : K → List (List ℕ)) (build : S → H) (write : H → List ℕ → H) (finish : H → ℕ)
+    (classes : IsEquivalence eq) (respects : (x y : K) → eq x y ≡ true → input x ≡ input y)
+    (book : Book K V S H) (matches : K → Bool) (query : List (List ℕ)) (lawful : IsQuery eq input matches query) (old began : List (Event K V S))
+    (pre : IsPrefix old began) (h : ℕ) where
   abbrev hash_in : S → K → ℕ
   hash_in = hash_of input build write finish
 
@@ -333,64 +369,93 @@ module _ {K V S H : Type 0} (eq : K → K → Bool) (input : K → List (List �
   b = begun_of book.parts
 
   abbrev Reads_with : List (Event K V S) → Stage → Option (Bor Sheet) → Option (Stored K V) → Type 0
-  Reads_with log stage held pair = Rested eq input build write finish classes respects b matches query lawful (exchanges_of began) log (lookup_at h b.mode b.limit stage) held pair
+  Reads_with log stage held pair = Rested eq input build write finish classes respects b matches query lawful (exchanges_of began) log
+      (lookup_at h b.mode b.limit stage) held pair
 
   abbrev pub Turned : List (Event K V S) → Sheet → Turn (Met K V) (Bor K × Bor V) → Type 0
-  Turned log table turn = IsTurned eq hash_in b book.begun.book matches (fed eq input build write finish classes respects b matches query lawful) (exchanges_of began) h log table turn
+  Turned log table turn = IsTurned eq hash_in b book.begun.book matches (fed eq input build write finish classes respects b matches query lawful)
+      (exchanges_of began) h log table turn
 
   -- the number of the root was loaded
-  pub root_held : IsLawfulLog eq hash_in b began → h ≡ fed eq input build write finish classes respects b matches query lawful → (log : List (Event K V S)) → IsPrefix began log → (word : ℕ) (held : Option (Bor Sheet)) → IsRoot eq hash_in b book.begun.book word log held → Reads_with log (numbered word) held None
+  pub root_held : IsLawfulLog eq hash_in b began → h ≡ fed eq input build write finish classes respects b matches query lawful
+      → (log : List (Event K V S)) → IsPrefix began log → (word : ℕ) (held : Option (Bor Sheet)) → IsRoot eq hash_in b book.begun.book word log held
+      → Reads_with log (numbered word) held None
   root_held l h_is log after word held told =
-      let first = begins eq hash_in b matches (fed eq input build write finish classes respects b matches query lawful) began l (lookup_at h b.mode b.limit AtRoot) (ap (λ (z : ℕ). started Get z b.mode 0 b.limit) h_is) in
-      (root_read eq input build write finish classes respects b matches query lawful (exchanges_of began) began log after told.lawful (lookup_at h b.mode b.limit AtRoot) None None first tt book.begun.book word held refl told).reading
+      let first = begins eq hash_in b matches (fed eq input build write finish classes respects b matches query lawful) began l
+      (lookup_at h b.mode b.limit AtRoot) (ap (λ (z : ℕ). started Get z b.mode 0 b.limit) h_is) in
+      (root_read eq input build write finish classes respects b matches query lawful (exchanges_of began) began log after told.lawful
+      (lookup_at h b.mode b.limit AtRoot) None None first tt book.begun.book word held refl told).reading
 
   -- a table that is held was asked for its size
-  pub first_looked : (log : List (Event K V S)) (number : ℕ) (held : Option (Bor Sheet)) (pair : Option (Stored K V)) → Reads_with log (numbered number) held pair → MatchOption held (number ≡ 0) (λ z. IsTable log number z.now × (z.now.book ≡ book.begun.book)) → (lent : Bor Sheet) → held ≡ Some lent
+  pub first_looked : (log : List (Event K V S)) (number : ℕ) (held : Option (Bor Sheet)) (pair : Option (Stored K V))
+      → Reads_with log (numbered number) held pair → MatchOption held (number ≡ 0) (λ z. IsTable log number z.now × (z.now.book ≡ book.begun.book))
+      → (lent : Bor Sheet) → held ≡ Some lent
       → (slots limit : ℕ) → slots ≡ length lent.now.slots → limit ≡ lent.now.limit → IsSize slots limit → (at : Place) → at ≡ first_place h number slots limit
-      → IsReadingAt eq hash_in b matches (fed eq input build write finish classes respects b matches query lawful) (exchanges_of began) h log (Searching (Looking at)) lent.now × (left_of (Searching (Looking at)) < left_of (numbered number))
+      → IsReadingAt eq hash_in b matches (fed eq input build write finish classes respects b matches query lawful) (exchanges_of began) h log
+      (Searching (Looking at)) lent.now × (left_of (Searching (Looking at)) < left_of (numbered number))
   first_looked log number held pair reading named lent has slots limit slots_is limit_is size at at_is =
       let came = subst (λ (o : Option (Bor Sheet)). MatchOption o (number ≡ 0) (λ z. IsTable log number z.now × (z.now.book ≡ book.begun.book))) has named in
       let state = numbered_some log number lent.now came.0 in
-      let r = subst (λ (s : Stage). Reads_with log s (Some lent) pair) state (subst (λ (o : Option (Bor Sheet)). Reads_with log (numbered number) o pair) has reading) in
-      let all = size_read eq input build write finish classes respects b matches query lawful (exchanges_of began) log (lookup_at h b.mode b.limit (Searching (Sizing number))) (Some lent) pair r tt number lent.now came.0 slots limit slots_is limit_is size refl in
-      let looks : Reads_with log (Searching (Looking at)) (Some lent) pair = subst (λ (p : Place). Reads_with log (Searching (Looking p)) (Some lent) pair) (sym at_is) all.reading in
-      let less : left_of (Searching (Looking at)) < left_of (Searching (Sizing number)) = subst (λ (p : Place). left_of (Searching (Looking p)) < left_of (Searching (Sizing number))) (sym at_is) all.fewer in
+      let r = subst (λ (s : Stage). Reads_with log s (Some lent) pair) state
+      (subst (λ (o : Option (Bor Sheet)). Reads_with log (numbered number) o pair) has reading) in
+      let all = size_read eq input build write finish classes respects b matches query lawful (exchanges_of began) log
+      (lookup_at h b.mode b.limit (Searching (Sizing number))) (Some lent) pair r tt number lent.now came.0 slots limit slots_is limit_is size refl in
+      let looks : Reads_with log (Searching (Looking at)) (Some lent)
+      pair = subst (λ (p : Place). Reads_with log (Searching (Looking p)) (Some lent) pair) (sym at_is) all.reading in
+      let less : left_of (Searching (Looking at)) < left_of
+      (Searching (Sizing number)) = subst (λ (p : Place). left_of (Searching (Looking p)) < left_of (Searching (Sizing number))) (sym at_is) all.fewer in
       ((lent, refl, pair, looks), subst (λ (s : Stage). left_of (Searching (Looking at)) < left_of s) (sym state) less)
 
   -- a search that passed the table: the number of the next one was loaded
-  pub next_held : (log log' : List (Event K V S)) → IsPrefix log log' → (table : Sheet) (t : ℕ) (chunk : ℕ) → book.parts.mode ≡ Incremental chunk → Turned log table (turns.Over t) → (word : ℕ) (held : Option (Bor Sheet)) → IsNext eq hash_in b book.begun.book t word log' held
-      → (pair : Option (Stored K V)) × Reads_with log' (numbered word) held pair × (left_of (numbered word) < left_of (led_to {M = Met K V} {E = Bor K × Bor V} b.mode 0 (turns.Over t)))
+  pub next_held : (log log' : List (Event K V S)) → IsPrefix log log' → (table : Sheet) (t : ℕ) (chunk : ℕ) → book.parts.mode ≡ Incremental chunk
+      → Turned log table (turns.Over t) → (word : ℕ) (held : Option (Bor Sheet)) → IsNext eq hash_in b book.begun.book t word log' held
+      → (pair : Option (Stored K V)) × Reads_with log' (numbered word) held pair
+      × (left_of (numbered word) < left_of (led_to {M = Met K V} {E = Bor K × Bor V} b.mode 0 (turns.Over t)))
   next_held log log' after table t chunk mode turned word held told =
       let leads : passes Get b.mode None t ≡ Leaving t = ap (λ (z : ResizeMode). passes Get z None t) mode in
-      let r : Reads_with log (Leaving t) (Some turned.lent) turned.pair = subst (λ (s : Stage). Reads_with log s (Some turned.lent) turned.pair) leads turned.reading in
-      let all = next_read eq input build write finish classes respects b matches query lawful (exchanges_of began) log log' after told.lawful (lookup_at h b.mode b.limit (Leaving t)) (Some turned.lent) turned.pair r tt book.begun.book t word held refl told in
+      let r : Reads_with log (Leaving t) (Some turned.lent) turned.pair = subst (λ (s : Stage). Reads_with log s (Some turned.lent) turned.pair) leads
+      turned.reading in
+      let all = next_read eq input build write finish classes respects b matches query lawful (exchanges_of began) log log' after told.lawful
+      (lookup_at h b.mode b.limit (Leaving t)) (Some turned.lent) turned.pair r tt book.begun.book t word held refl told in
       (turned.pair, all.reading, subst (λ (s : Stage). left_of (numbered word) < left_of s) (sym leads) all.fewer)
 
   -- what the lookup answers: the pair that was found
-  pub answers_found : (log : List (Event K V S)) (table : Sheet) (met : Met K V) (entry : Bor K × Bor V) → Turned log table (turns.Found met entry) → (lent : Bor Sheet) → IsHitAnsweredBetween {S = S} {H = H} eq matches (history_of old) (history_of log) (Some (record { table = lent; met = met; key = entry.0; value = entry.1 }))
+  pub answers_found : (log : List (Event K V S)) (table : Sheet) (met : Met K V) (entry : Bor K × Bor V) → Turned log table (turns.Found met entry)
+      → (lent : Bor Sheet) → IsHitAnsweredBetween {S = S} {H = H} eq matches (history_of old) (history_of log)
+      (Some (record { table = lent; met = met; key = entry.0; value = entry.1 }))
   answers_found log table met entry turned lent =
       let f = turned.found met entry refl in
-      found_answer eq input build write finish classes respects b matches query lawful old began pre log (lookup_at h b.mode b.limit (Ended (replies.Found turned.number))) (Some turned.lent) turned.pair turned.reading tt turned.number refl met.stored f.0 (record { table = lent; met = met; key = entry.0; value = entry.1 }) f.1 f.2
+      found_answer eq input build write finish classes respects b matches query lawful old began pre log
+      (lookup_at h b.mode b.limit (Ended (replies.Found turned.number))) (Some turned.lent) turned.pair turned.reading tt turned.number refl
+      met.stored f.0 (record { table = lent; met = met; key = entry.0; value = entry.1 }) f.1 f.2
 
-  absent : (log : List (Event K V S)) (held : Option (Bor Sheet)) (pair : Option (Stored K V)) → Reads_with log (Ended replies.Absent) held pair → IsHitAnsweredBetween {S = S} {H = H} eq matches (history_of old) (history_of log) None
-  absent log held pair r = absent_answer eq input build write finish classes respects b matches query lawful old began pre log (lookup_at h b.mode b.limit (Ended replies.Absent)) held pair r tt replies.Absent refl (λ n e. cc e)
+  absent : (log : List (Event K V S)) (held : Option (Bor Sheet)) (pair : Option (Stored K V)) → Reads_with log (Ended replies.Absent) held pair
+      → IsHitAnsweredBetween {S = S} {H = H} eq matches (history_of old) (history_of log) None
+  absent log held pair r = absent_answer eq input build write finish classes respects b matches query lawful old began pre log
+      (lookup_at h b.mode b.limit (Ended replies.Absent)) held pair r tt replies.Absent refl (λ n e. cc e)
 
   -- none, where a search ended so
-  pub answers_absent : (log : List (Event K V S)) (table : Sheet) → Turned log table turns.Absent → IsHitAnsweredBetween {S = S} {H = H} eq matches (history_of old) (history_of log) None
+  pub answers_absent : (log : List (Event K V S)) (table : Sheet) → Turned log table turns.Absent
+      → IsHitAnsweredBetween {S = S} {H = H} eq matches (history_of old) (history_of log) None
   answers_absent log table turned = absent log (Some turned.lent) turned.pair turned.reading
 
   -- or passed the table where no further one is searched
-  pub answers_passed : (log : List (Event K V S)) (table : Sheet) (t : ℕ) → book.parts.mode ≡ Blocking → Turned log table (turns.Over t) → IsHitAnsweredBetween {S = S} {H = H} eq matches (history_of old) (history_of log) None
-  answers_passed log table t mode turned = absent log (Some turned.lent) turned.pair (subst (λ (s : Stage). Reads_with log s (Some turned.lent) turned.pair) (ap (λ (z : ResizeMode). passes Get z None t) mode) turned.reading)
+  pub answers_passed : (log : List (Event K V S)) (table : Sheet) (t : ℕ) → book.parts.mode ≡ Blocking → Turned log table (turns.Over t)
+      → IsHitAnsweredBetween {S = S} {H = H} eq matches (history_of old) (history_of log) None
+  answers_passed log table t mode turned = absent log (Some turned.lent) turned.pair
+      (subst (λ (s : Stage). Reads_with log s (Some turned.lent) turned.pair) (ap (λ (z : ResizeMode). passes Get z None t) mode) turned.reading)
 
   -- or where there is no table
-  pub answers_none : (log : List (Event K V S)) (number : ℕ) (held : Option (Bor Sheet)) (pair : Option (Stored K V)) → Reads_with log (numbered number) held pair → MatchOption held (number ≡ 0) (λ z. IsTable log number z.now × (z.now.book ≡ book.begun.book)) → held ≡ None → IsHitAnsweredBetween {S = S} {H = H} eq matches (history_of old) (history_of log) None
+  pub answers_none : (log : List (Event K V S)) (number : ℕ) (held : Option (Bor Sheet)) (pair : Option (Stored K V))
+      → Reads_with log (numbered number) held pair → MatchOption held (number ≡ 0) (λ z. IsTable log number z.now × (z.now.book ≡ book.begun.book))
+      → held ≡ None → IsHitAnsweredBetween {S = S} {H = H} eq matches (history_of old) (history_of log) None
   answers_none log number held pair reading named none =
       let zero = subst (λ (o : Option (Bor Sheet)). MatchOption o (number ≡ 0) (λ z. IsTable log number z.now × (z.now.book ≡ book.begun.book))) none named in
       absent log held pair (subst (λ (s : Stage). Reads_with log s held pair) (numbered_none number zero) reading)
 
 -- a search that neither goes on, nor found a pair, nor passed the table
-pub absent_else : {M E : Type 0} (turn : Turn M E) → ((at : Place) → turn ≡ turns.Next at → ⊥) → ((met : M) (entry : E) → turn ≡ turns.Found met entry → ⊥) → ((t : ℕ) → turn ≡ turns.Over t → ⊥) → turn ≡ turns.Absent
+pub absent_else : {M E : Type 0} (turn : Turn M E) → ((at : Place) → turn ≡ turns.Next at → ⊥)
+    → ((met : M) (entry : E) → turn ≡ turns.Found met entry → ⊥) → ((t : ℕ) → turn ≡ turns.Over t → ⊥) → turn ≡ turns.Absent
 absent_else (turns.Next at) on found over = absurd (on at refl)
 absent_else (turns.Found met entry) on found over = absurd (found met entry refl)
 absent_else turns.Absent on found over = refl

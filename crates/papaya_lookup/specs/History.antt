@@ -71,11 +71,11 @@ history_of log = changes_of key_of (exchanges_of log)
 abbrev pub changes_by : {K V : Type 0} → List (Step K V) → List (Change K (Stored K V))
 changes_by es = changes_of key_of (map exchange_of es)
 
--- What a pass shows: the book of the map that it was made by, the history that it has seen, and of
--- its changes those that were made by this pass, oldest first. And how many slots each table has
--- that it has seen come, oldest first; where its last changing call was refused for want of room,
--- the number that a log gave or the sum that the count gave; and how many numbers were taken for
--- pairs.
+-- What a pass shows: the book of the map that it was made by, the history that it has seen, and
+-- of its changes those that were made by this pass, oldest first. And how many slots each table
+-- has that it has seen come, oldest first; where its last changing call was refused for want of
+-- room, the number that a log gave or the sum that the count gave; and how many numbers were
+-- taken for pairs.
 pub record Past (K V : Type 0) : Type 0 where
   pub book : Book
   pub history : List (Change K (Stored K V))

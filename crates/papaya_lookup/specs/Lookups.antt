@@ -149,8 +149,8 @@ pub record HasHit {K V S : Type 0} (eq : K → K → Bool) (hash : S → K → �
   pub holds : IsTable log hit.place.table table
   pub placed : IsPlaced b (Some name) (Pair hit.stored)
 
--- A turn of a search led the lookup's machine on. Where a pair was found, the search has met it, and
--- these are its key and its value.
+-- A turn of a search led the lookup's machine on. Where a pair was found, the search has met it,
+-- and these are its key and its value.
 pub record IsTurned {K V S : Type 0} (eq : K → K → Bool) (hash : S → K → ℕ) (b : Begun K V S)
     (name : Book) (matches : K → Bool) (fed : ℕ) (begun : List (Exchange (Stored K V))) (h : ℕ)
     (log : List (Event K V S)) (table : Sheet)

@@ -36,8 +36,8 @@ pub struct Met<K, V> {
     pub stored: Stored<K, V>,
 }
 
-/// A pair that was found: its key and its value, and where the search met it. A caller that wants the
-/// pair alone pays nothing for the rest.
+/// A pair that was found: its key and its value, and where the search met it. A caller that wants
+/// the pair alone pays nothing for the rest.
 #[derive(Drop)]
 pub struct Hit<'a, K: Hash + Eq, V, S: BuildHasher> {
     pub table: &'a Table<K, V, S>,
@@ -71,8 +71,8 @@ fn without<M, E>(seen: Probed) -> Turn<M, E>
     }
 }
 
-/// Loads the word at one place of a table, and compares the key of the pair that it names, if it names
-/// one.
+/// Loads the word at one place of a table, and compares the key of the pair that it names, if it
+/// names one.
 #[inline(always)]
 fn read_at<'a, K: Hash + Eq, V, S: BuildHasher, Q: Equivalent<K>>(
     window: &mut Window<'a, K, V, S>,
@@ -120,8 +120,8 @@ fn read_at<'a, K: Hash + Eq, V, S: BuildHasher, Q: Equivalent<K>>(
     }
 }
 
-/// Looks at one place of a table: loads its hint, and its word where the hint says nothing or is the
-/// key's.
+/// Looks at one place of a table: loads its hint, and its word where the hint says nothing or is
+/// the key's.
 #[inline(always)]
 fn look_at<'a, K: Hash + Eq, V, S: BuildHasher, Q: Equivalent<K>>(
     window: &mut Window<'a, K, V, S>,
@@ -177,12 +177,12 @@ fn search<'a, K: Hash + Eq, V, S: BuildHasher, Q: Equivalent<K>>(
     }
 }
 
-/// Looks up the pair whose key `key` matches, and tells where it stood. It goes by atomic loads alone:
-/// it waits for nobody and takes no memory.
+/// Looks up the pair whose key `key` matches, and tells where it stood. It goes by atomic loads
+/// alone: it waits for nobody and takes no memory.
 ///
-/// The answer is the pair of one of the histories that the map had between the last one that was seen
-/// before and the one that is seen then: its key as it is stored, and its value. A removal goes on
-/// from there.
+/// The answer is the pair of one of the histories that the map had between the last one that was
+/// seen before and the one that is seen then: its key as it is stored, and its value. A removal
+/// goes on from there.
 #[inline(always)]
 pub fn find<'a, K: Hash + Eq, V, S: BuildHasher, Q: Equivalent<K>>(
     window: &mut Window<'a, K, V, S>,
@@ -244,8 +244,8 @@ pub fn look_up_pair<'a, K: Hash + Eq, V, S: BuildHasher, Q: Equivalent<K>>(
     }
 }
 
-/// The value of what `key` matches, by the whole search from the root that is found now. It takes no
-/// window, so that those who call it keep theirs in registers.
+/// The value of what `key` matches, by the whole search from the root that is found now. It takes
+/// no window, so that those who call it keep theirs in registers.
 #[cold]
 #[inline(never)]
 fn look_up_anew<'a, K: Hash + Eq, V, S: BuildHasher, Q: Equivalent<K>>(

@@ -167,7 +167,8 @@ fn look_at_slot<'a, K: Hash + Eq, V, S: BuildHasher, Q: Equivalent<K>>(
     read_slot(window, key, hash, began, table, slot, at)
 }
 
-/// Searches a table from this place on, as long as no copier was there and the limit is not reached.
+/// Searches a table from this place on, as long as no copier was there and the limit is
+/// not reached.
 #[inline(always)]
 fn search_slots<'a, K: Hash + Eq, V, S: BuildHasher, Q: Equivalent<K>>(
     window: &mut Window<'a, K, V, S>,

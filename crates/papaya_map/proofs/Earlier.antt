@@ -32,7 +32,8 @@ each_shown f [] all = tt
 each_shown f (last ∷ before) all = (f last.0 all.0, each_shown f before all.1)
 
 -- where a call is not refused, what it says is so of this history
-pub ok_of : {K V A E : Type 0} (eq : K → K → Bool) {h : History K V} → IsLegalHistory eq key_of h → {P : A → Type 0} (Q : History K V → A → Type 0) → ((a : A) → P a → Q h a) → (r : Result A E) → IfOk r P → IfOk r (λ a. IsOfHistory eq (λ hs. Q hs a))
+pub ok_of : {K V A E : Type 0} (eq : K → K → Bool) {h : History K V} → IsLegalHistory eq key_of h → {P : A → Type 0} (Q : History K V → A → Type 0)
+    → ((a : A) → P a → Q h a) → (r : Result A E) → IfOk r P → IfOk r (λ a. IsOfHistory eq (λ hs. Q hs a))
 ok_of eq {h} legal Q f (Ok a) is = record { history = h; legal = legal; told = f a is }
 ok_of eq legal Q f (Err e) is = tt
 
@@ -43,18 +44,36 @@ done_of f (Err e) is ok = let no : ⊥ = cc ok in absurd no
 
 module _ {K V : Type 0} (old new : History K V) where
   module _ (eq : K → K → Bool) (matches : K → Bool) where
-    pub found : {A : Type 0} (is_of : A → Stored K V → Type 0) {answer : Option A} → IsFoundBetween is_of eq matches old new answer → IsFoundBetween is_of eq matches [] new answer
+    pub found : {A : Type 0} (is_of : A → Stored K V → Type 0) {answer : Option A} → IsFoundBetween is_of eq matches old new answer
+        → IsFoundBetween is_of eq matches [] new answer
     found is_of f = record { seen = f.seen; since = since_first f.seen; until = f.until; is = f.is }
 
     pub held : {p : Option (Stored K V)} → WasHeld eq matches old new p → WasHeld eq matches [] new p
     held w = record { seen = w.seen; since = since_first w.seen; until = w.until; is = w.is }
 
   pub change : {matches : K → Bool} {taken put : Option (Stored K V)} → IsChangeOf matches old new taken put → IsChangeOf matches [] new taken put
-  change c = record { before = c.before; change = c.change; since = since_first c.before; is = c.is; class_is = c.class_is; taken_is = c.taken_is; put_is = c.put_is; kept = c.kept }
+  change c = record {
+    before = c.before;
+    change = c.change;
+    since = since_first c.before;
+    is = c.is;
+    class_is = c.class_is;
+    taken_is = c.taken_is;
+    put_is = c.put_is;
+    kept = c.kept;
+  }
 
   module _ (eq : K → K → Bool) where
     pub put : (key : K) (value : V) (answer : Option (Bor V)) → IsPut eq key value old new answer → IsPut eq key value [] new answer
-    put key value answer c = record { before = c.before; change = c.change; since = since_first c.before; is = c.is; class_is = c.class_is; put_is = c.put_is; taken_is = c.taken_is }
+    put key value answer c = record {
+      before = c.before;
+      change = c.change;
+      since = since_first c.before;
+      is = c.is;
+      class_is = c.class_is;
+      put_is = c.put_is;
+      taken_is = c.taken_is;
+    }
 
     module _ (matches : K → Bool) where
       pub removed : (r : Result (Option (Bor V)) Refused) → IsRemoved eq matches old new r → IsRemoved eq matches [] new r
@@ -67,14 +86,24 @@ module _ {K V : Type 0} (old new : History K V) where
       entry_removed (Ok (Some e)) is = (is.0, change is.1, is.2)
       entry_removed (Err e) is = is
 
-      judged : (said : List (Stored K V × Bool)) (r : Result (Result (Option (Bor K × Bor V)) (Bor K × Bor V)) Refused) → IsJudged eq matches old new said r → IsJudged eq matches [] new said r
+      judged : (said : List (Stored K V × Bool)) (r : Result (Result (Option (Bor K × Bor V)) (Bor K × Bor V)) Refused)
+          → IsJudged eq matches old new said r → IsJudged eq matches [] new said r
       judged said (Ok (Ok None)) is = held eq matches is
       judged said (Ok (Ok (Some e))) is = (is.0, change is.1, is.2, is.3)
       judged said (Ok (Err e)) is = is
       judged said (Err e) is = is
 
-      pub removal : {F : Type 0} (judges : F → Stored K V → Bool → F → Type 0) (first : F) (r : Result (Result (Option (Bor K × Bor V)) (Bor K × Bor V)) Refused) → IsRemovalBy eq matches old new judges first r → IsRemovalBy eq matches [] new judges first r
-      removal judges first r is = record { said = is.said; left = is.left; has_said = is.has_said; held = each_shown (λ p w. held eq matches w) is.said is.held; answered = judged is.said r is.answered }
+      pub removal : {F : Type 0} (judges : F → Stored K V → Bool → F → Type 0) (first : F)
+          (r : Result (Result (Option (Bor K × Bor V)) (Bor K × Bor V)) Refused) → IsRemovalBy eq matches old new judges first r
+          → IsRemovalBy eq matches [] new judges first r
+      removal judges first r is = record {
+        said = is.said;
+        left = is.left;
+        has_said = is.has_said;
+        held = each_shown (λ p w. held eq matches w)
+            is.said is.held;
+        answered = judged is.said r is.answered;
+      }
 
     had : (p : Stored K V) → HadPair eq old new p → HadPair eq [] new p
     had p w = record { seen = w.seen; since = since_first w.seen; until = w.until; is = w.is }
@@ -83,27 +112,44 @@ module _ {K V : Type 0} (old new : History K V) where
     none_stays said (Ok a) = λ k p e. let no : ⊥ = cc e in absurd no
     none_stays said (Err e) = tt
 
-    pub kept : {A F : Type 0} (judges : F → Stored K V → Bool → F → Type 0) (first : F) (r : Result A Refused) → (made : History K V) × HasKept eq old new [] made judges first r → (made : History K V) × HasKept eq [] new [] made judges first r
+    pub kept : {A F : Type 0} (judges : F → Stored K V → Bool → F → Type 0) (first : F) (r : Result A Refused) → (made : History K V)
+        × HasKept eq old new [] made judges first r → (made : History K V) × HasKept eq [] new [] made judges first r
     kept judges first r (made, k) = (
       made,
       record {
         left = k.left;
         said = k.said;
-        shown = record { has_said = k.shown.has_said; had = each_shown had k.said k.shown.had; changes = k.shown.changes; made_is = k.shown.made_is; dropped = k.shown.dropped };
+        shown = record {
+          has_said = k.shown.has_said;
+          had = each_shown had k.said k.shown.had;
+          changes = k.shown.changes;
+          made_is = k.shown.made_is;
+          dropped = k.shown.dropped;
+        };
         leaves = none_stays k.said r;
       },
     )
 
     module _ (key : K) where
-      operated : {T : Type 0} (said : List (Option (Stored K V) × Operation V T)) (r : Result (Computed K V T) Refused) → IsOperated eq key old new said r → IsOperated eq key [] new said r
+      operated : {T : Type 0} (said : List (Option (Stored K V) × Operation V T)) (r : Result (Computed K V T) Refused)
+          → IsOperated eq key old new said r → IsOperated eq key [] new said r
       operated said (Ok (Inserted k v)) is = (is.0, change is.1, is.2, is.3, is.4)
       operated said (Ok (Updated before after)) is = (is.0, is.1, change is.2, is.3, is.4, is.5, is.6)
       operated said (Ok (Removed k v)) is = (is.0, change is.1, is.2, is.3)
       operated said (Ok (Aborted t)) is = is
       operated said (Err e) is = is
 
-      pub computed : {T F : Type 0} (operates : F → Option (Stored K V) → Operation V T → F → Type 0) (first : F) (r : Result (Computed K V T) Refused) → IsComputeBy eq key old new operates first r → IsComputeBy eq key [] new operates first r
-      computed operates first r is = record { said = is.said; left = is.left; has_said = is.has_said; held = each_shown (λ p w. held eq (eq key) w) is.said is.held; none_once = is.none_once; operated = operated is.said r is.operated }
+      pub computed : {T F : Type 0} (operates : F → Option (Stored K V) → Operation V T → F → Type 0) (first : F)
+          (r : Result (Computed K V T) Refused) → IsComputeBy eq key old new operates first r → IsComputeBy eq key [] new operates first r
+      computed operates first r is = record {
+        said = is.said;
+        left = is.left;
+        has_said = is.has_said;
+        held = each_shown (λ p w. held eq (eq key) w)
+            is.said is.held;
+        none_once = is.none_once;
+        operated = operated is.said r is.operated;
+      }
 
       current : (v : Bor V) → IsCurrent eq key old new v → IsCurrent eq key [] new v
       current v is = (is.0, held eq (eq key) is.1, is.2)
@@ -127,7 +173,8 @@ module _ {K V : Type 0} (old new : History K V) where
       there gives v (inr is) = inr (current v is)
 
       -- the same of what is said of a call by a pass
-      pub there_by : (gives : V → Type 0) (made made' : History K V) (r : Result (Bor V) Refused) → IsThereBy eq key old new gives made made' r → IfOk r (IsThere eq key old new gives)
+      pub there_by : (gives : V → Type 0) (made made' : History K V) (r : Result (Bor V) Refused) → IsThereBy eq key old new gives made made' r
+          → IfOk r (IsThere eq key old new gives)
       there_by gives made made' (Ok v) (inl is) = inl is.0
       there_by gives made made' (Ok v) (inr is) = inr is.0
       there_by gives made made' (Err e) is = tt
@@ -136,6 +183,7 @@ module _ {K V : Type 0} (old new : History K V) where
       updated computes None is = held eq (eq key) is
       updated computes (Some v) is = in_place computes v is
 
-      pub upserted : (computes : V → V → Type 0) (gives : V → Type 0) (v : Bor V) → IsUpserted eq key old new computes gives v → IsUpserted eq key [] new computes gives v
+      pub upserted : (computes : V → V → Type 0) (gives : V → Type 0) (v : Bor V) → IsUpserted eq key old new computes gives v
+          → IsUpserted eq key [] new computes gives v
       upserted computes gives v (inl is) = inl (in_place computes v is)
       upserted computes gives v (inr is) = inr (stored gives v is)

@@ -7,7 +7,8 @@ use base.Logic.{SProp, ent, ex, sep, emp, id⊢, via, mono_r, emp∗, fst∗, sn
 use prog.Model.{Model}
 use prog.Wp.{Closed}
 use types.Logic.{Logic, sem}
-use types.Kit.{‵, raw, ◌⊛◌, some, later, ◌$◌, ◌∵◌, !, qed, by, move, drop, split, pick, show, use0, use1, await, updating, now, done, frame, fjoin, fpack, rewrite}
+use types.Kit.{‵, raw, ◌⊛◌, some, later, ◌$◌, ◌∵◌, !, qed, by, move, drop, split, pick, show, use0}
+use types.Kit.{use1, await, updating, now, done, frame, fjoin, fpack, rewrite}
 use contract.Lifetimes.{Lfts}
 use contract.Monad.{fact, fact_i, fact_use}
 use contract.Running.{Running, tables}
@@ -51,7 +52,8 @@ module _ {n : ℕ} where
   all_fit κs [] ks a ws = tt
   all_fit κs (s ∷ ss) ks a ws = (tt, all_fit κs ss ks.1 a.1 ws.1)
 
-  pub none_left : {M : Type 1} {𝓤 : Ura M} (𝓛 : Logic 𝓤) (κs : Lfts n) (ss : List (Slot n)) (ks : Kepts ss) (a : Denots (types_at ss κs)) (ws : Fins κs ss ks a) (vss : Valss (types_at ss κs))
+  pub none_left : {M : Type 1} {𝓤 : Ura M} (𝓛 : Logic 𝓤) (κs : Lfts n) (ss : List (Slot n)) (ks : Kepts ss) (a : Denots (types_at ss κs))
+      (ws : Fins κs ss ks a) (vss : Valss (types_at ss κs))
       → ent 𝓤 (emp 𝓤) (sem 𝓛 (has_of κs ss ks (dropped ss ks) a ws vss))
   none_left {𝓤 = 𝓤} 𝓛 κs [] ks a ws vss = id⊢ 𝓤 (emp 𝓤)
   none_left {𝓤 = 𝓤} 𝓛 κs (s ∷ ss) ks a ws vss = via 𝓤 (sep 𝓤 (emp 𝓤) (emp 𝓤)) (emp∗ 𝓤 (emp 𝓤)) (mono_r 𝓤 (emp 𝓤) (none_left 𝓛 κs ss ks.1 a.1 ws.1 vss.1))
@@ -80,8 +82,10 @@ module _ (E A P : RattleType) (g : Ghosts P.Denot E.Denot A.Denot) (T : Ended) w
 
   module _ {M : Type 1} {𝓤 : Ura M} (𝓛 : Logic 𝓤) (𝓜 : Model 𝓤 𝓛.H) (𝓡 : Running 𝓤 𝓛.H 𝓜) (c : Clauses 𝓤 T) (ck : Clauses 𝓤 asked)
       (F : (κs : Lfts T.signature.lifetimes) → Args T.signature κs → (Tells κs).Denot → Type 0)
-      (asks : (κs : Lfts T.signature.lifetimes) (a : Args T.signature κs) (u : (c κs a).ghost) → (w : (ck κs a).ghost) × ent 𝓤 ((c κs a).requires u) ((ck κs a).requires w))
-      (tells : (κs : Lfts T.signature.lifetimes) (a : Args T.signature κs) (w : (ck κs a).ghost) (r : (Tells κs).Denot) (ws : Lasts T κs a) → ent 𝓤 ((ck κs a).ensures w r (at_exit T κs a ws)) (fact 𝓤 (F κs a r)))
+      (asks : (κs : Lfts T.signature.lifetimes) (a : Args T.signature κs) (u : (c κs a).ghost) → (w : (ck κs a).ghost)
+      × ent 𝓤 ((c κs a).requires u) ((ck κs a).requires w))
+      (tells : (κs : Lfts T.signature.lifetimes) (a : Args T.signature κs) (w : (ck κs a).ghost) (r : (Tells κs).Denot) (ws : Lasts T κs a)
+      → ent 𝓤 ((ck κs a).ensures w r (at_exit T κs a ws)) (fact 𝓤 (F κs a r)))
       (loaded : (κs : Lfts T.signature.lifetimes) (a : Args T.signature κs) (u : (c κs a).ghost) (r : (Tells κs).Denot) (ws : Lasts T κs a) → F κs a r
       → ent 𝓤 (sem 𝓛 (seen (Answer κs) E A P g r)) ((c κs a).ensures u r.answer (at_exit T κs a ws)))
       (L : (κs : Lfts T.signature.lifetimes) → Laws (Answer κs)) where
@@ -97,21 +101,30 @@ module _ (E A P : RattleType) (g : Ghosts P.Denot E.Denot A.Denot) (T : Ended) w
 
       -- what the callee leaves
       abbrev Rest : Val → (Tells κs).Denot → Lasts T κs a → SProp 𝓤
-      Rest w r ws = sep 𝓤 (alive 𝓛 T.signature κs y.0.1) (sep 𝓤 (sem 𝓛 ((Answer κs).own_val r.answer (w ∷ []))) (sep 𝓤 (sem 𝓛 (seen (Answer κs) E A P g r)) (fact 𝓤 (F κs a r))))
+      Rest w r ws = sep 𝓤 (alive 𝓛 T.signature κs y.0.1)
+          (sep 𝓤 (sem 𝓛 ((Answer κs).own_val r.answer (w ∷ []))) (sep 𝓤 (sem 𝓛 (seen (Answer κs) E A P g r)) (fact 𝓤 (F κs a r))))
 
       abbrev Left : Val → SProp 𝓤
       Left w = ex 𝓤 (λ (r : (Tells κs).Denot). ex 𝓤 (λ (ws : Lasts T κs a). Rest w r ws))
 
-      gives : (v : Val) → ent 𝓤 ((triple_of 𝓛 asked.signature (closing 𝓛 asked ck)).post z v) (𝓛.H.⇛ (ex 𝓤 (λ (w : Val). sep 𝓤 (fact 𝓤 (Good (layout (Answer κs)) w × (v ≡ held w))) (Left w))))
+      gives : (v : Val) → ent 𝓤 ((triple_of 𝓛 asked.signature (closing 𝓛 asked ck)).post z v)
+          (𝓛.H.⇛ (ex 𝓤 (λ (w : Val). sep 𝓤 (fact 𝓤 (Good (layout (Answer κs)) w × (v ≡ held w))) (Left w))))
       gives v =
-          qed 𝓛 (later (some (λ (r : (Tells κs).Denot). (raw (alive 𝓛 T.signature κs y.0.1) ⊛ ‵ ((Tells κs).own_val r (v ∷ []))) ⊛ some (λ (ws : Lasts T κs a). ‵ (lasts T κs a ws) ⊛ raw ((ck κs a).ensures z.1 r (at_exit T κs a ws))))) ∷ []) ∵
-          updating ! $ await ! tt $ pick ! (λ r. split ! $ move ! (1 ∷ []) $ pick ! (λ ws. split ! $ drop ! $ use1 𝓛 (raw (fact 𝓤 (F κs a r))) (tells κs a z.1 r ws) $ heard ! _ (λ says. split ! $ move ! (1 ∷ []) $
+          qed 𝓛 (later (some (λ (r : (Tells κs).Denot).
+          (raw (alive 𝓛 T.signature κs y.0.1) ⊛ ‵ ((Tells κs).own_val r (v ∷ []))) ⊛ some
+          (λ (ws : Lasts T κs a). ‵ (lasts T κs a ws) ⊛ raw ((ck κs a).ensures z.1 r (at_exit T κs a ws))))) ∷ []) ∵
+          updating ! $ await ! tt $ pick ! (λ r. split ! $ move ! (1 ∷ []) $ pick !
+          (λ ws. split ! $ drop ! $ use1 𝓛 (raw (fact 𝓤 (F κs a r))) (tells κs a z.1 r ws) $ heard ! _ (λ says. split ! $ move ! (1 ∷ []) $
           told_out (Answer κs) E A P g ! (L κs) r (v ∷ []) (λ w good ev. now ! $
-          show ! (λ (x : Val). sep 𝓤 (fact 𝓤 (Good (layout (Answer κs)) x × (v ≡ held x))) (Left x)) w $ use0 𝓛 (raw (fact 𝓤 (Good (layout (Answer κs)) w × (v ≡ held w)))) (fact_i 𝓤 _ (emp 𝓤) (good, ap only ev)) $ frame ! $
-          show ! (λ (q : (Tells κs).Denot). ex 𝓤 (λ (us : Lasts T κs a). Rest w q us)) r $ show ! (λ (us : Lasts T κs a). Rest w r us) ws $ move ! (2 ∷ []) $ frame ! $ frame ! $ so ! says $ done !))))
+          show ! (λ (x : Val). sep 𝓤 (fact 𝓤 (Good (layout (Answer κs)) x × (v ≡ held x))) (Left x)) w $ use0 𝓛
+          (raw (fact 𝓤 (Good (layout (Answer κs)) w × (v ≡ held w)))) (fact_i 𝓤 _ (emp 𝓤) (good, ap only ev)) $ frame ! $
+          show ! (λ (q : (Tells κs).Denot). ex 𝓤 (λ (us : Lasts T κs a). Rest w q us)) r $ show ! (λ (us : Lasts T κs a). Rest w r us) ws $ move !
+          (2 ∷ []) $ frame ! $ frame ! $ so ! says $ done !))))
 
       ends : (w : Val) → ent 𝓤 (Left w) ((walk_of 𝓛 T none c).post y w)
-      ends w = qed 𝓛 (some (λ (r : (Tells κs).Denot). some (λ (ws : Lasts T κs a). raw (alive 𝓛 T.signature κs y.0.1) ⊛ ‵ ((Answer κs).own_val r.answer (w ∷ [])) ⊛ ‵ (seen (Answer κs) E A P g r) ⊛ raw (fact 𝓤 (F κs a r)))) ∷ []) ∵
+      ends w = qed 𝓛 (some (λ (r : (Tells κs).Denot).
+          some (λ (ws : Lasts T κs a). raw (alive 𝓛 T.signature κs y.0.1) ⊛ ‵ ((Answer κs).own_val r.answer (w ∷ [])) ⊛ ‵ (seen (Answer κs) E A P g r) ⊛
+          raw (fact 𝓤 (F κs a r)))) ∷ []) ∵
           pick ! (λ r. pick ! (λ ws. split ! $ move ! (1 ∷ []) $ split ! $ move ! (1 ∷ []) $ split ! $ move ! (1 ∷ []) $ heard ! _ (λ says.
           use1 𝓛 (raw ((c κs a).ensures y.1 r.answer (at_exit T κs a ws))) (loaded κs a y.1 r ws says) $
           use0 𝓛 (‵ (has_of κs T.signature.params T.kept none a ws y.0.4)) (none_left 𝓛 κs T.signature.params T.kept a ws y.0.4) $
@@ -119,45 +132,66 @@ module _ (E A P : RattleType) (g : Ghosts P.Denot E.Denot A.Denot) (T : Ended) w
 
     pub meets : AllSilent 𝓛 T.signature.params T.kept → (k f : Callee) (fn : Fn) → Closed 𝓤 𝓛.H (tables 𝓤 𝓛.H 𝓜 𝓡 𝓡.env).C (tables 𝓤 𝓛.H 𝓜 𝓡 𝓡.env).Λ k fn
         → Meets 𝓛 asked.signature ((tables 𝓤 𝓛.H 𝓜 𝓡 𝓡.env).C f) (closing 𝓛 asked ck)
-        → ((y : (walk_of 𝓛 T none c).Ghost) → Are (types_at T.signature.params y.0.0) (Ises (types_at T.signature.params y.0.0)) y.0.3 y.0.4 → Walk 𝓤 𝓛 𝓜 𝓡 fn f (layout (Answer y.0.0)) (flat (types_at T.signature.params y.0.0) y.0.4))
+        → ((y : (walk_of 𝓛 T none c).Ghost) → Are (types_at T.signature.params y.0.0) (Ises (types_at T.signature.params y.0.0)) y.0.3 y.0.4
+        → Walk 𝓤 𝓛 𝓜 𝓡 fn f (layout (Answer y.0.0)) (flat (types_at T.signature.params y.0.0) y.0.4))
         → Meets 𝓛 T.signature ((tables 𝓤 𝓛.H 𝓜 𝓡 𝓡.env).C k) (closing 𝓛 T c)
     meets silent k f fn closed met walk = proved_at 𝓛 T none c 𝓜 𝓡 (all_go 𝓛 T.signature.params T.kept silent) k fn closed (λ y are.
         let Pre : SProp 𝓤 = on_entry 𝓛 T.signature y.0.0 y.0.1 y.0.3 y.0.4 in
         (walk y are).runs ((walk_of 𝓛 T none c).pre y) ((triple_of 𝓛 asked.signature (closing 𝓛 asked ck)).post (z y)) (Left y) ((walk_of 𝓛 T none c).post y)
-        (via 𝓤 ((triple_of 𝓛 asked.signature (closing 𝓛 asked ck)).pre (z y)) (mono_r 𝓤 Pre (asks y.0.0 y.0.3 y.1).1) (met (z y))) (gives y) (λ w good. ends y w))
+        (via 𝓤 ((triple_of 𝓛 asked.signature (closing 𝓛 asked ck)).pre (z y)) (mono_r 𝓤 Pre (asks y.0.0 y.0.3 y.1).1) (met (z y))) (gives y)
+        (λ w good. ends y w))
 
 -- What shows a log that tells this shows that there is one: beside no other clause, and beside one, two or three.
-module _ {M : Type 1} {𝓤 : Ura M} (𝓛 : Logic 𝓤) {E : Type 0} (code : E → Gv) (rule : Rules E) {b : Book} (names : List ℕ) (log : List E) (φ : List E → Type 0) where
-  pub handed : {b' : Book} → b ≡ b' → φ log → ent 𝓤 (sem 𝓛 (seen_owns code rule b names log)) (sem 𝓛 (fex (List ℕ × List E) (λ s. fsep (seen_owns code rule b' s.0 s.1) (said (φ s.1)))))
+module _ {M : Type 1} {𝓤 : Ura M} (𝓛 : Logic 𝓤) {E : Type 0} (code : E → Gv) (rule : Rules E) {b : Book} (names : List ℕ) (log : List E)
+    (φ : List E → Type 0) where
+  pub handed : {b' : Book} → b ≡ b' → φ log
+      → ent 𝓤 (sem 𝓛 (seen_owns code rule b names log)) (sem 𝓛 (fex (List ℕ × List E) (λ s. fsep (seen_owns code rule b' s.0 s.1) (said (φ s.1)))))
   handed {b'} same is = qed 𝓛 (‵ (seen_owns code rule b names log) ∷ []) ∵ rewrite ! 0 (λ (c : Book). ‵ (seen_owns code rule c names log)) same refl $
-      nothing ! $ fpack ! (φ log) (λ _. ftrue) is $ move ! (1 ∷ 0 ∷ []) $ fjoin ! $ fpack ! (List ℕ × List E) (λ s. fsep (seen_owns code rule b' s.0 s.1) (said (φ s.1))) (names, log) $ done !
+      nothing ! $ fpack ! (φ log) (λ _. ftrue) is $ move ! (1 ∷ 0 ∷ []) $ fjoin ! $ fpack ! (List ℕ × List E)
+      (λ s. fsep (seen_owns code rule b' s.0 s.1) (said (φ s.1))) (names, log) $ done !
 
   pub handed_1 : {b' : Book} → b ≡ b' → φ log → {φ₁ : Type 0} → φ₁
-      → ent 𝓤 (sem 𝓛 (seen_owns code rule b names log)) (sep 𝓤 (sem 𝓛 (fex (List ℕ × List E) (λ s. fsep (seen_owns code rule b' s.0 s.1) (said (φ s.1))))) (fact 𝓤 φ₁))
+      → ent 𝓤 (sem 𝓛 (seen_owns code rule b names log))
+      (sep 𝓤 (sem 𝓛 (fex (List ℕ × List E) (λ s. fsep (seen_owns code rule b' s.0 s.1) (said (φ s.1))))) (fact 𝓤 φ₁))
   handed_1 {b'} same is x = qed 𝓛 (‵ (seen_owns code rule b names log) ∷ []) ∵ so ! x $ by ! (handed same is)
 
   pub handed_2 : {b' : Book} → b ≡ b' → φ log → {φ₁ φ₂ : Type 0} → φ₁ → φ₂
-      → ent 𝓤 (sem 𝓛 (seen_owns code rule b names log)) (sep 𝓤 (sem 𝓛 (fex (List ℕ × List E) (λ s. fsep (seen_owns code rule b' s.0 s.1) (said (φ s.1))))) (sep 𝓤 (fact 𝓤 φ₁) (fact 𝓤 φ₂)))
+      → ent 𝓤 (sem 𝓛 (seen_owns code rule b names log))
+      (sep 𝓤 (sem 𝓛 (fex (List ℕ × List E) (λ s. fsep (seen_owns code rule b' s.0 s.1) (said (φ s.1))))) (sep 𝓤 (fact 𝓤 φ₁) (fact 𝓤 φ₂)))
   handed_2 {b'} same is {φ₁} {φ₂} x₁ x₂ = qed 𝓛 (‵ (seen_owns code rule b names log) ∷ []) ∵
-      use1 𝓛 (‵ (fex (List ℕ × List E) (λ s. fsep (seen_owns code rule b' s.0 s.1) (said (φ s.1))))) (handed same is) $ frame ! $ so ! x₂ $ use0 𝓛 (raw (fact 𝓤 φ₁)) (fact_i 𝓤 φ₁ (emp 𝓤) x₁) $ done !
+      use1 𝓛 (‵ (fex (List ℕ × List E) (λ s. fsep (seen_owns code rule b' s.0 s.1) (said (φ s.1))))) (handed same is) $ frame ! $ so ! x₂ $ use0 𝓛
+      (raw (fact 𝓤 φ₁)) (fact_i 𝓤 φ₁ (emp 𝓤) x₁) $ done !
 
   pub handed_3 : {b' : Book} → b ≡ b' → φ log → {φ₁ φ₂ φ₃ : Type 0} → φ₁ → φ₂ → φ₃
-      → ent 𝓤 (sem 𝓛 (seen_owns code rule b names log)) (sep 𝓤 (sem 𝓛 (fex (List ℕ × List E) (λ s. fsep (seen_owns code rule b' s.0 s.1) (said (φ s.1))))) (sep 𝓤 (fact 𝓤 φ₁) (sep 𝓤 (fact 𝓤 φ₂) (fact 𝓤 φ₃))))
+      → ent 𝓤 (sem 𝓛 (seen_owns code rule b names log))
+      (sep 𝓤 (sem 𝓛 (fex (List ℕ × List E) (λ s. fsep (seen_owns code rule b' s.0 s.1) (said (φ s.1))))) (sep 𝓤 (fact 𝓤 φ₁) (sep 𝓤 (fact 𝓤 φ₂) (fact 𝓤 φ₃))))
   handed_3 {b'} same is {φ₁} {φ₂} {φ₃} x₁ x₂ x₃ = qed 𝓛 (‵ (seen_owns code rule b names log) ∷ []) ∵
-      use1 𝓛 (‵ (fex (List ℕ × List E) (λ s. fsep (seen_owns code rule b' s.0 s.1) (said (φ s.1))))) (handed same is) $ frame ! $ use0 𝓛 (raw (fact 𝓤 φ₁)) (fact_i 𝓤 φ₁ (emp 𝓤) x₁) $ frame ! $ so ! x₃ $ use0 𝓛 (raw (fact 𝓤 φ₂)) (fact_i 𝓤 φ₂ (emp 𝓤) x₂) $ done !
+      use1 𝓛 (‵ (fex (List ℕ × List E) (λ s. fsep (seen_owns code rule b' s.0 s.1) (said (φ s.1))))) (handed same is) $ frame ! $ use0 𝓛
+      (raw (fact 𝓤 φ₁)) (fact_i 𝓤 φ₁ (emp 𝓤) x₁) $ frame ! $ so ! x₃ $ use0 𝓛 (raw (fact 𝓤 φ₂)) (fact_i 𝓤 φ₂ (emp 𝓤) x₂) $ done !
 
 -- four clauses of facts, as one
-pub four_facts : {M : Type 1} (𝓤 : Ura M) {φ₁ φ₂ φ₃ φ₄ : Type 0} → ent 𝓤 (sep 𝓤 (fact 𝓤 φ₁) (sep 𝓤 (fact 𝓤 φ₂) (sep 𝓤 (fact 𝓤 φ₃) (fact 𝓤 φ₄)))) (fact 𝓤 (φ₁ × φ₂ × φ₃ × φ₄))
+pub four_facts : {M : Type 1} (𝓤 : Ura M) {φ₁ φ₂ φ₃ φ₄ : Type 0}
+    → ent 𝓤 (sep 𝓤 (fact 𝓤 φ₁) (sep 𝓤 (fact 𝓤 φ₂) (sep 𝓤 (fact 𝓤 φ₃) (fact 𝓤 φ₄)))) (fact 𝓤 (φ₁ × φ₂ × φ₃ × φ₄))
 four_facts 𝓤 {φ₁} {φ₂} {φ₃} {φ₄} = let rest₃ : SProp 𝓤 = sep 𝓤 (fact 𝓤 φ₃) (fact 𝓤 φ₄) in let rest₂ : SProp 𝓤 = sep 𝓤 (fact 𝓤 φ₂) rest₃ in
-    fact_use 𝓤 φ₁ (fst∗ 𝓤 (fact 𝓤 φ₁) rest₂) (λ x₁. via 𝓤 rest₂ (snd∗ 𝓤 (fact 𝓤 φ₁) rest₂) (fact_use 𝓤 φ₂ (fst∗ 𝓤 (fact 𝓤 φ₂) rest₃) (λ x₂. via 𝓤 rest₃ (snd∗ 𝓤 (fact 𝓤 φ₂) rest₃)
-    (fact_use 𝓤 φ₃ (fst∗ 𝓤 (fact 𝓤 φ₃) (fact 𝓤 φ₄)) (λ x₃. via 𝓤 (fact 𝓤 φ₄) (snd∗ 𝓤 (fact 𝓤 φ₃) (fact 𝓤 φ₄)) (fact_use 𝓤 φ₄ (id⊢ 𝓤 (fact 𝓤 φ₄)) (λ x₄. fact_i 𝓤 (φ₁ × φ₂ × φ₃ × φ₄) (fact 𝓤 φ₄) (x₁, x₂, x₃, x₄))))))))
+    fact_use 𝓤 φ₁ (fst∗ 𝓤 (fact 𝓤 φ₁) rest₂)
+    (λ x₁. via 𝓤 rest₂ (snd∗ 𝓤 (fact 𝓤 φ₁) rest₂) (fact_use 𝓤 φ₂ (fst∗ 𝓤 (fact 𝓤 φ₂) rest₃) (λ x₂. via 𝓤 rest₃ (snd∗ 𝓤 (fact 𝓤 φ₂) rest₃)
+    (fact_use 𝓤 φ₃ (fst∗ 𝓤 (fact 𝓤 φ₃) (fact 𝓤 φ₄))
+    (λ x₃. via 𝓤 (fact 𝓤 φ₄) (snd∗ 𝓤 (fact 𝓤 φ₃) (fact 𝓤 φ₄))
+    (fact_use 𝓤 φ₄ (id⊢ 𝓤 (fact 𝓤 φ₄)) (λ x₄. fact_i 𝓤 (φ₁ × φ₂ × φ₃ × φ₄) (fact 𝓤 φ₄) (x₁, x₂, x₃, x₄))))))))
 
 -- five
-pub five_facts : {M : Type 1} (𝓤 : Ura M) {φ₁ φ₂ φ₃ φ₄ φ₅ : Type 0} → ent 𝓤 (sep 𝓤 (fact 𝓤 φ₁) (sep 𝓤 (fact 𝓤 φ₂) (sep 𝓤 (fact 𝓤 φ₃) (sep 𝓤 (fact 𝓤 φ₄) (fact 𝓤 φ₅))))) (fact 𝓤 (φ₁ × φ₂ × φ₃ × φ₄ × φ₅))
+pub five_facts : {M : Type 1} (𝓤 : Ura M) {φ₁ φ₂ φ₃ φ₄ φ₅ : Type 0}
+    → ent 𝓤 (sep 𝓤 (fact 𝓤 φ₁) (sep 𝓤 (fact 𝓤 φ₂) (sep 𝓤 (fact 𝓤 φ₃) (sep 𝓤 (fact 𝓤 φ₄) (fact 𝓤 φ₅))))) (fact 𝓤 (φ₁ × φ₂ × φ₃ × φ₄ × φ₅))
 five_facts 𝓤 {φ₁} {φ₂} {φ₃} {φ₄} {φ₅} = let rest : SProp 𝓤 = sep 𝓤 (fact 𝓤 φ₂) (sep 𝓤 (fact 𝓤 φ₃) (sep 𝓤 (fact 𝓤 φ₄) (fact 𝓤 φ₅))) in
-    fact_use 𝓤 φ₁ (fst∗ 𝓤 (fact 𝓤 φ₁) rest) (λ x₁. via 𝓤 rest (snd∗ 𝓤 (fact 𝓤 φ₁) rest) (fact_use 𝓤 (φ₂ × φ₃ × φ₄ × φ₅) (four_facts 𝓤) (λ x. fact_i 𝓤 (φ₁ × φ₂ × φ₃ × φ₄ × φ₅) rest (x₁, x.0, x.1, x.2, x.3))))
+    fact_use 𝓤 φ₁ (fst∗ 𝓤 (fact 𝓤 φ₁) rest) (λ x₁.
+    via 𝓤 rest (snd∗ 𝓤 (fact 𝓤 φ₁) rest) (fact_use 𝓤 (φ₂ × φ₃ × φ₄ × φ₅) (four_facts 𝓤)
+    (λ x. fact_i 𝓤 (φ₁ × φ₂ × φ₃ × φ₄ × φ₅) rest (x₁, x.0, x.1, x.2, x.3))))
 
 -- and six
-pub six_facts : {M : Type 1} (𝓤 : Ura M) {φ₁ φ₂ φ₃ φ₄ φ₅ φ₆ : Type 0} → ent 𝓤 (sep 𝓤 (fact 𝓤 φ₁) (sep 𝓤 (fact 𝓤 φ₂) (sep 𝓤 (fact 𝓤 φ₃) (sep 𝓤 (fact 𝓤 φ₄) (sep 𝓤 (fact 𝓤 φ₅) (fact 𝓤 φ₆)))))) (fact 𝓤 (φ₁ × φ₂ × φ₃ × φ₄ × φ₅ × φ₆))
+pub six_facts : {M : Type 1} (𝓤 : Ura M) {φ₁ φ₂ φ₃ φ₄ φ₅ φ₆ : Type 0}
+    → ent 𝓤 (sep 𝓤 (fact 𝓤 φ₁) (sep 𝓤 (fact 𝓤 φ₂) (sep 𝓤 (fact 𝓤 φ₃) (sep 𝓤 (fact 𝓤 φ₄) (sep 𝓤 (fact 𝓤 φ₅) (fact 𝓤 φ₆))))))
+    (fact 𝓤 (φ₁ × φ₂ × φ₃ × φ₄ × φ₅ × φ₆))
 six_facts 𝓤 {φ₁} {φ₂} {φ₃} {φ₄} {φ₅} {φ₆} = let rest : SProp 𝓤 = sep 𝓤 (fact 𝓤 φ₂) (sep 𝓤 (fact 𝓤 φ₃) (sep 𝓤 (fact 𝓤 φ₄) (sep 𝓤 (fact 𝓤 φ₅) (fact 𝓤 φ₆)))) in
-    fact_use 𝓤 φ₁ (fst∗ 𝓤 (fact 𝓤 φ₁) rest) (λ x₁. via 𝓤 rest (snd∗ 𝓤 (fact 𝓤 φ₁) rest) (fact_use 𝓤 (φ₂ × φ₃ × φ₄ × φ₅ × φ₆) (five_facts 𝓤) (λ x. fact_i 𝓤 (φ₁ × φ₂ × φ₃ × φ₄ × φ₅ × φ₆) rest (x₁, x.0, x.1, x.2, x.3, x.4))))
+    fact_use 𝓤 φ₁ (fst∗ 𝓤 (fact 𝓤 φ₁) rest) (λ x₁.
+    via 𝓤 rest (snd∗ 𝓤 (fact 𝓤 φ₁) rest) (fact_use 𝓤 (φ₂ × φ₃ × φ₄ × φ₅ × φ₆) (five_facts 𝓤)
+    (λ x. fact_i 𝓤 (φ₁ × φ₂ × φ₃ × φ₄ × φ₅ × φ₆) rest (x₁, x.0, x.1, x.2, x.3, x.4))))

@@ -1,5 +1,6 @@
 -- What the calls answer that store a value where their rule says so, by what the rule may answer.
-use Rattle.std.proofs.Common.{◌≡◌, ◌⊎◌, inl, inr, ⊎_elim, Bool, MatchOption, Option, None, Some, Result, Ok, Err, List, [], ◌∷◌, option_map, refl, sym, ap, ◌∙◌, subst}
+use Rattle.std.proofs.Common.{◌≡◌, ◌⊎◌, inl, inr, ⊎_elim, Bool, MatchOption, Option, None, Some}
+use Rattle.std.proofs.Common.{Result, Ok, Err, List, [], ◌∷◌, option_map, refl, sym, ap, ◌∙◌, subst}
 use denote.Bor.{Bor}
 use Rattle.papaya_words.specs.declared.probe.Refused.{Refused as Cause}
 use Rattle.papaya_call.specs.declared.answers.Operation.{Operation}
@@ -47,13 +48,15 @@ stored_of w v e = let same : w ≡ v = cc e in ap (λ z. operation.Insert z) sam
 -- A rule that gives what is stored where the key has none, from a supply that it has till then.
 module _ {K V F G : Type 0} (says : F → Option (Stored K V) → Wish V → F → Type 0) (gives : G → V → Type 0) (supply : F → Option G)
     (keeps : (f g : F) (p : Stored K V) (op : Wish V) → says f (Some p) op g → supply g ≡ supply f)
-    (spends : (f g : F) (op : Wish V) (s : G) → supply f ≡ Some s → says f None op g → (supply g ≡ None) × ((v : V) × gives s v × (op ≡ operation.Insert v))) where
+    (spends : (f g : F) (op : Wish V) (s : G) → supply f ≡ Some s → says f None op g → (supply g ≡ None)
+    × ((v : V) × gives s v × (op ≡ operation.Insert v))) where
   unasked : (f g : F) (heard : List (Option (Stored K V) × Wish V)) → HasSaid says f heard g → HasNoNone heard → supply g ≡ supply f
   unasked f g [] has none = ap supply has
   unasked f g ((None, op) ∷ before) has none = absurd none
   unasked f g ((Some p, op) ∷ before) has none = keeps has.0 g p op has.2 ∙ unasked f has.0 before has.1 none
 
-  asked_once : (f g : F) (s : G) → supply f ≡ Some s → (heard : List (Option (Stored K V) × Wish V)) → HasSaid says f heard g → IsNoneOnce heard → (op : Wish V) → Member (None, op) heard → (supply g ≡ None) × ((v : V) × gives s v × (op ≡ operation.Insert v))
+  asked_once : (f g : F) (s : G) → supply f ≡ Some s → (heard : List (Option (Stored K V) × Wish V)) → HasSaid says f heard g → IsNoneOnce heard
+      → (op : Wish V) → Member (None, op) heard → (supply g ≡ None) × ((v : V) × gives s v × (op ≡ operation.Insert v))
   asked_once f g s has_s [] has once op m = absurd m
   asked_once f g s has_s ((None, done) ∷ before) has once op (inl e) =
       let first = unasked f has.0 before has.1 once in
@@ -61,11 +64,13 @@ module _ {K V F G : Type 0} (says : F → Option (Stored K V) → Wish V → F �
       let h = spends has.0 g done s (first ∙ has_s) has.2 in (h.0, (h.1.0, h.1.1, same ∙ h.1.2))
   asked_once f g s has_s ((None, done) ∷ before) has once op (inr m) = absurd (none_unsaid before once op m)
   asked_once f g s has_s ((Some p, done) ∷ before) has once op (inl e) = let none : None ≡ Some p = ap (λ z. z.0) e in absurd (cc none)
-  asked_once f g s has_s ((Some p, done) ∷ before) has once op (inr m) = let h = asked_once f has.0 s has_s before has.1 once op m in (keeps has.0 g p done has.2 ∙ h.0, h.1)
+  asked_once f g s has_s ((Some p, done) ∷ before) has once op (inr m) = let h = asked_once f has.0 s has_s before has.1 once op m in
+      (keeps has.0 g p done has.2 ∙ h.0, h.1)
 
 module _ {V G : Type 0} (gives : G → V → Type 0) where
   -- a supply that is there gives what is answered
-  given : (s : G) (o : Option G) → o ≡ Some s → (v : V) → IsGiven gives o (Some v) → (w : V) × gives s w × ◌≡◌ {A = Wish V} (operation.Insert v) (operation.Insert w)
+  given : (s : G) (o : Option G) → o ≡ Some s → (v : V) → IsGiven gives o (Some v) → (w : V) × gives s w
+      × ◌≡◌ {A = Wish V} (operation.Insert v) (operation.Insert w)
   given s o is v h = let m = subst (λ z. IsGiven gives z (Some v)) is h in (m.0, m.1, stored_of v m.0 m.2)
 
   ungiven : (s : G) (o : Option G) → o ≡ Some s → IsGiven gives o None → ⊥
@@ -80,7 +85,8 @@ module _ (K : Type 0) {V G : Type 0} (gives : G → V → Type 0) where
   give_keeps f g p operation.Remove h = absurd h
   give_keeps f g p (operation.Abort t) h = ap (λ z. z.supply) h.0
 
-  give_spends : (f g : Giving G) (op : Wish V) (s : G) → f.supply ≡ Some s → GiveSays f None op g → (g.supply ≡ None) × ((v : V) × gives s v × (op ≡ operation.Insert v))
+  give_spends : (f g : Giving G) (op : Wish V) (s : G) → f.supply ≡ Some s → GiveSays f None op g → (g.supply ≡ None)
+      × ((v : V) × gives s v × (op ≡ operation.Insert v))
   give_spends f g (operation.Insert v) s is h = (h.0, given gives s f.supply is v h.1)
   give_spends f g operation.Remove s is h = absurd h
   give_spends f g (operation.Abort t) s is h = absurd (ungiven gives s f.supply is h.1)
@@ -96,7 +102,8 @@ module _ (K : Type 0) {V G : Type 0} (gives : G → V → Type 0) where
   give_leaves f (Some p) operation.Remove g is h = (tt, tt)
   give_leaves f (Some p) (operation.Abort t) g is h = (tt, tt)
 
-  module _ (eq : K → K → Bool) (key : K) (old new : List (Change K (Stored K V))) (first left : Giving G) (s : G) (has : first.supply ≡ Some s) (answer : Result (Outcome V) Cause) (d : IsDecided eq key old new (Gives gives) first left answer) where
+  module _ (eq : K → K → Bool) (key : K) (old new : List (Change K (Stored K V))) (first left : Giving G) (s : G) (has : first.supply ≡ Some s)
+      (answer : Result (Outcome V) Cause) (d : IsDecided eq key old new (Gives gives) first left answer) where
     once : (op : Wish V) → Member (None, op) d.heard → (left.supply ≡ None) × ((v : V) × gives s v × (op ≡ operation.Insert v))
     once op m = asked_once GiveSays gives (λ z. z.supply) give_keeps give_spends first left s has d.heard d.has_said d.done.none_once op m
 
@@ -120,13 +127,23 @@ module _ (K : Type 0) {V G : Type 0} (gives : G → V → Type 0) where
       lefts : IsDecidedOf eq key old new d.heard (Ok (Left current spare))
       lefts = decided_as (Ok (Left current spare)) is
 
-      was_there : (held : Option (Stored K V)) → WasLast held (operation.Abort tt) d.heard → option_map (λ v. v.now) current ≡ value_in held → (r : Bor V) × (current ≡ Some r) × IsCurrent eq key old new r
+      was_there : (held : Option (Stored K V)) → WasLast held (operation.Abort tt) d.heard → option_map (λ v. v.now) current ≡ value_in held
+          → (r : Bor V) × (current ≡ Some r) × IsCurrent eq key old new r
       was_there None last same = let o = (once (operation.Abort tt) (last_member None (operation.Abort tt) d.heard last)).1 in let e = o.2 in absurd (cc e)
       was_there (Some p) last same = by_current current same
         where
           by_current : (o : Option (Bor V)) → option_map (λ v. v.now) o ≡ value_in (Some p) → (r : Bor V) × (o ≡ Some r) × IsCurrent eq key old new r
           by_current None e = absurd (cc e)
-          by_current (Some r) e = (r, refl, (p, shown_each (WasHeld eq (eq key) old new) d.heard d.done.held (Some p) (operation.Abort tt) (last_member (Some p) (operation.Abort tt) d.heard last), let v : r.now ≡ p.value.value = cc e in v))
+          by_current (Some r) e = (
+            r,
+            refl,
+            (
+              p,
+              shown_each (WasHeld eq (eq key) old new) d.heard d.done.held (Some p) (operation.Abort tt)
+                  (last_member (Some p) (operation.Abort tt) d.heard last),
+              let v : r.now ≡ p.value.value = cc e in v,
+            ),
+          )
 
       -- the key had a value
       pub give_current : (r : Bor V) × (current ≡ Some r) × IsCurrent eq key old new r
@@ -146,7 +163,10 @@ module _ (K : Type 0) {V G : Type 0} (gives : G → V → Type 0) where
     give_refused cause is = decided_as (Err cause) is
 
 -- a pair took the place of one with the value of the one that was shown
-in_place : {K V F : Type 0} (eq : K → K → Bool) (key : K) (old new : List (Change K (Stored K V))) (computes : F → V → V → Type 0) (f : F) (p q shown : Stored K V) → IsSamePair shown p → (w : V) × computes f shown.value.value w × ◌≡◌ {A = Wish V} (operation.Insert q.value.value) (operation.Insert w) → IsChangeOf (eq key) old new (Some p) (Some q) → key_of q ≡ key_of p → (v : Bor V) → v.now ≡ q.value.value → IsInPlace eq key old new (computes f) v
+in_place : {K V F : Type 0} (eq : K → K → Bool) (key : K) (old new : List (Change K (Stored K V))) (computes : F → V → V → Type 0) (f : F)
+    (p q shown : Stored K V) → IsSamePair shown p → (w : V) × computes f shown.value.value w
+    × ◌≡◌ {A = Wish V} (operation.Insert q.value.value) (operation.Insert w) → IsChangeOf (eq key) old new (Some p) (Some q) → key_of q ≡ key_of p
+    → (v : Bor V) → v.now ≡ q.value.value → IsInPlace eq key old new (computes f) v
 in_place eq key old new computes f p q shown same said change own v is =
     let value : q.value.value ≡ said.0 = let e = said.2 in cc e in
     (p, q, change, own, subst (λ z. computes f z q.value.value) (ap (λ z. z.value) same.1) (subst (computes f shown.value.value) (sym value) said.1), is)
@@ -160,15 +180,18 @@ module _ (K : Type 0) {V F : Type 0} (computes : F → V → V → Type 0) where
   Computed f None op = op ≡ operation.Abort tt
   Computed f (Some p) op = (w : V) × computes f p.value.value w × (op ≡ operation.Insert w)
 
-  update_says : (first f : Updating F) (x : Option (Stored K V)) (op : Wish V) (g : Updating F) → f ≡ first → UpdateSays f x op g → Computed first.update x op × (g ≡ first)
+  update_says : (first f : Updating F) (x : Option (Stored K V)) (op : Wish V) (g : Updating F) → f ≡ first → UpdateSays f x op g
+      → Computed first.update x op × (g ≡ first)
   update_says first f None (operation.Insert v) g is h = let e = h.1 in absurd (cc e)
   update_says first f None operation.Remove g is h = absurd h
   update_says first f None (operation.Abort tt) g is h = (refl, h.0 ∙ is)
-  update_says first f (Some p) (operation.Insert v) g is h = ((h.1.0, subst (λ (z : Updating F). computes z.update p.value.value h.1.0) is h.1.1, stored_of v h.1.0 h.1.2), h.0 ∙ is)
+  update_says first f (Some p) (operation.Insert v) g is
+      h = ((h.1.0, subst (λ (z : Updating F). computes z.update p.value.value h.1.0) is h.1.1, stored_of v h.1.0 h.1.2), h.0 ∙ is)
   update_says first f (Some p) operation.Remove g is h = absurd h
   update_says first f (Some p) (operation.Abort t) g is h = let e = h.1.2 in absurd (cc e)
 
-  module _ (eq : K → K → Bool) (key : K) (old new : List (Change K (Stored K V))) (first left : Updating F) (answer : Result (Outcome V) Cause) (d : IsDecided eq key old new (Updates computes) first left answer) where
+  module _ (eq : K → K → Bool) (key : K) (old new : List (Change K (Stored K V))) (first left : Updating F) (answer : Result (Outcome V) Cause)
+      (d : IsDecided eq key old new (Updates computes) first left answer) where
     computed : (x : Option (Stored K V)) (op : Wish V) → Member (x, op) d.heard → Computed first.update x op
     computed x op m = said_so UpdateSays (λ f. f ≡ first) (Computed first.update) (update_says first) first refl d.heard left d.has_said x op m
 
@@ -189,7 +212,8 @@ module _ (K : Type 0) {V F : Type 0} (computes : F → V → V → Type 0) where
         let member = last_member h.0 (operation.Abort tt) d.heard h.1 in
         held_none h.0 (computed h.0 (operation.Abort tt) member) (shown_each (WasHeld eq (eq key) old new) d.heard d.done.held h.0 (operation.Abort tt) member)
       where
-        held_none : (held : Option (Stored K V)) → Computed first.update held (operation.Abort tt) → WasHeld eq (eq key) old new held → WasHeld eq (eq key) old new None
+        held_none : (held : Option (Stored K V)) → Computed first.update held (operation.Abort tt) → WasHeld eq (eq key) old new held
+            → WasHeld eq (eq key) old new None
         held_none None said was = was
         held_none (Some p) said was = let e = said.2 in absurd (cc e)
 
@@ -205,7 +229,8 @@ module _ (K : Type 0) {V F G : Type 0} (computes : F → V → V → Type 0) (gi
   upsert_keeps f g p operation.Remove h = absurd h
   upsert_keeps f g p (operation.Abort t) h = h.1
 
-  upsert_spends : (f g : Upserting F G) (op : Wish V) (s : G) → f.supply ≡ Some s → UpsertSays f None op g → (g.supply ≡ None) × ((v : V) × gives s v × (op ≡ operation.Insert v))
+  upsert_spends : (f g : Upserting F G) (op : Wish V) (s : G) → f.supply ≡ Some s → UpsertSays f None op g → (g.supply ≡ None)
+      × ((v : V) × gives s v × (op ≡ operation.Insert v))
   upsert_spends f g (operation.Insert v) s is h = (h.1, given gives s f.supply is v h.2)
   upsert_spends f g operation.Remove s is h = absurd h
   upsert_spends f g (operation.Abort t) s is h = absurd (ungiven gives s f.supply is h.2)
@@ -215,15 +240,18 @@ module _ (K : Type 0) {V F G : Type 0} (computes : F → V → V → Type 0) (gi
   Replaces f None op = Unit {0}
   Replaces f (Some p) op = (w : V) × computes f p.value.value w × (op ≡ operation.Insert w)
 
-  upsert_says : (first f : Upserting F G) (x : Option (Stored K V)) (op : Wish V) (g : Upserting F G) → f.update ≡ first.update → UpsertSays f x op g → Replaces first.update x op × (g.update ≡ first.update)
+  upsert_says : (first f : Upserting F G) (x : Option (Stored K V)) (op : Wish V) (g : Upserting F G) → f.update ≡ first.update → UpsertSays f x op g
+      → Replaces first.update x op × (g.update ≡ first.update)
   upsert_says first f None (operation.Insert v) g is h = (tt, h.0 ∙ is)
   upsert_says first f None operation.Remove g is h = absurd h
   upsert_says first f None (operation.Abort t) g is h = (tt, h.0 ∙ is)
-  upsert_says first f (Some p) (operation.Insert v) g is h = ((h.2.0, subst (λ (z : F). computes z p.value.value h.2.0) is h.2.1, stored_of v h.2.0 h.2.2), h.0 ∙ is)
+  upsert_says first f (Some p) (operation.Insert v) g is
+      h = ((h.2.0, subst (λ (z : F). computes z p.value.value h.2.0) is h.2.1, stored_of v h.2.0 h.2.2), h.0 ∙ is)
   upsert_says first f (Some p) operation.Remove g is h = absurd h
   upsert_says first f (Some p) (operation.Abort t) g is h = let e = h.2.2 in absurd (cc e)
 
-  module _ (eq : K → K → Bool) (key : K) (old new : List (Change K (Stored K V))) (first left : Upserting F G) (s : G) (has : first.supply ≡ Some s) (answer : Result (Outcome V) Cause) (d : IsDecided eq key old new (Upserts computes gives) first left answer) where
+  module _ (eq : K → K → Bool) (key : K) (old new : List (Change K (Stored K V))) (first left : Upserting F G) (s : G) (has : first.supply ≡ Some s)
+      (answer : Result (Outcome V) Cause) (d : IsDecided eq key old new (Upserts computes gives) first left answer) where
     upserted_once : (op : Wish V) → Member (None, op) d.heard → (left.supply ≡ None) × ((v : V) × gives s v × (op ≡ operation.Insert v))
     upserted_once op m = asked_once UpsertSays gives (λ z. z.supply) upsert_keeps upsert_spends first left s has d.heard d.has_said d.done.none_once op m
 
@@ -259,13 +287,15 @@ module _ (K : Type 0) {V F G : Type 0} (computes : F → V → V → Type 0) (gi
     upsert_refused cause is = upsert_as (Err cause) is
 
 -- what became of a value that was handed in
-module _ {V : Type 0} (value : V) (supply : Option (Ready V)) (spare : Option (Bor V)) (back : (supply ≡ Some (record { value = value })) ⊎ ((supply ≡ None) × ((r : Bor V) × (spare ≡ Some r) × (r.now ≡ value)))) where
+module _ {V : Type 0} (value : V) (supply : Option (Ready V)) (spare : Option (Bor V))
+    (back : (supply ≡ Some (record { value = value })) ⊎ ((supply ≡ None) × ((r : Bor V) × (spare ≡ Some r) × (r.now ≡ value)))) where
   pub spare_there : supply ≡ None → MatchOption spare ⊥ (λ r. Unit {0})
   spare_there none = ⊎_elim (λ is. let e = sym none ∙ is in absurd (cc e)) (λ h. subst (λ z. MatchOption z ⊥ (λ r. Unit {0})) (sym h.1.1) tt) back
 
   pub back_is : (result : NotInserted V) → MatchOption supply (MatchOption spare ⊥ (λ r. result ≡ Logged r)) (λ s. result ≡ Value s.value) → IsBack value result
   back_is result said = ⊎_elim
-      (λ is. let e : result ≡ Value value = subst (λ z. MatchOption z (MatchOption spare ⊥ (λ r. result ≡ Logged r)) (λ s. result ≡ Value s.value)) is said in subst (IsBack value) (sym e) refl)
+      (λ is. let e : result ≡ Value value = subst (λ z. MatchOption z (MatchOption spare ⊥ (λ r. result ≡ Logged r)) (λ s. result ≡ Value s.value)) is
+      said in subst (IsBack value) (sym e) refl)
       (λ h.
       let lost = subst (λ z. MatchOption z (MatchOption spare ⊥ (λ r. result ≡ Logged r)) (λ s. result ≡ Value s.value)) h.0 said in
       let e : result ≡ Logged h.1.0 = subst (λ z. MatchOption z ⊥ (λ r. result ≡ Logged r)) h.1.1 lost in
@@ -273,7 +303,8 @@ module _ {V : Type 0} (value : V) (supply : Option (Ready V)) (spare : Option (B
       back
 
 -- what a call says by a pass that had seen nothing is so of a history
-module _ {K V A E : Type 0} (eq : K → K → Bool) (old new : List (Change K (Stored K V))) (seen : old ≡ []) (legal : IsLegalHistory eq key_of new) (says : List (Change K (Stored K V)) → List (Change K (Stored K V)) → A → Type 0) where
+module _ {K V A E : Type 0} (eq : K → K → Bool) (old new : List (Change K (Stored K V))) (seen : old ≡ []) (legal : IsLegalHistory eq key_of new)
+    (says : List (Change K (Stored K V)) → List (Change K (Stored K V)) → A → Type 0) where
   pub of_history : (r : Result A E) → IfOk r (says old new) → IfOk r (λ a. IsOfHistory eq (λ h. says [] h a))
   of_history (Ok a) told = record { history = new; legal = legal; told = subst (λ z. says z new a) seen told }
   of_history (Err e) told = tt

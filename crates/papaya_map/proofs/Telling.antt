@@ -43,7 +43,8 @@ pub record One (τ : Ty) (vs : List Val) : Type 0 where
   pub good : Good τ val
 
 -- those of a shared reference
-pub one_ref : (ℓ : Lifetime) (κ : Lft) (R : RattleType) (x : Bor R.Denot) (vs : List Val) → Is (ShrRef ℓ κ R) x vs → (ℓ' : Lifetime) (τ : Ty) → One (ty_ref ℓ' imm τ) vs
+pub one_ref : (ℓ : Lifetime) (κ : Lft) (R : RattleType) (x : Bor R.Denot) (vs : List Val) → Is (ShrRef ℓ κ R) x vs → (ℓ' : Lifetime) (τ : Ty)
+    → One (ty_ref ℓ' imm τ) vs
 one_ref ℓ κ R x vs is ℓ' τ = record { val = vptr x.ref_ptr.0 x.ref_ptr.1; is = shr_Tells ℓ κ R x vs is; good = (tt, tt) }
 
 -- those of a value of a type parameter
@@ -77,21 +78,25 @@ module _ (B E A P : RattleType) (g : Ghosts P.Denot E.Denot A.Denot) where
     told_out t L d vs k =
         fsplit t $ fpick t (λ vss. fsplit t $ feq_l t (λ e. fsplit t $ peeks t B (Is B) (shows 𝓛 B) d.answer vss.0 (λ i.
         let got = one (layout B) vss.0 (subst (λ (ρs : List Ty). Typed ρs vss.0) L.one ((L.lawful 𝓛).typed d.answer vss.0 i)) in
-        rewrite t 0 (λ (ws : List Val). ‵ (B.own_val d.answer ws)) got.1 refl $ move t (1 ∷ []) $ fsplit t $ peeks t Mark (Is Mark) (shows 𝓛 Mark) d.marker vss.1.0 (λ j.
+        rewrite t 0 (λ (ws : List Val). ‵ (B.own_val d.answer ws)) got.1 refl $ move t (1 ∷ []) $ fsplit t $ peeks t Mark (Is Mark) (shows 𝓛 Mark)
+        d.marker vss.1.0 (λ j.
         drop t $ drop t $ k got.0 got.2 (e ∙ (λ n. vstruct (of_list (got.1 n ++ (j.1.0 n ++ []))) ∷ []))))))
 
     pub told_in : K → (d : Told.Denot) (v : Val) → Step K 𝓛 (‵ (Told.own_val d (held v ∷ [])) ∷ Γ) G (‵ (seen d) ∷ ‵ (B.own_val d.answer (v ∷ [])) ∷ Γ) G
     told_in t d v = step (λ s.
-        nothing t $ use0 𝓛 (‵ (Mark.own_val d.marker (vstruct vnil ∷ []))) (makes_shadow 𝓛 (Mark.own_val d.marker (vstruct vnil ∷ [])) (λ uss. (tt, tt)) (tt, (refl, tt))) $ fjoin t $
+        nothing t $ use0 𝓛 (‵ (Mark.own_val d.marker (vstruct vnil ∷ [])))
+        (makes_shadow 𝓛 (Mark.own_val d.marker (vstruct vnil ∷ [])) (λ uss. (tt, tt)) (tt, (refl, tt))) $ fjoin t $
         move t (2 ∷ 0 ∷ []) $ fjoin t $ feq_i t (List Val) (held v ∷ []) (held v ∷ []) refl $ fjoin t $
-        fpack t (Valss (B ∷ Mark ∷ [])) (within (shape (told.the_type B E A P g)) (to (told.the_type B E A P g) d) (held v ∷ [])) (v ∷ [], (vstruct vnil ∷ [], tt)) $ fjoin t $ s)
+        fpack t (Valss (B ∷ Mark ∷ [])) (within (shape (told.the_type B E A P g)) (to (told.the_type B E A P g) d) (held v ∷ []))
+        (v ∷ [], (vstruct vnil ∷ [], tt)) $ fjoin t $ s)
 
 -- a shared reference to a value of a type parameter, two of them, and `bool`, with their laws
 abbrev pub ref_row : NamedLft → ℕ → RattleType → RattleType
 ref_row ℓ k R = (shr_ref_field ℓ (param k R) tt).row
 
 pub ref_laws : (ℓ : NamedLft) (k : ℕ) (R : RattleType) → Laws R → Laws (ref_row ℓ k R)
-ref_laws ℓ k R L = let X = shr_ref_field ℓ (param k R) tt in of_field X (shr_ref_laws ℓ (param k R) tt) refl (copy_shared X (shr_ref_copy ℓ (param k R) tt (param_laws k R L).shr_laws))
+ref_laws ℓ k R L = let X = shr_ref_field ℓ (param k R) tt in
+    of_field X (shr_ref_laws ℓ (param k R) tt) refl (copy_shared X (shr_ref_copy ℓ (param k R) tt (param_laws k R L).shr_laws))
 
 abbrev pub pair_row : NamedLft → ℕ → RattleType → ℕ → RattleType → RattleType
 pair_row ℓ k R m T = Tuple (ref_row ℓ k R ∷ ref_row ℓ m T ∷ [])

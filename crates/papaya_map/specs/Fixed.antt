@@ -11,8 +11,9 @@ use Rattle.papaya_lookup.specs.History.{Change}
 
 -- Which book it has; what that was opened with: the hasher, how the map resizes, and the logs of
 -- pairs and of tables; the initial capacity, in slots, by which its first table is sized; over how
--- many shards it counts; the number of the collector whose guards its calls take; how many slots each
--- table has that had come when it was made, oldest first; and what had been seen of its history then.
+-- many shards it counts; the number of the collector whose guards its calls take; how many slots
+-- each table has that had come when it was made, oldest first; and what had been seen of its
+-- history then.
 pub record Fixed (K V S : Type 0) : Type 0 where
   pub book : Book
   pub begun : Begun K V S
@@ -22,23 +23,23 @@ pub record Fixed (K V S : Type 0) : Type 0 where
   pub opened : List ℕ
   pub seen : List (Change K (Stored K V))
 
--- What a map shows that is pinned: what of it is fixed, and what had been seen of its history when it
--- was pinned.
+-- What a map shows that is pinned: what of it is fixed, and what had been seen of its history when
+-- it was pinned.
 pub record Pinned (K V S : Type 0) : Type 0 where
   pub map : Fixed K V S
   pub seen : List (Change K (Stored K V))
 
--- It resizes so, is made for so many pairs, counts over the next power of two shards, and logs no more
--- pairs than the limit, if there is one. Where there are to be pairs, it had a table for them when it
--- was made.
+-- It resizes so, is made for so many pairs, counts over the next power of two shards, and logs no
+-- more pairs than the limit, if there is one. Where there are to be pairs, it had a table for them
+-- when it was made.
 abbrev pub IsFor : {K V S : Type 0} → ResizeMode → (capacity shards : ℕ) → (limit : Option ℕ)
     → Fixed K V S → Type 0
 IsFor mode capacity shards limit map = (map.begun.mode ≡ mode) × IsEntriesFor capacity map.initial
     × IsNextPowerOfTwo shards map.shards × (0 < capacity → HasTableFrom map.initial map.opened)
     × (map.begun.limit ≡ limit)
 
--- the second resizes as the first, has its limit and its initial capacity, counts over as many shards,
--- and takes the same guards
+-- the second resizes as the first, has its limit and its initial capacity, counts over as many
+-- shards, and takes the same guards
 abbrev pub HasSettingsOf : {K V S : Type 0} → (old new : Fixed K V S) → Type 0
 HasSettingsOf old new = (new.begun.mode ≡ old.begun.mode) × (new.begun.limit ≡ old.begun.limit)
     × (new.initial ≡ old.initial) × (new.shards ≡ old.shards) × (new.collector ≡ old.collector)

@@ -1,5 +1,5 @@
--- Why a call is refused that makes a pair: for want of memory or of room, or at the map's limit on
--- pairs.
+-- Why a call is refused that makes a pair: for want of memory or of room, or at the map's limit
+-- on pairs.
 use Rattle.std.specs.Prelude.{◌≡◌, ◌⊎◌, ℕ, IsSome, Option, Some}
 use Rattle.papaya_words.specs.declared.probe.Refused.{Refused}
 use Rattle.papaya_words.specs.declared.probe.Refused.TheVariants.{Limit}

@@ -164,8 +164,8 @@ impl<K, V, S> HashMapBuilder<K, V, S> {
         HashMapBuilder { mode, ..self }
     }
 
-    /// Asks for so many shards of the count, which are rounded up to a power of two. 0.2.5 takes their
-    /// number from the machine's processors.
+    /// Asks for so many shards of the count, which are rounded up to a power of two. 0.2.5 takes
+    /// their number from the machine's processors.
     pub fn shards(self, shards: usize) -> HashMapBuilder<K, V, S>
         ensures { result ≡ record {
           hasher = self.hasher;
@@ -220,8 +220,8 @@ impl<K: Hash + Eq + Drop, V: Drop, S: BuildHasher + Drop> HashMapBuilder<K, V, S
         HashMap::with_collector(rt, alloc, mode, capacity, shards, hasher, limit, collector)
     }
 
-    /// A map of the same parts for one caller, which has no need of a collector; 0.2.5 has none such.
-    /// Refused as [`seq::HashMap::with_parts`].
+    /// A map of the same parts for one caller, which has no need of a collector; 0.2.5 has none
+    /// such. Refused as [`seq::HashMap::with_parts`].
     pub fn build_seq(self, alloc: Global) -> Result<seq::HashMap<K, V, S>, Refused>
         ensures ok { IfOk result (λ map. IsAllowed self.mode self.capacity self.shards
             × IsNewLimited {A = Unit {0}} self.mode self.capacity self.shards self.hasher self.limit

@@ -1,6 +1,6 @@
-//! Computes: what their closure answers, and the loop that calls it. It stands here, and not with the
-//! steps of a compute, since a call of another crate's function that is generic over such a closure
-//! is not proved.
+//! Computes: what their closure answers, and the loop that calls it. It stands here, and not with
+//! the steps of a compute, since a call of another crate's function that is generic over such a
+//! closure is not proved.
 ghost use Rattle.std.specs.Prelude.{◌≡◌, None};
 ghost use Rattle.std.specs.Int.{IsPowerOfTwo};
 ghost use Rattle.papaya_book.specs.Books.{IsIn};

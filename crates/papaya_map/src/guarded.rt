@@ -1,6 +1,6 @@
-//! The calls of a map that is not pinned, which take a guard. Each looks whether the guard is of the
-//! map's collector, and is then the call of that name of [`HashMapRef`](crate::map::HashMapRef).
-//! With another guard it is refused, and changes nothing.
+//! The calls of a map that is not pinned, which take a guard. Each looks whether the guard is of
+//! the map's collector, and is then the call of that name of
+//! [`HashMapRef`](crate::map::HashMapRef). With another guard it is refused, and changes nothing.
 ghost use Rattle.std.specs.Prelude.{◌≡◌, ◌⊎◌, [], true, Ok, Err, Option, is_ok, is_some};
 ghost use Rattle.std.specs.Prelude.{IfErr, IfOk, IsSome};
 ghost use Rattle.std.specs.Borrow.{Bor, sem};
@@ -145,8 +145,8 @@ impl<K: Hash + Eq, V, S: BuildHasher> HashMap<K, V, S> {
         }
     }
 
-    /// The stored key and the value of a key: `get_key_value` of 0.2.5. As [`HashMap::get`], it waits
-    /// for nobody, and takes no lock and no memory. `Refused::WrongGuard` alone.
+    /// The stored key and the value of a key: `get_key_value` of 0.2.5. As [`HashMap::get`], it
+    /// waits for nobody, and takes no lock and no memory. `Refused::WrongGuard` alone.
     #[inline]
     pub fn get_key_value<'g, Q: Equivalent<K>, G: Guard>(
         &'g self,
@@ -240,8 +240,8 @@ impl<K: Hash + Eq, V, S: BuildHasher> HashMap<K, V, S> {
         }
     }
 
-    /// Removes a key's pair, and answers its value: `remove` of 0.2.5. Refused for a wrong guard, and
-    /// as [`HashMapRef::remove_if_as`](crate::map::HashMapRef::remove_if_as).
+    /// Removes a key's pair, and answers its value: `remove` of 0.2.5. Refused for a wrong guard,
+    /// and as [`HashMapRef::remove_if_as`](crate::map::HashMapRef::remove_if_as).
     pub fn remove<'g, R: Wait, Q: Equivalent<K>, G: Guard>(
         &'g self,
         rt: &R,
@@ -289,7 +289,8 @@ impl<K: Hash + Eq, V, S: BuildHasher> HashMap<K, V, S> {
         }
     }
 
-    /// Removes a key's pair, and answers it: `remove_entry` of 0.2.5. Refused as [`HashMap::remove`].
+    /// Removes a key's pair, and answers it: `remove_entry` of 0.2.5. Refused as
+    /// [`HashMap::remove`].
     pub fn remove_entry<'g, R: Wait, Q: Equivalent<K>, G: Guard>(
         &'g self,
         rt: &R,
@@ -339,9 +340,9 @@ impl<K: Hash + Eq, V, S: BuildHasher> HashMap<K, V, S> {
         }
     }
 
-    /// Removes a key's pair if the closure, which is shown it, answers true: `remove_if` of 0.2.5. It
-    /// answers as [`HashMapRef::remove_if_as`](crate::map::HashMapRef::remove_if_as), and is refused
-    /// as [`HashMap::remove`].
+    /// Removes a key's pair if the closure, which is shown it, answers true: `remove_if` of 0.2.5.
+    /// It answers as [`HashMapRef::remove_if_as`](crate::map::HashMapRef::remove_if_as), and is
+    /// refused as [`HashMap::remove`].
     pub fn remove_if<'g, R: Wait, Q: Equivalent<K>, F: FnMut(&K, &V) -> bool, G: Guard>(
         &'g self,
         rt: &R,
@@ -396,9 +397,9 @@ impl<K: Hash + Eq + Drop, V: Drop, S: BuildHasher> HashMap<K, V, S> {
         }
     }
 
-    /// Stores a pair, and answers the value that its key had: `insert` of 0.2.5. As its text
-    /// says, a key that is stored stays. Refused for a wrong guard, and as
-    /// [`HashMapRef::insert_as`](crate::map::HashMapRef::insert_as).
+    /// Stores a pair, and answers the value that its key had: `insert` of 0.2.5.
+    /// As its text says, a key that is stored stays. Refused for a wrong guard,
+    /// and as [`HashMapRef::insert_as`](crate::map::HashMapRef::insert_as).
     pub fn insert<'g, R: Wait, G: Guard>(
         &'g self,
         rt: &R,
@@ -454,9 +455,9 @@ impl<K: Hash + Eq + Drop, V: Drop, S: BuildHasher> HashMap<K, V, S> {
         pass.tell(answer)
     }
 
-    /// What the closure makes of the key's pair, or of its absence: `compute` of 0.2.5. It shows and
-    /// answers as [`HashMapRef::compute_as`](crate::map::HashMapRef::compute_as), and is refused as
-    /// that is and for a wrong guard.
+    /// What the closure makes of the key's pair, or of its absence: `compute` of 0.2.5. It shows
+    /// and answers as [`HashMapRef::compute_as`](crate::map::HashMapRef::compute_as), and is
+    /// refused as that is and for a wrong guard.
     pub fn compute<
         'g,
         R: Wait,

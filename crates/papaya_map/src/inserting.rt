@@ -37,11 +37,12 @@ fn not_inserted<V>(supply: Option<Ready<V>>, spare: Option<&V>) -> NotInserted<'
 }
 
 impl<'a, K: Hash + Eq + Drop, V: Drop, S: BuildHasher> HashMapRef<'a, K, V, S> {
-    /// Stores a pair where the key has none, and answers its value: `try_insert` of 0.2.5. Where the
-    /// key has a value, that stays, and what was handed in is given back, or it lies in the log.
+    /// Stores a pair where the key has none, and answers its value: `try_insert` of 0.2.5.
+    /// Where the key has a value, that stays, and what was handed in is given back, or it lies
+    /// in the log.
     ///
-    /// Refused as [`HashMapRef::insert_as`]. The pass makes one change where the value was stored, and
-    /// else none.
+    /// Refused as [`HashMapRef::insert_as`]. The pass makes one change where the value was stored,
+    /// and else none.
     pub fn try_insert_as<R: Wait>(
         &self,
         rt: &R,
@@ -119,8 +120,8 @@ impl<'a, K: Hash + Eq + Drop, V: Drop, S: BuildHasher> HashMapRef<'a, K, V, S> {
 
     /// The value of a key, which is stored where the key has none: `get_or_insert` of 0.2.5.
     ///
-    /// Refused as [`HashMapRef::insert_as`]. The pass makes one change where the value was stored, and
-    /// else none.
+    /// Refused as [`HashMapRef::insert_as`]. The pass makes one change where the value was stored,
+    /// and else none.
     pub fn get_or_insert_as<R: Wait>(
         &self,
         rt: &R,
@@ -192,8 +193,9 @@ impl<'a, K: Hash + Eq + Drop, V: Drop, S: BuildHasher> HashMapRef<'a, K, V, S> {
         pass.tell(answer)
     }
 
-    /// Stores a pair where the key has none, and answers its value: `try_insert` of 0.2.5. Where the
-    /// key has a value, that stays, and what was handed in is given back, or it lies in the log.
+    /// Stores a pair where the key has none, and answers its value: `try_insert` of 0.2.5.
+    /// Where the key has a value, that stays, and what was handed in is given back, or it lies
+    /// in the log.
     ///
     /// Refused as [`HashMapRef::insert_as`] is, and then it changes nothing.
     pub fn try_insert<R: Wait>(
@@ -365,8 +367,8 @@ impl<K: Hash + Eq + Drop, V: Drop, S: BuildHasher> HashMap<K, V, S> {
         }
     }
 
-    /// Stores a pair where the key has none, and answers its value: `try_insert` of 0.2.5. It answers
-    /// as [`HashMapRef::try_insert`], and is refused as that is and for a wrong guard.
+    /// Stores a pair where the key has none, and answers its value: `try_insert` of 0.2.5. It
+    /// answers as [`HashMapRef::try_insert`], and is refused as that is and for a wrong guard.
     pub fn try_insert<'g, R: Wait, G: Guard>(
         &'g self,
         rt: &R,
@@ -418,9 +420,9 @@ impl<K: Hash + Eq + Drop, V: Drop, S: BuildHasher> HashMap<K, V, S> {
         }
     }
 
-    /// The same with a closure that makes the value where it is to be stored: `try_insert_with` of
-    /// 0.2.5. It answers as [`HashMapRef::try_insert_with`], and is refused as
-    /// [`HashMap::try_insert`].
+    /// The same with a closure that makes the value where it is to be stored:
+    /// `try_insert_with` of 0.2.5. It answers as [`HashMapRef::try_insert_with`], and is
+    /// refused as [`HashMap::try_insert`].
     pub fn try_insert_with<'g, R: Wait, F: FnOnce() -> V + Drop, G: Guard>(
         &'g self,
         rt: &R,

@@ -1,11 +1,12 @@
 //! The map that threads share.
 //!
-//! [`map`] has the map and its calls by a pass, and [`map::making`] what makes one. [`plain`] has the
-//! calls without a pass, and [`guarded`] those that take a guard; [`collecting`] has those that take many
-//! pairs or copy a map, and [`builder`] asks for a map's parts one by one. [`told`] has what a call tells
-//! beside its answer: what shows the history of which the answer is. Each call runs its machine by a driver:
-//! `papaya_lookup` has that of lookups, `papaya_change` those of insertions and removals, `papaya_compute`
-//! that of computes. All stand on `papaya_book`, whose log records every exchange.
+//! [`map`] has the map and its calls by a pass, and [`map::making`] what makes one. [`plain`] has
+//! the calls without a pass, and [`guarded`] those that take a guard; [`collecting`] has those that
+//! take many pairs or copy a map, and [`builder`] asks for a map's parts one by one. [`told`] has
+//! what a call tells beside its answer: what shows the history of which the answer is. Each call
+//! runs its machine by a driver: `papaya_lookup` has that of lookups, `papaya_change` those of
+//! insertions and removals, `papaya_compute` that of computes. All stand on `papaya_book`, whose
+//! log records every exchange.
 #![tactic(auto)]
 
 pub mod builder;

@@ -51,8 +51,9 @@ use std::marker::Model;
 use std::sync::Wait;
 
 /// A map that threads share. Contracts see what of it is fixed when it is made: which book it has,
-/// the hasher, how it resizes, its logs, the initial capacity by which its first table is sized, over
-/// how many shards it counts, which tables it had at once, and what had been seen of its history then.
+/// the hasher, how it resizes, its logs, the initial capacity by which its first table is sized,
+/// over how many shards it counts, which tables it had at once, and what had been seen of its
+/// history then.
 #[derive(Drop)]
 pub struct HashMap<K: Hash + Eq, V, S: BuildHasher = BuildHasherDefault<FoldHasher>> {
     alloc: Global,
@@ -84,10 +85,10 @@ impl<K: Hash + Eq, V, S: BuildHasher> Model for HashMap<K, V, S> {
 /// What a caller has seen of a map's history, and what it changed itself. Of all this it keeps no
 /// more than a number, by which its calls pick a shard of the map's count. Contracts see that
 /// history, which is legal, the changes that were made by this pass, oldest first, and which book
-/// they are of. They see how many slots each table has that it has seen come, oldest first. Where its
-/// last change was refused for want of room, they see the number that a full log gave, or the sum of
-/// the map's count by which the table after one of those would be too long. And of a map with a limit
-/// on pairs they see how many numbers were taken for pairs.
+/// they are of. They see how many slots each table has that it has seen come, oldest first. Where
+/// its last change was refused for want of room, they see the number that a full log gave, or the
+/// sum of the map's count by which the table after one of those would be too long. And of a map
+/// with a limit on pairs they see how many numbers were taken for pairs.
 ///
 /// Each call by a pass stands in the history after all that the pass had seen before, and
 /// afterwards the pass has seen the call's own moment. A call that changes the map makes one change
@@ -116,8 +117,8 @@ impl<K: Hash + Eq, V, S: BuildHasher> Model for Pass<K, V, S> {
 }
 
 impl<K: Hash + Eq, V, S: BuildHasher> Pass<K, V, S> {
-    /// An answer, with what shows the history that the pass has seen. A call that makes a pass of its
-    /// own tells by this which history its answer is of: see [`Told`].
+    /// An answer, with what shows the history that the pass has seen. A call that makes a pass of
+    /// its own tells by this which history its answer is of: see [`Told`].
     #[inline(always)]
     pub fn tell<B>(&self, answer: B) -> Told<B, Event<K, V, S>, Named<K, V>, Law<K, V, S>>
         ensures answer { result.answer ≡ answer }
@@ -173,8 +174,8 @@ impl<K: Hash + Eq, V, S: BuildHasher> HashMap<K, V, S> {
         }
     }
 
-    /// The same as [`HashMap::pin`]: `pin_owned` of 0.2.5, whose reference may go to another thread. Here
-    /// each may, as it holds no guard.
+    /// The same as [`HashMap::pin`]: `pin_owned` of 0.2.5, whose reference may go to another
+    /// thread. Here each may, as it holds no guard.
     pub fn pin_owned(&self) -> HashMapRef<'_, K, V, S>
         ensures { result.map ≡ self.now }
     {
@@ -208,8 +209,8 @@ impl<K: Hash + Eq, V, S: BuildHasher> HashMap<K, V, S> {
         self.collector.enter().number()
     }
 
-    /// Tells a pass which tables the map had when it was made: one of at least the initial capacity,
-    /// where it was made for pairs. Nothing is done when the program runs.
+    /// Tells a pass which tables the map had when it was made: one of at least the initial
+    /// capacity, where it was made for pairs. Nothing is done when the program runs.
     pub fn learn_opened(&self, pass: &mut Pass<K, V, S>)
         requires { pass.old.book ≡ self.now.book }
         ensures book { pass.new.book ≡ pass.old.book }
@@ -222,7 +223,8 @@ impl<K: Hash + Eq, V, S: BuildHasher> HashMap<K, V, S> {
         pass.sight.learn(&self.opened);
     }
 
-    /// A new pass of this map, whose calls pick the count's shard by this number, as that of a guard.
+    /// A new pass of this map, whose calls pick the count's shard by this number, as that of
+    /// a guard.
     pub fn numbered(&self, number: u64) -> Pass<K, V, S>
         ensures book { result.book ≡ self.now.book }
         ensures new { result.history ≡ [] }
@@ -239,8 +241,8 @@ impl<K: Hash + Eq, V, S: BuildHasher> HashMap<K, V, S> {
         }
     }
 
-    /// A new pass of this map, which has seen what had been seen when the map was made. Its calls pick
-    /// the count's shard by this number. A call that takes a guard makes its pass by this.
+    /// A new pass of this map, which has seen what had been seen when the map was made. Its calls
+    /// pick the count's shard by this number. A call that takes a guard makes its pass by this.
     #[inline(always)]
     pub fn begun(&self, number: u64) -> Pass<K, V, S>
         ensures book { result.book ≡ self.now.book }
@@ -291,9 +293,9 @@ impl<'a, K: Hash + Eq, V, S: BuildHasher> HashMapRef<'a, K, V, S> {
         b.sight = a.sight.again();
     }
 
-    /// Tells a pass what a walk has seen. Afterwards the pass has seen a history that begins with what
-    /// each had seen, so its calls stand after all that the walk gave. Nothing is done when the program
-    /// runs, and the call is never refused.
+    /// Tells a pass what a walk has seen. Afterwards the pass has seen a history that begins with
+    /// what each had seen, so its calls stand after all that the walk gave. Nothing is done when
+    /// the program runs, and the call is never refused.
     pub fn learn_walk(&self, walk: &Iter<'_, K, V, S>, pass: &mut Pass<K, V, S>)
         requires { walk.now.book ≡ pass.old.book }
         ensures book { pass.new.book ≡ pass.old.book }
@@ -326,8 +328,8 @@ impl<'a, K: Hash + Eq, V, S: BuildHasher> HashMapRef<'a, K, V, S> {
         found
     }
 
-    /// The stored key and the value of a key: `get_key_value` of 0.2.5. As [`HashMapRef::get_as`], it
-    /// waits for nobody, and takes no lock and no memory.
+    /// The stored key and the value of a key: `get_key_value` of 0.2.5. As [`HashMapRef::get_as`],
+    /// it waits for nobody, and takes no lock and no memory.
     #[inline]
     pub fn get_key_value_as<Q: Equivalent<K>>(
         &self,
@@ -352,13 +354,13 @@ impl<'a, K: Hash + Eq, V, S: BuildHasher> HashMapRef<'a, K, V, S> {
 
     /// Makes room for so many pairs more than the map counts: `reserve` of 0.2.5. Where it is not
     /// refused, the pass has seen a table with slots for them beside as many pairs as were counted,
-    /// and where no other call changes the map meanwhile, that is its table. Calls of others go on as
-    /// before.
+    /// and where no other call changes the map meanwhile, that is its table. Calls of others go on
+    /// as before.
     ///
     /// `Refused::Memory` where a growth was refused. `Refused::Capacity` where the log of tables is
-    /// full, or a table would be longer than [`papaya_words::limits::MAX_TABLE_LEN`]: that for so many
-    /// pairs, or one that a copy needs. 0.2.5 panics or aborts there. Refused or not, the pass makes no
-    /// change.
+    /// full, or a table would be longer than [`papaya_words::limits::MAX_TABLE_LEN`]: that for so
+    /// many pairs, or one that a copy needs. 0.2.5 panics or aborts there. Refused or not, the pass
+    /// makes no change.
     pub fn reserve_as<R: Wait>(
         &self,
         rt: &R,
@@ -395,19 +397,19 @@ impl<'a, K: Hash + Eq, V, S: BuildHasher> HashMapRef<'a, K, V, S> {
         reserved
     }
 
-    /// Removes the pairs for which the closure, which is shown each, answers false: `retain` of 0.2.5.
-    /// Each pair that it is shown the map had in a history that begins with what the pass had seen.
-    /// The closure is shown a key's pair again where another call replaced it meanwhile, or where all
-    /// is copied.
+    /// Removes the pairs for which the closure, which is shown each, answers false: `retain` of
+    /// 0.2.5. Each pair that it is shown the map had in a history that begins with what the pass
+    /// had seen. The closure is shown a key's pair again where another call replaced it meanwhile,
+    /// or where all is copied.
     ///
     /// Where it is not refused, each pair that the map had after what the pass had seen was removed
     /// since, by this call or another, or the closure's last answer to it was true. A pair that is
     /// stored meanwhile may be shown or not.
     ///
-    /// Where it meets a copier's work it copies what is left to copy, and may be refused a table then:
-    /// `Refused::Memory` where a growth was refused, and `Refused::Capacity` where there is no room, as
-    /// at an insertion. What was removed stays so. Refused or not, the pass makes one change for each pair that this
-    /// call removed, right after the closure answered false to it.
+    /// Where it meets a copier's work it copies what is left to copy, and may be refused a table
+    /// then: `Refused::Memory` where a growth was refused, and `Refused::Capacity` where there is
+    /// no room, as at an insertion. What was removed stays so. Refused or not, the pass makes one
+    /// change for each pair that this call removed, right after the closure answered false to it.
     pub fn retain_as<R: Wait, F: FnMut(&K, &V) -> bool>(
         &self,
         rt: &R,
@@ -444,13 +446,14 @@ impl<'a, K: Hash + Eq, V, S: BuildHasher> HashMapRef<'a, K, V, S> {
         retained
     }
 
-    /// The pairs of the map, one by one: `iter` of 0.2.5. Each that is given the map had in a history
-    /// that begins with what the pass had seen. What the walk sees as it goes on the pass learns by
-    /// [`HashMapRef::learn_walk`].
+    /// The pairs of the map, one by one: `iter` of 0.2.5. Each that is given the map had in a
+    /// history that begins with what the pass had seen. What the walk sees as it goes on the pass
+    /// learns by [`HashMapRef::learn_walk`].
     ///
-    /// With `Blocking` it takes the root as it is. Else it copies first what is left to copy, and may
-    /// be refused a table then: `Refused::Memory` where a growth was refused, and `Refused::Capacity`
-    /// where there is no room, as at an insertion. A pair that is stored or removed meanwhile may be given or not.
+    /// With `Blocking` it takes the root as it is. Else it copies first what is left to copy, and
+    /// may be refused a table then: `Refused::Memory` where a growth was refused, and
+    /// `Refused::Capacity` where there is no room, as at an insertion. A pair that is stored or
+    /// removed meanwhile may be given or not.
     pub fn iter_as<R: Wait>(
         &self,
         rt: &R,
@@ -488,8 +491,8 @@ impl<'a, K: Hash + Eq, V, S: BuildHasher> HashMapRef<'a, K, V, S> {
     /// `Err(pair)` where the closure answered false for it. The closure may be asked again, where
     /// another call was first to replace or remove the pair that it was shown.
     ///
-    /// A removal makes nothing for itself. But where it helps to copy the table to a further one, it
-    /// may be refused as an insertion is: `Refused::Memory` where a growth was refused, and
+    /// A removal makes nothing for itself. But where it helps to copy the table to a further one,
+    /// it may be refused as an insertion is: `Refused::Memory` where a growth was refused, and
     /// `Refused::Capacity` where the log of tables is full or the next table would be too long.
     /// Refused, the pass makes no change. It makes one where a pair was removed, and else none.
     pub fn remove_if_as<R: Wait, Q: Equivalent<K>, F: FnMut(&K, &V) -> bool>(
@@ -570,12 +573,12 @@ impl<'a, K: Hash + Eq + Drop, V: Drop, S: BuildHasher> HashMapRef<'a, K, V, S> {
     /// says, a key that is stored stays: the one that was handed in is dropped then.
     ///
     /// Where the key finds no place in the table, the call makes a further one, to which the pairs
-    /// are copied. `Refused::Memory` where a growth was refused. `Refused::Capacity` where the log of
-    /// pairs or that of tables is full: it gave a number past its limit, which the pass shows then. Or
-    /// where the next table would be too long, by the sum of the count that the pass shows then and
-    /// the length of a table that it has seen. `Refused::Limit` where the map has a limit on pairs, and
-    /// as many were logged, or were about to be.
-    /// Refused, the pass makes no change, and else this one.
+    /// are copied. `Refused::Memory` where a growth was refused. `Refused::Capacity` where the log
+    /// of pairs or that of tables is full: it gave a number past its limit, which the pass shows
+    /// then. Or where the next table would be too long, by the sum of the count that the pass shows
+    /// then and the length of a table that it has seen. `Refused::Limit` where the map has a limit
+    /// on pairs, and as many were logged, or were about to be. Refused, the pass makes no change,
+    /// and else this one.
     pub fn insert_as<R: Wait>(
         &self,
         rt: &R,
@@ -665,9 +668,9 @@ impl<'a, K: Hash + Eq + Drop, V: Drop, S: BuildHasher> HashMapRef<'a, K, V, S> {
         computed
     }
 
-    /// The same with a closure that is lent the pair for the time of its call alone, so that nothing which
-    /// it answers may borrow of the pair. In return a function that is generic over the keys may hand on a
-    /// closure of its own caller.
+    /// The same with a closure that is lent the pair for the time of its call alone, so that
+    /// nothing which it answers may borrow of the pair. In return a function that is generic over
+    /// the keys may hand on a closure of its own caller.
     pub fn compute_lent_as<R: Wait, T: Drop, F: FnMut(Option<(&K, &V)>) -> Operation<V, T>>(
         &self,
         rt: &R,

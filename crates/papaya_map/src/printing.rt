@@ -16,8 +16,8 @@ impl<K: Hash + Eq + fmt::Debug, V: fmt::Debug, S: BuildHasher> fmt::Debug for Ha
 }
 
 impl<K: Hash + Eq + fmt::Debug, V, S: BuildHasher> HashMap<K, V, S> {
-    /// Prints the keys alone, as `{key, ..}`: what `Debug` of a set prints. It waits for nobody, takes no
-    /// lock and no memory, and copies nothing.
+    /// Prints the keys alone, as `{key, ..}`: what `Debug` of a set prints. It waits for nobody,
+    /// takes no lock and no memory, and copies nothing.
     pub fn print_keys<W: fmt::Write>(&self, f: &mut fmt::Formatter<W>) -> fmt::Result {
         let kept = self.book.keep_root();
         let mut window = Window::new(&self.book, &kept, &self.book.unseen(), &OwnSteps::nothing());

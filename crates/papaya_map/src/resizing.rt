@@ -20,8 +20,8 @@ impl<'a, K: Hash + Eq, V, S: BuildHasher> HashMapRef<'a, K, V, S> {
 }
 
 impl<K: Hash + Eq, V, S: BuildHasher> HashMap<K, V, S> {
-    /// Makes room for so many pairs more than the map counts: `reserve` of 0.2.5. Refused for a wrong
-    /// guard, and as [`HashMapRef::reserve_as`] is.
+    /// Makes room for so many pairs more than the map counts: `reserve` of 0.2.5. Refused for a
+    /// wrong guard, and as [`HashMapRef::reserve_as`] is.
     pub fn reserve<R: Wait, G: Guard>(
         &self,
         rt: &R,

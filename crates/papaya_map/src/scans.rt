@@ -22,10 +22,10 @@ use std::hash::{BuildHasher, Hash};
 use std::sync::Wait;
 
 impl<'a, K: Hash + Eq, V, S: BuildHasher> HashMapRef<'a, K, V, S> {
-    /// Removes the pairs that the map has: `clear` of 0.2.5. Where it is not refused, each pair that
-    /// the map had after what the pass had seen was removed since, by this call or another. A pair that
-    /// is stored meanwhile may stay. Refused as [`HashMapRef::retain_as`] is. Refused or not, the pass
-    /// makes one change for each pair that this call removed, and no other one.
+    /// Removes the pairs that the map has: `clear` of 0.2.5. Where it is not refused, each pair
+    /// that the map had after what the pass had seen was removed since, by this call or another. A
+    /// pair that is stored meanwhile may stay. Refused as [`HashMapRef::retain_as`] is. Refused or
+    /// not, the pass makes one change for each pair that this call removed, and no other one.
     pub fn clear_as<R: Wait>(&self, rt: &R, pass: &mut Pass<K, V, S>) -> Result<(), Refused>
         requires { pass.old.book ≡ self.now.map.book }
         ensures book { pass.new.book ≡ pass.old.book }
@@ -62,7 +62,8 @@ impl<'a, K: Hash + Eq, V, S: BuildHasher> HashMapRef<'a, K, V, S> {
         pass.tell(answer)
     }
 
-    /// Removes the pairs that the map has: `clear` of 0.2.5. A pair that is stored meanwhile may stay.
+    /// Removes the pairs that the map has: `clear` of 0.2.5. A pair that is stored meanwhile
+    /// may stay.
     ///
     /// Refused as [`HashMapRef::retain`] is.
     pub fn clear<R: Wait>(&self, rt: &R) -> Result<(), Refused>
@@ -96,13 +97,13 @@ impl<'a, K: Hash + Eq, V, S: BuildHasher> HashMapRef<'a, K, V, S> {
         pass.tell(answer)
     }
 
-    /// Removes the pairs for which the closure, which is shown each, answers false: `retain` of 0.2.5.
-    /// The closure is shown a key's pair again where another call replaced it meanwhile, or where all
-    /// is copied.
+    /// Removes the pairs for which the closure, which is shown each, answers false: `retain` of
+    /// 0.2.5. The closure is shown a key's pair again where another call replaced it meanwhile, or
+    /// where all is copied.
     ///
-    /// Where it meets a copier's work it copies what is left to copy, and may be refused a table then:
-    /// `Refused::Memory` where a growth was refused, and `Refused::Capacity` where there is no room.
-    /// What was removed stays so.
+    /// Where it meets a copier's work it copies what is left to copy, and may be refused a table
+    /// then: `Refused::Memory` where a growth was refused, and `Refused::Capacity` where there is
+    /// no room. What was removed stays so.
     pub fn retain<R: Wait, F: FnMut(&K, &V) -> bool>(&self, rt: &R, stays: F) -> Result<(), Refused>
         requires { F.IsAlwaysCallable stays }
         ensures* own { sem 𝓛 (of_its_history (EventOf K.row V.row S.row).coded.code
@@ -220,8 +221,8 @@ impl<K: Hash + Eq, V, S: BuildHasher> HashMap<K, V, S> {
         }
     }
 
-    /// Removes the pairs for which the closure, which is shown each, answers false: `retain` of 0.2.5.
-    /// Refused for a wrong guard, and as [`HashMapRef::retain`] is.
+    /// Removes the pairs for which the closure, which is shown each, answers false: `retain` of
+    /// 0.2.5. Refused for a wrong guard, and as [`HashMapRef::retain`] is.
     pub fn retain<R: Wait, F: FnMut(&K, &V) -> bool, G: Guard>(
         &self,
         rt: &R,

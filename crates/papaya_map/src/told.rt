@@ -1,8 +1,9 @@
 //! An answer, and what was seen when it was given.
 //!
-//! A call that takes no pass makes one for itself, and is cut in two. Its first half answers a [`Told`]
-//! by [`Pass::tell`](crate::map::Pass::tell). Its second half answers the same, and its contract says,
-//! by what is told, that the answer is of a history of that very map (`of_its_history`).
+//! A call that takes no pass makes one for itself, and is cut in two. Its first half
+//! answers a [`Told`] by [`Pass::tell`](crate::map::Pass::tell). Its second half answers
+//! the same, and its contract says, by what is told, that the answer is of a history of
+//! that very map (`of_its_history`).
 ghost use Rattle.std.specs.Prelude.{◌≡◌, ℕ, List};
 ghost use base.Stored.{coded_list};
 ghost use Rattle.logbook.specs.Pages.{Book, book_coded};
@@ -13,8 +14,8 @@ use papaya_book::rule::entry::{Event, Named};
 use papaya_book::rule::law::Law;
 use std::marker::{Model, PhantomData};
 
-/// An answer, with what shows that a book has reached a log: contracts see that book and that log. It
-/// holds no more than the answer when the program runs.
+/// An answer, with what shows that a book has reached a log: contracts see that book and that log.
+/// It holds no more than the answer when the program runs.
 pub struct Told<B, E, A, P: Rule<E, A>> {
     pub answer: B,
     pub marker: PhantomData<(E, A, P)>,

@@ -25,11 +25,11 @@ use std::sync::Wait;
 
 impl<'a, K: Hash + Eq + Drop, V: Drop, S: BuildHasher> HashMapRef<'a, K, V, S> {
     /// Puts what the closure makes of the key's value in its place, and answers it: `update` of
-    /// 0.2.5. `Ok(None)` where the key has none. The closure may be called again, where another call
-    /// was first to replace the value that it was shown.
+    /// 0.2.5. `Ok(None)` where the key has none. The closure may be called again, where another
+    /// call was first to replace the value that it was shown.
     ///
-    /// Refused as [`HashMapRef::insert_as`]. The pass makes one change where a value was replaced, and
-    /// else none.
+    /// Refused as [`HashMapRef::insert_as`]. The pass makes one change where a value was replaced,
+    /// and else none.
     pub fn update_as<R: Wait, F: Fn(&V) -> V>(
         &self,
         rt: &R,
@@ -166,8 +166,8 @@ impl<'a, K: Hash + Eq + Drop, V: Drop, S: BuildHasher> HashMapRef<'a, K, V, S> {
     }
 
     /// Puts what the closure makes of the key's value in its place, and answers it: `update` of
-    /// 0.2.5. `Ok(None)` where the key has none. The closure may be called again, where another call
-    /// was first to replace the value that it was shown.
+    /// 0.2.5. `Ok(None)` where the key has none. The closure may be called again, where another
+    /// call was first to replace the value that it was shown.
     ///
     /// Refused as [`HashMapRef::insert_as`] is, and then it changes nothing.
     pub fn update<R: Wait, F: Fn(&V) -> V>(
@@ -315,8 +315,9 @@ impl<K: Hash + Eq + Drop, V: Drop, S: BuildHasher> HashMap<K, V, S> {
         }
     }
 
-    /// Puts what the closure makes of the key's value in its place, and answers it: `update` of
-    /// 0.2.5. It answers as [`HashMapRef::update`], and is refused as that is and for a wrong guard.
+    /// Puts what the closure makes of the key's value in its place, and answers it: `update`
+    /// of 0.2.5. It answers as [`HashMapRef::update`], and is refused as that is and for a
+    /// wrong guard.
     pub fn update<'g, R: Wait, F: Fn(&V) -> V, G: Guard>(
         &'g self,
         rt: &R,

@@ -201,8 +201,8 @@ fn walks<R: Wait, C: Calls>(rt: &R, map: &mut C, keys: u64) -> bool {
     true
 }
 
-/// Makes the call, whose closure waits at the gate: was it open in time, and did the call answer
-/// so?
+/// Makes the call, whose closure waits at the gate: was it open in time, and did the call
+/// answer so?
 fn passes<R: Wait, C: Calls>(rt: &R, map: &mut C, call: Step, wanted: Answer, gate: &Gate) -> bool {
     let found = answer(rt, map, call, gate);
     let was_passed = gate.was_passed();

@@ -1,5 +1,5 @@
-// Each call that takes a guard: with one of another collector it is refused and changes nothing, and
-// with one of the map's number it answers as ever, whichever collector made it.
+// Each call that takes a guard: with one of another collector it is refused and changes nothing,
+// and with one of the map's number it answers as ever, whichever collector made it.
 use crate::answers::Answer::{Absent, Done, Is, Kept, Number, Pair, Refused, Removed};
 use crate::numbers::Numbers;
 use crate::seen::Says;

@@ -99,8 +99,8 @@ fn a_map_that_logs_no_pair_stores_none(rt: HostRuntime) -> Result<(), Fail> {
     runs::<_, Numbers>(&rt, rt.alloc(), &[Making::Built(Asked::Limit(0))], &NONE)
 }
 
-/// Inserts absent keys, each with itself, of which some may be refused at the limit: are just the others
-/// there?
+/// Inserts absent keys, each with itself, of which some may be refused at the limit: are just the
+/// others there?
 pub fn fills_up<R: Wait, C: Calls>(rt: &R, map: &mut C, from: u64, end: u64) -> bool {
     let (mut taken, mut found) = (0u64, 0u64);
     for key in from..end {
@@ -181,8 +181,8 @@ impl<R: Wait, C: Calls> Ready for Spent<'_, '_, R, C> {
     }
 }
 
-/// At the limit no call asks for memory, so where it would be refused that too, it is refused since the
-/// limit is met.
+/// At the limit no call asks for memory, so where it would be refused that too, it is refused since
+/// the limit is met.
 fn asks_for_none<R: Wait + Abort>(rt: &R, alloc: Global, map: &Numbers) {
     let map = &mut Pinned::of(map);
     is(

@@ -15,8 +15,8 @@ use std::sync::Wait;
 use std::test::Fail;
 use std::thread::{Threads, join};
 
-/// Two passes meet, and each has no value of the other's key, and stores its own. They meet again, and
-/// each finds both keys.
+/// Two passes meet, and each has no value of the other's key, and stores its own. They meet again,
+/// and each finds both keys.
 const MEETS: [Turn; 1] = [Calls(&[
     (Meet, Done),
     (Get(2), Absent),

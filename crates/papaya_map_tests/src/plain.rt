@@ -8,8 +8,8 @@ use crate::steps::Step::{
 };
 use std::test::Fail;
 
-/// Stores 9 at 1, puts 10 and then 11 in its place, and looks for 1 and for 2. 1 is removed, and comes
-/// and goes once more.
+/// Stores 9 at 1, puts 10 and then 11 in its place, and looks for 1 and for 2. 1 is removed, and
+/// comes and goes once more.
 const CALLS: [Turn; 1] = [Calls(&[
     (GetAlone(1), Absent),
     (InsertAlone(1, 9), Absent),

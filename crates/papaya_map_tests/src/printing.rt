@@ -1,4 +1,5 @@
-// What a map with one pair and its walks print, and a map with two. Which pair comes first is left open.
+// What a map with one pair and its walks print, and a map with two. Which pair comes first is
+// left open.
 use crate::answers::Answer::Absent;
 use crate::board::Board;
 use crate::crowd::Job;

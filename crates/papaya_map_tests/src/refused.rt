@@ -27,7 +27,8 @@ pub fn stores_again<R: Wait, C: Calls>(rt: &R, map: &mut C, key: u64) -> bool {
     }
 }
 
-/// So many keys of one path make a table of 32 slots grow, and in `Blocking` a longer one is given up.
+/// So many keys of one path make a table of 32 slots grow, and in `Blocking` a longer one is
+/// given up.
 const KEYS: u64 = 70;
 
 /// Fills a map of no pairs: was it as it should be after each key?
@@ -52,8 +53,8 @@ pub fn empties<R: Wait, C: Calls>(rt: &R, map: &mut C) -> bool {
     true
 }
 
-/// Replaces the value 0 of key 0 again, and again: was the map as it should be, also where that was
-/// refused?
+/// Replaces the value 0 of key 0 again, and again: was the map as it should be, also where that
+/// was refused?
 pub fn replaces<R: Wait, C: Calls>(rt: &R, map: &mut C) -> bool {
     let mut stands = 0u64;
     for value in 1..100u64 {

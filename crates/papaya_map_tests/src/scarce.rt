@@ -1,5 +1,5 @@
-// Each call by a pass and with a guard, with each request for memory refused to it in turn, at stages of the
-// growth of a map. What is told to refuse is the heap of `tests/refused.py`.
+// Each call by a pass and with a guard, with each request for memory refused to it in turn, at
+// stages of the growth of a map. What is told to refuse is the heap of `tests/refused.py`.
 use crate::answers::Answer::{
     self, Aborted, Absent, Done, Inserted, Kept, Number, Pair, Removed, Updated,
 };
@@ -106,7 +106,8 @@ const GUARDED: [Row; 12] = [
     (UpdateOrInsertWith(OLD, 7), Number(6), Number(6), Absent),
 ];
 
-/// What a call answers on a map that has the keys below this one, each with itself, and the old one.
+/// What a call answers on a map that has the keys below this one, each with itself, and the
+/// old one.
 fn wanted(row: Row, keys: u64) -> Answer {
     let sum = keys.wrapping_mul(keys.saturating_sub(1)) / 2;
     match row.0 {
@@ -198,8 +199,8 @@ impl<R: Wait, M: Shared + Drop> Trial for Growing<'_, R, M> {
     }
 }
 
-/// So many keys of one path are there beside the old one. A table is full at the next key or not, is being
-/// copied, and with 64 in all one is given up in `Blocking`.
+/// So many keys of one path are there beside the old one. A table is full at the next key or not,
+/// is being copied, and with 64 in all one is given up in `Blocking`.
 const STAGES: [u64; 9] = [0, 24, 25, 26, 47, 62, 63, 64, 66];
 
 /// No call of these fails at a stage.

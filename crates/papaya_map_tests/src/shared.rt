@@ -1,5 +1,5 @@
-// The tests of maps: how one is made, and what is done with it in turn. Functions are generic over the
-// map, so that each is proved once, and with no map's destructor to look into.
+// The tests of maps: how one is made, and what is done with it in turn. Functions are generic over
+// the map, so that each is proved once, and with no map's destructor to look into.
 use crate::board::Board;
 use crate::builders::{Asked, built, sharing};
 use crate::crowd::{Crowd, Job, does, gathers};

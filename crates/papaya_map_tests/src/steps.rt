@@ -59,8 +59,8 @@ pub enum Step {
     IsEmpty,
     /// Inserts the keys below this one, each with itself. Were all absent?
     InsertBelow(u64),
-    /// Have the keys below the first number their value: so many times themselves, and so much
-    /// more?
+    /// Have the keys below the first number their value: so many times themselves, and so
+    /// much more?
     HasBelow(u64, u64, u64),
     /// Has each key below this one the value 0 or 1?
     HasEither(u64),

@@ -68,8 +68,8 @@ impl Texts for HashMap<String, u64, BuildHasherDefault<FoldHasher>> {
     }
 }
 
-/// Two texts are stored, the first of them is removed, and a text that is not there is not. The second
-/// one is found by a key of its own.
+/// Two texts are stored, the first of them is removed, and a text that is not there is not. The
+/// second one is found by a key of its own.
 fn keeps_blue<R: Wait + Abort, T: Texts>(rt: &R, alloc: Global, map: &T) {
     answers(rt, 0, 0, map.insert(rt, alloc, "red", 1), Absent);
     answers(rt, 0, 1, map.insert(rt, alloc, "blue", 2), Absent);

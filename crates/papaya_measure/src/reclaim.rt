@@ -15,8 +15,8 @@ pub(crate) trait Reclaimed: Collection {
     fn give_back<R: Wait>(&mut self, rt: &R) -> Result<(), Failure>;
 }
 
-/// Prints a line at once: what was done, the map, its keys, how many pairs were stored, and the
-/// nanoseconds.
+/// Prints a line at once: what was done, the map, its keys, how many pairs were stored, and
+/// the nanoseconds.
 fn print<W: Write>(
     done: &str,
     backend: Backend,
@@ -72,8 +72,8 @@ fn time_blocking<R: Clock + Wait, M: Growing, W: Write>(
     )
 }
 
-/// Prints lines of a map for one caller, the kit's, and a shared one: what it takes to fill each from
-/// empty with so many keys.
+/// Prints lines of a map for one caller, the kit's, and a shared one: what it takes to fill each
+/// from empty with so many keys.
 pub fn time_from_empty<R: Clock + Wait, W: Write>(
     rt: &R,
     alloc: Global,
@@ -117,8 +117,8 @@ fn time_map<R: Clock + Wait, M: Reclaimed, W: Write>(
     )
 }
 
-/// Prints lines of a map for one caller and of a shared one, each made for so many keys: what it takes
-/// to insert them in so many rounds, and to reclaim the map then.
+/// Prints lines of a map for one caller and of a shared one, each made for so many keys: what it
+/// takes to insert them in so many rounds, and to reclaim the map then.
 pub fn time_reclaim<R: Clock + Wait, W: Write>(
     rt: &R,
     alloc: Global,

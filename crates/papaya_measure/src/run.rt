@@ -36,7 +36,8 @@ const GROWN_TO: [u32; 3] = [0x1000, 0x1_0000, 0x10_0000];
 /// How many keys a map has that is reclaimed, and in how many rounds they were inserted.
 const RECLAIMED: [(u32, u32); 2] = [(0x1_0000, 1), (1000, 1001)];
 
-/// Prints what the answers of these backends to one workload sum to, of those that do it. The sums are equal, or it fails.
+/// Prints what the answers of these backends to one workload sum to, of those that do it. The sums
+/// are equal, or it fails.
 fn check_workload<R: Clock + Threads + Wait + Sync, W: Write>(
     rt: &R,
     alloc: Global,

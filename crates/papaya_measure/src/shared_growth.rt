@@ -65,8 +65,8 @@ fn joined(alloc: Global, parts: &[Result<Vec<u128>, Failure>]) -> Result<Vec<u12
     Ok(times)
 }
 
-/// Inserts so many keys by several threads, each its part, and answers the nanoseconds of each
-/// insertion.
+/// Inserts so many keys by several threads, each its part, and answers the nanoseconds of
+/// each insertion.
 fn insert_in_threads<R: Clock + Threads + Wait + Sync>(
     rt: &R,
     alloc: Global,
@@ -256,8 +256,8 @@ fn read_beside<R: Clock + Threads + Wait + Sync>(
     sum_of(parts.as_slice())
 }
 
-/// Prints a line of gets beside growth: its name, the gets of three threads, the nanoseconds in which
-/// the fourth made the map grow, and those of the greatest get.
+/// Prints a line of gets beside growth: its name, the gets of three threads, the nanoseconds in
+/// which the fourth made the map grow, and those of the greatest get.
 fn beside_gets<R: Clock + Threads + Wait + Sync, W: Write>(
     rt: &R,
     alloc: Global,
@@ -276,8 +276,8 @@ fn beside_gets<R: Clock + Threads + Wait + Sync, W: Write>(
     output.flush().map_err(|_| Failure::Output)
 }
 
-/// Prints the lines of a shared map that grows from empty to so many keys: by one thread, by several,
-/// and with gets beside it.
+/// Prints the lines of a shared map that grows from empty to so many keys: by one thread, by
+/// several, and with gets beside it.
 pub fn time_shared_growth<R: Clock + Threads + Wait + Sync, W: Write>(
     rt: &R,
     alloc: Global,

@@ -71,8 +71,7 @@ pub struct Plan {
 
 impl Plan {
     /// How many maps are made, and how many rounds each of them has. Where a round takes away what
-    /// a
-    /// further round needs, each round has a map of its own.
+    /// a further round needs, each round has a map of its own.
     pub fn maps(self) -> (u32, u32)
         ensures each { result ≡ cond (uses_up self.workload) (self.rounds, 1) (1, self.rounds) }
         ensures all { result.0 * result.1 ≡ self.rounds }

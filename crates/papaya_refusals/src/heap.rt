@@ -1,4 +1,5 @@
-// What a test tells a heap that refuses: a request for a number of bytes that no test needs is a word.
+// What a test tells a heap that refuses: a request for a number of bytes that no test needs is
+// a word.
 use std::alloc::Global;
 
 /// The first word, and how far it is from one to the next. A number is added to a word.

@@ -49,8 +49,8 @@ pub trait Trial {
 /// No call makes so many requests.
 const MOST: usize = 10_000;
 
-/// Refuses each request of a call in turn, until it makes no more of them. Is there one that the call
-/// fails without?
+/// Refuses each request of a call in turn, until it makes no more of them. Is there one that the
+/// call fails without?
 pub fn fails_at<T: Trial>(trial: &T) -> Result<Option<usize>, Refused> {
     for number in 1..MOST {
         match trial.with_refused(number)? {

@@ -4,7 +4,9 @@ use Rattle.std.proofs.lemmas.Bool.{cond-true}
 use Rattle.papaya_law.specs.Allows.{Allows, AllAllowed}
 use Rattle.papaya_law.specs.Class.{IsBase, IsOn}
 use Rattle.papaya_law.specs.Code.{kind}
-use Rattle.papaya_law.specs.Exchange.{Word, Live, Marked, Copied, Tombstone, Closed, Setting, State, Exchange, Open, Claim, Replace, Delete, Link, Mark, Close, Place, Finish, Advance, Promote, Abort, Take, after, run}
+use Rattle.papaya_law.specs.Exchange.{Word, Live, Marked, Copied, Tombstone, Closed, Setting, State}
+use Rattle.papaya_law.specs.Exchange.{Exchange, Open, Claim, Replace, Delete, Link, Mark, Close}
+use Rattle.papaya_law.specs.Exchange.{Place, Finish, Advance, Promote, Abort, Take, after, run}
 use Rattle.papaya_law.specs.Invariant.{IsKeeping, named}
 use Rattle.papaya_law.specs.Later.{Becomes}
 use Rattle.papaya_law.specs.Meaning.{IsLawful}
@@ -71,26 +73,38 @@ module _ {P : Type 0} (e : Exchange P) (fs : List (Exchange P)) (p : P) where
 
 module _ {K P : Type 0} (g : Setting K P) (law : IsLawful g) where
   -- an exchange leaves the Live word, takes its pair out, or marks it
-  one : (s : State P) (t x : ℕ) (p : P) (e : Exchange P) → Allows g s e → s.slot t x ≡ Live p → ((after s e).slot t x ≡ Live p) ⊎ TakesIt e p ⊎ ((after s e).slot t x ≡ Marked p)
+  one : (s : State P) (t x : ℕ) (p : P) (e : Exchange P) → Allows g s e → s.slot t x ≡ Live p → ((after s e).slot t x ≡ Live p) ⊎ TakesIt e p
+      ⊎ ((after s e).slot t x ≡ Marked p)
   one s t x p (Open u) may live = inl live
   one s t x p (Link u n) may live = inl live
   one s t x p (Advance n c) may live = inl live
   one s t x p (Promote u n) may live = inl live
   one s t x p (Abort n) may live = inl live
   one s t x p (Take n) may live = inl live
-  one s t x p (Claim u y q) may live = ⊎_elim (λ h. inl (h.0 ∙ live)) (λ h. absurd (let a = h.0 in let b = h.1 in let m = may.empty in cc (a, b, m, live))) (slot_cases s u y (Live q) t x)
-  one s t x p (Close u y) may live = ⊎_elim (λ h. inl (h.0 ∙ live)) (λ h. absurd (let a = h.0 in let b = h.1 in let m = may.empty in cc (a, b, m, live))) (slot_cases s u y Closed t x)
-  one s t x p (Place u y q) may live = ⊎_elim (λ h. inl (h.0 ∙ live)) (λ h. absurd (let a = h.0 in let b = h.1 in let m = may.empty in cc (a, b, m, live))) (slot_cases s u y (Live q) t x)
-  one s t x p (Finish u y q) may live = ⊎_elim (λ h. inl (h.0 ∙ live)) (λ h. absurd (let a = h.0 in let b = h.1 in let m = may.marked in cc (a, b, m, live))) (slot_cases s u y (Copied q) t x)
-  one s t x p (Replace u y q r) may live = ⊎_elim (λ h. inl (h.0 ∙ live)) (λ h. let a = h.0 in let b = h.1 in let m = may.live in let is : q ≡ p = cc (a, b, m, live) in inr (inl is)) (slot_cases s u y (Live r) t x)
-  one s t x p (Delete u y q) may live = ⊎_elim (λ h. inl (h.0 ∙ live)) (λ h. let a = h.0 in let b = h.1 in let m = may.live in let is : q ≡ p = cc (a, b, m, live) in inr (inl is)) (slot_cases s u y (Tombstone q) t x)
-  one s t x p (Mark u y q) may live = ⊎_elim (λ h. inl (h.0 ∙ live)) (λ h. let a = h.0 in let b = h.1 in let m = may.live in let is : q ≡ p = cc (a, b, m, live) in inr (inr (h.2 ∙ ap Marked is))) (slot_cases s u y (Marked q) t x)
+  one s t x p (Claim u y q) may live = ⊎_elim (λ h. inl (h.0 ∙ live))
+      (λ h. absurd (let a = h.0 in let b = h.1 in let m = may.empty in cc (a, b, m, live))) (slot_cases s u y (Live q) t x)
+  one s t x p (Close u y) may live = ⊎_elim (λ h. inl (h.0 ∙ live))
+      (λ h. absurd (let a = h.0 in let b = h.1 in let m = may.empty in cc (a, b, m, live))) (slot_cases s u y Closed t x)
+  one s t x p (Place u y q) may live = ⊎_elim (λ h. inl (h.0 ∙ live))
+      (λ h. absurd (let a = h.0 in let b = h.1 in let m = may.empty in cc (a, b, m, live))) (slot_cases s u y (Live q) t x)
+  one s t x p (Finish u y q) may live = ⊎_elim (λ h. inl (h.0 ∙ live))
+      (λ h. absurd (let a = h.0 in let b = h.1 in let m = may.marked in cc (a, b, m, live))) (slot_cases s u y (Copied q) t x)
+  one s t x p (Replace u y q r) may live =
+      ⊎_elim (λ h. inl (h.0 ∙ live)) (λ h. let a = h.0 in let b = h.1 in let m = may.live in let is : q ≡ p = cc (a, b, m, live) in inr (inl is))
+      (slot_cases s u y (Live r) t x)
+  one s t x p (Delete u y q) may live = ⊎_elim (λ h. inl (h.0 ∙ live))
+      (λ h. let a = h.0 in let b = h.1 in let m = may.live in let is : q ≡ p = cc (a, b, m, live) in inr (inl is)) (slot_cases s u y (Tombstone q) t x)
+  one s t x p (Mark u y q) may live = ⊎_elim (λ h. inl (h.0 ∙ live))
+      (λ h. let a = h.0 in let b = h.1 in let m = may.live in let is : q ≡ p = cc (a, b, m, live) in inr (inr (h.2 ∙ ap Marked is)))
+      (slot_cases s u y (Marked q) t x)
 
-  marked_then : (t x : ℕ) (p : P) (fs : List (Exchange P)) (s : State P) → AllAllowed g s fs → s.slot t x ≡ Marked p → ((run fs s).slot t x ≡ Marked p) ⊎ ((run fs s).slot t x ≡ Copied p)
+  marked_then : (t x : ℕ) (p : P) (fs : List (Exchange P)) (s : State P) → AllAllowed g s fs → s.slot t x ≡ Marked p
+      → ((run fs s).slot t x ≡ Marked p) ⊎ ((run fs s).slot t x ≡ Copied p)
   marked_then t x p fs s may marked = subst (λ w. Becomes g w ((run fs s).slot t x)) marked ((later_run g law fs s may).words t x)
 
   -- a pair that stood Live in a slot is there in one form or the other, or it was taken out
-  live_then : (t x : ℕ) (p : P) (fs : List (Exchange P)) (s : State P) → AllAllowed g s fs → s.slot t x ≡ Live p → HasIt ((run fs s).slot t x) p ⊎ IsPairOut fs p
+  live_then : (t x : ℕ) (p : P) (fs : List (Exchange P)) (s : State P) → AllAllowed g s fs → s.slot t x ≡ Live p → HasIt ((run fs s).slot t x) p
+      ⊎ IsPairOut fs p
   live_then t x p [] s may live = inl (inl live)
   live_then t x p (e ∷ fs) s may live =
       ⊎_elim
@@ -99,7 +113,8 @@ module _ {K P : Type 0} (g : Setting K P) (law : IsLawful g) where
       (one s t x p e may.0 live)
 
   -- so is one that the map had
-  pub pair_then : (t x : ℕ) (p : P) (fs : List (Exchange P)) (s : State P) → AllAllowed g s fs → Holds (s.slot t x) p → HasIt ((run fs s).slot t x) p ⊎ IsPairOut fs p
+  pub pair_then : (t x : ℕ) (p : P) (fs : List (Exchange P)) (s : State P) → AllAllowed g s fs → Holds (s.slot t x) p → HasIt ((run fs s).slot t x) p
+      ⊎ IsPairOut fs p
   pair_then t x p fs s may (inl live) = live_then t x p fs s may live
   pair_then t x p fs s may (inr marked) = inl (inr (marked_then t x p fs s may marked))
 
@@ -115,7 +130,8 @@ module _ {K P : Type 0} (g : Setting K P) (law : IsLawful g) where
     it_active k w p (inr (inr e)) same = ap (λ v. active (view g k v)) e ∙ ap active (cond-true (g.same k (g.key p)) (Gone p) Foreign same)
 
     -- a pair is at a place of each key that is equal to its own
-    its_place : (t x : ℕ) (p : P) → HasIt (s.slot t x) p → (k : K) → g.same k (g.key p) ≡ true → (j : ℕ) × (j < g.places t) × (g.place k t j ≡ x) × (active (look g s k t j) ≡ true)
+    its_place : (t x : ℕ) (p : P) → HasIt (s.slot t x) p → (k : K) → g.same k (g.key p) ≡ true → (j : ℕ) × (j < g.places t) × (g.place k t j ≡ x)
+        × (active (look g s k t j) ≡ true)
     its_place t x p h k same =
         let (j, within, is) = own_place g s (keeping_sound g s m keeps) law k t x p same (it_named (s.slot t x) p h) in
         (j, within, is, ap (λ y. active (view g k (s.slot t y))) is ∙ it_active k (s.slot t x) p h same)
@@ -123,7 +139,8 @@ module _ {K P : Type 0} (g : Setting K P) (law : IsLawful g) where
     -- no two slots of a table have pairs of one key
     pub its_slot : (t x y : ℕ) (p q : P) → HasIt (s.slot t x) p → HasIt (s.slot t y) q → g.same (g.key q) (g.key p) ≡ true → x ≡ y
     its_slot t x y p q hx hy same =
-        let base : IsBase (IsOn s.first s.next) g.places (g.place (g.key q)) (look g s (g.key q)) = ⊎_elim (λ h. (h.1.class (g.key q)).base) (λ h. (h.1.class (g.key q)).base) keeps in
+        let base : IsBase (IsOn s.first s.next) g.places (g.place (g.key q)) (look g s (g.key q)) =
+        ⊎_elim (λ h. (h.1.class (g.key q)).base) (λ h. (h.1.class (g.key q)).base) keeps in
         let a = its_place t x p hx (g.key q) same in
         let b = its_place t y q hy (g.key q) (law.itself (g.key q)) in
         sym a.2 ∙ (base.one t a.0 b.0 a.1 b.1 a.3 b.3 ∙ b.2)

@@ -35,16 +35,21 @@ module _ {K V S H : Type 0} {d : keyed.Ghosts S K H} where
 
   pub taken_on : (began : List (Event K V S)) (w w' : Window K V S H d) (t : ℕ) → Sees w w' → IsTaken began w t → IsTaken began w' t
   taken_on began w w' t sees h =
-      subst (λ (z : Bor (Book K V S H)). taking.IsTaken (begun_of z.now.parts) began w'.sight.log t) (sym sees.book) (taken_later (begun_of w.book.now.parts) began w.sight.log w'.sight.log t h sees.log)
+      subst (λ (z : Bor (Book K V S H)). taking.IsTaken (begun_of z.now.parts) began w'.sight.log t) (sym sees.book)
+      (taken_later (begun_of w.book.now.parts) began w.sight.log w'.sight.log t h sees.log)
 
-  pub taken_at_on : (began : List (Event K V S)) (w w' : Window K V S H d) (t : ℕ) (at : List (Event K V S)) → Sees w w' → IsTakenAt began w t at → IsTakenAt began w' t at
+  pub taken_at_on : (began : List (Event K V S)) (w w' : Window K V S H d) (t : ℕ) (at : List (Event K V S)) → Sees w w' → IsTakenAt began w t at
+      → IsTakenAt began w' t at
   taken_at_on began w w' t at sees h =
-      let later : taking.IsTakenAt (begun_of w.book.now.parts) began w'.sight.log t at = record { since = h.since; until = prefix_trans at w.sight.log w'.sight.log h.until sees.log; root = h.root; some = h.some; last = h.last } in
+      let later : taking.IsTakenAt (begun_of w.book.now.parts) began w'.sight.log t
+      at = record { since = h.since; until = prefix_trans at w.sight.log w'.sight.log h.until sees.log; root = h.root; some = h.some; last = h.last } in
       subst (λ (z : Bor (Book K V S H)). taking.IsTakenAt (begun_of z.now.parts) began w'.sight.log t at) (sym sees.book) later
 
   module _ {F : Type 0} (began : List (Event K V S)) (judges : F → Stored K V → Bool → F → Type 0) where
     -- what was shown so far, once more is seen
-    pub shown_on : (w w' : Window K V S H d) → Sees w w' → w'.own.done ≡ w.own.done → (made : List (Change K (Stored K V))) (first f : F) (said : List (Stored K V × Bool)) → HasShown began judges made w first f said → HasShown began judges made w' first f said
+    pub shown_on : (w w' : Window K V S H d) → Sees w w' → w'.own.done ≡ w.own.done
+        → (made : List (Change K (Stored K V))) (first f : F) (said : List (Stored K V × Bool)) → HasShown began judges made w first f said
+        → HasShown began judges made w' first f said
     shown_on w w' sees same made first f said h =
         subst (λ (done : List (Step K V)). leaving.HasShown d.keys.eq (history_of began) (past w') made (changes_by done) judges first f said) (sym same)
         (shown_later d.keys.eq judges (history_of began) (past w) made (own w) first f said h (past w') (history_since w.sight.log w'.sight.log sees.log))
@@ -54,33 +59,45 @@ module _ {K V S H : Type 0} {d : keyed.Ghosts S K H} where
       pub scans_none : (w : Window K V S H d) (f : F) (from : ℕ) → Scans began judges w f w f t from from (Unit {0})
       scans_none w f from first made said h = (said, h, λ e at taken scanned. scanned)
 
-      pub scans_on : (w w' w'' : Window K V S H d) (f f' : F) (from upto : ℕ) (ended : Type 0) → Scans began judges w f w' f' t from upto ended → Sees w' w'' → w''.own.done ≡ w'.own.done → Scans began judges w f w'' f' t from upto ended
+      pub scans_on : (w w' w'' : Window K V S H d) (f f' : F) (from upto : ℕ) (ended : Type 0) → Scans began judges w f w' f' t from upto ended
+          → Sees w' w'' → w''.own.done ≡ w'.own.done → Scans began judges w f w'' f' t from upto ended
       scans_on w w' w'' f f' from upto ended v sees same first made said h =
-          let one = v first made said h in
-          (one.0, shown_on w' w'' sees same made first f' one.0 one.1, λ e at taken scanned. scanned_later at w'.sight.log w''.sight.log sees.log t upto one.0 (one.2 e at taken scanned))
+          let one = v first made said h in (
+            one.0,
+            shown_on w' w'' sees same made first f' one.0 one.1,
+            λ e at taken scanned.
+                scanned_later at w'.sight.log w''.sight.log sees.log t upto one.0 (one.2 e at taken scanned),
+          )
 
-      pub scans_then : (w w' w'' : Window K V S H d) (f f' f'' : F) (from mid upto : ℕ) (ended : Type 0) → Scans began judges w f w' f' t from mid (Unit {0}) → Sees w w' → Scans began judges w' f' w'' f'' t mid upto ended → Scans began judges w f w'' f'' t from upto ended
+      pub scans_then : (w w' w'' : Window K V S H d) (f f' f'' : F) (from mid upto : ℕ) (ended : Type 0)
+          → Scans began judges w f w' f' t from mid (Unit {0}) → Sees w w' → Scans began judges w' f' w'' f'' t mid upto ended
+          → Scans began judges w f w'' f'' t from upto ended
       scans_then w w' w'' f f' f'' from mid upto ended v sees v' first made said h =
           let one = v first made said h in
           let two = v' first made one.0 one.1 in
           (two.0, two.1, λ e at taken scanned. two.2 e at (taken_at_on began w w' t at sees taken) (one.2 tt at taken scanned))
 
       -- where it came to its end, or to no end at all
-      pub scans_ended : (w w' : Window K V S H d) (f f' : F) (from upto : ℕ) (ended other : Type 0) → (other → ended) → Scans began judges w f w' f' t from upto ended → Scans began judges w f w' f' t from upto other
+      pub scans_ended : (w w' : Window K V S H d) (f f' : F) (from upto : ℕ) (ended other : Type 0) → (other → ended)
+          → Scans began judges w f w' f' t from upto ended → Scans began judges w f w' f' t from upto other
       scans_ended w w' f f' from upto ended other so v first made said h =
           let one = v first made said h in (one.0, one.1, λ e at taken scanned. one.2 (so e) at taken scanned)
 
-      pub scans_stopped : (w w' : Window K V S H d) (f f' : F) (from mid upto : ℕ) (ended other : Type 0) → (other → ⊥) → Scans began judges w f w' f' t from mid ended → Scans began judges w f w' f' t from upto other
+      pub scans_stopped : (w w' : Window K V S H d) (f f' : F) (from mid upto : ℕ) (ended other : Type 0) → (other → ⊥)
+          → Scans began judges w f w' f' t from mid ended → Scans began judges w f w' f' t from upto other
       scans_stopped w w' f f' from mid upto ended other never v first made said h =
           let one = v first made said h in (one.0, one.1, λ e. absurd (never e))
 
 -- a root that was taken is held for good
-pub root_later : {K V S : Type 0} (b : Begun K V S) (began log log' : List (Event K V S)) (root : Option (ℕ × Bor Sheet)) → IsPrefix log log' → IsRootOf b began log root → IsRootOf b began log' root
+pub root_later : {K V S : Type 0} (b : Begun K V S) (began log log' : List (Event K V S)) (root : Option (ℕ × Bor Sheet)) → IsPrefix log log'
+    → IsRootOf b began log root → IsRootOf b began log' root
 root_later b began log log' None pre h = tt
 root_later b began log log' (Some root) pre h = (table_since log log' root.0 root.1.now pre h.0, taken_later b began log log' root.0 h.1 pre)
 
 -- what a walk gives, once it has gone on
-pub gives_next : {K V : Type 0} (eq : K → K → Bool) (before after : Walked K V) → Walks eq before after → (L : Type 0) → (L → IsLegalHistory eq key_of after.history) → (found : Option (Bor K × Bor V)) → MatchOption found (Unit {0}) (λ entry. L) → MatchOption found (Unit {0}) (λ entry. HadEntry eq before.began after.history entry)
+pub gives_next : {K V : Type 0} (eq : K → K → Bool) (before after : Walked K V) → Walks eq before after → (L : Type 0)
+    → (L → IsLegalHistory eq key_of after.history) → (found : Option (Bor K × Bor V)) → MatchOption found (Unit {0}) (λ entry. L)
+    → MatchOption found (Unit {0}) (λ entry. HadEntry eq before.began after.history entry)
     → Gives eq before found after
 gives_next eq before after walks L legal None lawful had = walks
 gives_next eq before after walks L legal (Some entry) lawful had = (walks, had, legal lawful)

@@ -26,8 +26,8 @@ pub record HadPair {K V : Type 0} (eq : K → K → Bool) (old new : List (Chang
   pub until : IsPrefix seen new
   pub is : replay eq seen (key_of p) ≡ Some p
 
--- A word was found that names this pair, which lies in the logs; and where it is a word of a pair of
--- the map, the map had it between the two logs.
+-- A word was found that names this pair, which lies in the logs; and where it is a word of a pair
+-- of the map, the map had it between the two logs.
 pub record IsMet {K V S : Type 0} (eq : K → K → Bool) (b : Begun K V S) (name : Book)
     (old log : List (Event K V S)) (word : ℕ) (pair : Option (Stored K V)) : Type 0 where
   pub placed : IsPlaced b (Some name) (pair_named pair)

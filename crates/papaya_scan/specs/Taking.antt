@@ -12,8 +12,8 @@ use Rattle.papaya_lookup.specs.History.{history_of}
 use Rattle.papaya_change.specs.Showings.{IsSamePair}
 use Rattle.papaya_scan.specs.Leaving.{WasTakenOut}
 
--- At this moment between the two logs the table was the root and, without blocking, had no next
--- table.
+-- At this moment between the two logs the table was the root and, without blocking, had no
+-- next table.
 pub record IsTakenAt {K V S : Type 0} (b : Begun K V S) (old log : List (Event K V S)) (t : ℕ)
     (at : List (Event K V S)) : Type 0 where
   pub since : IsPrefix old at

@@ -13,8 +13,8 @@ use Rattle.papaya_change.specs.Showings.{AreOf}
 use Rattle.papaya_scan.specs.Meeting.{HadPair}
 use Rattle.papaya_scan.specs.Taking.{IsTaken}
 
--- Which book the walk is of, the history that was seen as it began, the one that is seen by now, and
--- how many slots are left.
+-- Which book the walk is of, the history that was seen as it began, the one that is seen by now,
+-- and how many slots are left.
 pub record Walked (K V : Type 0) : Type 0 where
   pub book : Book
   pub began : List (Change K (Stored K V))

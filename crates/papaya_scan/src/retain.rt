@@ -1,5 +1,5 @@
-//! Clear and retain: the pairs of a table are shown to a closure, and those deleted that are not to
-//! stay.
+//! Clear and retain: the pairs of a table are shown to a closure, and those deleted that are not
+//! to stay.
 ghost use Rattle.std.specs.Prelude.{◌≡◌, ◌<◌, suc, true, false, Err, IfErr, Some, length};
 ghost use Rattle.std.specs.Int.{IsPowerOfTwo};
 ghost use Rattle.papaya_words.specs.Word.{kind_of};
@@ -118,9 +118,10 @@ fn scan_table<'a, R: Wait, K: Hash + Eq, V, S: BuildHasher, F: FnMut(&K, &V) -> 
     false
 }
 
-/// Takes out the pairs that the closure, which is shown each, says are not to stay. Where it meets a
-/// copier's work it copies what is left to copy, and takes the root anew. Where it is refused a table
-/// while it copies, what was taken out stays out; and `given` tells why, where that is want of room.
+/// Takes out the pairs that the closure, which is shown each, says are not to stay. Where it meets
+/// a copier's work it copies what is left to copy, and takes the root anew. Where it is refused a
+/// table while it copies, what was taken out stays out; and `given` tells why, where that is want
+/// of room.
 pub fn retain<'a, R: Wait, K: Hash + Eq, V, S: BuildHasher, F: FnMut(&K, &V) -> bool>(
     rt: &R,
     alloc: Global,

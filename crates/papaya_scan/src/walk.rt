@@ -20,8 +20,9 @@ use papaya_words::word::{Kind, Word};
 use std::hash::{BuildHasher, Hash};
 use std::marker::Model;
 
-/// The pairs of a map, slot by slot of the root as it was taken: `Iter` of 0.2.5. Contracts see which
-/// book it is of, the history that was seen as the walk began, and the one that is seen by now.
+/// The pairs of a map, slot by slot of the root as it was taken: `Iter` of 0.2.5. Contracts see
+/// which book it is of, the history that was seen as the walk began, and the one that is seen
+/// by now.
 #[derive(Drop)]
 pub struct Iter<'a, K: Hash + Eq, V, S: BuildHasher> {
     book: &'a Book<K, V, S>,
@@ -48,7 +49,8 @@ impl<'a, K: Hash + Eq, V, S: BuildHasher> Model for Iter<'a, K, V, S> {
 }
 
 impl<'a, K: Hash + Eq, V, S: BuildHasher> Iter<'a, K, V, S> {
-    /// A walk over a root that was taken, from its first slot on. `began` is what was seen before that.
+    /// A walk over a root that was taken, from its first slot on. `began` is what was seen
+    /// before that.
     pub fn over(
         book: &'a Book<K, V, S>,
         kept: &KeptRoot<'a, K, V, S>,

@@ -1,5 +1,6 @@
 -- What the reply of an insertion says of the map, in terms of its pairs.
-use Rattle.std.proofs.Common.{◌≡◌, ⊎_elim, ℕ, Bool, true, false, cond, List, [], ◌∷◌, Option, Some, None, Result, Ok, Err, inl, inr, refl, sym, ◌∙◌, ap, subst, IfErr}
+use Rattle.std.proofs.Common.{◌≡◌, ⊎_elim, ℕ, Bool, true, false, cond, List, [], ◌∷◌, Option, Some}
+use Rattle.std.proofs.Common.{None, Result, Ok, Err, inl, inr, refl, sym, ◌∙◌, ap, subst, IfErr}
 use Rattle.std.proofs.lemmas.Bool.{cases_Bool}
 use Rattle.std.specs.Cmp.{IsEquivalence}
 use Rattle.papaya_words.specs.declared.probe.Refused.{Refused}
@@ -13,11 +14,14 @@ use Rattle.papaya_timeline.specs.Maps.{Does, IsMadeOf, IsUpdate, IsUpdateBy, Sam
 use Rattle.papaya_timeline.specs.Solo.{CallDoes, IsAnswered, IsNewIn}
 use Rattle.papaya_store.specs.Store.{StoreState, Stored, pair_of}
 use Rattle.papaya_seq.proofs.LeftBy.{left_same, same_left}
-use Rattle.papaya_seq.specs.Map.{Inserts, IsStoreRefusal, IsOccupied, IsTried, IsTryRefusal, IsWriteCause, IsWriteCauseAt, KeepsAndGrows, MapState, insertion, kept_key, value_of}
+use Rattle.papaya_seq.specs.Map.{Inserts, IsStoreRefusal, IsOccupied, IsTried, IsTryRefusal}
+use Rattle.papaya_seq.specs.Map.{IsWriteCause, IsWriteCauseAt, KeepsAndGrows, MapState, insertion}
+use Rattle.papaya_seq.specs.Map.{kept_key, value_of}
 use Rattle.papaya_seq.proofs.Lawful.{logged_content, lookup_some}
 
 -- equal keys have one pair in a list
-lookup_alike : {K V : Type 0} (eq : K → K → Bool) (law : IsEquivalence eq) (ps : List (Stored K V)) (j k : K) → eq j k ≡ true → lookup eq (λ p. p.key) ps j ≡ lookup eq (λ p. p.key) ps k
+lookup_alike : {K V : Type 0} (eq : K → K → Bool) (law : IsEquivalence eq) (ps : List (Stored K V)) (j k : K) → eq j k ≡ true
+    → lookup eq (λ p. p.key) ps j ≡ lookup eq (λ p. p.key) ps k
 lookup_alike eq law [] j k e = refl
 lookup_alike {V = V} eq law (p ∷ ps) j k e =
     ap (λ b. cond b (Some p) (lookup eq (λ (q : Stored _ V). q.key) ps j)) (law.congr j k p.key e)
@@ -29,7 +33,8 @@ module _ {K V S : Type 0} (eq : K → K → Bool) (law : IsEquivalence eq) where
   logged_there s k n p there is = subst (λ m. pair_of s m ≡ Some p) is (logged_content s eq p (lookup_some eq (content eq s) k p there).0)
 
   -- an update that puts the pair of before in its place leaves the map
-  pub update_leaves : (s : StoreState K V S) (s' : StoreState K V S) (k : K) (o : Option (Stored K V)) → IsUpdate eq k o o (map_in eq s) (map_in eq s') → Same (map_in eq s) (map_in eq s')
+  pub update_leaves : (s : StoreState K V S) (s' : StoreState K V S) (k : K) (o : Option (Stored K V))
+      → IsUpdate eq k o o (map_in eq s) (map_in eq s') → Same (map_in eq s) (map_in eq s')
   update_leaves s s' k o u j =
       ⊎_elim
       (λ (y : eq j k ≡ true). u.class j y ∙ sym (lookup_alike eq law (content eq s) j k y ∙ u.before))
@@ -44,7 +49,8 @@ module _ {K V S : Type 0} (eq : K → K → Bool) (law : IsEquivalence eq) where
       pub value : pair.value ≡ v
       pub inserts : Inserts eq k v s went s'
 
-    made : (old came : Option (Stored K V)) (n : ℕ) (q : Stored K V) → IsMadeOf (kept_key k old) v n q → came ≡ Some q → pair_of s n ≡ None → IsUpdate eq k old came (map_in eq s) (map_in eq s') → IsMade (value_of old) n
+    made : (old came : Option (Stored K V)) (n : ℕ) (q : Stored K V) → IsMadeOf (kept_key k old) v n q → came ≡ Some q → pair_of s n ≡ None
+        → IsUpdate eq k old came (map_in eq s) (map_in eq s') → IsMade (value_of old) n
     made old came n q is comes fresh u =
         let update : IsUpdate eq k old (Some q) (map_in eq s) (map_in eq s') = subst (λ c. IsUpdate eq k old c (map_in eq s) (map_in eq s')) comes u in
         record {
@@ -55,14 +61,17 @@ module _ {K V S : Type 0} (eq : K → K → Bool) (law : IsEquivalence eq) where
         }
 
     -- a key that was absent has a new pair
-    pub inserted_made : (replace : Bool) (n : ℕ) → IsAnswered eq (insertion replace k v) (map_in eq s) (replies.Inserted n) (map_in eq s') → IsNewIn s (replies.Inserted n) → IsMade None n
-    inserted_made replace n d fresh = from replace d.went d.came (subst (λ j. IsUpdateBy eq j d.went d.came (map_in eq s) (map_in eq s')) (key_is replace) d.update) d.does
+    pub inserted_made : (replace : Bool) (n : ℕ) → IsAnswered eq (insertion replace k v) (map_in eq s) (replies.Inserted n) (map_in eq s')
+        → IsNewIn s (replies.Inserted n) → IsMade None n
+    inserted_made replace n d fresh = from replace d.went d.came
+        (subst (λ j. IsUpdateBy eq j d.went d.came (map_in eq s) (map_in eq s')) (key_is replace) d.update) d.does
       where
         key_is : (b : Bool) → key_of (insertion b k v) ≡ Some k
         key_is true = refl
         key_is false = refl
 
-        from : (b : Bool) (went came : Option (Stored K V)) → IsUpdate eq k went came (map_in eq s) (map_in eq s') → Does (insertion b k v) went (replies.Inserted n) came → IsMade None n
+        from : (b : Bool) (went came : Option (Stored K V)) → IsUpdate eq k went came (map_in eq s) (map_in eq s')
+            → Does (insertion b k v) went (replies.Inserted n) came → IsMade None n
         from true None came u does = made None came n does.0 does.1 does.2 fresh u
         from false None came u does = made None came n does.0 does.1 does.2 fresh u
         from true (Some p) came u does = absurd does
@@ -75,12 +84,20 @@ module _ {K V S : Type 0} (eq : K → K → Bool) (law : IsEquivalence eq) where
       pub here : map_in eq s k ≡ Some old
       pub made : IsMade (Some old.value) n
 
-    pub replaced_made : (m n : ℕ) → IsAnswered {A = Unit {0}} eq (Insert k v) (map_in eq s) (replies.Replaced m n) (map_in eq s') → IsNewIn s (replies.Replaced m n) → IsReplaced m n
+    pub replaced_made : (m n : ℕ) → IsAnswered {A = Unit {0}} eq (Insert k v) (map_in eq s) (replies.Replaced m n) (map_in eq s')
+        → IsNewIn s (replies.Replaced m n) → IsReplaced m n
     replaced_made m n d fresh = from d.went d.came d.update d.does
       where
-        from : (went came : Option (Stored K V)) → IsUpdate eq k went came (map_in eq s) (map_in eq s') → Does {A = Unit {0}} (Insert k v) went (replies.Replaced m n) came → IsReplaced m n
+        from : (went came : Option (Stored K V)) → IsUpdate eq k went came (map_in eq s) (map_in eq s')
+            → Does {A = Unit {0}} (Insert k v) went (replies.Replaced m n) came → IsReplaced m n
         from None came u does = absurd does
-        from (Some p) came u does = record { old = p; logged = logged_there s k m p u.before does.0; here = u.before; made = made (Some p) came n does.1.0 does.1.1 does.1.2 fresh u }
+        from (Some p) came u does = record {
+          old = p;
+          logged = logged_there s k m p u.before does.0;
+          here = u.before;
+          made = made (Some p) came n
+              does.1.0 does.1.1 does.1.2 fresh u;
+        }
 
     -- a key that has a pair keeps it
     pub record IsThere (n : ℕ) : Type 0 where
@@ -91,11 +108,17 @@ module _ {K V S : Type 0} (eq : K → K → Bool) (law : IsEquivalence eq) where
     pub occupied_there : (n : ℕ) → IsAnswered {A = Unit {0}} eq (TryInsert k v) (map_in eq s) (replies.Occupied n) (map_in eq s') → IsThere n
     occupied_there n d = from d.went d.came d.update d.does
       where
-        from : (went came : Option (Stored K V)) → IsUpdate eq k went came (map_in eq s) (map_in eq s') → Does {A = Unit {0}} (TryInsert k v) went (replies.Occupied n) came → IsThere n
+        from : (went came : Option (Stored K V)) → IsUpdate eq k went came (map_in eq s) (map_in eq s')
+            → Does {A = Unit {0}} (TryInsert k v) went (replies.Occupied n) came → IsThere n
         from None came u does = absurd does
         from (Some p) came u does =
-            let kept : IsUpdate eq k (Some p) (Some p) (map_in eq s) (map_in eq s') = subst (λ c. IsUpdate eq k (Some p) c (map_in eq s) (map_in eq s')) does.1 u in
-            record { pair = p; logged = logged_there s k n p u.before does.0; occupied = record { pair = p; there = u.before; value = refl; unchanged = update_leaves s s' k (Some p) kept } }
+            let kept : IsUpdate eq k (Some p) (Some p) (map_in eq s)
+            (map_in eq s') = subst (λ c. IsUpdate eq k (Some p) c (map_in eq s) (map_in eq s')) does.1 u in
+            record {
+              pair = p;
+              logged = logged_there s k n p u.before does.0;
+              occupied = record { pair = p; there = u.before; value = refl; unchanged = update_leaves s s' k (Some p) kept };
+            }
 
     -- an insertion that replaced nothing and was not refused put its pair at an absent key
     pub neither_made : (reply : _) → IsAnswered {A = Unit {0}} eq (Insert k v) (map_in eq s) reply (map_in eq s') → IsNewIn s reply
@@ -136,17 +159,23 @@ module _ {K V S : Type 0} (eq : K → K → Bool) (law : IsEquivalence eq) where
         none (Some p) does = does
 
     -- the same of a reply that is known to be this one
-    pub inserted_by : (replace : Bool) (reply : _) (n : ℕ) → reply ≡ replies.Inserted n → IsAnswered eq (insertion replace k v) (map_in eq s) reply (map_in eq s') → IsNewIn s reply → IsMade None n
-    inserted_by replace reply n is d fresh = inserted_made replace n (subst (λ r. IsAnswered eq (insertion replace k v) (map_in eq s) r (map_in eq s')) is d) (subst (λ r. IsNewIn s r) is fresh)
+    pub inserted_by : (replace : Bool) (reply : _) (n : ℕ) → reply ≡ replies.Inserted n
+        → IsAnswered eq (insertion replace k v) (map_in eq s) reply (map_in eq s') → IsNewIn s reply → IsMade None n
+    inserted_by replace reply n is d fresh = inserted_made replace n
+        (subst (λ r. IsAnswered eq (insertion replace k v) (map_in eq s) r (map_in eq s')) is d) (subst (λ r. IsNewIn s r) is fresh)
 
-    pub replaced_by : (reply : _) (m n : ℕ) → reply ≡ replies.Replaced m n → IsAnswered {A = Unit {0}} eq (Insert k v) (map_in eq s) reply (map_in eq s') → IsNewIn s reply → IsReplaced m n
-    replaced_by reply m n is d fresh = replaced_made m n (subst (λ r. IsAnswered {A = Unit {0}} eq (Insert k v) (map_in eq s) r (map_in eq s')) is d) (subst (λ r. IsNewIn s r) is fresh)
+    pub replaced_by : (reply : _) (m n : ℕ) → reply ≡ replies.Replaced m n
+        → IsAnswered {A = Unit {0}} eq (Insert k v) (map_in eq s) reply (map_in eq s') → IsNewIn s reply → IsReplaced m n
+    replaced_by reply m n is d fresh = replaced_made m n (subst (λ r. IsAnswered {A = Unit {0}} eq (Insert k v) (map_in eq s) r (map_in eq s')) is d)
+        (subst (λ r. IsNewIn s r) is fresh)
 
-    pub occupied_by : (reply : _) (n : ℕ) → reply ≡ replies.Occupied n → IsAnswered {A = Unit {0}} eq (TryInsert k v) (map_in eq s) reply (map_in eq s') → IsThere n
+    pub occupied_by : (reply : _) (n : ℕ) → reply ≡ replies.Occupied n
+        → IsAnswered {A = Unit {0}} eq (TryInsert k v) (map_in eq s) reply (map_in eq s') → IsThere n
     occupied_by reply n is d = occupied_there n (subst (λ r. IsAnswered {A = Unit {0}} eq (TryInsert k v) (map_in eq s) r (map_in eq s')) is d)
 
 -- an insertion that found its key in the map, by its number
-pub tried_there : {K V S : Type 0} (eq : K → K → Bool) (k : K) (v : V) (s : MapState K V S) (result : Result (ℕ × Option V) Refused) (s' : MapState K V S) (n : ℕ) (left : V) → result ≡ Ok (n, Some left) → IsTried eq k v s result s'
+pub tried_there : {K V S : Type 0} (eq : K → K → Bool) (k : K) (v : V) (s : MapState K V S) (result : Result (ℕ × Option V) Refused)
+    (s' : MapState K V S) (n : ℕ) (left : V) → result ≡ Ok (n, Some left) → IsTried eq k v s result s'
     → (p : Stored K V) × (pair_of s'.store n ≡ Some p) × (left ≡ v) × IsOccupied eq k s.store p.value s'.store × KeepsAndGrows s s'
 tried_there eq k v s result s' n left is tried = subst (λ r. IsTried eq k v s r s') is tried
 
@@ -156,7 +185,8 @@ err_at P (Ok t) e is h = absurd cc
 err_at P (Err other) e is h = let same : other ≡ e = cc is in subst P same h
 
 -- and one that was refused
-pub tried_refused : {K V S : Type 0} (eq : K → K → Bool) (k : K) (v : V) (s : MapState K V S) (result : Result (ℕ × Option V) Refused) (s' : MapState K V S) (refused : Refused) → result ≡ Err refused → IsTried eq k v s result s' → IsTryRefusal eq k s refused s'
+pub tried_refused : {K V S : Type 0} (eq : K → K → Bool) (k : K) (v : V) (s : MapState K V S) (result : Result (ℕ × Option V) Refused)
+    (s' : MapState K V S) (refused : Refused) → result ≡ Err refused → IsTried eq k v s result s' → IsTryRefusal eq k s refused s'
 tried_refused eq k v s result s' refused is tried = subst (λ r. IsTried eq k v s r s') is tried
 
 module _ {K V S : Type 0} (s s' : MapState K V S) where
@@ -173,7 +203,8 @@ module _ {K V S : Type 0} (s s' : MapState K V S) where
   store_refusal refused (inr (inl (is, full))) = inl (inr is)
   store_refusal refused (inr (inr spent)) = inr spent
 
-module _ {K V A B : Type 0} (eq : K → K → Bool) (call : Call K V A) (other : Call K V B) (k : K) (key : key_of call ≡ Some k) (other_key : key_of other ≡ Some k) (alike : (went came : Option (Stored K V)) (reply : _) → Does call went reply came → Does other went reply came) where
+module _ {K V A B : Type 0} (eq : K → K → Bool) (call : Call K V A) (other : Call K V B) (k : K) (key : key_of call ≡ Some k)
+    (other_key : key_of other ≡ Some k) (alike : (went came : Option (Stored K V)) (reply : _) → Does call went reply came → Does other went reply came) where
   -- what one call on a key does, another does that is like it
   does_alike : (m m' : K → Option (Stored K V)) (reply : _) → CallDoes eq call m reply m' → CallDoes eq other m reply m'
   does_alike m m' reply d = record {
@@ -185,7 +216,13 @@ module _ {K V A B : Type 0} (eq : K → K → Bool) (call : Call K V A) (other :
 
   -- so it is answered alike
   answered_alike : (m m' : K → Option (Stored K V)) (reply : _) → IsAnswered eq call m reply m' → IsAnswered eq other m reply m'
-  answered_alike m m' (replies.Refused refused) d = (same_left other k other_key m m' (left_same call k key m m' d.0), λ nothing. subst (λ j. Does other (at_key m j) (replies.Refused RemoveNothing) (at_key m j)) (key ∙ sym other_key) (alike (at_key m (key_of call)) (at_key m (key_of call)) (replies.Refused RemoveNothing) (d.1 nothing)))
+  answered_alike m m' (replies.Refused refused)
+      d = (
+        same_left other k other_key m m' (left_same call k key m m' d.0),
+        λ nothing.
+            subst (λ j. Does other (at_key m j) (replies.Refused RemoveNothing) (at_key m j)) (key ∙ sym other_key)
+            (alike (at_key m (key_of call)) (at_key m (key_of call)) (replies.Refused RemoveNothing) (d.1 nothing)),
+      )
   answered_alike m m' replies.Done d = let f : None ≡ Some k = sym d.0 ∙ key in absurd cc
   answered_alike m m' (replies.Inserted n) d = does_alike m m' (replies.Inserted n) d
   answered_alike m m' (replies.Occupied n) d = does_alike m m' (replies.Occupied n) d
@@ -244,8 +281,10 @@ module _ {K V : Type 0} (A : Type 0) (k : K) (v : V) where
   insert_does (Some p) came (replies.Refused refused) d = absurd d
 
   -- so is what they are answered
-  pub try_answered : (eq : K → K → Bool) (m m' : K → Option (Stored K V)) (reply : _) → IsAnswered {A = Unit {0}} eq (TryInsert k v) m reply m' → IsAnswered {A = A} eq (TryInsert k v) m reply m'
+  pub try_answered : (eq : K → K → Bool) (m m' : K → Option (Stored K V)) (reply : _) → IsAnswered {A = Unit {0}} eq (TryInsert k v) m reply m'
+      → IsAnswered {A = A} eq (TryInsert k v) m reply m'
   try_answered eq = answered_alike eq (TryInsert k v) (TryInsert k v) k refl refl try_does
 
-  pub insert_answered : (eq : K → K → Bool) (m m' : K → Option (Stored K V)) (reply : _) → IsAnswered {A = Unit {0}} eq (Insert k v) m reply m' → IsAnswered {A = A} eq (Insert k v) m reply m'
+  pub insert_answered : (eq : K → K → Bool) (m m' : K → Option (Stored K V)) (reply : _) → IsAnswered {A = Unit {0}} eq (Insert k v) m reply m'
+      → IsAnswered {A = A} eq (Insert k v) m reply m'
   insert_answered eq = answered_alike eq (Insert k v) (Insert k v) k refl refl insert_does

@@ -1,5 +1,7 @@
 -- How long the tables are that a call on a key makes of a map for one caller.
-use Rattle.std.proofs.Common.{◌≡◌, ◌⊎◌, inl, inr, ⊎_elim, ℕ, zero, suc, ◌<◌, ◌≤◌, Bool, false, List, [], ◌∷◌, ◌++◌, length, map, max, slice_get, Option, None, Some, refl, sym, ◌∙◌, ap, subst, arith}
+use Rattle.std.proofs.Common.{◌≡◌, ◌⊎◌, inl, inr, ⊎_elim, ℕ, zero, suc, ◌<◌, ◌≤◌, Bool, false, List}
+use Rattle.std.proofs.Common.{[], ◌∷◌, ◌++◌, length, map, max, slice_get, Option, None, Some, refl}
+use Rattle.std.proofs.Common.{sym, ◌∙◌, ap, subst, arith}
 use Rattle.std.proofs.lemmas.Bool.{cases_lt}
 use Rattle.std.proofs.lemmas.List.{append_assoc, append-nil}
 use Rattle.std.proofs.lemmas.List.Elements.{All-append, All-cons, All-contains, All-nil, Contains-append_left}
@@ -18,7 +20,11 @@ use Rattle.papaya_ask.specs.declared.search.Search.TheVariants as searches
 use Rattle.papaya_alone.specs.Ahead.{IsCurrent, IsPhaseRead}
 use Rattle.papaya_call_law.specs.Alone.{IsRead}
 use Rattle.papaya_call.specs.declared.machine.State.{State}
-use Rattle.papaya_call.specs.declared.machine.State.TheVariants.{AtRoot, Making, Opening, Searching, Writing, Offering, Showing, Pairing, Putting, Deleting, Counting, Noting, Uncounting, Leaving, Growing, Ended}
+use Rattle.papaya_call.specs.declared.machine.State.TheVariants.{AtRoot, Making, Opening, Searching}
+use Rattle.papaya_call.specs.declared.machine.State.TheVariants.{Writing, Offering, Showing}
+use Rattle.papaya_call.specs.declared.machine.State.TheVariants.{Pairing, Putting, Deleting}
+use Rattle.papaya_call.specs.declared.machine.State.TheVariants.{Counting, Noting, Uncounting}
+use Rattle.papaya_call.specs.declared.machine.State.TheVariants.{Leaving, Growing, Ended}
 use Rattle.papaya_call.specs.declared.write.Claimed.{Claimed}
 use Rattle.papaya_call.specs.declared.made.Made.{Made}
 use Rattle.papaya_call.specs.Machine.{asks as call_asks}
@@ -57,10 +63,19 @@ use Rattle.papaya_seq.proofs.TableLengths.{IsCountedBy, IsLengthened, copy_count
 
 -- what is asked for a pair is no table
 no_tables : (slots limit chunks : ℕ) → HoldsOfPairAsks (λ ask. ask ≡ MakeTable slots limit chunks → ⊥)
-no_tables slots limit chunks = record { loads = λ e. absurd cc; takes = λ count e. absurd cc; key = λ e. absurd cc; value = λ e. absurd cc; pair = λ e. absurd cc; pair_of = λ n e. absurd cc }
+no_tables slots limit chunks = record {
+  loads = λ e. absurd cc;
+  takes = λ count e. absurd cc;
+  key = λ e. absurd cc;
+  value = λ e.
+      absurd cc;
+  pair = λ e. absurd cc;
+  pair_of = λ n e. absurd cc;
+}
 
 -- a call that asks for a table for itself makes its first one
-makes_first : (made : Made) (hash : ℕ) (state : State) (slots limit chunks : ℕ) → call_asks made hash state ≡ MakeTable slots limit chunks → (state ≡ Making) × (slots ≡ FIRST_TABLE_LEN)
+makes_first : (made : Made) (hash : ℕ) (state : State) (slots limit chunks : ℕ) → call_asks made hash state ≡ MakeTable slots limit chunks
+    → (state ≡ Making) × (slots ≡ FIRST_TABLE_LEN)
 makes_first made hash Making slots limit chunks e = (refl, let f : MakeTable FIRST_TABLE_LEN FIRST_TABLE_LIMIT 0 ≡ MakeTable slots limit chunks = e in sym cc)
 makes_first made hash AtRoot slots limit chunks e = absurd cc
 makes_first made hash (Opening t) slots limit chunks e = absurd cc
@@ -68,10 +83,12 @@ makes_first made hash (Searching (searches.Sizing t)) slots limit chunks e = abs
 makes_first made hash (Searching (searches.Looking at)) slots limit chunks e = absurd cc
 makes_first made hash (Searching (searches.Reading at)) slots limit chunks e = absurd cc
 makes_first made hash (Searching (searches.Comparing at word)) slots limit chunks e = absurd cc
-makes_first made hash (Writing write) slots limit chunks e = absurd (write_holds (λ ask. ask ≡ MakeTable slots limit chunks → ⊥) (no_tables slots limit chunks) write (λ n e. absurd cc) made e)
+makes_first made hash (Writing write) slots limit chunks e = absurd
+    (write_holds (λ ask. ask ≡ MakeTable slots limit chunks → ⊥) (no_tables slots limit chunks) write (λ n e. absurd cc) made e)
 makes_first made hash (Offering gap) slots limit chunks e = absurd cc
 makes_first made hash (Showing removal) slots limit chunks e = absurd cc
-makes_first made hash (Pairing purpose) slots limit chunks e = absurd (pair_holds (λ ask. ask ≡ MakeTable slots limit chunks → ⊥) (no_tables slots limit chunks) made (in_place_of purpose) e)
+makes_first made hash (Pairing purpose) slots limit chunks e = absurd
+    (pair_holds (λ ask. ask ≡ MakeTable slots limit chunks → ⊥) (no_tables slots limit chunks) made (in_place_of purpose) e)
 makes_first made hash (Putting put) slots limit chunks e = absurd cc
 makes_first made hash (Deleting removal) slots limit chunks e = absurd cc
 makes_first made hash (Counting n) slots limit chunks e = absurd cc
@@ -86,7 +103,8 @@ abbrev replied_at : Machine → Phase → State → Option Reply
 replied_at m phase state = reply_in (ask_of (after (record m { phase = phase; call = record m.call { state = state } }) (answers.Call told.Ok)))
 
 -- one that adds to the count ends so
-count_ends : (m : Machine) (state : State) (reply : Reply) → m.phase ≡ Calling → m.call.state ≡ state → replied_at m Calling state ≡ Some reply → reply_in (ask_of (after m (answers.Call told.Ok))) ≡ Some reply
+count_ends : (m : Machine) (state : State) (reply : Reply) → m.phase ≡ Calling → m.call.state ≡ state → replied_at m Calling state ≡ Some reply
+    → reply_in (ask_of (after m (answers.Call told.Ok))) ≡ Some reply
 count_ends m state reply calling is ends = ap (λ phase. replied_at m phase m.call.state) calling ∙ ap (λ st. replied_at m Calling st) is ∙ ends
 
 -- a call that has counted what it claimed, and writes its hint
@@ -97,24 +115,30 @@ HasCounted m = (m.phase ≡ Calling) × ((claimed : Claimed) × (m.call.state �
 counts_next : (m : Machine) (claimed : Claimed) → m.phase ≡ Calling → m.call.state ≡ Counting claimed → HasCounted (after m (answers.Call told.Ok))
 counts_next m claimed calling is =
     subst (λ phase. HasCounted (after (record m { phase = phase }) (answers.Call told.Ok))) (sym calling)
-    (subst (λ st. HasCounted (after (record m { phase = Calling; call = record m.call { state = st } }) (answers.Call told.Ok))) (sym is) (refl, (claimed, refl)))
+    (subst (λ st. HasCounted (after (record m { phase = Calling; call = record m.call { state = st } }) (answers.Call told.Ok))) (sym is)
+    (refl, (claimed, refl)))
 
 -- a table that is there has one of the lengths
-length_there : (tables : List TableWords) (i : ℕ) (t : TableWords) → slice_get tables i ≡ Some t → Contains (map (λ (u : TableWords). length u.slots) tables) (length t.slots)
+length_there : (tables : List TableWords) (i : ℕ) (t : TableWords) → slice_get tables i ≡ Some t
+    → Contains (map (λ (u : TableWords). length u.slots) tables) (length t.slots)
 length_there [] i t e = let f : None ≡ Some t = e in absurd cc
 length_there (u ∷ tables) zero t e = let same : u ≡ t = cc e in (0, omega arith, ap (λ (v : TableWords). length v.slots) same)
 length_there (u ∷ tables) (suc i) t e = let (j, within, is) = length_there tables i t e in (suc j, omega (arith, within), is)
 
-pub table_length : (tables : List TableWords) (n : ℕ) (t : TableWords) → table_of tables n ≡ Some t → Contains (map (λ (u : TableWords). length u.slots) tables) (length t.slots)
+pub table_length : (tables : List TableWords) (n : ℕ) (t : TableWords) → table_of tables n ≡ Some t
+    → Contains (map (λ (u : TableWords). length u.slots) tables) (length t.slots)
 table_length tables n t e = length_there tables _ t (table_there tables n t e).1
 
 -- the root has as many slots as the initial capacity, or there is none
-pub root_long : (initial : ℕ) (words : Tables) → IsLongEnough initial words → (slots_in (table_of words.tables words.root) ≡ 0) ⊎ (initial ≤ slots_in (table_of words.tables words.root))
+pub root_long : (initial : ℕ) (words : Tables) → IsLongEnough initial words → (slots_in (table_of words.tables words.root) ≡ 0)
+    ⊎ (initial ≤ slots_in (table_of words.tables words.root))
 root_long initial words enough = of_table (table_of words.tables words.root) refl
   where
-    of_table : (o : Option TableWords) → table_of words.tables words.root ≡ o → (slots_in (table_of words.tables words.root) ≡ 0) ⊎ (initial ≤ slots_in (table_of words.tables words.root))
+    of_table : (o : Option TableWords) → table_of words.tables words.root ≡ o → (slots_in (table_of words.tables words.root) ≡ 0)
+        ⊎ (initial ≤ slots_in (table_of words.tables words.root))
     of_table None e = inl (ap slots_in e)
-    of_table (Some t) e = inr (subst (λ n. initial ≤ n) (sym (ap slots_in e)) (All-contains (λ len. initial ≤ len) (lengths_of words) (length t.slots) enough.tables (table_length words.tables words.root t e)))
+    of_table (Some t) e = inr (subst (λ n. initial ≤ n) (sym (ap slots_in e))
+        (All-contains (λ len. initial ≤ len) (lengths_of words) (length t.slots) enough.tables (table_length words.tables words.root t e)))
 
 module _ {K V S : Type 0} (eq : K → K → Bool) (hash : S → K → ℕ) (store store' : StoreState K V S) (m : Machine) (answer : Answer) where
   -- What one step of a call did: what it asked for itself left the lengths, and counted nothing but where it adds to the count; what it asked for a copy was performed. Where it makes its first table there was no root, and a root stays.
@@ -126,13 +150,17 @@ module _ {K V S : Type 0} (eq : K → K → Bool) (hash : S → K → ℕ) (stor
     pub stays : 0 < store.words.root → 0 < store'.words.root
 
   -- so is one by which an ask of a call under way was performed
-  pub performed_so : (r later : Running K V (Unit {0})) → r.machine ≡ m → PerformsAsk eq whatever hash false (ask_of m) store r answer store' later → IsCurrent (word_at store.words) m → (0 < store.words.root → 0 < store'.words.root) → IsCallStep
+  pub performed_so : (r later : Running K V (Unit {0})) → r.machine ≡ m → PerformsAsk eq whatever hash false (ask_of m) store r answer store' later
+      → IsCurrent (word_at store.words) m → (0 < store.words.root → 0 < store'.words.root) → IsCallStep
   performed_so r later is performs read stays = record {
-    own = λ calling. let (told_so, told_is, h) = calling_performs calling in own_long eq whatever false (call_machine.ask_of m.call) store r told_so store' later h;
-    counted = λ calling. let (told_so, told_is, h) = calling_performs calling in (told_so, told_is, own_counts eq whatever false (call_machine.ask_of m.call) store r told_so store' later h);
+    own = λ calling. let (told_so, told_is, h) = calling_performs calling in
+        own_long eq whatever false (call_machine.ask_of m.call) store r told_so store' later h;
+    counted = λ calling. let (told_so, told_is, h) = calling_performs calling in
+        (told_so, told_is, own_counts eq whatever false (call_machine.ask_of m.call) store r told_so store' later h);
     copy = λ ask e. (subst (λ a. PerformsAsk eq whatever hash false a store r answer store' later) e performs).0;
     first = λ calling making.
-        let phase : IsPhaseRead m.call.mode (word_at store.words) m.call.state Calling = subst (IsPhaseRead m.call.mode (word_at store.words) m.call.state) calling read.read in
+        let phase : IsPhaseRead m.call.mode (word_at store.words) m.call.state
+        Calling = subst (IsPhaseRead m.call.mode (word_at store.words) m.call.state) calling read.read in
         subst (IsRead (word_at store.words)) making phase.0;
     stays = stays;
   }
@@ -185,7 +213,8 @@ module _ {K V S : Type 0} (s : MapState K V S) where
         (cases_lt 0 s.store.words.root);
   }
 
-  module _ (eq : K → K → Bool) (hash : S → K → ℕ) (store store' : StoreState K V S) (m : Machine) (answer : Answer) (going : reply_in (ask_of m) ≡ None) (step : IsCallStep eq hash store store' m answer) (long : IsLong store m) where
+  module _ (eq : K → K → Bool) (hash : S → K → ℕ) (store store' : StoreState K V S) (m : Machine) (answer : Answer)
+      (going : reply_in (ask_of m) ≡ None) (step : IsCallStep eq hash store store' m answer) (long : IsLong store m) where
     abbrev lengths : List ℕ
     lengths = lengths_of store.words
 
@@ -210,20 +239,27 @@ module _ {K V S : Type 0} (s : MapState K V S) where
     lengthened = by_phase m.phase refl long.link
       where
         asked_first : (slots : ℕ) → m.phase ≡ Calling → (limit chunks : ℕ) × (call_machine.ask_of m.call ≡ MakeTable slots limit chunks) → MayMake slots
-        asked_first slots calling (limit, chunks, e) = let (making, is) = makes_first m.call.made m.call.hash m.call.state slots limit chunks e in inl (no_root calling making, is)
+        asked_first slots calling (limit, chunks, e) = let (making, is) = makes_first m.call.made m.call.hash m.call.state slots limit chunks e in
+            inl (no_root calling making, is)
 
-        by_call : m.phase ≡ Calling → IsLengthened (λ slots. (limit chunks : ℕ) × (call_machine.ask_of m.call ≡ MakeTable slots limit chunks)) store store' → IsLengthened MayMake store store'
+        by_call : m.phase ≡ Calling → IsLengthened (λ slots. (limit chunks : ℕ) × (call_machine.ask_of m.call ≡ MakeTable slots limit chunks)) store
+            store' → IsLengthened MayMake store store'
         by_call calling (inl same) = inl same
         by_call calling (inr (slots, asked, more)) = inr (slots, asked_first slots calling asked, more)
 
-        by_copy : (ask : CopyAsk) → ((slots limit chunks : ℕ) → ask ≡ copies.MakeTable slots limit chunks → Follows lengths slots) → IsLengthened (λ slots. (limit chunks : ℕ) × (ask ≡ copies.MakeTable slots limit chunks)) store store' → IsLengthened MayMake store store'
+        by_copy : (ask : CopyAsk) → ((slots limit chunks : ℕ) → ask ≡ copies.MakeTable slots limit chunks → Follows lengths slots)
+            → IsLengthened (λ slots. (limit chunks : ℕ) × (ask ≡ copies.MakeTable slots limit chunks)) store store' → IsLengthened MayMake store store'
         by_copy ask good (inl same) = inl same
         by_copy ask good (inr (slots, (limit, chunks, asked), more)) = inr (slots, inr (good slots limit chunks asked), more)
 
         by_phase : (phase : Phase) → m.phase ≡ phase → In (IsLongLink (Follows lengths) lengths) (link_in phase) → IsLengthened MayMake store store'
         by_phase Calling e link = by_call e (step.own e)
-        by_phase (Linking made) e link = by_copy (link_ask made) (λ slots limit chunks asked. link_good (Follows lengths) lengths made slots limit chunks asked link) (copy_long eq false hash (link_ask made) store answer store' (step.copy (link_ask made) (ap (asks_in m.call) e)))
-        by_phase (Copying_root goes) e link = by_copy (copying_ask goes) (λ slots limit chunks asked. copy_good (Follows lengths) lengths goes slots limit chunks asked link) (copy_long eq false hash (copying_ask goes) store answer store' (step.copy (copying_ask goes) (ap (asks_in m.call) e)))
+        by_phase (Linking made) e link = by_copy (link_ask made)
+            (λ slots limit chunks asked. link_good (Follows lengths) lengths made slots limit chunks asked link)
+            (copy_long eq false hash (link_ask made) store answer store' (step.copy (link_ask made) (ap (asks_in m.call) e)))
+        by_phase (Copying_root goes) e link = by_copy (copying_ask goes)
+            (λ slots limit chunks asked. copy_good (Follows lengths) lengths goes slots limit chunks asked link)
+            (copy_long eq false hash (copying_ask goes) store answer store' (step.copy (copying_ask goes) (ap (asks_in m.call) e)))
 
     -- none of those that were is gone
     still_there : (len : ℕ) → Contains lengths len → Contains lengths' len
@@ -252,23 +288,29 @@ module _ {K V S : Type 0} (s : MapState K V S) where
     all_enough = ⊎_elim
         (λ same. subst (All (λ len. s.initial ≤ len)) (sym same) long.enough)
         (λ grown. let (slots, asked, more) = grown in
-        subst (All (λ len. s.initial ≤ len)) (sym more) (All-append (λ len. s.initial ≤ len) lengths (slots ∷ []) long.enough (All-cons (λ len. s.initial ≤ len) slots [] (made_enough slots asked) (All-nil _))))
+        subst (All (λ len. s.initial ≤ len)) (sym more)
+        (All-append (λ len. s.initial ≤ len) lengths (slots ∷ []) long.enough
+        (All-cons (λ len. s.initial ≤ len) slots [] (made_enough slots asked) (All-nil _))))
         lengthened
 
     all_made : Grows s (record s { store = store' })
     all_made =
-        let beside' : All (IsMadeBeside s.initial pairs s.store.words.root lengths') long.made.made = λ i d within. still_beside _ (long.made.each i d within) in
+        let beside' : All (IsMadeBeside s.initial pairs s.store.words.root lengths') long.made.made = λ i d within.
+        still_beside _ (long.made.each i d within) in
         ⊎_elim
         (λ same. record { made = long.made.made; more = same ∙ long.made.more; each = beside' })
         (λ grown. let (slots, asked, more) = grown in record {
           made = long.made.made ++ slots ∷ [];
           more = more ∙ ap (λ l. l ++ slots ∷ []) long.made.more ∙ append_assoc (lengths_of s.store.words) long.made.made (slots ∷ []);
-          each = All-append (IsMadeBeside s.initial pairs s.store.words.root lengths') long.made.made (slots ∷ []) beside' (All-cons (IsMadeBeside s.initial pairs s.store.words.root lengths') slots [] (still_beside slots asked) (All-nil (IsMadeBeside s.initial pairs s.store.words.root lengths')));
+          each = All-append (IsMadeBeside s.initial pairs s.store.words.root lengths') long.made.made (slots ∷ []) beside'
+              (All-cons (IsMadeBeside s.initial pairs s.store.words.root lengths') slots [] (still_beside slots asked)
+              (All-nil (IsMadeBeside s.initial pairs s.store.words.root lengths')));
         })
         lengthened
 
     -- the making of a table
-    sizes : (made : Link) → link_in m.phase ≡ Some made → (slots limit : ℕ) → answer ≡ answers.Call (told.Size slots limit) → (behind copied : ℕ) (unfit : Bool) → made ≡ links.Sizing behind copied unfit → Contains lengths' slots
+    sizes : (made : Link) → link_in m.phase ≡ Some made → (slots limit : ℕ) → answer ≡ answers.Call (told.Size slots limit)
+        → (behind copied : ℕ) (unfit : Bool) → made ≡ links.Sizing behind copied unfit → Contains lengths' slots
     sizes made e slots limit is behind copied unfit sizing =
         let h = step.copy (copies.SizeOf behind) (link_asked m (links.Sizing behind copied unfit) (e ∙ ap (λ x. Some x) sizing)) in
         let f : answers.Call (size_of (table_of store.words.tables behind)) ≡ answers.Call (told.Size slots limit) = sym h.0 ∙ is in
@@ -276,12 +318,14 @@ module _ {K V S : Type 0} (s : MapState K V S) where
         let (t, there, long_is) = sized_as (table_of store.words.tables behind) slots limit size in
         still_there slots (subst (Contains lengths) long_is (table_length store.words.tables behind t there))
 
-    counts : (made : Link) → link_in m.phase ≡ Some made → (count : ℕ) → answer ≡ answers.Count count → (behind before copied : ℕ) (unfit : Bool) → made ≡ links.Counting behind unfit before copied → Contains lengths' before → Follows lengths' (max (length_after before count s.initial unfit) 8)
+    counts : (made : Link) → link_in m.phase ≡ Some made → (count : ℕ) → answer ≡ answers.Count count → (behind before copied : ℕ) (unfit : Bool)
+        → made ≡ links.Counting behind unfit before copied → Contains lengths' before → Follows lengths' (max (length_after before count s.initial unfit) 8)
     counts made e count is behind before copied unfit counting there =
         let h = step.copy copies.Count (link_asked m (links.Counting behind unfit before copied) (e ∙ ap (λ x. Some x) counting)) in
         let f : answers.Count (count_of store.count.sum) ≡ answers.Count count = sym h.0 ∙ is in
         let count_is : count_of store.count.sum ≡ count = cc f in
-        let same : count_of store.count.sum ≡ pairs = ap (λ c. count_of c.sum) (long.count going (λ counted. let f : None ≡ Some made = sym (ap link_in counted.0) ∙ e in absurd cc)) in
+        let same : count_of store.count.sum ≡ pairs = ap (λ c. count_of c.sum)
+        (long.count going (λ counted. let f : None ≡ Some made = sym (ap link_in counted.0) ∙ e in absurd cc)) in
         (before, there, (unfit, ap (λ n. max (length_after before n s.initial unfit) 8) (sym count_is ∙ same)))
 
     link_long : In (IsLongLink (Follows lengths') lengths') (link_in (after m answer).phase)
@@ -299,10 +343,12 @@ module _ {K V S : Type 0} (s : MapState K V S) where
         noted calling claimed is =
             let (told_so, told_is, h) = step.counted calling in
             let (ok, same) = subst (λ st. IsCountedBy (call_asks m.call.made m.call.hash st) store told_so store') is h in
-            let f : None ≡ Some (Inserted claimed.pair) = sym goes_on ∙ ap (λ a. reply_in (ask_of (after m a))) (told_is ∙ ap answers.Call ok) ∙ count_ends m (Noting claimed) (Inserted claimed.pair) calling is refl in
+            let f : None ≡ Some (Inserted claimed.pair) = sym goes_on ∙ ap (λ a. reply_in (ask_of (after m a))) (told_is ∙ ap answers.Call ok)
+            ∙ count_ends m (Noting claimed) (Inserted claimed.pair) calling is refl in
             absurd cc
 
-        ends : (told_so : Call_answer) → answer ≡ answers.Call told_so → told_so ≡ told.Ok → (reply : Reply) → reply_in (ask_of (after m (answers.Call told.Ok))) ≡ Some reply → store'.count ≡ store.count
+        ends : (told_so : Call_answer) → answer ≡ answers.Call told_so → told_so ≡ told.Ok → (reply : Reply)
+            → reply_in (ask_of (after m (answers.Call told.Ok))) ≡ Some reply → store'.count ≡ store.count
         ends told_so is ok reply replied =
             let f : None ≡ Some reply = sym goes_on ∙ ap (λ a. reply_in (ask_of (after m a))) (is ∙ ap answers.Call ok) ∙ replied in
             absurd cc
@@ -310,10 +356,13 @@ module _ {K V S : Type 0} (s : MapState K V S) where
         pair_counts : (told_so : Call_answer) → HoldsOfPairAsks (λ ask. IsCountedBy ask store told_so store' → store'.count ≡ store.count)
         pair_counts told_so = record { loads = λ c. c; takes = λ count c. c; key = λ c. c; value = λ c. c; pair = λ c. c; pair_of = λ n c. c }
 
-        by_state : (made : Made) (hashed : ℕ) (state : State) → m.phase ≡ Calling → m.call.state ≡ state → (told_so : Call_answer) → answer ≡ answers.Call told_so → IsCountedBy (call_asks made hashed state) store told_so store' → store'.count ≡ store.count
-        by_state made hashed (Counting n) calling is told_so told_is h = absurd (uncounted (subst (λ a. HasCounted (after m a)) (sym (told_is ∙ ap answers.Call h)) (counts_next m n calling is)))
+        by_state : (made : Made) (hashed : ℕ) (state : State) → m.phase ≡ Calling → m.call.state ≡ state → (told_so : Call_answer)
+            → answer ≡ answers.Call told_so → IsCountedBy (call_asks made hashed state) store told_so store' → store'.count ≡ store.count
+        by_state made hashed (Counting n) calling is told_so told_is h = absurd
+            (uncounted (subst (λ a. HasCounted (after m a)) (sym (told_is ∙ ap answers.Call h)) (counts_next m n calling is)))
         by_state made hashed (Noting n) calling is told_so told_is h = h.1
-        by_state made hashed (Uncounting n) calling is told_so told_is h = ends told_so told_is h (Removed n) (count_ends m (Uncounting n) (Removed n) calling is refl)
+        by_state made hashed (Uncounting n) calling is told_so told_is h = ends told_so told_is h (Removed n)
+            (count_ends m (Uncounting n) (Removed n) calling is refl)
         by_state made hashed AtRoot calling is told_so told_is h = h
         by_state made hashed Making calling is told_so told_is h = h
         by_state made hashed (Opening t) calling is told_so told_is h = h
@@ -321,10 +370,12 @@ module _ {K V S : Type 0} (s : MapState K V S) where
         by_state made hashed (Searching (searches.Looking at)) calling is told_so told_is h = h
         by_state made hashed (Searching (searches.Reading at)) calling is told_so told_is h = h
         by_state made hashed (Searching (searches.Comparing at word)) calling is told_so told_is h = h
-        by_state made hashed (Writing write) calling is told_so told_is h = write_holds (λ ask. IsCountedBy ask store told_so store' → store'.count ≡ store.count) (pair_counts told_so) write (λ n c. c) made h
+        by_state made hashed (Writing write) calling is told_so told_is h = write_holds
+            (λ ask. IsCountedBy ask store told_so store' → store'.count ≡ store.count) (pair_counts told_so) write (λ n c. c) made h
         by_state made hashed (Offering gap) calling is told_so told_is h = h
         by_state made hashed (Showing removal) calling is told_so told_is h = h
-        by_state made hashed (Pairing purpose) calling is told_so told_is h = pair_holds (λ ask. IsCountedBy ask store told_so store' → store'.count ≡ store.count) (pair_counts told_so) made (in_place_of purpose) h
+        by_state made hashed (Pairing purpose) calling is told_so told_is h = pair_holds
+            (λ ask. IsCountedBy ask store told_so store' → store'.count ≡ store.count) (pair_counts told_so) made (in_place_of purpose) h
         by_state made hashed (Putting put) calling is told_so told_is h = h
         by_state made hashed (Deleting removal) calling is told_so told_is h = h
         by_state made hashed (Leaving t) calling is told_so told_is h = h

@@ -6,7 +6,10 @@ use Rattle.papaya_words.specs.declared.limits.TheConstants.{FIRST_TABLE_LEN, FIR
 use Rattle.papaya_words.specs.declared.probe.Refused.{Refused}
 use Rattle.papaya_words.specs.declared.probe.Refused.TheVariants.{Memory, Capacity, Limit, RemoveNothing}
 use Rattle.papaya_ask.specs.declared.ask.Answer.{Answer as Call_answer}
-use Rattle.papaya_ask.specs.declared.ask.Answer.TheVariants.{Word as Word_read, Exchanged, Found as Found_instead, Op, Size, Made as Made_number, Refused as Was_refused}
+use Rattle.papaya_ask.specs.declared.ask.Answer.TheVariants.{Word as Word_read, Exchanged}
+use Rattle.papaya_ask.specs.declared.ask.Answer.TheVariants.{Found as Found_instead, Op, Size}
+use Rattle.papaya_ask.specs.declared.ask.Answer.TheVariants.{Made as Made_number}
+use Rattle.papaya_ask.specs.declared.ask.Answer.TheVariants.{Refused as Was_refused}
 use Rattle.papaya_ask.specs.declared.ask.Ask.{Ask as Call_ask}
 use Rattle.papaya_ask.specs.declared.ask.Ask.TheVariants.{Load, Exchange, ShowNone, MakeKey, MakeValue, MakePair, MakePairOf}
 use Rattle.papaya_ask.specs.declared.ask.At.TheVariants.{Next, Made as Made_word}
@@ -15,7 +18,12 @@ use Rattle.papaya_ask.specs.declared.call.Reply.TheVariants.{Refused as Reply_re
 use Rattle.papaya_ask.specs.declared.search.Search.TheVariants.{Sizing as Sizing_table, Looking, Reading, Comparing}
 use Rattle.papaya_call.specs.declared.machine.Machine.{Machine as Call_machine}
 use Rattle.papaya_call.specs.declared.machine.State.{State as Stage}
-use Rattle.papaya_call.specs.declared.machine.State.TheVariants.{AtRoot, Making, Opening, Searching, Writing, Offering, Showing, Pairing, Putting, Deleting, Counting as Counting_pair, Noting, Uncounting, Leaving, Growing, Ended}
+use Rattle.papaya_call.specs.declared.machine.State.TheVariants.{AtRoot, Making, Opening, Searching}
+use Rattle.papaya_call.specs.declared.machine.State.TheVariants.{Writing, Offering, Showing}
+use Rattle.papaya_call.specs.declared.machine.State.TheVariants.{Pairing, Putting, Deleting}
+use Rattle.papaya_call.specs.declared.machine.State.TheVariants.{Counting as Counting_pair, Noting}
+use Rattle.papaya_call.specs.declared.machine.State.TheVariants.{Uncounting, Leaving, Growing}
+use Rattle.papaya_call.specs.declared.machine.State.TheVariants.{Ended}
 use Rattle.papaya_call.specs.declared.made.Made.{Made}
 use Rattle.papaya_call.specs.declared.made.Number.{Number}
 use Rattle.papaya_call.specs.declared.made.Number.TheVariants.{Wanted, Free, Taken}
@@ -90,7 +98,8 @@ abbrev pub IsRemoveNothing : Machine → Answer → Refused → Type 0
 IsRemoveNothing m answer refused = (refused ≡ RemoveNothing) × (ask_of m ≡ asks.Call ShowNone) × (answer ≡ answers.Call (Op Remove))
 
 -- either is a cause of a call that stores
-pub write_cause : {K V S : Type 0} (s : MapState K V S) (refused : Refused) (m : Machine) (s' : MapState K V S) → IsLogRefusal s refused ⊎ (IsTableAsk m × IsNoTableRefusal s' refused) → IsWriteCause s refused s'
+pub write_cause : {K V S : Type 0} (s : MapState K V S) (refused : Refused) (m : Machine) (s' : MapState K V S) → IsLogRefusal s refused
+    ⊎ (IsTableAsk m × IsNoTableRefusal s' refused) → IsWriteCause s refused s'
 write_cause s refused m s' (inl (inl memory)) = inl memory
 write_cause s refused m s' (inl (inr (inl (capacity, full)))) = inr (inl (capacity, inl full))
 write_cause s refused m s' (inl (inr (inr spent))) = inr (inr spent)
@@ -163,14 +172,19 @@ number_pair (Exchange Made_word old new) asks_number = tt
 number_pair ask asks_number = absurd asks_number
 
 number_stage : (made : Made) (hash : ℕ) (stage : Stage) → IsPairStage made stage → IsNumberAsk (call_asks made hash stage) → IsNumberless made
-number_stage made hash (Writing write) none asks_number = numberless_ask made.number made write.old (subst (λ served. IsNumberAsk (served_ask served write made)) none asks_number)
+number_stage made hash (Writing write) none asks_number = numberless_ask made.number made write.old
+    (subst (λ served. IsNumberAsk (served_ask served write made)) none asks_number)
 number_stage made hash (Pairing purpose) pairing asks_number = numberless_ask made.number made (in_place_of purpose) asks_number
 number_stage made hash stage pairing asks_number = absurd pairing
 
 -- what it is told then is how many were taken
-told_count : {K V S A : Type 0} (eq : K → K → Bool) (says : Says K V A) (ask : Call_ask) (store store' : StoreState K V S) (r r' : Running K V A) (told : Call_answer) (count : ℕ) → IsNumberAsk ask → Performs eq says false ask store r told store' r' → (told ≡ Word_read count) ⊎ (told ≡ Found_instead count) → count ≡ store.words.made
-told_count eq says (Load Made_word) store store' r r' told count asks_number (e, stays) (inl is) = let f : Word_read count ≡ Word_read store.words.made = sym is ∙ e in cc f
-told_count eq says (Load Made_word) store store' r r' told count asks_number (e, stays) (inr is) = let f : Found_instead count ≡ Word_read store.words.made = sym is ∙ e in absurd cc
+told_count : {K V S A : Type 0} (eq : K → K → Bool) (says : Says K V A) (ask : Call_ask) (store store' : StoreState K V S) (r r' : Running K V A)
+    (told : Call_answer) (count : ℕ) → IsNumberAsk ask → Performs eq says false ask store r told store' r' → (told ≡ Word_read count)
+    ⊎ (told ≡ Found_instead count) → count ≡ store.words.made
+told_count eq says (Load Made_word) store store' r r' told count asks_number (e, stays) (inl is) = let f : Word_read count ≡ Word_read
+    store.words.made = sym is ∙ e in cc f
+told_count eq says (Load Made_word) store store' r r' told count asks_number (e, stays) (inr is) = let f : Found_instead count ≡ Word_read
+    store.words.made = sym is ∙ e in absurd cc
 told_count eq says (Exchange Made_word old new) store store' r r' told count asks_number (h, moved) is =
     matched (count ≡ store.words.made) (store.words.made == old) _ _ h (λ _ done. done_not done.0 is) (λ _ lost. lost_is lost.0 is)
   where
@@ -184,26 +198,34 @@ told_count eq says (Exchange Made_word old new) store store' r r' told count ask
 told_count eq says ask store store' r r' told count asks_number h is = absurd asks_number
 
 -- what was refused at a limit, or for want of memory
-pub by_limit : (refused : Refused) (most count : ℕ) (told : Call_answer) → told ≡ Was_refused refused → Refuses most count told → (refused ≡ Memory) ⊎ ((refused ≡ Capacity) × (most ≤ count))
-by_limit refused most count told is (inl memory) = let f : Was_refused refused ≡ Was_refused Memory = sym is ∙ memory in let g : refused ≡ Memory = cc f in inl g
-by_limit refused most count told is (inr (capacity, full)) = let f : Was_refused refused ≡ Was_refused Capacity = sym is ∙ capacity in let g : refused ≡ Capacity = cc f in inr (g, full)
+pub by_limit : (refused : Refused) (most count : ℕ) (told : Call_answer) → told ≡ Was_refused refused → Refuses most count told → (refused ≡ Memory)
+    ⊎ ((refused ≡ Capacity) × (most ≤ count))
+by_limit refused most count told is (inl memory) = let f : Was_refused refused ≡ Was_refused Memory = sym is ∙ memory in
+    let g : refused ≡ Memory = cc f in inl g
+by_limit refused most count told is (inr (capacity, full)) = let f : Was_refused refused ≡ Was_refused Capacity = sym is ∙ capacity in
+    let g : refused ≡ Capacity = cc f in inr (g, full)
 
 module _ {K V S : Type 0} (s : MapState K V S) (store store' : StoreState K V S) (refused : Refused) where
   -- a table was refused
-  tables_full : (told : Call_answer) → told ≡ Was_refused refused → Refuses MAX_TABLES (length store.words.tables) told → store' ≡ store → IsNoTableRefusal (record s { store = store' }) refused
+  tables_full : (told : Call_answer) → told ≡ Was_refused refused → Refuses MAX_TABLES (length store.words.tables) told → store' ≡ store
+      → IsNoTableRefusal (record s { store = store' }) refused
   tables_full told is none stays = elim (by_limit refused MAX_TABLES (length store.words.tables) told is none) [
     | inl memory ↦ inl memory
     | inr (capacity, full) ↦ inr (capacity, inl (subst (λ (y : StoreState K V S). MAX_TABLES ≤ length y.words.tables) (sym stays) full))
   ]
 
-  pub table_refused : (slots limit chunks : ℕ) (told : Call_answer) → told ≡ Was_refused refused → (Refuses MAX_TABLES (length store.words.tables) told × (store' ≡ store)) ⊎ MakesTable told slots limit chunks store store' → IsNoTableRefusal (record s { store = store' }) refused
+  pub table_refused : (slots limit chunks : ℕ) (told : Call_answer) → told ≡ Was_refused refused
+      → (Refuses MAX_TABLES (length store.words.tables) told × (store' ≡ store)) ⊎ MakesTable told slots limit chunks store store'
+      → IsNoTableRefusal (record s { store = store' }) refused
   table_refused slots limit chunks told is (inl (none, stays)) = tables_full told is none stays
   table_refused slots limit chunks told is (inr (made, few, more)) = absurd (cc (made, is))
 
   -- or would be too long, by the count, after one that is there
-  pub table_long : refused ≡ Capacity → (behind slots : ℕ) (unfit : Bool) → HasSlots store behind slots → 2 ^ 32 < length_after slots (count_of store.count.sum) s.initial unfit → store' ≡ store → IsNoTableRefusal (record s { store = store' }) refused
+  pub table_long : refused ≡ Capacity → (behind slots : ℕ) (unfit : Bool) → HasSlots store behind slots
+      → 2 ^ 32 < length_after slots (count_of store.count.sum) s.initial unfit → store' ≡ store → IsNoTableRefusal (record s { store = store' }) refused
   table_long capacity behind slots unfit (table, there, is) long stays =
-      let at_slots : 2 ^ 32 < length_after (length table.slots) (count_of store.count.sum) s.initial unfit = subst (λ n. 2 ^ 32 < length_after n (count_of store.count.sum) s.initial unfit) (sym is) long in
+      let at_slots : 2 ^ 32 < length_after (length table.slots) (count_of store.count.sum) s.initial
+      unfit = subst (λ n. 2 ^ 32 < length_after n (count_of store.count.sum) s.initial unfit) (sym is) long in
       subst (λ (y : StoreState K V S). IsNoTableRefusal (record s { store = y }) refused) (sym stays)
       (inr (capacity, inr (record { behind = behind; table = table; there = there; unfit = unfit; long = at_slots })))
 
@@ -213,7 +235,8 @@ module _ {K V S : Type 0} (eq : K → K → Bool) (hash : S → K → ℕ) (s : 
     -- until its pair is made the log is as long as it was
     pub pairs : IsFirst r.machine.call.task r.machine.call.made r.machine.call.remembered → length store.pairs ≡ length s.store.pairs
     -- and until it has a number for it as many were taken
-    pub numbers : IsFirst r.machine.call.task r.machine.call.made r.machine.call.remembered → IsNumberless r.machine.call.made → store.words.made ≡ s.store.words.made
+    pub numbers : IsFirst r.machine.call.task r.machine.call.made r.machine.call.remembered → IsNumberless r.machine.call.made
+        → store.words.made ≡ s.store.words.made
     pub limit : r.machine.call.made.limit ≡ s.mode.limit
     pub mode : r.machine.call.mode ≡ s.mode.resize
     pub initial : r.machine.call.initial ≡ s.initial
@@ -231,7 +254,9 @@ module _ {K V S : Type 0} (eq : K → K → Bool) (hash : S → K → ℕ) (s : 
     sized = tt;
   }
 
-  module _ (store : StoreState K V S) (r : Running K V (Unit {0})) (answer : Answer) (store' : StoreState K V S) (later : Running K V (Unit {0})) (going : reply_in (ask_of r.machine) ≡ None) (performs : PerformsAsk eq whatever hash false (ask_of r.machine) store r answer store' later) (same : later.machine ≡ r.machine) (keys : IsLawfulKeys eq (hash s.store.hasher)) (came : HasCome eq hash s call store r) (un : IsUnlogged store r) where
+  module _ (store : StoreState K V S) (r : Running K V (Unit {0})) (answer : Answer) (store' : StoreState K V S) (later : Running K V (Unit {0}))
+      (going : reply_in (ask_of r.machine) ≡ None) (performs : PerformsAsk eq whatever hash false (ask_of r.machine) store r answer store' later)
+      (same : later.machine ≡ r.machine) (keys : IsLawfulKeys eq (hash s.store.hasher)) (came : HasCome eq hash s call store r) (un : IsUnlogged store r) where
     -- the call of the machine
     abbrev own : Call_machine
     own = r.machine.call
@@ -247,25 +272,32 @@ module _ {K V S : Type 0} (eq : K → K → Bool) (hash : S → K → ℕ) (s : 
     grown : HasMoreTables store.words.tables store'.words.tables
     grown =
         let (es, (call_traces, kept)) = now_lawful.law in
-        (kept_steps.left eq (hash s.store.hasher) keys whatever hash false now 0 (seated store' (Some r) s.mode s.initial) r answer later refl performs (ap hash came.hasher) refl es call_traces now_lawful.core kept).grown
+        (kept_steps.left eq (hash s.store.hasher) keys whatever hash false now 0 (seated store' (Some r) s.mode s.initial) r answer later refl
+        performs (ap hash came.hasher) refl es call_traces now_lawful.core kept).grown
 
     still_there : (behind slots : ℕ) → HasSlots store behind slots → HasSlots store' behind slots
     still_there behind slots (t, there, is) = let more = grown behind t there in (more.0, more.1, more.2 ∙ is)
 
     -- a table's size that was answered
-    told_size : (slots limit : ℕ) → answer ≡ answers.Call (Size slots limit) → (behind copied : ℕ) (unfit : Bool) → link_in r.machine.phase ≡ Some (links.Sizing behind copied unfit) → HasSlots store' behind slots
+    told_size : (slots limit : ℕ) → answer ≡ answers.Call (Size slots limit) → (behind copied : ℕ) (unfit : Bool)
+        → link_in r.machine.phase ≡ Some (links.Sizing behind copied unfit) → HasSlots store' behind slots
     told_size slots limit is behind copied unfit e =
-        let h = subst (λ ask. PerformsAsk eq whatever hash false ask store r answer store' later) (link_asked r.machine (links.Sizing behind copied unfit) e) performs in
+        let h = subst (λ ask. PerformsAsk eq whatever hash false ask store r answer store' later)
+        (link_asked r.machine (links.Sizing behind copied unfit) e) performs in
         let f : answers.Call (size_of (table_of store.words.tables behind)) ≡ answers.Call (Size slots limit) = sym h.0.0 ∙ is in
         let told : size_of (table_of store.words.tables behind) ≡ Size slots limit = cc f in
         still_there behind slots (sized_as (table_of store.words.tables behind) slots limit told)
 
     next_sized : In (IsSizedLink (HasSlots store')) (link_in (after r.machine answer).phase)
-    next_sized = machine_sized (HasSlots store') r.machine answer told_size (sized_beside (HasSlots store) (HasSlots store') still_there (link_in r.machine.phase) un.sized)
+    next_sized = machine_sized (HasSlots store') r.machine answer told_size
+        (sized_beside (HasSlots store) (HasSlots store') still_there (link_in r.machine.phase) un.sized)
 
     -- where the call is this after the step
     unlogged_then : (then : Call_machine) → (after r.machine answer).call ≡ then → then.mode ≡ own.mode → then.initial ≡ own.initial
-        → then.made.limit ≡ own.made.limit → (IsFirst then.task then.made then.remembered → IsFirst own.task own.made own.remembered × (length store'.pairs ≡ length store.pairs)) → (IsFirst then.task then.made then.remembered → IsNumberless then.made → IsNumberless own.made × (store'.words.made ≡ store.words.made)) → IsUnlogged store' (stepped later r.machine answer)
+        → then.made.limit ≡ own.made.limit → (IsFirst then.task then.made then.remembered → IsFirst own.task own.made own.remembered
+        × (length store'.pairs ≡ length store.pairs))
+        → (IsFirst then.task then.made then.remembered → IsNumberless then.made → IsNumberless own.made × (store'.words.made ≡ store.words.made))
+        → IsUnlogged store' (stepped later r.machine answer)
     unlogged_then then is mode initial limit no_pair no_number = record {
       pairs = λ first. let h = no_pair (subst (λ (y : Call_machine). IsFirst y.task y.made y.remembered) is first) in h.1 ∙ un.pairs h.0;
       numbers = λ first none.
@@ -283,7 +315,8 @@ module _ {K V S : Type 0} (eq : K → K → Bool) (hash : S → K → ℕ) (s : 
     log = made_logs eq hash s call store r answer store' later going performs same keys came
 
     -- a call that is set aside logs nothing
-    aside_asked : (t : ℕ) → left_by own.state ≡ Some t → (phase : Phase) → (IsPairLogged (asks_in own phase) answer → ⊥) × (IsNumberTaken (asks_in own phase) answer → ⊥)
+    aside_asked : (t : ℕ) → left_by own.state ≡ Some t → (phase : Phase) → (IsPairLogged (asks_in own phase) answer → ⊥)
+        × (IsNumberTaken (asks_in own phase) answer → ⊥)
     aside_asked t left Calling = by_ask (call_machine.ask_of own) (aside_asks own.made own.hash own.state t left)
       where
         by_ask : (ask : Call_ask) → ask ≡ Load (Next t) → (IsPairLogged (asks.Call ask) answer → ⊥) × (IsNumberTaken (asks.Call ask) answer → ⊥)
@@ -304,11 +337,14 @@ module _ {K V S : Type 0} (eq : K → K → Bool) (hash : S → K → ℕ) (s : 
         let (unpaired, untaken) = aside_asked t left r.machine.phase in
         (elim log.pairs [ inl same ↦ same | inr (logged, more) ↦ absurd (unpaired logged) ], log.still untaken)
 
-    unlogged_aside : (t : ℕ) → left_by own.state ≡ Some t → (stage : Stage) → (after r.machine answer).call ≡ record own { state = stage } → IsUnlogged store' (stepped later r.machine answer)
-    unlogged_aside t left stage is = let logs = aside_logs t left in unlogged_then (record own { state = stage }) is refl refl refl (λ first. (first, logs.0)) (λ first none. (none, logs.1))
+    unlogged_aside : (t : ℕ) → left_by own.state ≡ Some t → (stage : Stage) → (after r.machine answer).call ≡ record own { state = stage }
+        → IsUnlogged store' (stepped later r.machine answer)
+    unlogged_aside t left stage is = let logs = aside_logs t left in
+        unlogged_then (record own { state = stage }) is refl refl refl (λ first. (first, logs.0)) (λ first none. (none, logs.1))
 
     -- what it asks for itself is answered
-    told_performs : (told : Call_answer) → r.machine.phase ≡ Calling → answer ≡ answers.Call told → Performs eq whatever false (call_machine.ask_of own) store r told store' later
+    told_performs : (told : Call_answer) → r.machine.phase ≡ Calling → answer ≡ answers.Call told
+        → Performs eq whatever false (call_machine.ask_of own) store r told store' later
     told_performs told calling is = own_performs eq whatever hash store r answer store' later told calling is performs
 
     standing : IsStandingState own.task own.state
@@ -331,19 +367,22 @@ module _ {K V S : Type 0} (eq : K → K → Bool) (hash : S → K → ℕ) (s : 
         asked = ap (asks_in own) step.phase
 
         -- a pair that was logged is remembered, or is the insertion's
-        pair_kept : (told : Call_answer) → IsPairLogged (asks.Call (call_machine.ask_of own)) (answers.Call told) → IsFirst own.task (call_machine.after own told).made (call_machine.after own told).remembered → ⊥
+        pair_kept : (told : Call_answer) → IsPairLogged (asks.Call (call_machine.ask_of own)) (answers.Call told)
+            → IsFirst own.task (call_machine.after own told).made (call_machine.after own told).remembered → ⊥
         pair_kept (Made_number n) makes first = paired_first own standing makes n first
         pair_kept told makes first = absurd makes
 
         unlogged : IsFirst then.task then.made then.remembered → length store'.pairs ≡ length store.pairs
         unlogged first = elim log.pairs [
           | inl same ↦ same
-          | inr (logged, more) ↦ absurd (pair_kept step.told (subst (λ a. IsPairLogged (asks.Call (call_machine.ask_of own)) a) step.is (subst (λ y. IsPairLogged y answer) asked logged)) (own_first first))
+          | inr (logged, more) ↦ absurd (pair_kept step.told
+              (subst (λ a. IsPairLogged (asks.Call (call_machine.ask_of own)) a) step.is (subst (λ y. IsPairLogged y answer) asked logged)) (own_first first))
         ]
 
         -- a number that was taken is the call's
         untaken : IsNumberless then.made → IsNumberTaken (ask_of r.machine) answer → ⊥
-        untaken none took = number_taken own step.told (subst (λ a. IsNumberTaken (asks.Call (call_machine.ask_of own)) a) step.is (subst (λ y. IsNumberTaken y answer) asked took)) none
+        untaken none took = number_taken own step.told
+            (subst (λ a. IsNumberTaken (asks.Call (call_machine.ask_of own)) a) step.is (subst (λ y. IsNumberTaken y answer) asked took)) none
 
     -- one more ask is answered
     pub unlogged_more : IsUnlogged store' (stepped later r.machine answer)
@@ -362,9 +401,11 @@ module _ {K V S : Type 0} (eq : K → K → Bool) (hash : S → K → ℕ) (s : 
 
       -- what was asked for the pair was refused
       abbrev WasRefused : Call_ask → Type 0
-      WasRefused ask = (told : Call_answer) → told ≡ Was_refused refused → IsToMake ask → Performs eq whatever false ask store r told store' later → IsLogRefusal s refused
+      WasRefused ask = (told : Call_answer) → told ≡ Was_refused refused → IsToMake ask → Performs eq whatever false ask store r told store' later
+          → IsLogRefusal s refused
 
-      pair_refused : IsFirst own.task own.made own.remembered → (told : Call_answer) → told ≡ Was_refused refused → Refuses MAX_LOG_LEN (length store.pairs) told → IsLogRefusal s refused
+      pair_refused : IsFirst own.task own.made own.remembered → (told : Call_answer) → told ≡ Was_refused refused
+          → Refuses MAX_LOG_LEN (length store.pairs) told → IsLogRefusal s refused
       pair_refused unpaired told is none = elim (by_limit refused MAX_LOG_LEN (length store.pairs) told is none) [
         | inl memory ↦ inl memory
         | inr (capacity, full) ↦ inr (inl (capacity, subst (λ n. MAX_LOG_LEN ≤ n) (un.pairs unpaired) full))
@@ -392,11 +433,14 @@ module _ {K V S : Type 0} (eq : K → K → Bool) (hash : S → K → ℕ) (s : 
       abbrev Why : Type 0
       Why = (IsLogAsk r.machine × IsLogRefusal s refused) ⊎ (IsTableAsk r.machine × IsNoTableRefusal then refused)
 
-      make_refused : (made : Made) (stage : Stage) → own.made ≡ made → own.state ≡ stage → r.machine.phase ≡ Calling → (told : Call_answer) → told ≡ Was_refused refused → IsToMake (call_asks made own.hash stage) → Performs eq whatever false (call_asks made own.hash stage) store r told store' later → Why
+      make_refused : (made : Made) (stage : Stage) → own.made ≡ made → own.state ≡ stage → r.machine.phase ≡ Calling → (told : Call_answer)
+          → told ≡ Was_refused refused → IsToMake (call_asks made own.hash stage)
+          → Performs eq whatever false (call_asks made own.hash stage) store r told store' later → Why
       make_refused made Making m e calling told is makes h = inr (λ _. e, table_refused s store store' refused FIRST_TABLE_LEN FIRST_TABLE_LIMIT 0 told is h.0)
       make_refused made (Writing write) m e calling told is makes h = inl ((calling, subst IsLogStage (sym e) tt), by_served (serves made write) refl makes h)
         where
-          by_served : (served : Option ℕ) → serves made write ≡ served → IsToMake (served_ask served write made) → Performs eq whatever false (served_ask served write made) store r told store' later → IsLogRefusal s refused
+          by_served : (served : Option ℕ) → serves made write ≡ served → IsToMake (served_ask served write made)
+              → Performs eq whatever false (served_ask served write made) store r told store' later → IsLogRefusal s refused
           by_served None none makes h =
               let unpaired : IsFirst own.task own.made own.remembered = first (subst (IsPairStage own.made) (sym e) (ap (λ y. serves y write) m ∙ none)) in
               pair_holds WasRefused (log_refused unpaired) made write.old told is makes h
@@ -426,7 +470,8 @@ module _ {K V S : Type 0} (eq : K → K → Bool) (hash : S → K → ℕ) (s : 
       number_refused own_step is (most, count, limit, full, asks_number, told) =
           let pairing : IsPairStage own.made own.state = pair_stage_of own.made own.hash own.state (number_pair (call_machine.ask_of own) asks_number) in
           let numberless : IsNumberless own.made = number_stage own.made own.hash own.state pairing asks_number in
-          let counted : count ≡ store.words.made = told_count eq whatever (call_machine.ask_of own) store store' r later own_step.told count asks_number (told_performs own_step.told own_step.phase own_step.is) told in
+          let counted : count ≡ store.words.made = told_count eq whatever (call_machine.ask_of own) store store' r later own_step.told count
+          asks_number (told_performs own_step.told own_step.phase own_step.is) told in
           let own_limit : s.mode.limit ≡ Some most = sym un.limit ∙ limit in
           let few : store.words.made ≤ most = made_most eq (hash s.store.hasher) now.callers s.mode store now_lawful most own_limit in
           let as_before : store.words.made ≡ s.store.words.made = un.numbers (first pairing) numberless in
@@ -436,7 +481,8 @@ module _ {K V S : Type 0} (eq : K → K → Bool) (hash : S → K → ℕ) (s : 
       -- the call's own refusal
       own_refused : IsOwnRefusal r.machine answer refused → Why ⊎ IsRemoveNothing r.machine answer refused
       own_refused because = elim because.why [
-        | inl (makes, is) ↦ inl (make_refused own.made own.state refl refl because.own.phase because.own.told is makes (told_performs because.own.told because.own.phase because.own.is))
+        | inl (makes, is) ↦ inl (make_refused own.made own.state refl refl because.own.phase because.own.told is makes
+            (told_performs because.own.told because.own.phase because.own.is))
         | inr (inl (is, spent)) ↦ inl (number_refused because.own is spent)
         | inr (inr (nothing_there, shows, removes)) ↦ inr (nothing_there, shows, because.own.is ∙ ap answers.Call removes)
       ]
@@ -459,9 +505,13 @@ module _ {K V S : Type 0} (eq : K → K → Bool) (hash : S → K → ℕ) (s : 
           let ((is, stays), unmoved) = subst (λ ask. PerformsAsk eq whatever hash false ask store r answer store' later) because.asks performs in
           let f : answers.Count because.count ≡ answers.Count (count_of store.count.sum) = sym because.is ∙ is in
           let counted : because.count ≡ count_of store.count.sum = cc f in
-          let at_count : 2 ^ 32 < length_after because.slots (count_of store.count.sum) own.initial because.unfit = subst (λ n. 2 ^ 32 < length_after because.slots n own.initial because.unfit) counted because.long in
-          let at_initial : 2 ^ 32 < length_after because.slots (count_of store.count.sum) s.initial because.unfit = subst (λ n. 2 ^ 32 < length_after because.slots (count_of store.count.sum) n because.unfit) un.initial at_count in
-          table_long s store store' refused because.capacity because.behind because.slots because.unfit (is_sized (HasSlots store) (link_in r.machine.phase) un.sized because.behind because.slots because.copied because.unfit because.link) at_initial stays
+          let at_count : 2 ^ 32 < length_after because.slots (count_of store.count.sum) own.initial
+          because.unfit = subst (λ n. 2 ^ 32 < length_after because.slots n own.initial because.unfit) counted because.long in
+          let at_initial : 2 ^ 32 < length_after because.slots (count_of store.count.sum) s.initial
+          because.unfit = subst (λ n. 2 ^ 32 < length_after because.slots (count_of store.count.sum) n because.unfit) un.initial at_count in
+          table_long s store store' refused because.capacity because.behind because.slots because.unfit
+          (is_sized (HasSlots store) (link_in r.machine.phase) un.sized because.behind because.slots because.copied because.unfit because.link)
+          at_initial stays
 
       next_table : IsTableRefusal r.machine answer refused → IsTableAsk r.machine × IsNoTableRefusal then refused
       next_table because = elim because.why [
@@ -470,7 +520,8 @@ module _ {K V S : Type 0} (eq : K → K → Bool) (hash : S → K → ℕ) (s : 
       ]
 
       -- Why the step ends the call refused: a log, a table, or a closure that would remove what isn't there; and what it asked for.
-      pub refused_as : reply_in (ask_of (after r.machine answer)) ≡ Some (Reply_refused refused) → (IsLogAsk r.machine × IsLogRefusal s refused) ⊎ (IsTableAsk r.machine × IsNoTableRefusal then refused) ⊎ IsRemoveNothing r.machine answer refused
+      pub refused_as : reply_in (ask_of (after r.machine answer)) ≡ Some (Reply_refused refused) → (IsLogAsk r.machine × IsLogRefusal s refused)
+          ⊎ (IsTableAsk r.machine × IsNoTableRefusal then refused) ⊎ IsRemoveNothing r.machine answer refused
       refused_as e = elim (made_caused eq hash s call store r answer store' later going performs same keys came refused e) [
         | inl because ↦ elim (own_refused because) [
           | inl (inl log) ↦ inl log
@@ -481,5 +532,6 @@ module _ {K V S : Type 0} (eq : K → K → Bool) (hash : S → K → ℕ) (s : 
       ]
 
       -- the same without what it asked of a log
-      pub refused_so : reply_in (ask_of (after r.machine answer)) ≡ Some (Reply_refused refused) → IsLogRefusal s refused ⊎ (IsTableAsk r.machine × IsNoTableRefusal then refused) ⊎ IsRemoveNothing r.machine answer refused
+      pub refused_so : reply_in (ask_of (after r.machine answer)) ≡ Some (Reply_refused refused) → IsLogRefusal s refused
+          ⊎ (IsTableAsk r.machine × IsNoTableRefusal then refused) ⊎ IsRemoveNothing r.machine answer refused
       refused_so e = elim (refused_as e) [ inl log ↦ inl log.1 | inr others ↦ inr others ]

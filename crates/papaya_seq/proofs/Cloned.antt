@@ -1,5 +1,7 @@
 -- Clones of pairs of different keys, put in one after the other.
-use Rattle.std.proofs.Common.{◌≡◌, ⊎_elim, Bool, true, false, List, [], ◌∷◌, ◌++◌, map, Option, Some, None, Ok, Err, MatchOption, option_map, refl, sym, ap, ◌∙◌, subst, arith, ◌+◌, ◌≤◌, length}
+use Rattle.std.proofs.Common.{◌≡◌, ⊎_elim, Bool, true, false, List, [], ◌∷◌, ◌++◌, map, Option}
+use Rattle.std.proofs.Common.{Some, None, Ok, Err, MatchOption, option_map, refl, sym, ap, ◌∙◌}
+use Rattle.std.proofs.Common.{subst, arith, ◌+◌, ◌≤◌, length}
 use Rattle.std.proofs.lemmas.List.{length_push}
 use Rattle.std.proofs.lemmas.Bool.{cases_Bool, cond-true, cond-false}
 use Rattle.std.specs.Cmp.{IsEquivalence}
@@ -14,15 +16,18 @@ use Rattle.papaya_seq.specs.Map.{LogsOne, MapState, entry_of}
 use Rattle.papaya_seq.proofs.Equal.{alike}
 use Rattle.papaya_seq.proofs.Filled.{cut, empty_entries, fills_more, fills_none, put_all_alike}
 
-module _ {K V : Type 0} (eq : K → K → Bool) (law : IsEquivalence eq) (CK : K → K → Type 0) (CV : V → V → Type 0) (same : (k l : K) → CK k l → eq k l ≡ true) where
+module _ {K V : Type 0} (eq : K → K → Bool) (law : IsEquivalence eq) (CK : K → K → Type 0) (CV : V → V → Type 0)
+    (same : (k l : K) → CK k l → eq k l ≡ true) where
   -- a key that is not among those of the pairs is not among those of the clones
-  absent : (ps : List (Stored K V)) (cs : List (K × V)) → AllZip (Clones CK CV) (map entry_of ps) cs → (m : Entries K V) (k : K) → lookup eq (λ p. p.key) ps k ≡ None → put_all eq (λ c. c) m cs k ≡ m k
+  absent : (ps : List (Stored K V)) (cs : List (K × V)) → AllZip (Clones CK CV) (map entry_of ps) cs → (m : Entries K V) (k : K)
+      → lookup eq (λ p. p.key) ps k ≡ None → put_all eq (λ c. c) m cs k ≡ m k
   absent [] [] all m k none = refl
   absent [] (c ∷ cs) all m k none = absurd all
   absent (p ∷ ps) [] all m k none = absurd all
   absent (p ∷ ps) (c ∷ cs) (here, rest) m k none =
       ⊎_elim
-      (λ (y : eq k p.key ≡ true). let clash : Some p ≡ None = sym (cond-true (eq k p.key) (Some p) (lookup eq (λ (q : Stored K V). q.key) ps k) y) ∙ none in absurd cc)
+      (λ (y : eq k p.key ≡ true). let clash : Some p ≡ None = sym (cond-true (eq k p.key) (Some p) (lookup eq (λ (q : Stored K V). q.key) ps k) y)
+      ∙ none in absurd cc)
       (λ (n : eq k p.key ≡ false).
       let other : eq k c.0 ≡ false = law.symm k c.0 ∙ sym (law.congr p.key c.0 k (same p.key c.0 here.0)) ∙ law.symm p.key k ∙ n in
       absent ps cs rest (put eq m c) k (sym (cond-false (eq k p.key) (Some p) (lookup eq (λ (q : Stored K V). q.key) ps k) n) ∙ none)
@@ -34,7 +39,9 @@ module _ {K V : Type 0} (eq : K → K → Bool) (law : IsEquivalence eq) (CK : K
   HasNoneOf ps m = (j : K) (r : Stored K V) → lookup eq (λ p. p.key) ps j ≡ Some r → m j ≡ None
 
   -- and the others have their clones, where none was there before
-  there : (ps : List (Stored K V)) (cs : List (K × V)) → AreApart eq (λ p. p.key) ps → AllZip (Clones CK CV) (map entry_of ps) cs → (m : Entries K V) → HasNoneOf ps m → (k : K) (p : Stored K V) → lookup eq (λ q. q.key) ps k ≡ Some p → (c : K × V) × (put_all eq (λ d. d) m cs k ≡ Some c) × Clones CK CV (entry_of p) c
+  there : (ps : List (Stored K V)) (cs : List (K × V)) → AreApart eq (λ p. p.key) ps → AllZip (Clones CK CV) (map entry_of ps) cs → (m : Entries K V)
+      → HasNoneOf ps m → (k : K) (p : Stored K V) → lookup eq (λ q. q.key) ps k ≡ Some p → (c : K × V) × (put_all eq (λ d. d) m cs k ≡ Some c)
+      × Clones CK CV (entry_of p) c
   there [] cs apart all m free k p is = absurd cc
   there (q ∷ ps) [] apart all m free k p is = absurd all
   there (q ∷ ps) (c ∷ cs) (alone, apart) (here, rest) m free k p is =
@@ -44,9 +51,14 @@ module _ {K V : Type 0} (eq : K → K → Bool) (law : IsEquivalence eq) (CK : K
       let none : lookup eq (λ (r : Stored K V). r.key) ps k ≡ None = alike eq law (λ (r : Stored K V). r.key) k q.key y ps ∙ alone in
       let its : eq k c.0 ≡ true = law.congr k q.key c.0 y ∙ same q.key c.0 here.0 in
       let back : eq c.0 q.key ≡ true = law.symm c.0 q.key ∙ same q.key c.0 here.0 in
-      let unmet : m c.0 ≡ None = free c.0 q (cond-true (eq c.0 q.key) (Some q) (lookup eq (λ (r : Stored K V). r.key) ps c.0) back) in
-      (c, absent ps cs rest (put eq m c) k none ∙ cond-true (eq k c.0) (Some (kept (m c.0) c)) (m k) its ∙ ap (λ (o : Option (K × V)). Some (kept o c)) unmet, subst (λ (r : Stored K V). Clones CK CV (entry_of r) c) first here))
-      (λ (n : eq k q.key ≡ false). there ps cs apart rest (put eq m c) still k p (sym (cond-false (eq k q.key) (Some q) (lookup eq (λ (r : Stored K V). r.key) ps k) n) ∙ is))
+      let unmet : m c.0 ≡ None = free c.0 q (cond-true (eq c.0 q.key) (Some q) (lookup eq (λ (r : Stored K V). r.key) ps c.0) back) in (
+        c,
+        absent ps cs rest (put eq m c) k none ∙ cond-true (eq k c.0) (Some (kept (m c.0) c)) (m k) its
+            ∙ ap (λ (o : Option (K × V)). Some (kept o c)) unmet,
+        subst (λ (r : Stored K V). Clones CK CV (entry_of r) c) first here,
+      ))
+      (λ (n : eq k q.key ≡ false). there ps cs apart rest (put eq m c) still k p
+      (sym (cond-false (eq k q.key) (Some q) (lookup eq (λ (r : Stored K V). r.key) ps k) n) ∙ is))
       (cases_Bool (eq k q.key))
     where
       still : HasNoneOf ps (put eq m c)
@@ -68,13 +80,16 @@ module _ {K V : Type 0} (eq : K → K → Bool) (law : IsEquivalence eq) (CK : K
   some_of (Some q) c e = (q, refl, cc e)
 
   -- so each class of a map has a clone in one that was filled with clones, and had no pair before
-  pub all_copied : {S Z : Type 0} (s : StoreState K V Z) (to to' : MapState K V S) → AreApart eq (λ p. p.key) (content eq s) → content eq to.store ≡ [] → IsCopied eq CK CV to (map entry_of (content eq s)) to' → IsCloned eq CK CV s to'.store
+  pub all_copied : {S Z : Type 0} (s : StoreState K V Z) (to to' : MapState K V S) → AreApart eq (λ p. p.key) (content eq s)
+      → content eq to.store ≡ [] → IsCopied eq CK CV to (map entry_of (content eq s)) to' → IsCloned eq CK CV s to'.store
   all_copied s to to' apart empty copied k = of_option (map_in eq s k) refl
     where
       entries : (j : K) → entries_in eq to'.store j ≡ put_all eq (λ c. c) nothing copied.clones j
       entries j = copied.fills.entries j ∙ put_all_alike eq (λ c. c) copied.clones (entries_in eq to.store) nothing (empty_entries eq to.store empty) j
 
-      of_option : (o : Option (Stored K V)) → map_in eq s k ≡ o → MatchOption o (map_in eq to'.store k ≡ None) (λ (p : Stored K V). (q : Stored K V) × (map_in eq to'.store k ≡ Some q) × (CK p.key q.key × CV p.value q.value))
+      of_option : (o : Option (Stored K V)) → map_in eq s k ≡ o
+          → MatchOption o (map_in eq to'.store k ≡ None)
+          (λ (p : Stored K V). (q : Stored K V) × (map_in eq to'.store k ≡ Some q) × (CK p.key q.key × CV p.value q.value))
       of_option None is = none_of (map_in eq to'.store k) (entries k ∙ absent (content eq s) copied.clones copied.each nothing k is)
       of_option (Some p) is =
           let found = there (content eq s) copied.clones apart copied.each nothing (λ j r found. refl) k p is in
@@ -92,9 +107,11 @@ module _ {K V S : Type 0} (eq : K → K → Bool) (CK : K → K → Type 0) (CV 
   pub copied_none : IsCopied eq CK CV to [] to
   copied_none = record { clones = []; each = tt; fills = fills_none eq (λ c. c) to; logged = omega arith; shards = refl }
 
-  module _ (es : List (K × V)) (at : MapState K V S) (copied : IsCopied eq CK CV to es at) (e c : K × V) (clones_key : CK e.0 c.0) (clones_value : CV e.1 c.1) where
+  module _ (es : List (K × V)) (at : MapState K V S) (copied : IsCopied eq CK CV to es at) (e c : K × V) (clones_key : CK e.0 c.0)
+      (clones_value : CV e.1 c.1) where
     -- one clone more
-    pub copied_more : (new : Bool) (to' : MapState K V S) → IsPut eq c.0 c.1 at (Ok new) to' → LogsOne at.store to'.store → IsCopied eq CK CV to (es ++ e ∷ []) to'
+    pub copied_more : (new : Bool) (to' : MapState K V S) → IsPut eq c.0 c.1 at (Ok new) to' → LogsOne at.store to'.store
+        → IsCopied eq CK CV to (es ++ e ∷ []) to'
     copied_more new to' put logs = record {
       clones = copied.clones ++ c ∷ [];
       each = zip_more CK CV es copied.clones e c copied.each (clones_key, clones_value);
@@ -108,7 +125,8 @@ module _ {K V S : Type 0} (eq : K → K → Bool) (CK : K → K → Type 0) (CV 
     }
 
     -- or one that is refused
-    pub copy_cut : {Z : Type 0} (from : StoreState K V Z) (rest : List (K × V)) → map entry_of (content eq from) ≡ es ++ e ∷ rest → (refused : Refused) (to' : MapState K V S) → IsPut eq c.0 c.1 at (Err refused) to' → IsCopyCut eq CK CV from to refused to'
+    pub copy_cut : {Z : Type 0} (from : StoreState K V Z) (rest : List (K × V)) → map entry_of (content eq from) ≡ es ++ e ∷ rest
+        → (refused : Refused) (to' : MapState K V S) → IsPut eq c.0 c.1 at (Err refused) to' → IsCopyCut eq CK CV from to refused to'
     copy_cut from rest whole refused to' put = record {
       done = es;
       next = e;

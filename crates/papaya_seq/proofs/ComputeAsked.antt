@@ -50,7 +50,9 @@ use Rattle.papaya_seq.specs.Computes.{AreOf, Says}
 use Rattle.papaya_seq.specs.Computing.{IsKept}
 use Rattle.papaya_seq.specs.Map.{IsLawfulMap, MapState, deref_pair, entry_of}
 use Rattle.papaya_seq.proofs.Causes.{unlogged_more}
-use Rattle.papaya_seq.proofs.ComputeRun.{IsAsked, IsComputing, IsDoing, IsInsertSaid, IsInserting, IsLeft, IsOnWay, IsShown, IsToRemove, IsWaiting, Went, as_number, kept_as}
+use Rattle.papaya_seq.proofs.ComputeRun.{IsAsked, IsComputing, IsDoing, IsInsertSaid, IsInserting}
+use Rattle.papaya_seq.proofs.ComputeRun.{IsLeft, IsOnWay, IsShown, IsToRemove, IsWaiting, Went}
+use Rattle.papaya_seq.proofs.ComputeRun.{as_number, kept_as}
 use Rattle.papaya_seq.proofs.ComputeShown.{asking, offering, showing, shows_none, shows_pair}
 use Rattle.papaya_seq.proofs.ComputeStages.{IsRemoving, IsReplacing, bare_at, bare_is, remembers_nothing}
 use Rattle.papaya_seq.proofs.Ending.{left_of}
@@ -61,11 +63,20 @@ use Rattle.papaya_seq.proofs.Steps.{HasCome, made_more, made_nears}
 pairing_going : (made : Made) (purpose : Purpose) (reply : Reply) → reply_in (asked.Call (pair_ask made (in_place_of purpose))) ≡ Some reply → ⊥
 pairing_going made purpose =
     pair_holds (λ ask. (reply : Reply) → reply_in (asked.Call ask) ≡ Some reply → ⊥)
-    (record { loads = λ reply e. cc e; takes = λ count reply e. cc e; key = λ reply e. cc e; value = λ reply e. cc e; pair = λ reply e. cc e; pair_of = λ n reply e. cc e })
+    (record {
+      loads = λ reply e. cc e;
+      takes = λ count reply e. cc e;
+      key = λ reply e. cc e;
+      value = λ reply e. cc e;
+      pair = λ reply e.
+          cc e;
+      pair_of = λ n reply e. cc e;
+    })
     made (in_place_of purpose)
 
 -- a call that shows a closure something has not replied
-unreplied : {K V A : Type 0} (r : Running K V A) (ask : Call_ask) → reply_in (asked.Call ask) ≡ None → ask_of r.machine ≡ asked.Call ask → (reply : Reply) → reply_in (ask_of r.machine) ≡ Some reply → ⊥
+unreplied : {K V A : Type 0} (r : Running K V A) (ask : Call_ask) → reply_in (asked.Call ask) ≡ None → ask_of r.machine ≡ asked.Call ask
+    → (reply : Reply) → reply_in (ask_of r.machine) ≡ Some reply → ⊥
 unreplied r ask going e reply told = let f : None ≡ Some reply = sym going ∙ ap reply_in (sym e) ∙ told in cc f
 
 module _ {K V S A T : Type 0} (s : MapState K V S) (store : StoreState K V S) (r : Running K V A) where
@@ -78,7 +89,8 @@ module _ {K V S A T : Type 0} (s : MapState K V S) (store : StoreState K V S) (r
   not_offered (ops.Abort t) held none now e = unreplied r ShowNone refl e (Aborted 0) now
 
   -- nor is one a pair that was shown it
-  pub not_showing : (o : Operation V T) (held : Option (Stored K V)) (q : Stored K V) → held ≡ Some q → (n : ℕ) → IsAsked s held o store r → ask_of r.machine ≡ asked.Call (ShowPair n) → ⊥
+  pub not_showing : (o : Operation V T) (held : Option (Stored K V)) (q : Stored K V) → held ≡ Some q → (n : ℕ) → IsAsked s held o store r
+      → ask_of r.machine ≡ asked.Call (ShowPair n) → ⊥
   not_showing (ops.Insert v) held q there n now e =
       let (removal, is, number) = showing r.machine.call.made r.machine.call.hash n r.machine.call.state (call_asks r.machine (ShowPair n) e).1 in
       subst IsReplacing is (subst (λ h. IsOnWay h r.machine) there now.way).1
@@ -90,7 +102,10 @@ module _ {K V S A T : Type 0} (s : MapState K V S) (store : StoreState K V S) (r
 module _ {K V S A : Type 0} (s : MapState K V S) (store : StoreState K V S) (r : Running K V A) where
   -- the call whose closure answered
   abbrev at_pairing : Made → Purpose → Running K V A
-  at_pairing made purpose = record r { machine = record (bare_at r.machine (Pairing purpose)) { call = record (bare_at r.machine (Pairing purpose)).call { made = made } } }
+  at_pairing made purpose = record r {
+    machine =
+        record (bare_at r.machine (Pairing purpose)) { call = record (bare_at r.machine (Pairing purpose)).call { made = made } };
+  }
 
   -- it stands on nothing but the value
   pairing_only : (made : Made) (purpose : Purpose) (said : Said) → StandsOn (at_pairing made purpose).machine.call said → said_for purpose ≡ Some said
@@ -99,7 +114,9 @@ module _ {K V S A : Type 0} (s : MapState K V S) (store : StoreState K V S) (r :
   pairing_only made purpose said (inr (inr e)) = absurd (cc e)
 
   -- which is at hand
-  pairing_inserts : (made : Made) (purpose : Purpose) (shown : Option ℕ) → said_for purpose ≡ Some (Inserts shown) → (held : Option (Stored K V)) → IsShown held shown → (v : V) → r.value ≡ Some (Own v) → IsOnWay held (at_pairing made purpose).machine → IsInserting s held v store (at_pairing made purpose)
+  pairing_inserts : (made : Made) (purpose : Purpose) (shown : Option ℕ) → said_for purpose ≡ Some (Inserts shown) → (held : Option (Stored K V))
+      → IsShown held shown → (v : V) → r.value ≡ Some (Own v) → IsOnWay held (at_pairing made purpose).machine
+      → IsInserting s held v store (at_pairing made purpose)
   pairing_inserts made purpose shown is held shown_is v value way = record {
     value = ap (value_at store.pairs) value;
     said = λ said stands. subst (IsInsertSaid held v store (at_pairing made purpose)) (sym (only said stands)) (shown_is, only);
@@ -112,21 +129,28 @@ module _ {K V S A : Type 0} (s : MapState K V S) (store : StoreState K V S) (r :
 
 module _ {K V S A T : Type 0} (s : MapState K V S) (store : StoreState K V S) (r : Running K V A) where
   -- what holds where a closure answered that was shown that there is none
-  none_asked : (o : Operation V T) (gap : Gap) (left : Option (Part V)) → r.value ≡ value_answered (as_number o) left → IsAsked s None o store (record r { machine = after (bare_at r.machine (Offering gap)) (answers.Call (Op (op_kind (as_number o)))) })
+  none_asked : (o : Operation V T) (gap : Gap) (left : Option (Part V)) → r.value ≡ value_answered (as_number o) left
+      → IsAsked s None o store (record r { machine = after (bare_at r.machine (Offering gap)) (answers.Call (Op (op_kind (as_number o)))) })
   none_asked (ops.Insert v) gap left value = pairing_inserts s store r (record r.machine.call.made { valued = false }) (Fill gap) None refl None refl v value tt
   none_asked ops.Remove gap left value = refl
   none_asked (ops.Abort t) gap left value = refl
 
   -- or a pair
-  pair_asked : (o : Operation V T) (q : Stored K V) (removal : Removal) (left : Option (Part V)) → 0 < removal.word → number_of removal.word ≡ q.number → r.value ≡ value_answered (as_number o) left → IsAsked s (Some q) o store (record r { machine = after (bare_at r.machine (Showing removal)) (answers.Call (Op (op_kind (as_number o)))) })
-  pair_asked (ops.Insert v) q removal left some number value = pairing_inserts s store r (record r.machine.call.made { valued = false }) (Replace (record { place = removal.place; old = removal.word })) _ refl (Some q) (ap Some number) v value (refl, some)
+  pair_asked : (o : Operation V T) (q : Stored K V) (removal : Removal) (left : Option (Part V)) → 0 < removal.word
+      → number_of removal.word ≡ q.number → r.value ≡ value_answered (as_number o) left
+      → IsAsked s (Some q) o store (record r { machine = after (bare_at r.machine (Showing removal)) (answers.Call (Op (op_kind (as_number o)))) })
+  pair_asked (ops.Insert v) q removal left some number value = pairing_inserts s store r (record r.machine.call.made { valued = false })
+      (Replace (record { place = removal.place; old = removal.word })) _ refl (Some q) (ap Some number) v value (refl, some)
   pair_asked ops.Remove q removal left some number value = (refl, tt)
   pair_asked (ops.Abort t) q removal left some number value = refl
 
-module _ {K V S A F T H : Type 0} (eq : K → K → Bool) (input : K → List (List ℕ)) (build : S → H) (write : H → List ℕ → H) (finish : H → ℕ) (classes : IsEquivalence eq) (respects : (x y : K) → eq x y ≡ true → input x ≡ input y)
-    (s : MapState K V S) (lawful : IsLawfulMap eq (hash_of input build write finish s.store.hasher) s.store s.mode s.initial) (k : K) (fits : hash_of input build write finish s.store.hasher k < 2 ^ 64)
+module _ {K V S A F T H : Type 0} (eq : K → K → Bool) (input : K → List (List ℕ)) (build : S → H) (write : H → List ℕ → H) (finish : H → ℕ)
+    (classes : IsEquivalence eq) (respects : (x y : K) → eq x y ≡ true → input x ≡ input y)
+    (s : MapState K V S) (lawful : IsLawfulMap eq (hash_of input build write finish s.store.hasher) s.store s.mode s.initial) (k : K)
+    (fits : hash_of input build write finish s.store.hasher k < 2 ^ 64)
     (post : F → Option (Bor K × Bor V) → Operation V T → Type 0) (f : F)
-    (store : StoreState K V S) (r : Running K V A) (closure : Option F) (shown : Option ℕ) (aborted : Option T) (now : IsComputing eq (hash_of input build write finish) s k post f store r closure shown aborted) where
+    (store : StoreState K V S) (r : Running K V A) (closure : Option F) (shown : Option ℕ) (aborted : Option T)
+    (now : IsComputing eq (hash_of input build write finish) s k post f store r closure shown aborted) where
   abbrev Waits : Type 0
   Waits = IsWaiting {T = T} eq (hash_of input build write finish) s k post f store r closure shown
 
@@ -142,7 +166,8 @@ module _ {K V S A F T H : Type 0} (eq : K → K → Bool) (input : K → List (L
   none_held e = shows_none eq input build write finish classes respects s lawful k fits store r came e
 
   -- and else the pair that the map has
-  pub pair_held : (n : ℕ) → ask_of r.machine ≡ asked.Call (ShowPair n) → (q : Stored K V) × (map_in eq s.store k ≡ Some q) × (q.number ≡ n) × (pair_of store n ≡ Some q)
+  pub pair_held : (n : ℕ) → ask_of r.machine ≡ asked.Call (ShowPair n) → (q : Stored K V) × (map_in eq s.store k ≡ Some q) × (q.number ≡ n)
+      × (pair_of store n ≡ Some q)
   pair_held n e = shows_pair eq input build write finish classes respects s lawful k fits store r came n e
 
   -- so its closure was not called
@@ -150,21 +175,25 @@ module _ {K V S A F T H : Type 0} (eq : K → K → Bool) (input : K → List (L
   waits_none e =
       ⊎_elim
       (λ (w : Waits). w)
-      (λ (d : IsDoing eq (hash_of input build write finish) s k post f store r shown aborted). absurd (not_offered s store r d.operation (map_in eq s.store k) (none_held e) d.asked e))
+      (λ (d : IsDoing eq (hash_of input build write finish) s k post f store r shown aborted).
+      absurd (not_offered s store r d.operation (map_in eq s.store k) (none_held e) d.asked e))
       now.phase
 
   waits_pair : (n : ℕ) → ask_of r.machine ≡ asked.Call (ShowPair n) → Waits
   waits_pair n e =
       ⊎_elim
       (λ (w : Waits). w)
-      (λ (d : IsDoing eq (hash_of input build write finish) s k post f store r shown aborted). let (q, here, number, logged) = pair_held n e in absurd (not_showing s store r d.operation (map_in eq s.store k) q here n d.asked e))
+      (λ (d : IsDoing eq (hash_of input build write finish) s k post f store r shown aborted). let (q, here, number, logged) = pair_held n e in
+      absurd (not_showing s store r d.operation (map_in eq s.store k) q here n d.asked e))
       now.phase
 
   -- what is shown is of what the map holds
   pub none_are : (entry : Option (Bor K × Bor V)) → entry ≡ None → ask_of r.machine ≡ asked.Call ShowNone → AreOf entry (map_in eq s.store k)
   none_are entry none e = ap (option_map deref_pair) none ∙ sym (ap (option_map entry_of) (none_held e))
 
-  pub entry_are : (entry : Option (Bor K × Bor V)) (n : ℕ) → MatchOption entry (pair_of store n ≡ None) (λ p. pair_of store n ≡ Some (record { number = n; key = p.0.now; value = p.1.now })) → ask_of r.machine ≡ asked.Call (ShowPair n) → AreOf entry (map_in eq s.store k)
+  pub entry_are : (entry : Option (Bor K × Bor V)) (n : ℕ)
+      → MatchOption entry (pair_of store n ≡ None) (λ p. pair_of store n ≡ Some (record { number = n; key = p.0.now; value = p.1.now }))
+      → ask_of r.machine ≡ asked.Call (ShowPair n) → AreOf entry (map_in eq s.store k)
   entry_are None n gone e = let (q, here, number, logged) = pair_held n e in let g : None ≡ Some q = sym gone ∙ logged in absurd cc
   entry_are (Some p) n there e =
       let (q, here, number, logged) = pair_held n e in
@@ -183,7 +212,8 @@ module _ {K V S A F T H : Type 0} (eq : K → K → Bool) (input : K → List (L
   machine_is : Waits → (state : State) → r.machine.phase ≡ Calling → r.machine.call.state ≡ state → r.machine ≡ bare_at r.machine state
   machine_is w state phase is = bare_is r.machine state came.task (remembers_nothing r.machine.call (λ said stands. absurd (w.silent said stands))) phase is
 
-  module _ (told : Call_answer) (value' : Option (Part V)) (closure' : Option F) (aborted' : Option T) (entry : Option (Bor K × Bor V)) (f' : F) (o : Operation V T) (taken : closure ≡ Some f') (says : post f' entry o) (kept : IsKept o told r.value value' aborted aborted') where
+  module _ (told : Call_answer) (value' : Option (Part V)) (closure' : Option F) (aborted' : Option T) (entry : Option (Bor K × Bor V)) (f' : F)
+      (o : Operation V T) (taken : closure ≡ Some f') (says : post f' entry o) (kept : IsKept o told r.value value' aborted aborted') where
     -- what is kept
     kept_is : (told ≡ Op (op_kind (as_number o))) × (value' ≡ value_answered (as_number o) r.value) × IsLeft o aborted'
     kept_is = kept_as o told r.value value' aborted aborted' kept
@@ -209,33 +239,45 @@ module _ {K V S A F T H : Type 0} (eq : K → K → Bool) (input : K → List (L
         (entry, are, subst (λ (y : F). post y entry o) same says)
 
     -- what holds after it, of the machine as it is
-    asked_now : (held : Option (Stored K V)) (state : State) → r.machine ≡ bare_at r.machine state → IsAsked s held o store (record later { machine = after (bare_at r.machine state) (answers.Call (Op (op_kind (as_number o)))) }) → IsAsked s held o store then
+    asked_now : (held : Option (Stored K V)) (state : State) → r.machine ≡ bare_at r.machine state
+        → IsAsked s held o store (record later { machine = after (bare_at r.machine state) (answers.Call (Op (op_kind (as_number o)))) })
+        → IsAsked s held o store then
     asked_now held state is there =
         subst (λ (m : Machine). IsAsked s held o store (record later { machine = after m (answers.Call told) })) (sym is)
         (subst (λ a. IsAsked s held o store (record later { machine = after (bare_at r.machine state) (answers.Call a) })) (sym kept_is.0) there)
 
-    module _ (going : reply_in (ask_of r.machine) ≡ None) (performs : PerformsAsk eq whatever (hash_of input build write finish) false (ask_of r.machine) store (asking r) (answers.Call told) store (asking later)) where
+    module _ (going : reply_in (ask_of r.machine) ≡ None)
+        (performs : PerformsAsk eq whatever (hash_of input build write finish) false (ask_of r.machine) store (asking r) (answers.Call told) store
+        (asking later)) where
       -- so it goes on
-      goes_on : IsStanding (after r.machine (answers.Call told)) → Waits → AreOf entry (map_in eq s.store k) → (shown' : Option ℕ) → shown' ≡ option_map (λ p. p.number) (map_in eq s.store k) → IsAsked s (map_in eq s.store k) o store then → IsComputing eq (hash_of input build write finish) s k post f store then closure' shown' aborted'
+      goes_on : IsStanding (after r.machine (answers.Call told)) → Waits → AreOf entry (map_in eq s.store k) → (shown' : Option ℕ)
+          → shown' ≡ option_map (λ p. p.number) (map_in eq s.store k) → IsAsked s (map_in eq s.store k) o store then
+          → IsComputing eq (hash_of input build write finish) s k post f store then closure' shown' aborted'
       goes_on standing waits are shown' shown_is there = record {
-        steps = made_more eq (hash_of input build write finish) s (keyed_compute k) store (asking r) (answers.Call told) store (asking later) going performs refl now.steps;
+        steps = made_more eq (hash_of input build write finish) s (keyed_compute k) store (asking r) (answers.Call told) store (asking later) going
+            performs refl now.steps;
         silence = now.silence;
         standing = standing;
-        unlogged = unlogged_more eq (hash_of input build write finish) s (keyed_compute k) store (asking r) (answers.Call told) store (asking later) going performs refl keys came now.unlogged;
+        unlogged = unlogged_more eq (hash_of input build write finish) s (keyed_compute k) store (asking r) (answers.Call told) store (asking later)
+            going performs refl keys came now.unlogged;
         phase = inr (record { operation = o; said = said waits.closure_is are; shown_is = shown_is; kept = kept_is.2; asked = there });
       }
 
       -- and nearer its end
       nears : left_of store (after r.machine (answers.Call told)) < left_of store r.machine
-      nears = made_nears eq (hash_of input build write finish) s (keyed_compute k) store (asking r) (answers.Call told) store (asking later) going performs refl now.steps keys lawful fits
+      nears = made_nears eq (hash_of input build write finish) s (keyed_compute k) store (asking r) (answers.Call told) store (asking later) going
+          performs refl now.steps keys lawful fits
 
     module _ (e : ask_of r.machine ≡ asked.Call ShowNone) where
-      none_performs : PerformsAsk eq whatever (hash_of input build write finish) false (ask_of r.machine) store (asking r) (answers.Call told) store (asking later)
+      none_performs : PerformsAsk eq whatever (hash_of input build write finish) false (ask_of r.machine) store (asking r) (answers.Call told) store
+          (asking later)
       none_performs =
-          subst (λ (ask : Ask). PerformsAsk eq whatever (hash_of input build write finish) false ask store (asking r) (answers.Call told) store (asking later)) (sym e)
+          subst (λ (ask : Ask). PerformsAsk eq whatever (hash_of input build write finish) false ask store (asking r) (answers.Call told) store
+          (asking later)) (sym e)
           (told, refl, inr (tt, as_number o, tt, refl, tt, kept_is.0, refl, later_is))
 
-      none_more : entry ≡ None → IsStanding (after r.machine (answers.Call told)) → IsComputing eq (hash_of input build write finish) s k post f store then closure' shown aborted'
+      none_more : entry ≡ None → IsStanding (after r.machine (answers.Call told))
+          → IsComputing eq (hash_of input build write finish) s k post f store then closure' shown aborted'
       none_more none standing =
           let w = waits_none e in
           let own = call_asks r.machine ShowNone e in
@@ -244,25 +286,36 @@ module _ {K V S A F T H : Type 0} (eq : K → K → Bool) (input : K → List (L
           (subst (λ (held : Option (Stored K V)). IsAsked s held o store then) (sym (none_held e))
           (asked_now None (Offering gap) (machine_is w (Offering gap) own.0 is) (none_asked s store later o gap r.value kept_is.1)))
 
-      pub none_went : entry ≡ None → Went eq (hash_of input build write finish) s k post f store r.machine (answers.Call told) store later closure' shown aborted'
+      pub none_went : entry ≡ None → Went eq (hash_of input build write finish) s k post f store r.machine (answers.Call told) store later closure'
+          shown aborted'
       none_went none = record { fit = fit; same = refl; nears = nears (ap reply_in e) none_performs; goes = none_more none }
 
     module _ (n : ℕ) (e : ask_of r.machine ≡ asked.Call (ShowPair n)) where
-      pair_performs : PerformsAsk eq whatever (hash_of input build write finish) false (ask_of r.machine) store (asking r) (answers.Call told) store (asking later)
+      pair_performs : PerformsAsk eq whatever (hash_of input build write finish) false (ask_of r.machine) store (asking r) (answers.Call told) store
+          (asking later)
       pair_performs =
           let (q, here, number, logged) = pair_held n e in
-          subst (λ (ask : Ask). PerformsAsk eq whatever (hash_of input build write finish) false ask store (asking r) (answers.Call told) store (asking later)) (sym e)
-          (told, refl, subst (λ (task : Task). ShowsPair task whatever n store (asking r) told store (asking later)) (sym came.task) (inr (q, logged, (tt, as_number o, tt, refl, tt, kept_is.0, refl, later_is))))
+          subst (λ (ask : Ask). PerformsAsk eq whatever (hash_of input build write finish) false ask store (asking r) (answers.Call told) store
+          (asking later)) (sym e) (
+            told,
+            refl,
+            subst (λ (task : Task). ShowsPair task whatever n store (asking r) told store (asking later)) (sym came.task)
+                (inr (q, logged, (tt, as_number o, tt, refl, tt, kept_is.0, refl, later_is))),
+          )
 
-      pair_more : MatchOption entry (pair_of store n ≡ None) (λ p. pair_of store n ≡ Some (record { number = n; key = p.0.now; value = p.1.now })) → IsStanding (after r.machine (answers.Call told)) → IsComputing eq (hash_of input build write finish) s k post f store then closure' (Some n) aborted'
+      pair_more : MatchOption entry (pair_of store n ≡ None) (λ p. pair_of store n ≡ Some (record { number = n; key = p.0.now; value = p.1.now }))
+          → IsStanding (after r.machine (answers.Call told)) → IsComputing eq (hash_of input build write finish) s k post f store then closure' (Some n) aborted'
       pair_more refers standing =
           let w = waits_pair n e in
           let own = call_asks r.machine (ShowPair n) e in
           let (removal, is, number) = showing r.machine.call.made r.machine.call.hash n r.machine.call.state own.1 in
           let (q, here, same, logged) = pair_held n e in
-          goes_on (ap reply_in e) pair_performs standing w (entry_are entry n refers e) (Some n) (ap Some (sym same) ∙ sym (ap (option_map (λ p. p.number)) here))
+          goes_on (ap reply_in e) pair_performs standing w (entry_are entry n refers e) (Some n)
+          (ap Some (sym same) ∙ sym (ap (option_map (λ p. p.number)) here))
           (subst (λ (held : Option (Stored K V)). IsAsked s held o store then) (sym here)
-          (asked_now (Some q) (Showing removal) (machine_is w (Showing removal) own.0 is) (pair_asked s store later o q removal r.value (subst (ShowsIn r.machine.call.remembered.choice) is came.shows) (number ∙ sym same) kept_is.1)))
+          (asked_now (Some q) (Showing removal) (machine_is w (Showing removal) own.0 is)
+          (pair_asked s store later o q removal r.value (subst (ShowsIn r.machine.call.remembered.choice) is came.shows) (number ∙ sym same) kept_is.1)))
 
-      pub pair_went : MatchOption entry (pair_of store n ≡ None) (λ p. pair_of store n ≡ Some (record { number = n; key = p.0.now; value = p.1.now })) → Went eq (hash_of input build write finish) s k post f store r.machine (answers.Call told) store later closure' (Some n) aborted'
+      pub pair_went : MatchOption entry (pair_of store n ≡ None) (λ p. pair_of store n ≡ Some (record { number = n; key = p.0.now; value = p.1.now }))
+          → Went eq (hash_of input build write finish) s k post f store r.machine (answers.Call told) store later closure' (Some n) aborted'
       pair_went refers = record { fit = fit; same = refl; nears = nears (ap reply_in e) pair_performs; goes = pair_more refers }

@@ -48,51 +48,84 @@ module _ {K V S A : Type 0} (eq : K → K → Bool) (classes : IsEquivalence eq)
   caused_moving held refused resizing (inr (inr spent)) = inr (inr spent)
 
   -- and nothing need be answered then
-  moving_said : (held : Option (Stored K V)) (refused : Refused) → IsResizing s → IsWriteCause s refused s' → IsOperated says a s held s'.store (replies.Refused refused)
+  moving_said : (held : Option (Stored K V)) (refused : Refused) → IsResizing s → IsWriteCause s refused s'
+      → IsOperated says a s held s'.store (replies.Refused refused)
   moving_said held refused resizing (inl e) = subst (λ r. IsOperated says a s held s'.store (replies.Refused r)) (sym e) (inr resizing)
   moving_said held refused resizing (inr (inl (e, full))) = subst (λ r. IsOperated says a s held s'.store (replies.Refused r)) (sym e) (inr resizing)
   moving_said held refused resizing (inr (inr (e, spent))) = subst (λ r. IsOperated says a s held s'.store (replies.Refused r)) (sym e) (inr resizing)
 
   -- and an insertion was answered then
-  insertion_said : (held : Option (Stored K V)) (v : V) (refused : Refused) → IsWriteCause s refused s' → Answers says a held (ops.Insert v) → IsOperated says a s held s'.store (replies.Refused refused)
+  insertion_said : (held : Option (Stored K V)) (v : V) (refused : Refused) → IsWriteCause s refused s' → Answers says a held (ops.Insert v)
+      → IsOperated says a s held s'.store (replies.Refused refused)
   insertion_said held v refused (inl e) answers = subst (λ r. IsOperated says a s held s'.store (replies.Refused r)) (sym e) (inl (v, answers))
   insertion_said held v refused (inr (inl (e, full))) answers = subst (λ r. IsOperated says a s held s'.store (replies.Refused r)) (sym e) (inl (v, answers))
   insertion_said held v refused (inr (inr (e, spent))) answers = subst (λ r. IsOperated says a s held s'.store (replies.Refused r)) (sym e) (inl (v, answers))
 
   -- in each case
-  called : KeepsAndGrows s s' → (held : Option (Stored K V)) (operation : Operation V ℕ) (done : Result (Computed (Stored K V) ℕ) Refused) (next : Option (Stored K V)) → Answers says a held operation → Operates k s s' held operation done next → IsUpdate eq k held next (map_in eq s.store) (map_in eq s'.store) → Called (reply_of (answer_map (λ p. p.number) done))
+  called : KeepsAndGrows s s' → (held : Option (Stored K V)) (operation : Operation V ℕ) (done : Result (Computed (Stored K V) ℕ) Refused)
+      (next : Option (Stored K V)) → Answers says a held operation → Operates k s s' held operation done next
+      → IsUpdate eq k held next (map_in eq s.store) (map_in eq s'.store) → Called (reply_of (answer_map (λ p. p.number) done))
   called keeps None (ops.Insert v) (Ok (Inserted q)) next answers (new, is) update = record {
     answered = record { went = None; came = next; update = update; does = (q, (v, record { number = refl; key = new.key; value = new.value }), is) };
     fresh = new.fresh;
-    said = (q, new.logged, subst (λ o. Answers says a o (ops.Insert q.value)) (sym update.before) (subst (λ w. Answers says a None (ops.Insert w)) (sym new.value) answers));
+    said = (
+      q,
+      new.logged,
+      subst (λ o. Answers says a o (ops.Insert q.value)) (sym update.before)
+          (subst (λ w. Answers says a None (ops.Insert w)) (sym new.value) answers),
+    );
     cause = λ refused e. let f : replies.Inserted q.number ≡ replies.Refused refused = e in absurd cc;
     done = undone (Ok (Inserted q.number));
     keeps = keeps.0;
     tables = λ j is. keeps.1;
   }
   called keeps (Some p) (ops.Insert v) (Ok (Updated old q)) next answers (same, new, is) update = record {
-    answered = record { went = Some p; came = next; update = update; does = (ap (λ (x : Stored K V). x.number) (sym same), (q, (v, record { number = refl; key = new.key; value = new.value }), is)) };
+    answered = record {
+      went = Some p;
+      came = next;
+      update = update;
+      does = (ap (λ (x : Stored K V). x.number) (sym same), (q, (v, record { number = refl; key = new.key; value = new.value }), is));
+    };
     fresh = new.fresh;
-    said = (q, new.logged, subst (λ o. Answers says a o (ops.Insert q.value)) (sym update.before) (subst (λ w. Answers says a (Some p) (ops.Insert w)) (sym new.value) answers));
+    said = (
+      q,
+      new.logged,
+      subst (λ o. Answers says a o (ops.Insert q.value)) (sym update.before)
+          (subst (λ w. Answers says a (Some p) (ops.Insert w)) (sym new.value) answers),
+    );
     cause = λ refused e. let f : replies.Replaced old.number q.number ≡ replies.Refused refused = e in absurd cc;
     done = undone (Ok (Updated old.number q.number));
     keeps = keeps.0;
     tables = λ j is. keeps.1;
   }
   called keeps None (ops.Insert v) (Err refused) next answers (cause, is) update = record {
-    answered = (update_leaves eq classes s.store s'.store k None (subst (λ o. IsUpdate eq k None o (map_in eq s.store) (map_in eq s'.store)) is update), λ e. absurd (caused refused (write_cause s s' None refused cause) e));
+    answered = (
+      update_leaves eq classes s.store s'.store k None
+          (subst (λ o. IsUpdate eq k None o (map_in eq s.store) (map_in eq s'.store)) is update),
+      λ e.
+          absurd (caused refused (write_cause s s' None refused cause) e),
+    );
     fresh = tt;
-    said = subst (λ o. IsOperated says a s o s'.store (replies.Refused refused)) (sym update.before) (insertion_said None v refused (write_cause s s' None refused cause) answers);
-    cause = λ other e. inl (subst (λ r. IsWriteCauseAt s (map_in eq s.store k) r s') (let f : replies.Refused refused ≡ replies.Refused other = e in cc) (subst (λ o. IsWriteCauseAt s o refused s') (sym update.before) cause));
+    said = subst (λ o. IsOperated says a s o s'.store (replies.Refused refused)) (sym update.before)
+        (insertion_said None v refused (write_cause s s' None refused cause) answers);
+    cause = λ other e. inl (subst (λ r. IsWriteCauseAt s (map_in eq s.store k) r s')
+        (let f : replies.Refused refused ≡ replies.Refused other = e in cc) (subst (λ o. IsWriteCauseAt s o refused s') (sym update.before) cause));
     done = undone (Err refused);
     keeps = keeps.0;
     tables = λ j is. keeps.1;
   }
   called keeps (Some p) (ops.Insert v) (Err refused) next answers (cause, is) update = record {
-    answered = (update_leaves eq classes s.store s'.store k (Some p) (subst (λ o. IsUpdate eq k (Some p) o (map_in eq s.store) (map_in eq s'.store)) is update), λ e. absurd (caused refused (write_cause s s' (Some p) refused cause) e));
+    answered = (
+      update_leaves eq classes s.store s'.store k (Some p)
+          (subst (λ o. IsUpdate eq k (Some p) o (map_in eq s.store) (map_in eq s'.store)) is update),
+      λ e.
+          absurd (caused refused (write_cause s s' (Some p) refused cause) e),
+    );
     fresh = tt;
-    said = subst (λ o. IsOperated says a s o s'.store (replies.Refused refused)) (sym update.before) (insertion_said (Some p) v refused (write_cause s s' (Some p) refused cause) answers);
-    cause = λ other e. inl (subst (λ r. IsWriteCauseAt s (map_in eq s.store k) r s') (let f : replies.Refused refused ≡ replies.Refused other = e in cc) (subst (λ o. IsWriteCauseAt s o refused s') (sym update.before) cause));
+    said = subst (λ o. IsOperated says a s o s'.store (replies.Refused refused)) (sym update.before)
+        (insertion_said (Some p) v refused (write_cause s s' (Some p) refused cause) answers);
+    cause = λ other e. inl (subst (λ r. IsWriteCauseAt s (map_in eq s.store k) r s')
+        (let f : replies.Refused refused ≡ replies.Refused other = e in cc) (subst (λ o. IsWriteCauseAt s o refused s') (sym update.before) cause));
     done = undone (Err refused);
     keeps = keeps.0;
     tables = λ j is. keeps.1;
@@ -164,15 +197,19 @@ module _ {K V S A : Type 0} (eq : K → K → Bool) (classes : IsEquivalence eq)
         answered = (same, λ e. absurd (caused refused cause e));
         fresh = tt;
         said = moving_said (map_in eq s.store k) refused resizing cause;
-        cause = λ other e. inl (subst (λ r. IsWriteCauseAt s (map_in eq s.store k) r s') (let f : replies.Refused refused ≡ replies.Refused other = e in cc) (caused_moving (map_in eq s.store k) refused resizing cause));
+        cause = λ other e. inl (subst (λ r. IsWriteCauseAt s (map_in eq s.store k) r s')
+            (let f : replies.Refused refused ≡ replies.Refused other = e in cc) (caused_moving (map_in eq s.store k) refused resizing cause));
         done = undone (Err refused);
         keeps = kept.0;
         tables = λ j is. kept.1;
       })
 
 -- a compute by a closure that gives a call's answers
-pub compute_called : {K V S A : Type 0} (eq : K → K → Bool) (classes : IsEquivalence eq) (s s' : MapState K V S) (k : K) (a : A) (says : Answers_say K V A) {post : Option (Bor K × Bor V) → Operation V ℕ → Type 0} → ((shown : Option (Bor K × Bor V)) (operation : Operation V ℕ) → post shown operation → (a' : A) × says.op a (option_map deref_pair shown) operation a')
-    → (answer : Result (Computed ℕ ℕ) Refused) (reply : Reply) → reply ≡ reply_of answer → ComputesBy eq k (λ p. p.number) (Says post) s answer s' → IsCalled eq says s (Compute k a) reply s'
+pub compute_called : {K V S A : Type 0} (eq : K → K → Bool) (classes : IsEquivalence eq) (s s' : MapState K V S) (k : K) (a : A)
+    (says : Answers_say K V A) {post : Option (Bor K × Bor V) → Operation V ℕ → Type 0}
+    → ((shown : Option (Bor K × Bor V)) (operation : Operation V ℕ) → post shown operation → (a' : A) × says.op a (option_map deref_pair shown) operation a')
+    → (answer : Result (Computed ℕ ℕ) Refused) (reply : Reply) → reply ≡ reply_of answer → ComputesBy eq k (λ p. p.number) (Says post) s answer s'
+    → IsCalled eq says s (Compute k a) reply s'
 compute_called {K} {V} {S} eq classes s s' k a says {post} gives answer reply is (done, answer_is, computes) =
     subst (λ r. IsCalled eq says s (Compute k a) r s') (sym (is ∙ ap reply_of answer_is))
     (⊎_elim

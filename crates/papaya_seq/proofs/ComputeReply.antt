@@ -49,7 +49,8 @@ removing_end : (reply : Reply) → IsRemoving (Ended reply) → IsRemoveEnd repl
 removing_end (replies.Removed n) there = tt
 removing_end reply there = absurd there
 
-module _ {K V S A : Type 0} (s : MapState K V S) (store : StoreState K V S) (r : Running K V A) (reply : Reply) (told : reply_in (ask_of r.machine) ≡ Some reply) where
+module _ {K V S A : Type 0} (s : MapState K V S) (store : StoreState K V S) (r : Running K V A) (reply : Reply)
+    (told : reply_in (ask_of r.machine) ≡ Some reply) where
   -- a reply that is known
   told_so : (Is : Reply → Type 0) (known : Reply) → reply_in (ask_of r.machine) ≡ Some known → Is known → Is reply
   told_so Is known e there = let f : Some known ≡ Some reply = sym e ∙ told in let same : known ≡ reply = cc f in subst Is same there
@@ -98,13 +99,15 @@ module _ {K V S : Type 0} (eq : K → K → Bool) (k : K) (s store : StoreState 
   never replies.Done other done = let f : Some k ≡ None = done.0 in absurd cc
   never reply other done = other
 
-module _ {K V S T : Type 0} (eq : K → K → Bool) (classes : IsEquivalence eq) (k : K) (said : Option (Stored K V) → Operation V T → Type 0) (s s' : MapState K V S) (keeps : KeepsAndGrows s s') where
+module _ {K V S T : Type 0} (eq : K → K → Bool) (classes : IsEquivalence eq) (k : K) (said : Option (Stored K V) → Operation V T → Type 0)
+    (s s' : MapState K V S) (keeps : KeepsAndGrows s s') where
   -- what is answered of a compute that did this
   abbrev Answers : Result (Computed ℕ T) Refused → Type 0
   Answers answer = ComputesBy eq k (λ p. p.number) said s answer s'
 
   -- a class that has what it had
-  kept_update : (o : Option (Stored K V)) → map_in eq s.store k ≡ o → Same (map_in eq s.store) (map_in eq s'.store) → IsUpdate eq k o o (map_in eq s.store) (map_in eq s'.store)
+  kept_update : (o : Option (Stored K V)) → map_in eq s.store k ≡ o → Same (map_in eq s.store) (map_in eq s'.store)
+      → IsUpdate eq k o o (map_in eq s.store) (map_in eq s'.store)
   kept_update o here same = record {
     before = here;
     class = λ j e. same j ∙ lookup_alike eq classes (λ (p : Stored K V). p.key) (content eq s.store) j k e ∙ here;
@@ -112,7 +115,8 @@ module _ {K V S T : Type 0} (eq : K → K → Bool) (classes : IsEquivalence eq)
   }
 
   -- the pair that was made is new, and of the value that was answered
-  new_pair : (j : K) (v : V) (n : ℕ) (q : Stored K V) → IsMadeWith j n q → pair_of s.store n ≡ None → map_in eq s'.store k ≡ Some q → HasPair v s'.store n → IsNew j v s.store s'.store q
+  new_pair : (j : K) (v : V) (n : ℕ) (q : Stored K V) → IsMadeWith j n q → pair_of s.store n ≡ None → map_in eq s'.store k ≡ Some q
+      → HasPair v s'.store n → IsNew j v s.store s'.store q
   new_pair j v n q (w, made) fresh here (p, logged, value) =
       let there : pair_of s'.store n ≡ Some q = logged_there eq classes s'.store k n q here made.number in
       let f : Some p ≡ Some q = sym logged ∙ there in
@@ -125,7 +129,9 @@ module _ {K V S T : Type 0} (eq : K → K → Bool) (classes : IsEquivalence eq)
       }
 
   -- where the key was absent
-  inserted : (v : V) (n : ℕ) (went came : Option (Stored K V)) → said (map_in eq s.store k) (ops.Insert v) → IsUpdate eq k went came (map_in eq s.store) (map_in eq s'.store) → Does (compute_of k) went (replies.Inserted n) came → pair_of s.store n ≡ None → HasPair v s'.store n → Answers (Ok (Inserted n))
+  inserted : (v : V) (n : ℕ) (went came : Option (Stored K V)) → said (map_in eq s.store k) (ops.Insert v)
+      → IsUpdate eq k went came (map_in eq s.store) (map_in eq s'.store) → Does (compute_of k) went (replies.Inserted n) came → pair_of s.store n ≡ None
+      → HasPair v s'.store n → Answers (Ok (Inserted n))
   inserted v n None came says update (q, made, next) fresh paired =
       let here : map_in eq s'.store k ≡ Some q = update.class k (classes.refl k) ∙ next in (
         Ok (Inserted q),
@@ -143,7 +149,9 @@ module _ {K V S T : Type 0} (eq : K → K → Bool) (classes : IsEquivalence eq)
   inserted v n (Some p) came says update does fresh paired = absurd does
 
   -- where it had a pair
-  replaced : (v : V) (m n : ℕ) (went came : Option (Stored K V)) → said (map_in eq s.store k) (ops.Insert v) → IsUpdate eq k went came (map_in eq s.store) (map_in eq s'.store) → Does (compute_of k) went (replies.Replaced m n) came → pair_of s.store n ≡ None → HasPair v s'.store n → Answers (Ok (Updated m n))
+  replaced : (v : V) (m n : ℕ) (went came : Option (Stored K V)) → said (map_in eq s.store k) (ops.Insert v)
+      → IsUpdate eq k went came (map_in eq s.store) (map_in eq s'.store) → Does (compute_of k) went (replies.Replaced m n) came
+      → pair_of s.store n ≡ None → HasPair v s'.store n → Answers (Ok (Updated m n))
   replaced v m n (Some p) came says update (number, (q, made, next)) fresh paired =
       let here : map_in eq s'.store k ≡ Some q = update.class k (classes.refl k) ∙ next in (
         Ok (Updated p q),
@@ -161,7 +169,8 @@ module _ {K V S T : Type 0} (eq : K → K → Bool) (classes : IsEquivalence eq)
   replaced v m n None came says update does fresh paired = absurd does
 
   -- where it was removed
-  removed : (n : ℕ) (went came : Option (Stored K V)) → said (map_in eq s.store k) ops.Remove → IsUpdate eq k went came (map_in eq s.store) (map_in eq s'.store) → Does (compute_of k) went (replies.Removed n) came → Answers (Ok (Removed n))
+  removed : (n : ℕ) (went came : Option (Stored K V)) → said (map_in eq s.store k) ops.Remove
+      → IsUpdate eq k went came (map_in eq s.store) (map_in eq s'.store) → Does (compute_of k) went (replies.Removed n) came → Answers (Ok (Removed n))
   removed n (Some p) came says update (number, next) = (
     Ok (Removed p),
     ap (λ i. Ok (Removed i)) (sym number),
@@ -178,7 +187,8 @@ module _ {K V S T : Type 0} (eq : K → K → Bool) (classes : IsEquivalence eq)
   removed n None came says update does = absurd does
 
   -- where its closure ended it
-  aborted : (t u : T) (n : ℕ) (went came : Option (Stored K V)) → u ≡ t → said (map_in eq s.store k) (ops.Abort t) → IsUpdate eq k went came (map_in eq s.store) (map_in eq s'.store) → Does (compute_of k) went (replies.Aborted n) came → Answers (Ok (Aborted u))
+  aborted : (t u : T) (n : ℕ) (went came : Option (Stored K V)) → u ≡ t → said (map_in eq s.store k) (ops.Abort t)
+      → IsUpdate eq k went came (map_in eq s.store) (map_in eq s'.store) → Does (compute_of k) went (replies.Aborted n) came → Answers (Ok (Aborted u))
   aborted t u n None came same says update next = (
     Ok (Aborted u),
     refl,
@@ -207,7 +217,8 @@ module _ {K V S T : Type 0} (eq : K → K → Bool) (classes : IsEquivalence eq)
   )
 
   -- where an insertion was refused
-  refused_insertion : (v : V) (refused : Refused) (o : Option (Stored K V)) → map_in eq s.store k ≡ o → said o (ops.Insert v) → Same (map_in eq s.store) (map_in eq s'.store) → IsWriteCauseAt s o refused s' → Answers (Err refused)
+  refused_insertion : (v : V) (refused : Refused) (o : Option (Stored K V)) → map_in eq s.store k ≡ o → said o (ops.Insert v)
+      → Same (map_in eq s.store) (map_in eq s'.store) → IsWriteCauseAt s o refused s' → Answers (Err refused)
   refused_insertion v refused None here says same cause = (
     Err refused,
     refl,
@@ -236,7 +247,8 @@ module _ {K V S T : Type 0} (eq : K → K → Bool) (classes : IsEquivalence eq)
   )
 
   -- and where nothing is there to be removed
-  refused_removal : (refused : Refused) (o : Option (Stored K V)) → map_in eq s.store k ≡ o → said o ops.Remove → Same (map_in eq s.store) (map_in eq s'.store) → refused ≡ RemoveNothing → Does (compute_of k) o (replies.Refused RemoveNothing) o → Answers (Err refused)
+  refused_removal : (refused : Refused) (o : Option (Stored K V)) → map_in eq s.store k ≡ o → said o ops.Remove
+      → Same (map_in eq s.store) (map_in eq s'.store) → refused ≡ RemoveNothing → Does (compute_of k) o (replies.Refused RemoveNothing) o → Answers (Err refused)
   refused_removal refused None here says same cause does = (
     Err refused,
     refl,
@@ -261,30 +273,41 @@ module _ {K V S T : Type 0} (eq : K → K → Bool) (classes : IsEquivalence eq)
   then_is = ap (λ mode. record s' { mode = mode }) keeps.0.mode ∙ ap (λ initial. record { store = s'.store; mode = s.mode; initial = initial }) keeps.0.initial
 
   -- in each case
-  pub replied_so : (o : Operation V T) (reply : Reply) (left : Option T) (answer : Result (Computed ℕ T) Refused) → said (map_in eq s.store k) o → IsEnd s (map_in eq s.store k) o s'.store reply → IsLeft o left → IsAnswered eq (compute_of k) (map_in eq s.store) reply (map_in eq s'.store) → IsNewIn s.store reply → IsComputed reply left answer → Answers answer
-  replied_so (ops.Insert v) (replies.Inserted n) left answer says end kept done fresh is = subst Answers (sym is) (inserted v n done.went done.came says done.update done.does fresh end)
-  replied_so (ops.Insert v) (replies.Replaced m n) left answer says end kept done fresh is = subst Answers (sym is) (replaced v m n done.went done.came says done.update done.does fresh end)
+  pub replied_so : (o : Operation V T) (reply : Reply) (left : Option T) (answer : Result (Computed ℕ T) Refused) → said (map_in eq s.store k) o
+      → IsEnd s (map_in eq s.store k) o s'.store reply → IsLeft o left → IsAnswered eq (compute_of k) (map_in eq s.store) reply (map_in eq s'.store)
+      → IsNewIn s.store reply → IsComputed reply left answer → Answers answer
+  replied_so (ops.Insert v) (replies.Inserted n) left answer says end kept done fresh is = subst Answers (sym is)
+      (inserted v n done.went done.came says done.update done.does fresh end)
+  replied_so (ops.Insert v) (replies.Replaced m n) left answer says end kept done fresh is = subst Answers (sym is)
+      (replaced v m n done.went done.came says done.update done.does fresh end)
   replied_so (ops.Insert v) (replies.Refused refused) left answer says end kept done fresh is =
-      subst Answers (sym is) (refused_insertion v refused (map_in eq s.store k) refl says done.0 (subst (IsWriteCauseAt s (map_in eq s.store k) refused) (sym then_is) end))
+      subst Answers (sym is) (refused_insertion v refused (map_in eq s.store k) refl says done.0
+      (subst (IsWriteCauseAt s (map_in eq s.store k) refused) (sym then_is) end))
   replied_so (ops.Insert v) (replies.Removed n) left answer says end kept done fresh is = absurd end
   replied_so (ops.Insert v) (replies.Aborted t) left answer says end kept done fresh is = absurd end
   replied_so (ops.Insert v) reply left answer says end kept done fresh is = absurd is
-  replied_so ops.Remove (replies.Removed n) left answer says end kept done fresh is = subst Answers (sym is) (removed n done.went done.came says done.update done.does)
-  replied_so ops.Remove (replies.Refused refused) left answer says end kept done fresh is = subst Answers (sym is) (refused_removal refused (map_in eq s.store k) refl says done.0 end (done.1 end))
+  replied_so ops.Remove (replies.Removed n) left answer says end kept done fresh is = subst Answers (sym is)
+      (removed n done.went done.came says done.update done.does)
+  replied_so ops.Remove (replies.Refused refused) left answer says end kept done fresh is = subst Answers (sym is)
+      (refused_removal refused (map_in eq s.store k) refl says done.0 end (done.1 end))
   replied_so ops.Remove reply left answer says end kept done fresh is = absurd end
-  replied_so (ops.Abort t) (replies.Aborted n) left answer says end kept done fresh (u, e, is) = subst Answers (sym is) (aborted t u n done.went done.came (left_with t u left kept e) says done.update done.does)
+  replied_so (ops.Abort t) (replies.Aborted n) left answer says end kept done fresh (u, e, is) = subst Answers (sym is)
+      (aborted t u n done.went done.came (left_with t u left kept e) says done.update done.does)
   replied_so (ops.Abort t) reply left answer says end kept done fresh is = absurd end
 
   -- where its closure was not called
-  pub first_so : (reply : Reply) (left : Option T) (answer : Result (Computed ℕ T) Refused) → IsFirstEnd s s'.store reply → IsAnswered eq (compute_of k) (map_in eq s.store) reply (map_in eq s'.store) → IsComputed reply left answer → Answers answer
-  first_so (replies.Refused refused) left answer end done is = subst Answers (sym is) (Err refused, refl, inr (end.0, (refused, refl, (subst (IsWriteCause s refused) (sym then_is) end.1, done.0, keeps))))
+  pub first_so : (reply : Reply) (left : Option T) (answer : Result (Computed ℕ T) Refused) → IsFirstEnd s s'.store reply
+      → IsAnswered eq (compute_of k) (map_in eq s.store) reply (map_in eq s'.store) → IsComputed reply left answer → Answers answer
+  first_so (replies.Refused refused) left answer end done is = subst Answers (sym is)
+      (Err refused, refl, inr (end.0, (refused, refl, (subst (IsWriteCause s refused) (sym then_is) end.1, done.0, keeps))))
   first_so (replies.Inserted n) left answer end done is = absurd end
   first_so (replies.Replaced m n) left answer end done is = absurd end
   first_so (replies.Removed n) left answer end done is = absurd end
   first_so (replies.Aborted t) left answer end done is = absurd end
   first_so reply left answer end done is = absurd is
 
-module _ {K V S T : Type 0} (eq : K → K → Bool) (k : K) (s : MapState K V S) (store : StoreState K V S) (reply : Reply) (left : Option T) (done : IsAnswered eq (compute_of k) (map_in eq s.store) reply (map_in eq store)) where
+module _ {K V S T : Type 0} (eq : K → K → Bool) (k : K) (s : MapState K V S) (store : StoreState K V S) (reply : Reply) (left : Option T)
+    (done : IsAnswered eq (compute_of k) (map_in eq s.store) reply (map_in eq store)) where
   -- it replies what `computed` takes, where it isn't what no compute replies
   replies_or : (other : Reply) → (IsOther other → ⊥) → (IsAbortEnd other → (t : T) × (left ≡ Some t)) → Replies other left
   replies_or (replies.Inserted n) none abort = tt
@@ -318,25 +341,35 @@ module _ {K V S T : Type 0} (eq : K → K → Bool) (k : K) (s : MapState K V S)
   pub first_replies : IsFirstEnd s store reply → Replies reply left
   first_replies end = replies_or reply (λ other. never eq k s.store store reply other done) (λ abort. absurd (first_aborts reply end abort))
 
-module _ {K V S A F T : Type 0} (eq : K → K → Bool) (classes : IsEquivalence eq) (hash : S → K → ℕ) (s s' : MapState K V S) (keeps : KeepsAndGrows s s') (k : K) (post : F → Option (Bor K × Bor V) → Operation V T → Type 0) (f : F) (r : Running K V A) (closure : Option F) (shown : Option ℕ) (left : Option T) (reply : Reply) (told : reply_in (ask_of r.machine) ≡ Some reply)
-    (now : IsComputing eq hash s k post f s'.store r closure shown left) (done : IsAnswered eq (compute_of k) (map_in eq s.store) reply (map_in eq s'.store)) where
+module _ {K V S A F T : Type 0} (eq : K → K → Bool) (classes : IsEquivalence eq) (hash : S → K → ℕ) (s s' : MapState K V S)
+    (keeps : KeepsAndGrows s s') (k : K) (post : F → Option (Bor K × Bor V) → Operation V T → Type 0) (f : F) (r : Running K V A) (closure : Option F)
+    (shown : Option ℕ) (left : Option T) (reply : Reply) (told : reply_in (ask_of r.machine) ≡ Some reply)
+    (now : IsComputing eq hash s k post f s'.store r closure shown left)
+    (done : IsAnswered eq (compute_of k) (map_in eq s.store) reply (map_in eq s'.store)) where
   -- one that has replied, so
   pub over_replies : Replies reply left
   over_replies =
       ⊎_elim
       (λ (waits : IsWaiting {T = T} eq hash s k post f s'.store r closure shown). first_replies eq k s s'.store reply left done (waits.ends reply told))
-      (λ (does : IsDoing eq hash s k post f s'.store r shown left). replies_so eq k s s'.store reply left done (map_in eq s.store k) does.operation (asked_end s s'.store r reply told (map_in eq s.store k) does.operation does.asked) does.kept)
+      (λ (does : IsDoing eq hash s k post f s'.store r shown left).
+      replies_so eq k s s'.store reply left done (map_in eq s.store k) does.operation
+      (asked_end s s'.store r reply told (map_in eq s.store k) does.operation does.asked) does.kept)
       now.phase
 
   -- did what it answers
-  pub over_computes : IsNewIn s.store reply → (answer : Result (Computed ℕ T) Refused) → IsComputed reply left answer → ComputesBy eq k (λ p. p.number) (Says (post f)) s answer s'
+  pub over_computes : IsNewIn s.store reply → (answer : Result (Computed ℕ T) Refused) → IsComputed reply left answer
+      → ComputesBy eq k (λ p. p.number) (Says (post f)) s answer s'
   over_computes fresh answer is =
       ⊎_elim
-      (λ (waits : IsWaiting {T = T} eq hash s k post f s'.store r closure shown). first_so eq classes k (Says (post f)) s s' keeps reply left answer (waits.ends reply told) done is)
-      (λ (does : IsDoing eq hash s k post f s'.store r shown left). replied_so eq classes k (Says (post f)) s s' keeps does.operation reply left answer does.said (asked_end s s'.store r reply told (map_in eq s.store k) does.operation does.asked) does.kept done fresh is)
+      (λ (waits : IsWaiting {T = T} eq hash s k post f s'.store r closure shown).
+      first_so eq classes k (Says (post f)) s s' keeps reply left answer (waits.ends reply told) done is)
+      (λ (does : IsDoing eq hash s k post f s'.store r shown left).
+      replied_so eq classes k (Says (post f)) s s' keeps does.operation reply left answer does.said
+      (asked_end s s'.store r reply told (map_in eq s.store k) does.operation does.asked) does.kept done fresh is)
       now.phase
 
-  first_shown : (other : Reply) (answer : Result (Computed ℕ T) Refused) → IsFirstEnd s s'.store other → IsComputed other left answer → IfOk answer (λ _. shown ≡ option_map (λ p. p.number) (map_in eq s.store k))
+  first_shown : (other : Reply) (answer : Result (Computed ℕ T) Refused) → IsFirstEnd s s'.store other → IsComputed other left answer
+      → IfOk answer (λ _. shown ≡ option_map (λ p. p.number) (map_in eq s.store k))
   first_shown (replies.Refused refused) answer end is = subst (λ a. IfOk a (λ _. shown ≡ option_map (λ p. p.number) (map_in eq s.store k))) (sym is) tt
   first_shown (replies.Inserted n) answer end is = absurd end
   first_shown (replies.Replaced m n) answer end is = absurd end
@@ -344,12 +377,14 @@ module _ {K V S A F T : Type 0} (eq : K → K → Bool) (classes : IsEquivalence
   first_shown (replies.Aborted t) answer end is = absurd end
   first_shown other answer end is = absurd is
 
-  shown_so : (answer : Result (Computed ℕ T) Refused) → shown ≡ option_map (λ p. p.number) (map_in eq s.store k) → IfOk answer (λ _. shown ≡ option_map (λ p. p.number) (map_in eq s.store k))
+  shown_so : (answer : Result (Computed ℕ T) Refused) → shown ≡ option_map (λ p. p.number) (map_in eq s.store k)
+      → IfOk answer (λ _. shown ≡ option_map (λ p. p.number) (map_in eq s.store k))
   shown_so (Ok done) is = is
   shown_so (Err refused) is = tt
 
   -- where its closure was shown what the map held
-  pub over_shown : (answer : Result (Computed ℕ T) Refused) → IsComputed reply left answer → IfOk answer (λ _. shown ≡ option_map (λ p. p.number) (map_in eq s.store k))
+  pub over_shown : (answer : Result (Computed ℕ T) Refused) → IsComputed reply left answer
+      → IfOk answer (λ _. shown ≡ option_map (λ p. p.number) (map_in eq s.store k))
   over_shown answer is =
       ⊎_elim
       (λ (waits : IsWaiting {T = T} eq hash s k post f s'.store r closure shown). first_shown reply answer (waits.ends reply told) is)

@@ -57,7 +57,8 @@ IsLeft ops.Remove aborted = Unit {0}
 IsLeft (ops.Abort t) aborted = aborted ≡ Some t
 
 -- what is kept of an answer
-pub kept_as : {V T : Type 0} (o : Operation V T) (answer : Answer) (value value' : Option (Part V)) (aborted aborted' : Option T) → IsKept o answer value value' aborted aborted' → (answer ≡ Op (op_kind (as_number o))) × (value' ≡ value_answered (as_number o) value) × IsLeft o aborted'
+pub kept_as : {V T : Type 0} (o : Operation V T) (answer : Answer) (value value' : Option (Part V)) (aborted aborted' : Option T)
+    → IsKept o answer value value' aborted aborted' → (answer ≡ Op (op_kind (as_number o))) × (value' ≡ value_answered (as_number o) value) × IsLeft o aborted'
 kept_as (ops.Insert v) answer value value' aborted aborted' (e, has, stays) = (e, has, tt)
 kept_as ops.Remove answer value value' aborted aborted' (e, has, stays) = (e, has, tt)
 kept_as (ops.Abort t) answer value value' aborted aborted' (e, has, left_is) = (e, has, left_is)
@@ -125,12 +126,14 @@ module _ {K V S A : Type 0} where
   IsAsked s held (ops.Abort t) store r = reply_in (ask_of r.machine) ≡ Some (Aborted 0)
 
 -- a machine that begins stands on nothing
-begins_silent : (mode : ResizeMode) (initial number hashed : ℕ) (limit : Option ℕ) (said : Said) → StandsOn (started Compute hashed mode initial number limit).call said → ⊥
+begins_silent : (mode : ResizeMode) (initial number hashed : ℕ) (limit : Option ℕ) (said : Said)
+    → StandsOn (started Compute hashed mode initial number limit).call said → ⊥
 begins_silent mode initial number hashed limit said (inl e) = cc e
 begins_silent mode initial number hashed limit said (inr (inl e)) = cc e
 begins_silent mode initial number hashed limit said (inr (inr e)) = cc e
 
-module _ {K V S A F T : Type 0} (eq : K → K → Bool) (hash : S → K → ℕ) (s : MapState K V S) (k : K) (post : F → Option (Bor K × Bor V) → Operation V T → Type 0) (f : F) where
+module _ {K V S A F T : Type 0} (eq : K → K → Bool) (hash : S → K → ℕ) (s : MapState K V S) (k : K)
+    (post : F → Option (Bor K × Bor V) → Operation V T → Type 0) (f : F) where
   -- its closure was not called; while no pairs are being moved the call is in the root, and nothing was changed
   pub record IsWaiting (store : StoreState K V S) (r : Running K V A) (closure : Option F) (shown : Option ℕ) : Type 0 where
     pub closure_is : closure ≡ Some f
@@ -156,27 +159,42 @@ module _ {K V S A F T : Type 0} (eq : K → K → Bool) (hash : S → K → ℕ)
     pub phase : IsWaiting store r closure shown ⊎ IsDoing store r shown aborted
 
   -- it begins
-  pub computing_begin : (m : Machine) (hashed number : ℕ) (aborted : Option T) → m ≡ started Compute hashed s.mode.resize s.initial number s.mode.limit → hashed ≡ hash s.store.hasher k → IsStanding m → IsComputing s.store (record { machine = m; key = Own k; value = None; answers = None }) (Some f) None aborted
+  pub computing_begin : (m : Machine) (hashed number : ℕ) (aborted : Option T)
+      → m ≡ started Compute hashed s.mode.resize s.initial number s.mode.limit → hashed ≡ hash s.store.hasher k → IsStanding m
+      → IsComputing s.store (record { machine = m; key = Own k; value = None; answers = None }) (Some f) None aborted
   computing_begin m hashed number aborted is hash_same standing =
-      let begun : m ≡ started Compute (hash s.store.hasher k) s.mode.resize s.initial number s.mode.limit = is ∙ ap (λ n. started Compute n s.mode.resize s.initial number s.mode.limit) hash_same in
-      subst (λ (x : Machine). IsComputing s.store (record { machine = x; key = Own k; value = None; answers = None }) (Some f) None aborted) (sym begun) (record {
+      let begun : m ≡ started Compute (hash s.store.hasher k) s.mode.resize s.initial number s.mode.limit = is
+      ∙ ap (λ n. started Compute n s.mode.resize s.initial number s.mode.limit) hash_same in
+      subst (λ (x : Machine). IsComputing s.store (record { machine = x; key = Own k; value = None; answers = None }) (Some f) None aborted)
+      (sym begun) (record {
         steps = made_none eq hash s (keyed_compute k) number;
         silence = refl;
         standing = subst IsStanding begun standing;
         unlogged = unlogged_none eq hash s (keyed_compute k) number;
-        phase = inl (record { closure_is = refl; unshown = refl; silent = begins_silent s.mode.resize s.initial number (hash s.store.hasher k) s.mode.limit; ends = λ reply e. absurd cc; rooted = λ zero. (refl, refl, tt) });
+        phase = inl (record {
+          closure_is = refl;
+          unshown = refl;
+          silent = begins_silent s.mode.resize s.initial number (hash s.store.hasher k)
+              s.mode.limit;
+          ends = λ reply e. absurd cc;
+          rooted = λ zero. (refl, refl, tt);
+        });
       })
 
   -- an answer that fits left the call under way, and nearer its end
-  pub record Went (store : StoreState K V S) (m : Machine) (answer : Chain_answer) (store' : StoreState K V S) (later : Running K V A) (closure : Option F) (shown : Option ℕ) (aborted : Option T) : Type 0 where
+  pub record Went (store : StoreState K V S) (m : Machine) (answer : Chain_answer) (store' : StoreState K V S) (later : Running K V A)
+      (closure : Option F) (shown : Option ℕ) (aborted : Option T) : Type 0 where
     pub fit : IsFit answer
     pub same : later.machine ≡ m
     pub nears : left_of store' (after m answer) < left_of store m
     pub goes : IsStanding (after m answer) → IsComputing store' (record later { machine = after m answer }) closure shown aborted
 
   -- the same, told in other words
-  pub went_so : (store : StoreState K V S) (m : Machine) {answer told : Chain_answer} {store' store1 : StoreState K V S} {r r1 : Running K V A} {closure closure1 : Option F} {shown shown1 : Option ℕ} {aborted aborted1 : Option T}
-      → answer ≡ told → store' ≡ store1 → r ≡ r1 → closure ≡ closure1 → shown ≡ shown1 → aborted ≡ aborted1 → Went store m told store1 r1 closure1 shown1 aborted1 → Went store m answer store' r closure shown aborted
+  pub went_so : (store : StoreState K V S)
+      (m : Machine) {answer told : Chain_answer} {store' store1 : StoreState K V S} {r r1 : Running K V A} {closure closure1 : Option F} {shown shown1 :
+      Option ℕ} {aborted aborted1 : Option T}
+      → answer ≡ told → store' ≡ store1 → r ≡ r1 → closure ≡ closure1 → shown ≡ shown1 → aborted ≡ aborted1
+      → Went store m told store1 r1 closure1 shown1 aborted1 → Went store m answer store' r closure shown aborted
   went_so store m {answer} {told} {store'} {store1} {r} {r1} {closure} {closure1} {shown} {shown1} {aborted} {aborted1} e s_is r_is c_is n_is a_is went =
       subst (λ a. Went store m a store' r closure shown aborted) (sym e)
       (subst (λ (y : StoreState K V S). Went store m told y r closure shown aborted) (sym s_is)

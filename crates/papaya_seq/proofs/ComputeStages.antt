@@ -23,7 +23,10 @@ use Rattle.papaya_call.specs.declared.compute.Purpose.{Purpose}
 use Rattle.papaya_call.specs.declared.compute.Purpose.TheVariants.{Fill, Replace, Again}
 use Rattle.papaya_call.specs.declared.machine.Machine.{Machine as Call_machine}
 use Rattle.papaya_call.specs.declared.machine.State.{State}
-use Rattle.papaya_call.specs.declared.machine.State.TheVariants.{AtRoot, Searching, Offering, Showing, Pairing, Putting, Deleting, Counting, Uncounting, Leaving, Growing, Ended}
+use Rattle.papaya_call.specs.declared.machine.State.TheVariants.{AtRoot, Searching, Offering}
+use Rattle.papaya_call.specs.declared.machine.State.TheVariants.{Showing, Pairing, Putting}
+use Rattle.papaya_call.specs.declared.machine.State.TheVariants.{Deleting, Counting, Uncounting}
+use Rattle.papaya_call.specs.declared.machine.State.TheVariants.{Leaving, Growing, Ended}
 use Rattle.papaya_call.specs.Write.{claimed_by}
 use Rattle.papaya_call.specs.declared.made.Made.{Made}
 use Rattle.papaya_call.specs.Answers.{Says}
@@ -54,7 +57,8 @@ abbrev pub IsYetToMake : Said → Type 0
 IsYetToMake (Inserts shown) = Unit {0}
 IsYetToMake _ = ⊥
 
-remembered_none : (fill : Option ℕ) (choice : Option Choice) → ((said : Said) → said_to_fill fill ≡ Some said → IsYetToMake said) → ((said : Said) → said_to_choose choice ≡ Some said → IsYetToMake said) → record { fill = fill; choice = choice } ≡ nothing
+remembered_none : (fill : Option ℕ) (choice : Option Choice) → ((said : Said) → said_to_fill fill ≡ Some said → IsYetToMake said)
+    → ((said : Said) → said_to_choose choice ≡ Some said → IsYetToMake said) → record { fill = fill; choice = choice } ≡ nothing
 remembered_none None None filled chosen = refl
 remembered_none (Some n) choice filled chosen = absurd (filled (Makes None n) refl)
 remembered_none None (Some (To_replace old new)) filled chosen = absurd (chosen (Makes (Some old) new.pair) refl)
@@ -74,10 +78,12 @@ IsInRoot root (Showing removal) = Unit {0}
 IsInRoot root _ = ⊥
 
 -- what its search saw there leads on
-goes_in : (root : ℕ) (mode : ResizeMode) (saw : Probed) → IsSeenIn (λ word. IsSettledKind (kind_of word)) root saw → IsInRoot root (goes_as Compute mode nothing saw)
+goes_in : (root : ℕ) (mode : ResizeMode) (saw : Probed) → IsSeenIn (λ word. IsSettledKind (kind_of word)) root saw
+    → IsInRoot root (goes_as Compute mode nothing saw)
 goes_in root mode (seen.On search) there = there
 goes_in root mode (seen.Empty place) there = tt
-goes_in root mode (seen.Here place word) (there, settled, uncopied) = subst (λ kind. IsInRoot root (computes kind nothing place word)) (sym (settled_live (kind_of word) settled uncopied)) tt
+goes_in root mode (seen.Here place word) (there, settled, uncopied) = subst (λ kind. IsInRoot root (computes kind nothing place word))
+    (sym (settled_live (kind_of word) settled uncopied)) tt
 goes_in root (Incremental chunk) (seen.Over t) there = there
 goes_in root Blocking (seen.Over t) there = tt
 
@@ -85,15 +91,18 @@ goes_in root Blocking (seen.Over t) there = tt
 abbrev pub bare_at : Machine → State → Machine
 bare_at m state = record { call = record m.call { task = Compute; remembered = nothing; state = state }; number = m.number; helped = m.helped; phase = Calling }
 
-pub bare_is : (m : Machine) (state : State) → m.call.task ≡ Compute → m.call.remembered ≡ nothing → m.phase ≡ Calling → m.call.state ≡ state → m ≡ bare_at m state
+pub bare_is : (m : Machine) (state : State) → m.call.task ≡ Compute → m.call.remembered ≡ nothing → m.phase ≡ Calling → m.call.state ≡ state
+    → m ≡ bare_at m state
 bare_is m state task held phase is =
     ap (λ p. record m { phase = p }) phase
     ∙ ap (λ t. record { call = record m.call { task = t }; number = m.number; helped = m.helped; phase = Calling }) task
     ∙ ap (λ h. record { call = record m.call { task = Compute; remembered = h }; number = m.number; helped = m.helped; phase = Calling }) held
     ∙ ap (λ x. record { call = record m.call { task = Compute; remembered = nothing; state = x }; number = m.number; helped = m.helped; phase = Calling }) is
 
-module _ {K V S A : Type 0} (eq : K → K → Bool) (says : Says K V A) (hash : S → K → ℕ) (store : StoreState K V S) (r : Running K V A) (store' : StoreState K V S) (later : Running K V A) where
-  module _ (m : Machine) (last : word_at store.words (Next store.words.root) ≡ 0) (unmarked : (i : ℕ) → kind_of (word_at store.words (Slot store.words.root i)) ≡ kinds.Marked → ⊥) where
+module _ {K V S A : Type 0} (eq : K → K → Bool) (says : Says K V A) (hash : S → K → ℕ) (store : StoreState K V S) (r : Running K V A)
+    (store' : StoreState K V S) (later : Running K V A) where
+  module _ (m : Machine) (last : word_at store.words (Next store.words.root) ≡ 0)
+      (unmarked : (i : ℕ) → kind_of (word_at store.words (Slot store.words.root i)) ≡ kinds.Marked → ⊥) where
     -- it is in the root after an answer
     abbrev IsIn : State → Answer → Type 0
     IsIn state answer = ((after (bare_at m state) answer).phase ≡ Calling) × IsInRoot store.words.root (after (bare_at m state) answer).call.state
@@ -103,23 +112,55 @@ module _ {K V S A : Type 0} (eq : K → K → Bool) (says : Says K V A) (hash : 
     size_in t (Some table) there = (refl, (there, tt))
 
     -- and nothing was changed
-    pub root_stays : (state : State) (answer : Answer) → IsInRoot store.words.root state → (ask_of (bare_at m state) ≡ asked.Call ShowNone → ⊥) → ((n : ℕ) → ask_of (bare_at m state) ≡ asked.Call (ShowPair n) → ⊥) → PerformsAsk eq says hash false (ask_of (bare_at m state)) store r answer store' later → (store' ≡ store) × IsIn state answer
+    pub root_stays : (state : State) (answer : Answer) → IsInRoot store.words.root state → (ask_of (bare_at m state) ≡ asked.Call ShowNone → ⊥)
+        → ((n : ℕ) → ask_of (bare_at m state) ≡ asked.Call (ShowPair n) → ⊥)
+        → PerformsAsk eq says hash false (ask_of (bare_at m state)) store r answer store' later → (store' ≡ store) × IsIn state answer
     root_stays AtRoot answer there no_none no_pair (told, is, (e, (same, stays))) =
-        let root = store.words.root in
-        (same, subst (IsIn AtRoot) (sym (is ∙ ap answers.Call e)) (refl, cond_both (root == 0) (lacks None NoRoot) (Searching (Sizing root)) (IsInRoot root) (λ _. tt) (λ _. (refl, tt))))
-    root_stays (Searching (Sizing t)) answer there no_none no_pair (told, is, (e, (same, stays))) = (same, subst (IsIn (Searching (Sizing t))) (sym (is ∙ ap answers.Call e)) (size_in t (table_of store.words.tables t) there.0))
+        let root = store.words.root in (
+          same,
+          subst (IsIn AtRoot) (sym (is ∙ ap answers.Call e))
+              (refl, cond_both (root == 0) (lacks None NoRoot) (Searching (Sizing root)) (IsInRoot root) (λ _. tt) (λ _. (refl, tt))),
+        )
+    root_stays (Searching (Sizing t)) answer there no_none no_pair
+        (told, is, (e, (same, stays))) = (
+          same,
+          subst (IsIn (Searching (Sizing t))) (sym (is ∙ ap answers.Call e))
+              (size_in t (table_of store.words.tables t) there.0),
+        )
     root_stays (Searching (Looking place)) answer there no_none no_pair (told, is, (e, (same, stays))) =
-        let hint : ℕ = hint_at store.words place.table place.probe.i in
-        (same, subst (IsIn (Searching (Looking place))) (sym (is ∙ ap answers.Call e)) (refl, goes_in store.words.root m.call.mode (hinted place m.call.hash hint) (hinted_in (λ n. IsSettledKind (kind_of n)) store.words.root place m.call.hash hint there.0)))
+        let hint : ℕ = hint_at store.words place.table place.probe.i in (
+          same,
+          subst (IsIn (Searching (Looking place))) (sym (is ∙ ap answers.Call e)) (
+            refl,
+            goes_in store.words.root m.call.mode (hinted place m.call.hash hint)
+                (hinted_in (λ n. IsSettledKind (kind_of n)) store.words.root place m.call.hash hint there.0),
+          ),
+        )
     root_stays (Searching (Reading place)) answer there no_none no_pair (told, is, (e, (same, stays))) =
         let word : ℕ = word_at store.words (Slot place.table place.probe.i) in
-        let open_still : kind_of word ≡ kinds.Marked → ⊥ = subst (λ t. kind_of (word_at store.words (Slot t place.probe.i)) ≡ kinds.Marked → ⊥) (sym there.0) (unmarked place.probe.i) in
-        (same, subst (IsIn (Searching (Reading place))) (sym (is ∙ ap answers.Call e)) (refl, goes_in store.words.root m.call.mode (look place word) (loaded_in (λ n. IsSettledKind (kind_of n)) store.words.root (Reading place) m.call.hash word there (settled_kind (kind_of word) open_still))))
+        let open_still : kind_of word ≡ kinds.Marked
+        → ⊥ = subst (λ t. kind_of (word_at store.words (Slot t place.probe.i)) ≡ kinds.Marked → ⊥) (sym there.0) (unmarked place.probe.i) in (
+          same,
+          subst (IsIn (Searching (Reading place))) (sym (is ∙ ap answers.Call e)) (
+            refl,
+            goes_in store.words.root m.call.mode (look place word)
+                (loaded_in (λ n. IsSettledKind (kind_of n)) store.words.root (Reading place) m.call.hash word there (settled_kind (kind_of word) open_still)),
+          ),
+        )
     root_stays (Searching (Comparing place word)) answer there no_none no_pair (told, is, (e, (same, stays))) =
-        let alike : Bool = compares eq (own_key store r) (pair_of store (number_of word)) in
-        (same, subst (IsIn (Searching (Comparing place word))) (sym (is ∙ ap answers.Call e)) (refl, goes_in store.words.root m.call.mode (search_compared (Comparing place word) alike) (compared_in (λ n. IsSettledKind (kind_of n)) store.words.root (Comparing place word) alike there)))
-    root_stays (Leaving t) answer there no_none no_pair (told, is, (e, (same, stays))) =
-        (same, subst (IsIn (Leaving t)) (sym (is ∙ ap answers.Call e ∙ ap (λ n. answers.Call (Word_read (word_at store.words (Next n)))) there ∙ ap (λ n. answers.Call (Word_read n)) last)) (refl, tt))
+        let alike : Bool = compares eq (own_key store r) (pair_of store (number_of word)) in (
+          same,
+          subst (IsIn (Searching (Comparing place word))) (sym (is ∙ ap answers.Call e)) (
+            refl,
+            goes_in store.words.root m.call.mode (search_compared (Comparing place word) alike)
+                (compared_in (λ n. IsSettledKind (kind_of n)) store.words.root (Comparing place word) alike there),
+          ),
+        )
+    root_stays (Leaving t) answer there no_none no_pair (told, is, (e, (same, stays))) = (
+      same,
+      subst (IsIn (Leaving t)) (sym (is ∙ ap answers.Call e ∙ ap (λ n. answers.Call (Word_read (word_at store.words (Next n)))) there
+          ∙ ap (λ n. answers.Call (Word_read n)) last)) (refl, tt),
+    )
     root_stays (Offering gap) answer there no_none no_pair performs = absurd (no_none refl)
     root_stays (Showing removal) answer there no_none no_pair performs = absurd (no_pair (number_of removal.word) refl)
     root_stays state answer there no_none no_pair performs = absurd there
@@ -149,13 +190,15 @@ removing_stands (Leaving u) there t e = there
 removing_stands (Growing need) there t e = there
 removing_stands state there t e = absurd cc
 
-module _ {K V S A : Type 0} (eq : K → K → Bool) (says : Says K V A) (store : StoreState K V S) (r : Running K V A) (store' : StoreState K V S) (later : Running K V A) (m : Call_machine) where
+module _ {K V S A : Type 0} (eq : K → K → Bool) (says : Says K V A) (store : StoreState K V S) (r : Running K V A) (store' : StoreState K V S)
+    (later : Running K V A) (m : Call_machine) where
   -- the call of a compute in a state
   abbrev pub compute_at : Made → State → Call_machine
   compute_at made state = record m { task = Compute; made = made; state = state }
 
   -- the pair that is made of its value leads to the exchange
-  pairing_stable : (made : Made) (purpose : Purpose) (told : Call_answer) → IsReplacing (Pairing purpose) → IsReplacing (calls.after (compute_at made (Pairing purpose)) told).state
+  pairing_stable : (made : Made) (purpose : Purpose) (told : Call_answer) → IsReplacing (Pairing purpose)
+      → IsReplacing (calls.after (compute_at made (Pairing purpose)) told).state
   pairing_stable made (Fill gap) told there = absurd there
   pairing_stable made (Again write) told there = absurd there
   pairing_stable made (Replace write) (Word_read count) there = numbered_leads IsReplacing tt (Pairing (Replace write)) there (number_told made count)
@@ -165,20 +208,27 @@ module _ {K V S A : Type 0} (eq : K → K → Bool) (says : Says K V A) (store :
   pairing_stable made (Replace write) told there = there
 
   -- which isn't lost
-  pub replacing_stays : (made : Made) (state : State) (told : Call_answer) → IsReplacing state → IsRead (word_at store.words) state → Performs eq says false (asks made m.hash state) store r told store' later → IsReplacing (calls.after (compute_at made state) told).state
+  pub replacing_stays : (made : Made) (state : State) (told : Call_answer) → IsReplacing state → IsRead (word_at store.words) state
+      → Performs eq says false (asks made m.hash state) store r told store' later → IsReplacing (calls.after (compute_at made state) told).state
   replacing_stays made (Pairing purpose) told there read performs = pairing_stable made purpose told there
   replacing_stays made (Putting put) told there read (exchanges, stays) =
       let done = exchange_done _ _ (word_at store.words (Slot put.write.place.table put.write.place.probe.i)) put.write.old read exchanges in
       subst (λ a. IsReplacing (calls.after (compute_at made (Putting put)) a).state) (sym done.0)
-      (cond_both (put.write.old == 0) (Counting (claimed_by put.write put.pair)) (Ended _) IsReplacing (λ none. let zero : put.write.old ≡ 0 = eqb-true put.write.old 0 none in let some : 0 < put.write.old = there in absurd (omega (arith, zero, some))) (λ _. tt))
-  replacing_stays made (Ended reply) told there read (e, (same, stays)) = subst (λ a. IsReplacing (calls.after (compute_at made (Ended reply)) a).state) (sym e) tt
+      (cond_both (put.write.old == 0) (Counting (claimed_by put.write put.pair)) (Ended _) IsReplacing
+      (λ none. let zero : put.write.old ≡ 0 = eqb-true put.write.old 0 none in let some : 0 < put.write.old = there in
+      absurd (omega (arith, zero, some))) (λ _. tt))
+  replacing_stays made (Ended reply) told there read
+      (e, (same, stays)) = subst (λ a. IsReplacing (calls.after (compute_at made (Ended reply)) a).state) (sym e) tt
   replacing_stays made state told there read performs = absurd there
 
   -- nor is that of a deletion
-  pub removing_stays : (made : Made) (state : State) (told : Call_answer) → IsRemoving state → IsRead (word_at store.words) state → Performs eq says false (asks made m.hash state) store r told store' later → IsRemoving (calls.after (compute_at made state) told).state
+  pub removing_stays : (made : Made) (state : State) (told : Call_answer) → IsRemoving state → IsRead (word_at store.words) state
+      → Performs eq says false (asks made m.hash state) store r told store' later → IsRemoving (calls.after (compute_at made state) told).state
   removing_stays made (Deleting removal) told there read (exchanges, stays) =
       let done = exchange_done _ _ (word_at store.words (Slot removal.place.table removal.place.probe.i)) removal.word read exchanges in
       subst (λ a. IsRemoving (calls.after (compute_at made (Deleting removal)) a).state) (sym done.0) tt
-  removing_stays made (Uncounting n) told there read (e, added, stays) = subst (λ a. IsRemoving (calls.after (compute_at made (Uncounting n)) a).state) (sym e) tt
-  removing_stays made (Ended reply) told there read (e, (same, stays)) = subst (λ a. IsRemoving (calls.after (compute_at made (Ended reply)) a).state) (sym e) there
+  removing_stays made (Uncounting n) told there read
+      (e, added, stays) = subst (λ a. IsRemoving (calls.after (compute_at made (Uncounting n)) a).state) (sym e) tt
+  removing_stays made (Ended reply) told there read (e, (same, stays)) = subst (λ a. IsRemoving (calls.after (compute_at made (Ended reply)) a).state)
+      (sym e) there
   removing_stays made state told there read performs = absurd there

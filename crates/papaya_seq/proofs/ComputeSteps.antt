@@ -35,7 +35,9 @@ use Rattle.papaya_chain_law.specs.Goes.{Goes, IsOwnStep}
 use Rattle.papaya_chain_law.specs.Relies.{left_by}
 use Rattle.papaya_chain_law.proofs.Once.{chain_once}
 use Rattle.papaya_call_law.specs.Alone.{IsRead}
-use Rattle.papaya_call_law.specs.Says.{Agrees, Inserts, IsSaidBy, Makes, Removes, Said, ShowsIn, StandsOn, WasSaid, said_in, said_in_reply, said_of_compute, said_to_choose, show}
+use Rattle.papaya_call_law.specs.Says.{Agrees, Inserts, IsSaidBy, Makes, Removes, Said, ShowsIn}
+use Rattle.papaya_call_law.specs.Says.{StandsOn, WasSaid, said_in, said_in_reply, said_of_compute}
+use Rattle.papaya_call_law.specs.Says.{said_to_choose, show}
 use Rattle.papaya_call_law.proofs.SaysOver.{machine_paired}
 use Rattle.papaya_store.specs.Asks.{PerformsAsk}
 use Rattle.papaya_store.specs.Performs.{Performs, own_value}
@@ -55,9 +57,14 @@ use Rattle.papaya_timeline.proofs.StoreLemmas.{performed_ask, unnumbered}
 use Rattle.papaya_seq.specs.Map.{IsLawfulMap, IsWriteCauseAt, MapState, next_of}
 use Rattle.papaya_seq.proofs.Answering.{IsShowing, answering_performs}
 use Rattle.papaya_seq.proofs.Causes.{IsLogRefusal, IsNoTableRefusal, IsPairStage, IsTableAsk, IsUnlogged, PairsFirst, refused_so, unlogged_more, write_cause}
-use Rattle.papaya_seq.proofs.ComputeRun.{HasPair, IsAsked, IsComputing, IsDoing, IsFirstEnd, IsInsertEnd, IsInsertSaid, IsInserting, IsOnWay, IsShown, IsToRemove, IsWaiting, Went, ended_by, map_at}
+use Rattle.papaya_seq.proofs.ComputeRun.{HasPair, IsAsked, IsComputing, IsDoing, IsFirstEnd}
+use Rattle.papaya_seq.proofs.ComputeRun.{IsInsertEnd, IsInsertSaid, IsInserting, IsOnWay, IsShown}
+use Rattle.papaya_seq.proofs.ComputeRun.{IsToRemove, IsWaiting, Went, ended_by, map_at}
 use Rattle.papaya_seq.proofs.ComputeShown.{asking}
-use Rattle.papaya_seq.proofs.ComputeStages.{IsInRoot, IsRemoving, IsReplacing, IsYetToMake, bare_at, bare_is, remembers_nothing, removing_stands, removing_stays, replacing_stands, replacing_stays, root_stays}
+use Rattle.papaya_seq.proofs.ComputeStages.{IsInRoot, IsRemoving, IsReplacing, IsYetToMake, bare_at}
+use Rattle.papaya_seq.proofs.ComputeStages.{bare_is, remembers_nothing, removing_stands}
+use Rattle.papaya_seq.proofs.ComputeStages.{removing_stays, replacing_stands, replacing_stays}
+use Rattle.papaya_seq.proofs.ComputeStages.{root_stays}
 use Rattle.papaya_seq.proofs.Logs.{IsFirst}
 use Rattle.papaya_seq.proofs.StepsOfOwn.{own_performs, own_step}
 use Rattle.papaya_seq.proofs.Steps.{HasCome, came_more, made_goes, made_more, made_nears, made_ordered, made_says, seated}
@@ -72,11 +79,13 @@ unshown ask no_none no_pair showing = showing
 
 module _ {K V S A : Type 0} (eq : K → K → Bool) (hash : S → K → ℕ) (s : MapState K V S) (k : K) (says : Answers_say K V A)
     (store : StoreState K V S) (r : Running K V A) (answer : Answer) (store' : StoreState K V S) (later : Running K V A)
-    (going : reply_in (ask_of r.machine) ≡ None) (no_none : ask_of r.machine ≡ asked.Call ShowNone → ⊥) (no_pair : (n : ℕ) → ask_of r.machine ≡ asked.Call (ShowPair n) → ⊥)
+    (going : reply_in (ask_of r.machine) ≡ None) (no_none : ask_of r.machine ≡ asked.Call ShowNone → ⊥)
+    (no_pair : (n : ℕ) → ask_of r.machine ≡ asked.Call (ShowPair n) → ⊥)
     (performed : PerformsAsk eq says hash false (ask_of r.machine) store r answer store' later) (same : later.machine ≡ r.machine) where
   -- whatever its closure answers
   performs : PerformsAsk eq whatever hash false (ask_of r.machine) store (asking r) answer store' (asking later) × (later.answers ≡ r.answers)
-  performs = answering_performs eq says (Some tt) hash false (ask_of r.machine) store r answer store' later (λ own is. unshown own (λ e. no_none (is ∙ ap asked.Call e)) (λ n e. no_pair n (is ∙ ap asked.Call e))) performed
+  performs = answering_performs eq says (Some tt) hash false (ask_of r.machine) store r answer store' later
+      (λ own is. unshown own (λ e. no_none (is ∙ ap asked.Call e)) (λ n e. no_pair n (is ∙ ap asked.Call e))) performed
 
   -- the machine after the answer
   abbrev next : Machine
@@ -91,16 +100,20 @@ module _ {K V S A : Type 0} (eq : K → K → Bool) (hash : S → K → ℕ) (s 
   not_shown None e = no_none e
   not_shown (Some n) e = no_pair n e
 
-  module _ (keys : IsLawfulKeys eq (hash s.store.hasher)) (came : HasCome eq hash s (keyed_compute k) store (asking r)) (un : IsUnlogged eq hash s (keyed_compute k) store (asking r)) where
+  module _ (keys : IsLawfulKeys eq (hash s.store.hasher)) (came : HasCome eq hash s (keyed_compute k) store (asking r))
+      (un : IsUnlogged eq hash s (keyed_compute k) store (asking r)) where
     -- the core is in order
     lawful_now : IsLawfulCore eq (hash s.store.hasher) store (seated store (Some (asking r)) s.mode s.initial).callers s.mode
-    lawful_now = subst (λ h. IsLawfulCore eq (hash h) store (seated store (Some (asking r)) s.mode s.initial).callers s.mode) came.hasher (came.lone going).lawful
+    lawful_now = subst (λ h. IsLawfulCore eq (hash h) store (seated store (Some (asking r)) s.mode s.initial).callers s.mode) came.hasher
+        (came.lone going).lawful
 
     -- the logs keep their pairs
     keeps : KeepsPairs store store'
     keeps =
         let (es, (call_traces, kept)) = lawful_now.law in
-        (kept_steps.left eq (hash s.store.hasher) keys whatever hash false (seated store (Some (asking r)) s.mode s.initial) 0 (seated store' (Some (asking r)) s.mode s.initial) (asking r) answer (asking later) refl performs.0 (ap hash came.hasher) refl es call_traces lawful_now.core kept).logged
+        (kept_steps.left eq (hash s.store.hasher) keys whatever hash false (seated store (Some (asking r)) s.mode s.initial) 0
+        (seated store' (Some (asking r)) s.mode s.initial) (asking r) answer (asking later) refl performs.0 (ap hash came.hasher) refl es
+        call_traces lawful_now.core kept).logged
 
     goes : Goes r.machine answer
     goes = made_goes eq hash s (keyed_compute k) store (asking r) answer store' (asking later) going performs.0 same keys came
@@ -124,10 +137,13 @@ module _ {K V S A : Type 0} (eq : K → K → Bool) (hash : S → K → ℕ) (s 
         (made_says eq hash s (keyed_compute k) store (asking r) answer store' (asking later) going performs.0 same keys came said stands)
 
     -- and of a value of which a pair was made none is yet to be made
-    unpaired : (own : IsOwnStep r.machine answer) (shown' : Option ℕ) (n : ℕ) → IsSaidBy r.machine.call own.told (Makes shown' n) → (shown : Option ℕ) → StandsOn next.call (Inserts shown) → ⊥
+    unpaired : (own : IsOwnStep r.machine answer) (shown' : Option ℕ) (n : ℕ) → IsSaidBy r.machine.call own.told (Makes shown' n) → (shown : Option ℕ)
+        → StandsOn next.call (Inserts shown) → ⊥
     unpaired own shown' n (was, makes, told) shown stands =
         let standing = (lawful_now.core.standing 0 (asking r) refl).call in
-        let there : StandsOn (calls.after r.machine.call (Made_number n)) (Inserts shown) = subst (λ a. StandsOn (calls.after r.machine.call a) (Inserts shown)) told (subst (λ d. StandsOn d (Inserts shown)) own.call stands) in
+        let there : StandsOn (calls.after r.machine.call (Made_number n))
+        (Inserts shown) = subst (λ a. StandsOn (calls.after r.machine.call a) (Inserts shown)) told
+        (subst (λ d. StandsOn d (Inserts shown)) own.call stands) in
         elim (machine_paired r.machine.call n came.task standing came.shows makes) [
           | inl filled ↦ let f : Inserts shown ≡ Makes None n = filled.1 (Inserts shown) there in cc f
           | inr (i, was_said, only) ↦ elim (only (Inserts shown) there) [
@@ -137,10 +153,13 @@ module _ {K V S A : Type 0} (eq : K → K → Bool) (hash : S → K → ℕ) (s 
         ]
 
     -- the pair that was made has the value
-    pair_made : (v : V) → own_value store r ≡ Some v → (own : IsOwnStep r.machine answer) (shown : Option ℕ) (n : ℕ) → IsSaidBy r.machine.call own.told (Makes shown n) → HasPair v store' n
+    pair_made : (v : V) → own_value store r ≡ Some v → (own : IsOwnStep r.machine answer) (shown : Option ℕ) (n : ℕ)
+        → IsSaidBy r.machine.call own.told (Makes shown n) → HasPair v store' n
     pair_made v has own shown n (was, makes, told) =
         let (es, (call_traces, kept)) = lawful_now.law in
-        let made = kept_steps.made_now eq (hash s.store.hasher) keys whatever hash false (seated store (Some (asking r)) s.mode s.initial) 0 (seated store' (Some (asking r)) s.mode s.initial) (asking r) answer (asking later) refl performs.0 (ap hash came.hasher) refl es call_traces lawful_now.core kept n
+        let made = kept_steps.made_now eq (hash s.store.hasher) keys whatever hash false (seated store (Some (asking r)) s.mode s.initial) 0
+        (seated store' (Some (asking r)) s.mode s.initial) (asking r) answer (asking later) refl performs.0 (ap hash came.hasher) refl es
+        call_traces lawful_now.core kept n
         (subst MakesOver (sym (asks_own r.machine own.phase)) makes) (own.is ∙ ap answers.Call told) in
         let both : Some v ≡ Some made.pair.value = sym has ∙ made.before in
         let value : v ≡ made.pair.value = cc both in
@@ -150,7 +169,9 @@ module _ {K V S A : Type 0} (eq : K → K → Bool) (hash : S → K → ℕ) (s 
     value_kept : (v : V) → own_value store r ≡ Some v → own_value store' later ≡ Some v
     value_kept v has =
         let (es, (call_traces, kept)) = lawful_now.law in
-        elim (kept_steps.left eq (hash s.store.hasher) keys whatever hash false (seated store (Some (asking r)) s.mode s.initial) 0 (seated store' (Some (asking r)) s.mode s.initial) (asking r) answer (asking later) refl performs.0 (ap hash came.hasher) refl es call_traces lawful_now.core kept).value [
+        elim (kept_steps.left eq (hash s.store.hasher) keys whatever hash false (seated store (Some (asking r)) s.mode s.initial) 0
+        (seated store' (Some (asking r)) s.mode s.initial) (asking r) answer (asking later) refl performs.0 (ap hash came.hasher) refl es
+        call_traces lawful_now.core kept).value [
           | inl keeps ↦ keeps.same v has
           | inr said ↦ elim said.shown [
             | inl none ↦ absurd (no_none none)
@@ -183,12 +204,15 @@ module _ {K V S A : Type 0} (eq : K → K → Bool) (hash : S → K → ℕ) (s 
 
     -- only a closure aborts
     unaborted : (t : ℕ) → reply_in (ask_of next) ≡ Some (Aborted t) → ⊥
-    unaborted t told = let (shown, asks_it, is) = chain_aborted r.machine answer goes t unreplied (reply_asked (ask_of next) (Aborted t) told) in not_shown shown asks_it
+    unaborted t told = let (shown, asks_it, is) = chain_aborted r.machine answer goes t unreplied (reply_asked (ask_of next) (Aborted t) told) in
+        not_shown shown asks_it
 
     -- why it is refused
-    refused_why : ((purpose : Purpose) → r.machine.call.state ≡ Pairing purpose → r.machine.call.remembered ≡ nothing) → (refused : Refused) → reply_in (ask_of next) ≡ Some (Reply_refused refused) → IsLogRefusal s refused ⊎ (IsTableAsk r.machine × IsNoTableRefusal (map_at s store') refused)
+    refused_why : ((purpose : Purpose) → r.machine.call.state ≡ Pairing purpose → r.machine.call.remembered ≡ nothing) → (refused : Refused)
+        → reply_in (ask_of next) ≡ Some (Reply_refused refused) → IsLogRefusal s refused ⊎ (IsTableAsk r.machine × IsNoTableRefusal (map_at s store') refused)
     refused_why first refused told =
-        elim (refused_so eq hash s (keyed_compute k) store (asking r) answer store' (asking later) going performs.0 same keys came un (pairs_first first) refused told) [
+        elim (refused_so eq hash s (keyed_compute k) store (asking r) answer store' (asking later) going performs.0 same keys came un
+        (pairs_first first) refused told) [
           | inl log ↦ inl log
           | inr (inl table) ↦ inr table
           | inr (inr removes) ↦ absurd (no_none removes.1)
@@ -198,7 +222,8 @@ module _ {K V S A : Type 0} (eq : K → K → Bool) (hash : S → K → ℕ) (s 
     abbrev own_goes : ((t : ℕ) → left_by r.machine.call.state ≡ Some t → ⊥) → IsOwnStep r.machine answer
     own_goes = own_step r.machine answer goes
 
-    abbrev told_performs : (own : IsOwnStep r.machine answer) → Performs eq whatever false (calls.ask_of r.machine.call) store (asking r) own.told store' (asking later)
+    abbrev told_performs : (own : IsOwnStep r.machine answer)
+        → Performs eq whatever false (calls.ask_of r.machine.call) store (asking r) own.told store' (asking later)
     told_performs own = own_performs eq whatever hash store (asking r) answer store' (asking later) own.told own.phase own.is performs.0
 
     -- what it has read stands there
@@ -215,7 +240,9 @@ module _ {K V S A : Type 0} (eq : K → K → Bool) (hash : S → K → ℕ) (s 
         let own = own_goes (replacing_stands r.machine.call.state there) in (
           own.goes_on,
           subst (λ (d : Call_machine). IsReplacing d.state) (sym own.call)
-              (as_compute (λ d. IsReplacing (calls.after d own.told).state) (replacing_stays eq whatever store (asking r) store' (asking later) r.machine.call r.machine.call.made r.machine.call.state own.told there (read_now phase) (told_performs own))),
+              (as_compute (λ d. IsReplacing (calls.after d own.told).state)
+              (replacing_stays eq whatever store (asking r) store' (asking later) r.machine.call r.machine.call.made r.machine.call.state own.told
+              there (read_now phase) (told_performs own))),
         )
 
     -- or it would have the pair removed
@@ -224,7 +251,9 @@ module _ {K V S A : Type 0} (eq : K → K → Bool) (hash : S → K → ℕ) (s 
         let own = own_goes (removing_stands r.machine.call.state there) in (
           own.goes_on,
           subst (λ (d : Call_machine). IsRemoving d.state) (sym own.call)
-              (as_compute (λ d. IsRemoving (calls.after d own.told).state) (removing_stays eq whatever store (asking r) store' (asking later) r.machine.call r.machine.call.made r.machine.call.state own.told there (read_now phase) (told_performs own))),
+              (as_compute (λ d. IsRemoving (calls.after d own.told).state)
+              (removing_stays eq whatever store (asking r) store' (asking later) r.machine.call r.machine.call.made r.machine.call.state own.told
+              there (read_now phase) (told_performs own))),
         )
 
     module _ (held : Option (Stored K V)) (v : V) (now : IsInserting s held v store r) where
@@ -272,7 +301,9 @@ module _ {K V S A : Type 0} (eq : K → K → Bool) (hash : S → K → ℕ) (s 
       no_again : (held' : Option (Stored K V)) → held ≡ held' → (write : Write) → r.machine.call.state ≡ Pairing (Again write) → IsOnWay held' r.machine → ⊥
       no_again None is write at way =
           let (some, (new, choice)) = subst (ShowsIn r.machine.call.remembered.choice) at came.shows in
-          let shown : Some (number_of write.old) ≡ None = (now.said (Makes (Some (number_of write.old)) new.pair) (inr (inr (ap said_to_choose choice)))).0 ∙ ap (option_map (λ (p : Stored K V). p.number)) is in
+          let shown : Some (number_of write.old) ≡ None =
+          (now.said (Makes (Some (number_of write.old)) new.pair) (inr (inr (ap said_to_choose choice)))).0
+          ∙ ap (option_map (λ (p : Stored K V). p.number)) is in
           cc shown
       no_again (Some p) is write at way = subst IsReplacing at way.1
 
@@ -282,12 +313,14 @@ module _ {K V S A : Type 0} (eq : K → K → Bool) (hash : S → K → ℕ) (s 
       insert_first (Again write) is = absurd (no_again held refl write is now.way)
 
       -- it is refused for a cause
-      table_refused : (held' : Option (Stored K V)) → IsOnWay held' r.machine → IsTableAsk r.machine → (refused : Refused) → IsNoTableRefusal (map_at s store') refused → IsWriteCauseAt s held' refused (map_at s store')
+      table_refused : (held' : Option (Stored K V)) → IsOnWay held' r.machine → IsTableAsk r.machine → (refused : Refused)
+          → IsNoTableRefusal (map_at s store') refused → IsWriteCauseAt s held' refused (map_at s store')
       table_refused None way table refused (inl memory) = inl memory
       table_refused None way table refused (inr (capacity, none)) = inr (inl (capacity, inr (inl refl, none)))
       table_refused (Some p) way table refused why = absurd (subst IsReplacing (table way.0) way.1)
 
-      insert_refused : (refused : Refused) → IsLogRefusal s refused ⊎ (IsTableAsk r.machine × IsNoTableRefusal (map_at s store') refused) → IsWriteCauseAt s held refused (map_at s store')
+      insert_refused : (refused : Refused) → IsLogRefusal s refused ⊎ (IsTableAsk r.machine × IsNoTableRefusal (map_at s store') refused)
+          → IsWriteCauseAt s held refused (map_at s store')
       insert_refused refused (inl (inl memory)) = inl memory
       insert_refused refused (inl (inr (inl (capacity, full)))) = inr (inl (capacity, inl full))
       insert_refused refused (inl (inr (inr spent))) = inr (inr spent)
@@ -302,7 +335,8 @@ module _ {K V S A : Type 0} (eq : K → K → Bool) (hash : S → K → ℕ) (s 
       insert_ends reply told = tt
 
       insert_way : (held' : Option (Stored K V)) → IsOnWay held' r.machine → IsOnWay held' next
-      insert_way None way = (chain_once r.machine answer (made_ordered eq hash s (keyed_compute k) store (asking r) answer store' (asking later) going performs.0 same keys came) way).1
+      insert_way None way = (chain_once r.machine answer
+          (made_ordered eq hash s (keyed_compute k) store (asking r) answer store' (asking later) going performs.0 same keys came) way).1
       insert_way (Some p) way = replacing_more way
 
       inserting_more : IsInserting s held v store' then
@@ -318,7 +352,8 @@ module _ {K V S A : Type 0} (eq : K → K → Bool) (hash : S → K → ℕ) (s 
         to_remove (Some p) there = removing_more there
     asked_more held (ops.Abort t) told = let f : None ≡ Some (Aborted 0) = sym going ∙ told in absurd cc
 
-    module _ {F T : Type 0} (post : F → Option (Bor K × Bor V) → Operation V T → Type 0) (f : F) (closure : Option F) (shown : Option ℕ) (lawful : IsLawfulMap eq (hash s.store.hasher) s.store s.mode s.initial) (now : IsWaiting {T = T} eq hash s k post f store r closure shown) where
+    module _ {F T : Type 0} (post : F → Option (Bor K × Bor V) → Operation V T → Type 0) (f : F) (closure : Option F) (shown : Option ℕ)
+        (lawful : IsLawfulMap eq (hash s.store.hasher) s.store s.mode s.initial) (now : IsWaiting {T = T} eq hash s k post f store r closure shown) where
       -- one whose closure was not called stands on nothing
       wait_silent : (said : Said) → StandsOn next.call said → ⊥
       wait_silent said stands = elim (said_goes said stands) [
@@ -338,11 +373,15 @@ module _ {K V S A : Type 0} (eq : K → K → Bool) (hash : S → K → ℕ) (s 
           let (store_is, phase, there) = now.rooted zero in
           let is : r.machine ≡ bare_at r.machine r.machine.call.state = bare_is r.machine r.machine.call.state came.task wait_nothing phase refl in
           let last = subst (λ (y : StoreState K V S). word_at y.words (Next y.words.root) ≡ 0) (sym store_is) (last_next s.store zero) in
-          let open_still = subst (λ (y : StoreState K V S). (i : ℕ) → kind_of (word_at y.words (Slot y.words.root i)) ≡ Marked → ⊥) (sym store_is) (unmarked eq (hash s.store.hasher) [] s.mode s.store keys lawful.lawful s.store.words.root (last_next s.store zero)) in
-          let (stays, (on, in_root)) = root_stays eq whatever hash store (asking r) store' (asking later) r.machine last open_still r.machine.call.state answer there (λ e. no_none (ap ask_of is ∙ e)) (λ n e. no_pair n (ap ask_of is ∙ e)) (subst (λ (m : Machine). PerformsAsk eq whatever hash false (ask_of m) store (asking r) answer store' (asking later)) is performs.0) in (
+          let open_still = subst (λ (y : StoreState K V S). (i : ℕ) → kind_of (word_at y.words (Slot y.words.root i)) ≡ Marked → ⊥) (sym store_is)
+          (unmarked eq (hash s.store.hasher) [] s.mode s.store keys lawful.lawful s.store.words.root (last_next s.store zero)) in
+          let (stays, (on, in_root)) = root_stays eq whatever hash store (asking r) store' (asking later) r.machine last open_still
+          r.machine.call.state answer there (λ e. no_none (ap ask_of is ∙ e)) (λ n e. no_pair n (ap ask_of is ∙ e))
+          (subst (λ (m : Machine). PerformsAsk eq whatever hash false (ask_of m) store (asking r) answer store' (asking later)) is performs.0) in (
             stays ∙ store_is,
             subst (λ (m : Machine). (after m answer).phase ≡ Calling) (sym is) on,
-            subst (λ (y : StoreState K V S). IsInRoot y.words.root next.call.state) (sym stays) (subst (λ (m : Machine). IsInRoot store.words.root (after m answer).call.state) (sym is) in_root),
+            subst (λ (y : StoreState K V S). IsInRoot y.words.root next.call.state) (sym stays)
+                (subst (λ (m : Machine). IsInRoot store.words.root (after m answer).call.state) (sym is) in_root),
           )
 
       wait_ends : (reply : Reply) → reply_in (ask_of next) ≡ Some reply → IsFirstEnd s store' reply
@@ -359,7 +398,9 @@ module _ {K V S A : Type 0} (eq : K → K → Bool) (hash : S → K → ℕ) (s 
       waiting_more : IsWaiting {T = T} eq hash s k post f store' then closure shown
       waiting_more = record { closure_is = now.closure_is; unshown = now.unshown; silent = wait_silent; ends = wait_ends; rooted = wait_rooted }
 
-  module _ {F T : Type 0} (post : F → Option (Bor K × Bor V) → Operation V T → Type 0) (f : F) (closure : Option F) (shown : Option ℕ) (aborted : Option T) (keys : IsLawfulKeys eq (hash s.store.hasher)) (lawful : IsLawfulMap eq (hash s.store.hasher) s.store s.mode s.initial) (fits : hash s.store.hasher k < 2 ^ 64) (now : IsComputing eq hash s k post f store r closure shown aborted) where
+  module _ {F T : Type 0} (post : F → Option (Bor K × Bor V) → Operation V T → Type 0) (f : F) (closure : Option F) (shown : Option ℕ)
+      (aborted : Option T) (keys : IsLawfulKeys eq (hash s.store.hasher)) (lawful : IsLawfulMap eq (hash s.store.hasher) s.store s.mode s.initial)
+      (fits : hash s.store.hasher k < 2 ^ 64) (now : IsComputing eq hash s k post f store r closure shown aborted) where
     -- it goes on
     computing_more : IsStanding next → IsComputing eq hash s k post f store' (record later { machine = next }) closure shown aborted
     computing_more standing =
@@ -370,15 +411,25 @@ module _ {K V S A : Type 0} (eq : K → K → Bool) (hash : S → K → ℕ) (s 
           standing = standing;
           unlogged = unlogged_more eq hash s (keyed_compute k) store (asking r) answer store' (asking later) going performs.0 same keys came now.unlogged;
           phase = ⊎_elim
-              (λ (waits : IsWaiting {T = T} eq hash s k post f store r closure shown). inl (waiting_more keys came now.unlogged post f closure shown lawful waits))
-              (λ (does : IsDoing eq hash s k post f store r shown aborted). inr (record { operation = does.operation; said = does.said; shown_is = does.shown_is; kept = does.kept; asked = asked_more keys came now.unlogged (map_in eq s.store k) does.operation does.asked }))
+              (λ (waits : IsWaiting {T = T} eq hash s k post f store r closure shown).
+              inl (waiting_more keys came now.unlogged post f closure shown lawful waits))
+              (λ (does : IsDoing eq hash s k post f store r shown aborted).
+              inr (record {
+                operation = does.operation;
+                said = does.said;
+                shown_is = does.shown_is;
+                kept = does.kept;
+                asked = asked_more keys came
+                    now.unlogged (map_in eq s.store k) does.operation does.asked;
+              }))
               now.phase;
         }
 
     -- and comes nearer its end
     pub computing_went : IsFitAsk (ask_of r.machine) → Went eq hash s k post f store r.machine answer store' later closure shown aborted
     computing_went fit = record {
-      fit = (performed_ask eq hash says false (ask_of r.machine) store r answer store' later (unnumbered store.words.tables ((now.steps keys lawful fits).lone going).lawful.core.sizes) fit performed).fit;
+      fit = (performed_ask eq hash says false (ask_of r.machine) store r answer store' later
+          (unnumbered store.words.tables ((now.steps keys lawful fits).lone going).lawful.core.sizes) fit performed).fit;
       same = same;
       nears = made_nears eq hash s (keyed_compute k) store (asking r) answer store' (asking later) going performs.0 same now.steps keys lawful fits;
       goes = computing_more;

@@ -1,5 +1,7 @@
 -- A compute that is made at once: what it logs and writes are answers of its machine.
-use Rattle.std.proofs.Common.{◌≡◌, ◌≢◌, ℕ, ◌<◌, ◌==◌, slice_get, Bool, true, false, cond, List, [], ◌∷◌, Option, None, Some, IsSome, Result, Ok, Err, option_map, length, inl, inr, refl, sym, ◌∙◌, ap, subst}
+use Rattle.std.proofs.Common.{◌≡◌, ◌≢◌, ℕ, ◌<◌, ◌==◌, slice_get, Bool, true, false, cond, List, []}
+use Rattle.std.proofs.Common.{◌∷◌, Option, None, Some, IsSome, Result, Ok, Err, option_map, length}
+use Rattle.std.proofs.Common.{inl, inr, refl, sym, ◌∙◌, ap, subst}
 use Rattle.std.proofs.lemmas.Bool.{ne_eqb}
 use Rattle.std.specs.Prelude.{MatchOption, pos, negsuc}
 use denote.Ref.{Bor}
@@ -63,7 +65,9 @@ use Rattle.papaya_seq.proofs.FastPath.{driven, logging, under_way}
 use Rattle.papaya_seq.proofs.Exchanging.{exchange_made}
 
 -- what is shown of a pair that is there is of that pair
-pub shown_pair : {K V S : Type 0} (s : StoreState K V S) (n : ℕ) (entry : Option (Bor K × Bor V)) → MatchOption entry (pair_of s n ≡ None) (λ p. pair_of s n ≡ Some (record { number = n; key = p.0.now; value = p.1.now })) → IsSome (pair_of s n) → (p : Stored K V) × (p.number ≡ n) × (pair_of s n ≡ Some p) × AreOf entry (Some p)
+pub shown_pair : {K V S : Type 0} (s : StoreState K V S) (n : ℕ) (entry : Option (Bor K × Bor V))
+    → MatchOption entry (pair_of s n ≡ None) (λ p. pair_of s n ≡ Some (record { number = n; key = p.0.now; value = p.1.now })) → IsSome (pair_of s n)
+    → (p : Stored K V) × (p.number ≡ n) × (pair_of s n ≡ Some p) × AreOf entry (Some p)
 shown_pair {K} {V} s n None gone some = let e : IsSome {T = Stored K V} None = subst (λ (o : Option (Stored K V)). IsSome o) gone some in absurd cc
 shown_pair s n (Some entry) there some = (record { number = n; key = entry.0.now; value = entry.1.now }, refl, there, refl)
 
@@ -71,7 +75,8 @@ shown_pair s n (Some entry) there some = (record { number = n; key = entry.0.now
 pub live_some : (word : ℕ) → kind_of word ≡ kinds.Live → word ≢ 0
 live_some word live none = let f : kinds.Empty ≡ kinds.Live = ap kind_of (sym none) ∙ live in cc f
 
-module _ {K V S : Type 0} (eq : K → K → Bool) (hash : S → K → ℕ) (s : StoreState K V S) (key : K) (hashed : ℕ) (place : Place) (mode : ResizeMode) (initial : ℕ) where
+module _ {K V S : Type 0} (eq : K → K → Bool) (hash : S → K → ℕ) (s : StoreState K V S) (key : K) (hashed : ℕ) (place : Place) (mode : ResizeMode)
+    (initial : ℕ) where
   -- the compute stands here, and has made and remembers so much
   abbrev stands_at : Made → Remembered → State → Machine
   stands_at made held state = record (started Compute hashed mode initial None) { made = made; remembered = held; state = state }
@@ -98,7 +103,9 @@ module _ {K V S : Type 0} (eq : K → K → Bool) (hash : S → K → ℕ) (s : 
     abbrev own_valued : Made
     own_valued = record keyed { valued = true }
 
-    own_drives : (rest : List Chain_answer) (s' : StoreState K V S) (r' : Running K V (Unit {0})) → Drives eq hash rest s (having (Own key) (Own value) own_valued nothing (Pairing fill)) s' r' → Drives eq hash (answers.Call (Made_number 0) ∷ answers.Call (Made_number 0) ∷ rest) s (at_hand (bare (Pairing fill)) key (Some value)) s' r'
+    own_drives : (rest : List Chain_answer) (s' : StoreState K V S) (r' : Running K V (Unit {0}))
+        → Drives eq hash rest s (having (Own key) (Own value) own_valued nothing (Pairing fill)) s' r'
+        → Drives eq hash (answers.Call (Made_number 0) ∷ answers.Call (Made_number 0) ∷ rest) s (at_hand (bare (Pairing fill)) key (Some value)) s' r'
     own_drives rest s' r' more = (
       s,
       at_hand (bare (Pairing fill)) key (Some value),
@@ -111,12 +118,17 @@ module _ {K V S : Type 0} (eq : K → K → Bool) (hash : S → K → ℕ) (s : 
       ),
     )
 
-    own_refused : (refused : Refused) → Refuses MAX_LOG_LEN (length s.pairs) (Was_refused refused) → IsReplied eq hash s (at_hand (bare (Pairing fill)) key (Some value)) (Reply_refused refused) (Some value) s
+    own_refused : (refused : Refused) → Refuses MAX_LOG_LEN (length s.pairs) (Was_refused refused)
+        → IsReplied eq hash s (at_hand (bare (Pairing fill)) key (Some value)) (Reply_refused refused) (Some value) s
     own_refused refused cause = record {
       answers = answers.Call (Made_number 0) ∷ answers.Call (Made_number 0) ∷ answers.Call (Was_refused refused) ∷ [];
       end = having (Own key) (Own value) own_valued nothing (Ended (Reply_refused refused));
-      drives = own_drives (answers.Call (Was_refused refused) ∷ []) s (having (Own key) (Own value) own_valued nothing (Ended (Reply_refused refused)))
-          (s, having (Own key) (Own value) own_valued nothing (Pairing fill), record { asked = tt; fit = tt; performs = (Was_refused refused, refl, inl (cause, (refl, refl))); same = refl }, (refl, refl));
+      drives = own_drives (answers.Call (Was_refused refused) ∷ []) s (having (Own key) (Own value) own_valued nothing (Ended (Reply_refused refused))) (
+        s,
+        having (Own key) (Own value) own_valued nothing (Pairing fill),
+        record { asked = tt; fit = tt; performs = (Was_refused refused, refl, inl (cause, (refl, refl))); same = refl },
+        (refl, refl),
+      );
       replied = refl;
       value = refl;
     }
@@ -125,7 +137,8 @@ module _ {K V S : Type 0} (eq : K → K → Bool) (hash : S → K → ℕ) (s : 
     abbrev own_logged : State → Running K V (Unit {0})
     own_logged state = having (Logged (length s.pairs)) (Logged (length s.pairs)) own_valued (with_pair nothing fill (length s.pairs)) state
 
-    filled : length s.pairs < MAX_LOG_LEN → word_at s.words (slot_of place) ≡ 0 → IsReplied eq hash s (at_hand (bare (Pairing fill)) key (Some value)) (Inserted (length s.pairs)) None (claiming s hashed place (pairs.Own key value))
+    filled : length s.pairs < MAX_LOG_LEN → word_at s.words (slot_of place) ≡ 0
+        → IsReplied eq hash s (at_hand (bare (Pairing fill)) key (Some value)) (Inserted (length s.pairs)) None (claiming s hashed place (pairs.Own key value))
     filled few stands = record {
       answers = answers.Call (Made_number 0) ∷ answers.Call (Made_number 0) ∷ rest;
       end = own_logged (Ended (Inserted (length s.pairs)));
@@ -136,7 +149,13 @@ module _ {K V S : Type 0} (eq : K → K → Bool) (hash : S → K → ℕ) (s : 
         (
           exchanged,
           own_logged (Putting (record { write = at_place 0; pair = length s.pairs })),
-          record { asked = tt; fit = tt; performs = (Exchanged, refl, (exchange_made logged (slot_of place) 0 (live_word (length s.pairs)) stands, refl)); same = refl },
+          record {
+            asked = tt;
+            fit = tt;
+            performs =
+                (Exchanged, refl, (exchange_made logged (slot_of place) 0 (live_word (length s.pairs)) stands, refl));
+            same = refl;
+          },
           (
             record exchanged { count = added s.count 0 (pos 1) },
             own_logged (Counting (claimed_by (at_place 0) (length s.pairs))),
@@ -163,15 +182,19 @@ module _ {K V S : Type 0} (eq : K → K → Bool) (hash : S → K → ℕ) (s : 
         rest : List Chain_answer
         rest = answers.Call (Made_number (length s.pairs)) ∷ answers.Call Exchanged ∷ answers.Call Ok_done ∷ answers.Call Ok_done ∷ []
 
-    pub fill_written : word_at s.words (slot_of place) ≡ 0 → (reply : Reply) (left : Option V) (s' : StoreState K V S) → IsWritten s hashed (at_place 0) key value reply left s' → IsReplied eq hash s (at_hand (bare (Pairing fill)) key (Some value)) reply left s'
+    pub fill_written : word_at s.words (slot_of place) ≡ 0 → (reply : Reply) (left : Option V) (s' : StoreState K V S)
+        → IsWritten s hashed (at_place 0) key value reply left s' → IsReplied eq hash s (at_hand (bare (Pairing fill)) key (Some value)) reply left s'
     fill_written stands (Inserted n) left s' (empty, stored, is) =
         subst (IsReplied eq hash s (at_hand (bare (Pairing fill)) key (Some value)) (Inserted n) left) (sym is)
-        (subst (λ l. IsReplied eq hash s (at_hand (bare (Pairing fill)) key (Some value)) (Inserted n) l (claiming s hashed place (pairs.Own key value))) (sym stored.left_is)
-        (subst (λ z. IsReplied eq hash s (at_hand (bare (Pairing fill)) key (Some value)) (Inserted z) None (claiming s hashed place (pairs.Own key value))) (sym stored.number) (filled stored.few stands)))
+        (subst (λ l. IsReplied eq hash s (at_hand (bare (Pairing fill)) key (Some value)) (Inserted n) l
+        (claiming s hashed place (pairs.Own key value))) (sym stored.left_is)
+        (subst (λ z. IsReplied eq hash s (at_hand (bare (Pairing fill)) key (Some value)) (Inserted z) None
+        (claiming s hashed place (pairs.Own key value))) (sym stored.number) (filled stored.few stands)))
     fill_written stands (Replaced gone n) left s' (some, stored, gone_is, from) = absurd (some refl)
     fill_written stands (Reply_refused refused) left s' (cause, left_is, is) =
         subst (IsReplied eq hash s (at_hand (bare (Pairing fill)) key (Some value)) (Reply_refused refused) left) (sym is)
-        (subst (λ l. IsReplied eq hash s (at_hand (bare (Pairing fill)) key (Some value)) (Reply_refused refused) l s) (sym left_is) (own_refused refused cause))
+        (subst (λ l. IsReplied eq hash s (at_hand (bare (Pairing fill)) key (Some value)) (Reply_refused refused) l s) (sym left_is)
+        (own_refused refused cause))
     fill_written stands reply left s' wrote = absurd wrote
 
     -- or in the place of another one
@@ -198,22 +221,27 @@ module _ {K V S : Type 0} (eq : K → K → Bool) (hash : S → K → ℕ) (s : 
       abbrev goes_on : Grown → ℕ → Machine
       goes_on grew n = stands_at (made_to_pair grew) (paired_held grew nothing take_place n) (paired grew take_place n)
 
-      of_drives : (rest : List Chain_answer) (s' : StoreState K V S) (r' : Running K V (Unit {0})) → Drives eq hash rest s (having (Own key) (Own value) of_valued nothing (Pairing take_place)) s' r' → Drives eq hash (answers.Call (Made_number 0) ∷ rest) s (at_hand (bare (Pairing take_place)) key (Some value)) s' r'
+      of_drives : (rest : List Chain_answer) (s' : StoreState K V S) (r' : Running K V (Unit {0}))
+          → Drives eq hash rest s (having (Own key) (Own value) of_valued nothing (Pairing take_place)) s' r'
+          → Drives eq hash (answers.Call (Made_number 0) ∷ rest) s (at_hand (bare (Pairing take_place)) key (Some value)) s' r'
       of_drives rest s' r' more = (
         s,
         at_hand (bare (Pairing take_place)) key (Some value),
-        driven eq hash (bare (Pairing take_place)) (Own key) (Some (Own value)) MakeValue wants_value (Made_number 0) tt tt s s (at_hand (bare (Pairing take_place)) key (Some value)) (refl, (refl, refl)) refl,
+        driven eq hash (bare (Pairing take_place)) (Own key) (Some (Own value)) MakeValue wants_value (Made_number 0) tt tt s s
+            (at_hand (bare (Pairing take_place)) key (Some value)) (refl, (refl, refl)) refl,
         subst (λ grew. Drives eq hash rest s (under_way (goes_on grew 0) (Own key) (Some (Own value))) s' r') (sym grows_value) more,
       )
 
-      of_refused : (refused : Refused) → Refuses MAX_LOG_LEN (length s.pairs) (Was_refused refused) → IsReplied eq hash s (at_hand (bare (Pairing take_place)) key (Some value)) (Reply_refused refused) (Some value) s
+      of_refused : (refused : Refused) → Refuses MAX_LOG_LEN (length s.pairs) (Was_refused refused)
+          → IsReplied eq hash s (at_hand (bare (Pairing take_place)) key (Some value)) (Reply_refused refused) (Some value) s
       of_refused refused cause = record {
         answers = answers.Call (Made_number 0) ∷ answers.Call (Was_refused refused) ∷ [];
         end = having (Own key) (Own value) of_valued nothing (Ended (Reply_refused refused));
         drives = of_drives (answers.Call (Was_refused refused) ∷ []) s (having (Own key) (Own value) of_valued nothing (Ended (Reply_refused refused))) (
           s,
           having (Own key) (Own value) of_valued nothing (Pairing take_place),
-          driven eq hash (stands_at of_valued nothing (Pairing take_place)) (Own key) (Some (Own value)) (MakePairOf (number_of old)) wants_pair (Was_refused refused) tt tt s s (having (Own key) (Own value) of_valued nothing (Pairing take_place)) (inl (cause, (refl, refl))) refl,
+          driven eq hash (stands_at of_valued nothing (Pairing take_place)) (Own key) (Some (Own value)) (MakePairOf (number_of old)) wants_pair
+              (Was_refused refused) tt tt s s (having (Own key) (Own value) of_valued nothing (Pairing take_place)) (inl (cause, (refl, refl))) refl,
           (refl, refl),
         );
         replied = refl;
@@ -230,22 +258,34 @@ module _ {K V S : Type 0} (eq : K → K → Bool) (hash : S → K → ℕ) (s : 
       ends_so : written (at_place old) (length s.pairs) ≡ Ended (Replaced (number_of old) (length s.pairs))
       ends_so = ap (λ b. cond b (Counting (claimed_by (at_place old) (length s.pairs))) (Ended (Replaced (number_of old) (length s.pairs)))) some
 
-      replaced : length s.pairs < MAX_LOG_LEN → (first : ℕ) → key_from (number_of old) (slice_get s.pairs (number_of old)) ≡ Some first → word_at s.words (slot_of place) ≡ old → IsReplied eq hash s (at_hand (bare (Pairing take_place)) key (Some value)) (Replaced (number_of old) (length s.pairs)) None (storing s place (pairs.Keyed first value))
+      replaced : length s.pairs < MAX_LOG_LEN → (first : ℕ) → key_from (number_of old) (slice_get s.pairs (number_of old)) ≡ Some first
+          → word_at s.words (slot_of place) ≡ old → IsReplied eq hash s (at_hand (bare (Pairing take_place)) key (Some value))
+          (Replaced (number_of old) (length s.pairs)) None (storing s place (pairs.Keyed first value))
       replaced few first from stands = record {
         answers = answers.Call (Made_number 0) ∷ answers.Call (Made_number (length s.pairs)) ∷ answers.Call Exchanged ∷ [];
         end = of_logged (Ended (Replaced (number_of old) (length s.pairs)));
-        drives = of_drives (answers.Call (Made_number (length s.pairs)) ∷ answers.Call Exchanged ∷ []) then (of_logged (Ended (Replaced (number_of old) (length s.pairs)))) (
-          logged,
-          having (Own key) (Logged (length s.pairs)) of_valued nothing (Pairing take_place),
-          driven eq hash (stands_at of_valued nothing (Pairing take_place)) (Own key) (Some (Own value)) (MakePairOf (number_of old)) wants_pair (Made_number (length s.pairs)) tt tt s logged (having (Own key) (Logged (length s.pairs)) of_valued nothing (Pairing take_place))
-              (inr (inr (first, from, (Own value, refl, refl, few, refl, refl)))) refl,
-          subst (λ grew. Drives eq hash (answers.Call Exchanged ∷ []) logged (under_way (goes_on grew (length s.pairs)) (Own key) (Some (Logged (length s.pairs)))) then (of_logged (Ended (Replaced (number_of old) (length s.pairs))))) (sym grows_pair) (
-            then,
-            of_logged putting,
-            record { asked = tt; fit = tt; performs = (Exchanged, refl, (exchange_made logged (slot_of place) old (live_word (length s.pairs)) stands, refl)); same = refl },
-            (refl, ap of_logged (sym ends_so)),
-          ),
-        );
+        drives = of_drives (answers.Call (Made_number (length s.pairs)) ∷ answers.Call Exchanged ∷ []) then
+            (of_logged (Ended (Replaced (number_of old) (length s.pairs)))) (
+              logged,
+              having (Own key) (Logged (length s.pairs)) of_valued nothing (Pairing take_place),
+              driven eq hash (stands_at of_valued nothing (Pairing take_place)) (Own key) (Some (Own value)) (MakePairOf (number_of old)) wants_pair
+                  (Made_number (length s.pairs)) tt tt s logged (having (Own key) (Logged (length s.pairs)) of_valued nothing (Pairing take_place))
+                  (inr (inr (first, from, (Own value, refl, refl, few, refl, refl)))) refl,
+              subst (λ grew. Drives eq hash (answers.Call Exchanged ∷ []) logged
+                  (under_way (goes_on grew (length s.pairs)) (Own key) (Some (Logged (length s.pairs)))) then
+                  (of_logged (Ended (Replaced (number_of old) (length s.pairs))))) (sym grows_pair) (
+                    then,
+                    of_logged putting,
+                    record {
+                      asked = tt;
+                      fit = tt;
+                      performs =
+                          (Exchanged, refl, (exchange_made logged (slot_of place) old (live_word (length s.pairs)) stands, refl));
+                      same = refl;
+                    },
+                    (refl, ap of_logged (sym ends_so)),
+                  ),
+            );
         replied = refl;
         value = refl;
       }
@@ -256,23 +296,31 @@ module _ {K V S : Type 0} (eq : K → K → Bool) (hash : S → K → ℕ) (s : 
           then : StoreState K V S
           then = storing s place (pairs.Keyed first value)
 
-    pub replacement_written : (old : ℕ) → old ≢ 0 → word_at s.words (slot_of place) ≡ old → (reply : Reply) (left : Option V) (s' : StoreState K V S) → IsWritten s hashed (at_place old) key value reply left s' → IsReplied eq hash s (at_hand (bare (Pairing (Replace (at_place old)))) key (Some value)) reply left s'
+    pub replacement_written : (old : ℕ) → old ≢ 0 → word_at s.words (slot_of place) ≡ old → (reply : Reply) (left : Option V) (s' : StoreState K V S)
+        → IsWritten s hashed (at_place old) key value reply left s'
+        → IsReplied eq hash s (at_hand (bare (Pairing (Replace (at_place old)))) key (Some value)) reply left s'
     replacement_written old some stands (Inserted n) left s' (empty, stored, is) = absurd (some empty)
     replacement_written old some stands (Replaced gone n) left s' (_, stored, gone_is, (first, from, is)) =
         subst (IsReplied eq hash s (at_hand (bare (Pairing (Replace (at_place old)))) key (Some value)) (Replaced gone n) left) (sym is)
-        (subst (λ l. IsReplied eq hash s (at_hand (bare (Pairing (Replace (at_place old)))) key (Some value)) (Replaced gone n) l (storing s place (pairs.Keyed first value))) (sym stored.left_is)
-        (subst (λ z. IsReplied eq hash s (at_hand (bare (Pairing (Replace (at_place old)))) key (Some value)) (Replaced gone z) None (storing s place (pairs.Keyed first value))) (sym stored.number)
-        (subst (λ z. IsReplied eq hash s (at_hand (bare (Pairing (Replace (at_place old)))) key (Some value)) (Replaced z (length s.pairs)) None (storing s place (pairs.Keyed first value))) (sym gone_is) (replaced old (ne_eqb old 0 some) stored.few first from stands))))
+        (subst (λ l. IsReplied eq hash s (at_hand (bare (Pairing (Replace (at_place old)))) key (Some value)) (Replaced gone n) l
+        (storing s place (pairs.Keyed first value))) (sym stored.left_is)
+        (subst (λ z. IsReplied eq hash s (at_hand (bare (Pairing (Replace (at_place old)))) key (Some value)) (Replaced gone z) None
+        (storing s place (pairs.Keyed first value))) (sym stored.number)
+        (subst (λ z. IsReplied eq hash s (at_hand (bare (Pairing (Replace (at_place old)))) key (Some value)) (Replaced z (length s.pairs)) None
+        (storing s place (pairs.Keyed first value))) (sym gone_is) (replaced old (ne_eqb old 0 some) stored.few first from stands))))
     replacement_written old some stands (Reply_refused refused) left s' (cause, left_is, is) =
         subst (IsReplied eq hash s (at_hand (bare (Pairing (Replace (at_place old)))) key (Some value)) (Reply_refused refused) left) (sym is)
-        (subst (λ l. IsReplied eq hash s (at_hand (bare (Pairing (Replace (at_place old)))) key (Some value)) (Reply_refused refused) l s) (sym left_is) (of_refused old (ne_eqb old 0 some) refused cause))
+        (subst (λ l. IsReplied eq hash s (at_hand (bare (Pairing (Replace (at_place old)))) key (Some value)) (Reply_refused refused) l s)
+        (sym left_is) (of_refused old (ne_eqb old 0 some) refused cause))
     replacement_written old some stands reply left s' wrote = absurd wrote
 
   -- a pair that is to be removed is deleted
   abbrev pub removal_of : ℕ → Removal
   removal_of word = record { place = place; word = word }
 
-  tombstone : (word : ℕ) → word_at s.words (slot_of place) ≡ word → IsReplied eq hash s (at_hand (after (bare (Showing (removal_of word))) (Op told.Remove)) key None) (Removed (number_of word)) None (deleting s (removal_of word))
+  tombstone : (word : ℕ) → word_at s.words (slot_of place) ≡ word
+      → IsReplied eq hash s (at_hand (after (bare (Showing (removal_of word))) (Op told.Remove)) key None) (Removed (number_of word)) None
+      (deleting s (removal_of word))
   tombstone word stands = record {
     answers = answers.Call Exchanged ∷ answers.Call Ok_done ∷ [];
     end = at_hand (record (after (bare (Showing (removal_of word))) (Op told.Remove)) { state = Ended (Removed (number_of word)) }) key None;
@@ -295,7 +343,14 @@ module _ {K V S : Type 0} (eq : K → K → Bool) (hash : S → K → ℕ) (s : 
   ended : (m : Machine) (reply : Reply) (s' : StoreState K V S) → s' ≡ s → m.state ≡ Ended reply → IsReplied eq hash s (at_hand m key None) reply None s'
   ended m reply s' is at_end =
       subst (λ (x : StoreState K V S). IsReplied eq hash s (at_hand m key None) reply None x) (sym is)
-      (record { answers = []; end = at_hand m key None; drives = (refl, refl); replied = ap (λ (state : State). asks.Call (call_asks m.made m.hash state)) (sym at_end); value = refl })
+      (record {
+        answers = [];
+        end = at_hand m key None;
+        drives = (refl, refl);
+        replied = ap
+            (λ (state : State). asks.Call (call_asks m.made m.hash state)) (sym at_end);
+        value = refl;
+      })
 
   module _ {T : Type 0} where
     -- A call whose closure was shown what it found and answered so has replied, and this is answered of it.
@@ -306,37 +361,72 @@ module _ {K V S : Type 0} (eq : K → K → Bool) (hash : S → K → ℕ) (s : 
       pub computed : IsComputed reply (ended_by operation) result
 
     -- where it was shown that there is none
-    pub none_operated : word_at s.words (slot_of place) ≡ 0 → (operation : Operation V T) (result : Result (Computed ℕ T) Refused) (s' : StoreState K V S) → IsOperated s hashed (at_place 0) key operation result s' → Operated (bare (Offering (At place))) operation result s'
-    none_operated stands (ops.Insert v) result s' (reply, left, wrote, is) = record { reply = reply; left = left; replied = fill_written v stands reply left s' wrote; computed = is }
-    none_operated stands ops.Remove result s' (inl (none, is, same)) = record { reply = Reply_refused RemoveNothing; left = None; replied = ended (bare (Ended (Reply_refused RemoveNothing))) (Reply_refused RemoveNothing) s' same refl; computed = is }
+    pub none_operated : word_at s.words (slot_of place) ≡ 0
+        → (operation : Operation V T) (result : Result (Computed ℕ T) Refused) (s' : StoreState K V S)
+        → IsOperated s hashed (at_place 0) key operation result s' → Operated (bare (Offering (At place))) operation result s'
+    none_operated stands (ops.Insert v) result s'
+        (reply, left, wrote, is) = record { reply = reply; left = left; replied = fill_written v stands reply left s' wrote; computed = is }
+    none_operated stands ops.Remove result s'
+        (inl (none, is, same)) = record {
+          reply = Reply_refused RemoveNothing;
+          left = None;
+          replied = ended (bare (Ended (Reply_refused RemoveNothing)))
+              (Reply_refused RemoveNothing) s' same refl;
+          computed = is;
+        }
     none_operated stands ops.Remove result s' (inr (some, is, same)) = absurd (some refl)
-    none_operated stands (ops.Abort t) result s' (is, same) = record { reply = Aborted 0; left = None; replied = ended (bare (Ended (Aborted 0))) (Aborted 0) s' same refl; computed = (t, refl, is) }
+    none_operated stands (ops.Abort t) result s'
+        (is, same) = record { reply = Aborted 0; left = None; replied = ended (bare (Ended (Aborted 0))) (Aborted 0) s' same refl; computed = (t, refl, is) }
 
     -- or a pair
-    pub pair_operated : (word : ℕ) → word ≢ 0 → word_at s.words (slot_of place) ≡ word → (operation : Operation V T) (result : Result (Computed ℕ T) Refused) (s' : StoreState K V S) → IsOperated s hashed (at_place word) key operation result s' → Operated (bare (Showing (removal_of word))) operation result s'
-    pair_operated word some stands (ops.Insert v) result s' (reply, left, wrote, is) = record { reply = reply; left = left; replied = replacement_written v word some stands reply left s' wrote; computed = is }
+    pub pair_operated : (word : ℕ) → word ≢ 0 → word_at s.words (slot_of place) ≡ word
+        → (operation : Operation V T) (result : Result (Computed ℕ T) Refused) (s' : StoreState K V S)
+        → IsOperated s hashed (at_place word) key operation result s' → Operated (bare (Showing (removal_of word))) operation result s'
+    pair_operated word some stands (ops.Insert v) result s'
+        (reply, left, wrote, is) = record { reply = reply; left = left; replied = replacement_written v word some stands reply left s' wrote; computed = is }
     pair_operated word some stands ops.Remove result s' (inl (none, is, same)) = absurd (some none)
     pair_operated word some stands ops.Remove result s' (inr (_, is, same)) = record {
       reply = Removed (number_of word);
       left = None;
-      replied = subst (λ (x : StoreState K V S). IsReplied eq hash s (at_hand (after (bare (Showing (removal_of word))) (Op told.Remove)) key None) (Removed (number_of word)) None x) (sym same) (tombstone word stands);
+      replied = subst (λ (x : StoreState K V S).
+          IsReplied eq hash s (at_hand (after (bare (Showing (removal_of word))) (Op told.Remove)) key None) (Removed (number_of word)) None x)
+          (sym same) (tombstone word stands);
       computed = is;
     }
-    pair_operated word some stands (ops.Abort t) result s' (is, same) = record { reply = Aborted 0; left = None; replied = ended (bare (Ended (Aborted 0))) (Aborted 0) s' same refl; computed = (t, refl, is) }
+    pair_operated word some stands (ops.Abort t) result s'
+        (is, same) = record { reply = Aborted 0; left = None; replied = ended (bare (Ended (Aborted 0))) (Aborted 0) s' same refl; computed = (t, refl, is) }
 
-    module _ (said : Option (Stored K V) → Operation V T → Type 0) (operation : Operation V T) (result : Result (Computed ℕ T) Refused) (s' : StoreState K V S) where
+    module _ (said : Option (Stored K V) → Operation V T → Type 0) (operation : Operation V T) (result : Result (Computed ℕ T) Refused)
+        (s' : StoreState K V S) where
       abbrev Computes : Option ℕ → Type 0
       Computes shown = IsComputedFrom eq hash key said s (started Compute hashed mode initial None) shown result s'
 
       -- so the compute is made whose search of the root saw an empty place
-      pub none_computed : IsRootTurn (eq key) s hashed (turns.Empty place) → word_at s.words (slot_of place) ≡ 0 → said None operation → IsOperated s hashed (at_place 0) key operation result s' → Computes None
+      pub none_computed : IsRootTurn (eq key) s hashed (turns.Empty place) → word_at s.words (slot_of place) ≡ 0 → said None operation
+          → IsOperated s hashed (at_place 0) key operation result s' → Computes None
       none_computed root stands answered operated =
           let came = root.sees (started Compute hashed mode initial None) in
           let does = none_operated stands operation result s' operated in
-          record { loads = came.0; shows = bare (Offering (At place)); comes = came.1; held = None; asked = refl; logged = tt; shown_is = refl; operation = operation; answered = answered; reply = does.reply; left = does.left; replied = does.replied; computed = does.computed }
+          record {
+            loads = came.0;
+            shows = bare (Offering (At place));
+            comes = came.1;
+            held = None;
+            asked = refl;
+            logged = tt;
+            shown_is = refl;
+            operation = operation;
+            answered = answered;
+            reply = does.reply;
+            left = does.left;
+            replied = does.replied;
+            computed = does.computed;
+          }
 
       -- or a pair
-      pub pair_computed : (word : ℕ) → kind_of word ≡ kinds.Live → IsRootTurn (eq key) s hashed (turns.Here place word) → (p : Stored K V) → p.number ≡ number_of word → pair_of s (number_of word) ≡ Some p → said (Some p) operation → IsOperated s hashed (at_place word) key operation result s' → Computes (Some (number_of word))
+      pub pair_computed : (word : ℕ) → kind_of word ≡ kinds.Live → IsRootTurn (eq key) s hashed (turns.Here place word) → (p : Stored K V)
+          → p.number ≡ number_of word → pair_of s (number_of word) ≡ Some p → said (Some p) operation
+          → IsOperated s hashed (at_place word) key operation result s' → Computes (Some (number_of word))
       pair_computed word live root p number logged answered operated =
           let begun : Machine = started Compute hashed mode initial None in
           let came = root.sees begun in

@@ -35,7 +35,8 @@ module _ {K V T : Type 0} (post : Option (Bor K × Bor V) → Operation V T → 
   said_none o (None, are, said) = said
   said_none o (Some q, are, said) = let f : Some (deref_pair q) ≡ None = are in absurd cc
 
-module _ {K V S T : Type 0} (post : Option (Bor K × Bor V) → Operation V T → Type 0) (eq : K → K → Bool) (law : IsEquivalence eq) (k : K) (s s' : MapState K V S) where
+module _ {K V S T : Type 0} (post : Option (Bor K × Bor V) → Operation V T → Type 0) (eq : K → K → Bool) (law : IsEquivalence eq) (k : K)
+    (s s' : MapState K V S) where
   -- the class of the key had `held`, and has this value now, which the closure answered
   pub record StoresValue (held : Option (Stored K V)) (v : V) : Type 0 where
     pub before : map_in eq s.store k ≡ held
@@ -95,32 +96,44 @@ module _ {K V S T : Type 0} (post : Option (Bor K × Bor V) → Operation V T �
   Logged (Err refused) = Unit {0}
 
   -- a new pair was stored
-  stored : (held next : Option (Stored K V)) (v : V) (q : Stored K V) → Says post held (Insert v) → IsNew (kept_key k held) v s.store s'.store q → next ≡ Some q → IsUpdate eq k held next (map_in eq s.store) (map_in eq s'.store) → KeepsAndGrows s s' → StoresPair held q.number
+  stored : (held next : Option (Stored K V)) (v : V) (q : Stored K V) → Says post held (Insert v) → IsNew (kept_key k held) v s.store s'.store q
+      → next ≡ Some q → IsUpdate eq k held next (map_in eq s.store) (map_in eq s'.store) → KeepsAndGrows s s' → StoresPair held q.number
   stored held next v q says new comes u keeps =
-      let update : IsUpdate eq k held (Some q) (map_in eq s.store) (map_in eq s'.store) = subst (λ (o : Option (Stored K V)). IsUpdate eq k held o (map_in eq s.store) (map_in eq s'.store)) comes u in
+      let update : IsUpdate eq k held (Some q) (map_in eq s.store)
+      (map_in eq s'.store) = subst (λ (o : Option (Stored K V)). IsUpdate eq k held o (map_in eq s.store) (map_in eq s'.store)) comes u in
       let said : Says post held (Insert q.value) = subst (λ (w : V). Says post held (Insert w)) (sym new.value) says in
       record {
         pair = q;
         logged = new.logged;
-        stores = record { before = u.before; says = said; inserts = record { old = held; old_is = refl; new = q; key = new.key; value = refl; fresh = new.fresh; update = update }; keeps = keeps };
+        stores = record {
+          before = u.before;
+          says = said;
+          inserts = record { old = held; old_is = refl; new = q; key = new.key; value = refl; fresh = new.fresh; update = update };
+          keeps = keeps;
+        };
       }
 
   -- nothing was stored
-  leaves : (held next : Option (Stored K V)) (o : Operation V T) → Says post held o → next ≡ held → IsUpdate eq k held next (map_in eq s.store) (map_in eq s'.store) → KeepsAndGrows s s' → Leaves held o
+  leaves : (held next : Option (Stored K V)) (o : Operation V T) → Says post held o → next ≡ held
+      → IsUpdate eq k held next (map_in eq s.store) (map_in eq s'.store) → KeepsAndGrows s s' → Leaves held o
   leaves held next o says is u keeps =
-      let update : IsUpdate eq k held held (map_in eq s.store) (map_in eq s'.store) = subst (λ (o : Option (Stored K V)). IsUpdate eq k held o (map_in eq s.store) (map_in eq s'.store)) is u in
+      let update : IsUpdate eq k held held (map_in eq s.store)
+      (map_in eq s'.store) = subst (λ (o : Option (Stored K V)). IsUpdate eq k held o (map_in eq s.store) (map_in eq s'.store)) is u in
       record { before = u.before; says = says; same = update_leaves eq law s.store s'.store k held update; keeps = keeps }
 
   -- the pair of before is logged under its number
   held_by : (p : Stored K V) → map_in eq s.store k ≡ Some p → Held p p.number
   held_by p there = record { there = there; logged = logged_there eq law s.store k p.number p there refl }
 
-  facts : (done : Result (Computed (Stored K V) T) Refused) (held : Option (Stored K V)) (o : Operation V T) (next : Option (Stored K V)) → Says post held o → Operates k s s' held o done next → IsUpdate eq k held next (map_in eq s.store) (map_in eq s'.store) → KeepsAndGrows s s' → Facts (answer_map (λ p. p.number) done) × Logged done
+  facts : (done : Result (Computed (Stored K V) T) Refused) (held : Option (Stored K V)) (o : Operation V T) (next : Option (Stored K V))
+      → Says post held o → Operates k s s' held o done next → IsUpdate eq k held next (map_in eq s.store) (map_in eq s'.store) → KeepsAndGrows s s'
+      → Facts (answer_map (λ p. p.number) done) × Logged done
   facts (Ok (Inserted q)) None (Insert v) next says does u keeps = (stored None next v q says does.0 does.1 u keeps, does.0.logged)
   facts (Ok (Updated old q)) (Some p) (Insert v) next says does u keeps =
       let same : p ≡ old = sym does.0 in
       let held = held_by p u.before in
-      subst (λ (y : Stored K V). Facts (Ok (Updated y.number q.number)) × Logged (Ok (Updated y q))) same ((p, held, stored (Some p) next v q says does.1 does.2 u keeps), (keeps.0.pairs p.number p held.logged, does.1.logged))
+      subst (λ (y : Stored K V). Facts (Ok (Updated y.number q.number)) × Logged (Ok (Updated y q))) same
+      ((p, held, stored (Some p) next v q says does.1 does.2 u keeps), (keeps.0.pairs p.number p held.logged, does.1.logged))
   facts (Ok (Removed old)) (Some p) Remove next says does u keeps =
       let same : p ≡ old = sym does.0 in
       let held = held_by p u.before in
@@ -129,9 +142,12 @@ module _ {K V S T : Type 0} (post : Option (Bor K × Bor V) → Operation V T �
       (subst (λ (y : T). Facts (Ok (Aborted y))) (sym does.0) (None, leaves None next (Abort u') says does.1 u keeps), tt)
   facts (Ok (Aborted t)) (Some p) (Abort u') next says does u keeps =
       (subst (λ (y : T). Facts (Ok (Aborted y))) (sym does.0) (Some p, leaves (Some p) next (Abort u') says does.1 u keeps), tt)
-  facts (Err refused) None (Insert v) next says does u keeps = (inl (record { held = None; operation = Insert v; leaves = leaves None next (Insert v) says does.1 u keeps; refuses = does.0 }), tt)
-  facts (Err refused) (Some p) (Insert v) next says does u keeps = (inl (record { held = Some p; operation = Insert v; leaves = leaves (Some p) next (Insert v) says does.1 u keeps; refuses = does.0 }), tt)
-  facts (Err refused) None Remove next says does u keeps = (inl (record { held = None; operation = Remove; leaves = leaves None next Remove says does.1 u keeps; refuses = does.0 }), tt)
+  facts (Err refused) None (Insert v) next says does u
+      keeps = (inl (record { held = None; operation = Insert v; leaves = leaves None next (Insert v) says does.1 u keeps; refuses = does.0 }), tt)
+  facts (Err refused) (Some p) (Insert v) next says does u
+      keeps = (inl (record { held = Some p; operation = Insert v; leaves = leaves (Some p) next (Insert v) says does.1 u keeps; refuses = does.0 }), tt)
+  facts (Err refused) None Remove next says does u
+      keeps = (inl (record { held = None; operation = Remove; leaves = leaves None next Remove says does.1 u keeps; refuses = does.0 }), tt)
   facts (Ok (Inserted q)) (Some p) (Insert v) next says does u keeps = absurd does
   facts (Ok (Inserted q)) None Remove next says does u keeps = absurd does
   facts (Ok (Inserted q)) (Some p) Remove next says does u keeps = absurd does
@@ -170,7 +186,8 @@ module _ {K V S T : Type 0} (post : Option (Bor K × Bor V) → Operation V T �
       subst (λ (a : Result (Computed ℕ T) Refused). Facts a) (sym names ∙ is) (facts_all done c).0
 
   -- the value that is shown of the pair that was stored is the one that was stored
-  pub value_stored : (held : Option (Stored K V)) (n : ℕ) (w : V) → StoresPair held n → ((p : Stored K V) → pair_of s'.store n ≡ Some p → w ≡ p.value) → StoresValue held w
+  pub value_stored : (held : Option (Stored K V)) (n : ℕ) (w : V) → StoresPair held n → ((p : Stored K V) → pair_of s'.store n ≡ Some p → w ≡ p.value)
+      → StoresValue held w
   value_stored held n w stores shows = subst (λ (v : V). StoresValue held v) (sym (shows stores.pair stores.logged)) stores.stores
 
   -- the entry of a pair that is in the log
@@ -192,7 +209,8 @@ module _ {K V S T : Type 0} (post : Option (Bor K × Bor V) → Operation V T �
       let same : record { number = q.number; key = e.0; value = e.1 } ≡ q = cc both in
       ap entry_of same
 
-  shown_as : (done : Result (Computed (Stored K V) T) Refused) (shown : Result (Computed (K × V) T) Refused) → Logged done → Shows (answer_map (λ p. p.number) done) shown → shown ≡ answer_map entry_of done
+  shown_as : (done : Result (Computed (Stored K V) T) Refused) (shown : Result (Computed (K × V) T) Refused) → Logged done
+      → Shows (answer_map (λ p. p.number) done) shown → shown ≡ answer_map entry_of done
   shown_as (Ok (Inserted q)) (Ok (Inserted e)) l is = ap (λ (y : K × V). Ok (Inserted y)) (entry_shown q e l is)
   shown_as (Ok (Updated p q)) (Ok (Updated d e)) l is =
       ap (λ (y : K × V). Ok (Updated y e)) (entry_shown p d l.0 is.0) ∙ ap (λ (y : K × V). Ok (Updated (entry_of p) y)) (entry_shown q e l.1 is.1)
@@ -221,7 +239,8 @@ module _ {K V S T : Type 0} (post : Option (Bor K × Bor V) → Operation V T �
   shown_as (Err refused) (Ok (Aborted u)) l is = absurd is
 
   -- a compute that shows the entries of its pairs
-  pub computes_shown : (result named : Result (Computed ℕ T) Refused) (shown : Result (Computed (K × V) T) Refused) → result ≡ named → ComputesBy eq k (λ p. p.number) (Says post) s result s' → Shows named shown → ComputesBy eq k entry_of (Says post) s shown s'
+  pub computes_shown : (result named : Result (Computed ℕ T) Refused) (shown : Result (Computed (K × V) T) Refused) → result ≡ named
+      → ComputesBy eq k (λ p. p.number) (Says post) s result s' → Shows named shown → ComputesBy eq k entry_of (Says post) s shown s'
   computes_shown result named shown is (done, names, c) shows =
       let logged = (facts_all done c).1 in
       let told : Shows (answer_map (λ p. p.number) done) shown = subst (λ (a : Result (Computed ℕ T) Refused). Shows a shown) (sym is ∙ names) shows in
@@ -236,7 +255,8 @@ IsWhole {T = T} (Ok (Aborted u)) left answer = (t : T) × (left ≡ Some t) × (
 IsWhole (Err refused) left answer = answer ≡ Err refused
 
 -- what was parted makes it whole
-pub parted_whole : {R T : Type 0} (answer : Result (Computed R T) Refused) (shown known : Result (Computed R (Unit {0})) Refused) (left : Option T) → shown ≡ known → IsParted answer shown None left → IsWhole known left answer
+pub parted_whole : {R T : Type 0} (answer : Result (Computed R T) Refused) (shown known : Result (Computed R (Unit {0})) Refused) (left : Option T)
+    → shown ≡ known → IsParted answer shown None left → IsWhole known left answer
 parted_whole (Ok (Inserted q)) shown known left is (e, was) = subst (λ x. IsWhole x left (Ok (Inserted q))) (sym e ∙ is) refl
 parted_whole (Ok (Updated p q)) shown known left is (e, was) = subst (λ x. IsWhole x left (Ok (Updated p q))) (sym e ∙ is) refl
 parted_whole (Ok (Removed p)) shown known left is (e, was) = subst (λ x. IsWhole x left (Ok (Removed p))) (sym e ∙ is) refl
@@ -244,7 +264,8 @@ parted_whole (Ok (Aborted t)) shown known left is (e, was) = subst (λ x. IsWhol
 parted_whole (Err refused) shown known left is (e, was) = subst (λ x. IsWhole x left (Err refused)) (sym e ∙ is) refl
 
 -- a compute made alone, with another answer that is done, or refused as that one is
-module _ {K V S : Type 0} (eq : K → K → Bool) (hash : S → K → ℕ) (s s' : MapState K V S) (k : K) {R T : Type 0} (result : Result (Computed R T) Refused) (made : IsComputedAlone eq hash s k result s') where
+module _ {K V S : Type 0} (eq : K → K → Bool) (hash : S → K → ℕ) (s s' : MapState K V S) (k : K) {R T : Type 0}
+    (result : Result (Computed R T) Refused) (made : IsComputedAlone eq hash s k result s') where
   pub alone_done : {Q U : Type 0} (done : Computed Q U) → IsComputedAlone eq hash s k (Ok done) s'
   alone_done done = record { reply = made.reply; alone = made.alone; refused = λ refused e. let f : Ok done ≡ Err refused = e in absurd cc }
 
@@ -256,8 +277,10 @@ module _ {K V S : Type 0} (eq : K → K → Bool) (hash : S → K → ℕ) (s s'
   }
 
 -- a machine that was refused replied so
-pub told_refused : {T : Type 0} (reply : Reply) (aborted : Option T) (answer : Result (Computed ℕ T) Refused) → IsComputed reply aborted answer → (refused : Refused) → answer ≡ Err refused → reply ≡ Refused_reply refused
-told_refused (Refused_reply other) aborted answer is refused e = let same : other ≡ refused = let f : Err other ≡ Err refused = sym is ∙ e in cc f in ap Refused_reply same
+pub told_refused : {T : Type 0} (reply : Reply) (aborted : Option T) (answer : Result (Computed ℕ T) Refused) → IsComputed reply aborted answer
+    → (refused : Refused) → answer ≡ Err refused → reply ≡ Refused_reply refused
+told_refused (Refused_reply other) aborted answer is refused e = let same : other ≡ refused = let f : Err other ≡ Err refused = sym is ∙ e in cc f in
+    ap Refused_reply same
 told_refused (replies.Aborted u) aborted answer (t, kept, is) refused e = let f : Ok (Aborted t) ≡ Err refused = sym is ∙ e in absurd cc
 told_refused (replies.Inserted n) aborted answer is refused e = let f : Ok (Inserted n) ≡ Err refused = sym is ∙ e in absurd cc
 told_refused (replies.Replaced m n) aborted answer is refused e = let f : Ok (Updated m n) ≡ Err refused = sym is ∙ e in absurd cc

@@ -69,21 +69,26 @@ shown_none : {K V : Type 0} (entry : Option (Bor K × Bor V)) → AreOf entry No
 shown_none None are = refl
 shown_none (Some entry) are = absurd (cc are)
 
-shown_of : {K V S : Type 0} (s : StoreState K V S) (p : Stored K V) (entry : Option (Bor K × Bor V)) → pair_of s p.number ≡ Some p → AreOf entry (Some p) → MatchOption entry (pair_of s p.number ≡ None) (λ q. pair_of s p.number ≡ Some (record { number = p.number; key = q.0.now; value = q.1.now }))
+shown_of : {K V S : Type 0} (s : StoreState K V S) (p : Stored K V) (entry : Option (Bor K × Bor V)) → pair_of s p.number ≡ Some p
+    → AreOf entry (Some p) → MatchOption entry (pair_of s p.number ≡ None)
+    (λ q. pair_of s p.number ≡ Some (record { number = p.number; key = q.0.now; value = q.1.now }))
 shown_of s p None logged are = absurd (cc are)
 shown_of {K} {V} s p (Some entry) logged are =
     let same : deref_pair entry ≡ entry_of p = cc are in
     logged ∙ ap (λ (e : K × V). Some (record { number = p.number; key = e.0; value = e.1 })) (sym same)
 
 -- What a compute leaves, with the number of the pair that its closure was shown, and its answer.
-pub record ComputationDone {K V S T : Type 0} (eq : K → K → Bool) (hash : S → K → ℕ) (s : MapState K V S) (k : K) (said : Option (Stored K V) → Operation V T → Type 0) (shown : Option ℕ) (result : Result (Computed ℕ T) Refused) (s' : MapState K V S) : Type 0 where
+pub record ComputationDone {K V S T : Type 0} (eq : K → K → Bool) (hash : S → K → ℕ) (s : MapState K V S) (k : K)
+    (said : Option (Stored K V) → Operation V T → Type 0) (shown : Option ℕ) (result : Result (Computed ℕ T) Refused) (s' : MapState K V S) : Type 0 where
   pub shown_is : IfOk result (λ _. shown ≡ option_map (λ p. p.number) (map_in eq s.store k))
   pub computes : ComputesBy eq k (λ p. p.number) said s result s'
   pub alone : IsComputedAlone eq hash s k result s'
   pub orderly : IsLawfulMap eq (hash s'.store.hasher) s'.store s'.mode s'.initial
 
-module _ {K V S H F T : Type 0} (eq : K → K → Bool) (input : K → List (List ℕ)) (build : S → H) (write : H → List ℕ → H) (finish : H → ℕ) (classes : IsEquivalence eq) (respects : (x y : K) → eq x y ≡ true → input x ≡ input y)
-    (s : MapState K V S) (lawful : IsLawfulMap eq (hash_of input build write finish s.store.hasher) s.store s.mode s.initial) (k : K) (fits : hash_of input build write finish s.store.hasher k < 2 ^ 64)
+module _ {K V S H F T : Type 0} (eq : K → K → Bool) (input : K → List (List ℕ)) (build : S → H) (write : H → List ℕ → H) (finish : H → ℕ)
+    (classes : IsEquivalence eq) (respects : (x y : K) → eq x y ≡ true → input x ≡ input y)
+    (s : MapState K V S) (lawful : IsLawfulMap eq (hash_of input build write finish s.store.hasher) s.store s.mode s.initial) (k : K)
+    (fits : hash_of input build write finish s.store.hasher k < 2 ^ 64)
     (post : F → Option (Bor K × Bor V) → Operation V T → Type 0) (f : F) where
   abbrev hash : S → K → ℕ
   hash = hash_of input build write finish
@@ -91,7 +96,8 @@ module _ {K V S H F T : Type 0} (eq : K → K → Bool) (input : K → List (Lis
   keys : IsLawfulKeys eq (hash s.store.hasher)
   keys = keys_lawful eq input build write finish classes respects s.store.hasher
 
-  module _ {A : Type 0} (store : StoreState K V S) (r : Running K V A) (closure : Option F) (shown : Option ℕ) (aborted : Option T) (reply : Reply) (told : reply_in (ask_of r.machine) ≡ Some reply) (now : IsComputing eq hash s k post f store r closure shown aborted) where
+  module _ {A : Type 0} (store : StoreState K V S) (r : Running K V A) (closure : Option F) (shown : Option ℕ) (aborted : Option T) (reply : Reply)
+      (told : reply_in (ask_of r.machine) ≡ Some reply) (now : IsComputing eq hash s k post f store r closure shown aborted) where
     -- one that has replied was made alone
     over : IsOver eq hash s (compute_of k) store reply
     over = made_alone eq hash s (keyed_compute k) keys lawful fits store (asking r) reply told now.steps
@@ -112,45 +118,61 @@ module _ {K V S H F T : Type 0} (eq : K → K → Bool) (input : K → List (Lis
 
     -- it replies what is answered of a compute
     pub computation_replies : Replies reply aborted
-    computation_replies = over_replies eq classes hash s left keeps k post f r closure shown aborted reply told now (map_answered eq input build write finish classes respects s (compute_of k) reply store lawful over)
+    computation_replies = over_replies eq classes hash s left keeps k post f r closure shown aborted reply told now
+        (map_answered eq input build write finish classes respects s (compute_of k) reply store lawful over)
 
     -- and leaves this
-    pub computation_over : (result : Result (Computed ℕ T) Refused) → IsComputed reply aborted result → ComputationDone eq hash s k (Says (post f)) shown result left
+    pub computation_over : (result : Result (Computed ℕ T) Refused) → IsComputed reply aborted result
+        → ComputationDone eq hash s k (Says (post f)) shown result left
     computation_over result is =
         let answered = map_answered eq input build write finish classes respects s (compute_of k) reply store lawful over in
         record {
           shown_is = over_shown eq classes hash s left keeps k post f r closure shown aborted reply told now answered result is;
-          computes = over_computes eq classes hash s left keeps k post f r closure shown aborted reply told now answered (map_logged eq input build write finish classes respects s (compute_of k) reply store lawful over).0 result is;
+          computes = over_computes eq classes hash s left keeps k post f r closure shown aborted reply told now answered
+              (map_logged eq input build write finish classes respects s (compute_of k) reply store lawful over).0 result is;
           alone = record { reply = reply; alone = record { runs = over.ran }; refused = told_refused reply aborted result is };
           orderly = map_lawful eq input build write finish classes respects s (compute_of k) reply store lawful over;
         }
 
   -- each answer of the store leads a compute on
-  computing_drives : (told : List Answer) (store : StoreState K V S) (r : Running K V (Unit {0})) (store' : StoreState K V S) (r' : Running K V (Unit {0})) → Drives eq hash told store r store' r' → (closure : Option F) (shown : Option ℕ) (aborted : Option T) → IsComputing eq hash s k post f store r closure shown aborted → IsComputing eq hash s k post f store' r' closure shown aborted
+  computing_drives : (told : List Answer) (store : StoreState K V S) (r : Running K V (Unit {0})) (store' : StoreState K V S)
+      (r' : Running K V (Unit {0})) → Drives eq hash told store r store' r' → (closure : Option F) (shown : Option ℕ) (aborted : Option T)
+      → IsComputing eq hash s k post f store r closure shown aborted → IsComputing eq hash s k post f store' r' closure shown aborted
   computing_drives [] store r store' r' (same, also) closure shown aborted now =
-      subst (λ x. IsComputing eq hash s k post f x r' closure shown aborted) (sym same) (subst (λ x. IsComputing eq hash s k post f store x closure shown aborted) (sym also) now)
+      subst (λ x. IsComputing eq hash s k post f x r' closure shown aborted) (sym same)
+      (subst (λ x. IsComputing eq hash s k post f store x closure shown aborted) (sym also) now)
   computing_drives (answer ∷ rest) store r store' r' (middle, later, step, more) closure shown aborted now =
-      let went = computing_went eq hash s k whatever store r answer middle later (unreplied_ask (ask_of r.machine) (λ reply e. subst IsOfStore e step.asked)) (λ e. subst IsOfStore e step.asked) (λ n e. subst IsOfStore e step.asked) step.performs step.same post f closure shown aborted keys lawful fits now step.fit in
-      computing_drives rest middle (record later { machine = after r.machine answer }) store' r' more closure shown aborted (went.goes (chain_stands r.machine now.standing answer went.fit))
+      let went = computing_went eq hash s k whatever store r answer middle later
+      (unreplied_ask (ask_of r.machine) (λ reply e. subst IsOfStore e step.asked)) (λ e. subst IsOfStore e step.asked)
+      (λ n e. subst IsOfStore e step.asked) step.performs step.same post f closure shown aborted keys lawful fits now step.fit in
+      computing_drives rest middle (record later { machine = after r.machine answer }) store' r' more closure shown aborted
+      (went.goes (chain_stands r.machine now.standing answer went.fit))
 
   -- a compute that goes on for itself: nothing was shown, or its closure was shown this
   abbrev Waits : Machine → Type 0
   Waits m = IsComputing eq hash s k post f s.store (at_hand {A = Unit {0}} m k None) (Some f) None None
 
   abbrev HasDecided : Machine → Operation V T → Option ℕ → Type 0
-  HasDecided m operation shown = IsComputing eq hash s k post f s.store (at_hand {A = Unit {0}} (calls.after m (Op (told_by operation))) k (value_by operation)) None shown (ended_by operation)
+  HasDecided m operation shown = IsComputing eq hash s k post f s.store
+      (at_hand {A = Unit {0}} (calls.after m (Op (told_by operation))) k (value_by operation)) None shown (ended_by operation)
 
   none_decided : (m : Machine) → Waits m → calls.ask_of m ≡ ShowNone → (operation : Operation V T) → Says (post f) None operation → HasDecided m operation None
   none_decided m now asked operation (entry, are, said) =
-      let went = none_went eq input build write finish classes respects s lawful k fits post f s.store (at_hand {A = Unit {0}} m k None) (Some f) None None now (Op (told_by operation)) (option_map (λ v. Own v) (value_by operation)) None (ended_by operation) entry f operation refl said (kept_by operation) (ap asks.Call asked) (shown_none entry are) in
+      let went = none_went eq input build write finish classes respects s lawful k fits post f s.store (at_hand {A = Unit {0}} m k None) (Some f) None
+      None now (Op (told_by operation)) (option_map (λ v. Own v) (value_by operation)) None (ended_by operation) entry f operation refl said
+      (kept_by operation) (ap asks.Call asked) (shown_none entry are) in
       went.goes (chain_stands (at_hand {V = V} {A = Unit {0}} m k None).machine now.standing (answers.Call (Op (told_by operation))) went.fit)
 
-  pair_decided : (m : Machine) → Waits m → (p : Stored K V) → calls.ask_of m ≡ ShowPair p.number → pair_of s.store p.number ≡ Some p → (operation : Operation V T) → Says (post f) (Some p) operation → HasDecided m operation (Some p.number)
+  pair_decided : (m : Machine) → Waits m → (p : Stored K V) → calls.ask_of m ≡ ShowPair p.number → pair_of s.store p.number ≡ Some p
+      → (operation : Operation V T) → Says (post f) (Some p) operation → HasDecided m operation (Some p.number)
   pair_decided m now p asked logged operation (entry, are, said) =
-      let went = pair_went eq input build write finish classes respects s lawful k fits post f s.store (at_hand {A = Unit {0}} m k None) (Some f) None None now (Op (told_by operation)) (option_map (λ v. Own v) (value_by operation)) None (ended_by operation) entry f operation refl said (kept_by operation) p.number (ap asks.Call asked) (shown_of s.store p entry logged are) in
+      let went = pair_went eq input build write finish classes respects s lawful k fits post f s.store (at_hand {A = Unit {0}} m k None) (Some f) None
+      None now (Op (told_by operation)) (option_map (λ v. Own v) (value_by operation)) None (ended_by operation) entry f operation refl said
+      (kept_by operation) p.number (ap asks.Call asked) (shown_of s.store p entry logged are) in
       went.goes (chain_stands (at_hand {V = V} {A = Unit {0}} m k None).machine now.standing (answers.Call (Op (told_by operation))) went.fit)
 
-  module _ (free : s.mode.limit ≡ None) (standing : IsStanding (at_hand {V = V} {A = Unit {0}} (started Compute (hash s.store.hasher k) s.mode.resize s.initial None) k None).machine) where
+  module _ (free : s.mode.limit ≡ None) (standing : IsStanding
+      (at_hand {V = V} {A = Unit {0}} (started Compute (hash s.store.hasher k) s.mode.resize s.initial None) k None).machine) where
     abbrev begun : Machine
     begun = started Compute (hash s.store.hasher k) s.mode.resize s.initial None
 
@@ -158,36 +180,45 @@ module _ {K V S H F T : Type 0} (eq : K → K → Bool) (input : K → List (Lis
     begins : Waits begun
     begins =
         computing_begin eq hash s k post f (at_hand {V = V} {A = Unit {0}} begun k None).machine (hash s.store.hasher k) 0 None
-        (ap (λ limit. (at_hand {V = V} {A = Unit {0}} (started Compute (hash s.store.hasher k) s.mode.resize s.initial limit) k None).machine) (sym free)) refl standing
+        (ap (λ limit. (at_hand {V = V} {A = Unit {0}} (started Compute (hash s.store.hasher k) s.mode.resize s.initial limit) k None).machine)
+        (sym free)) refl standing
 
     searches : (loads : List Call_answer) (m : Machine) → Comes (eq k) s.store begun loads m → Waits m
-    searches loads m comes = computing_drives (call_answers loads) s.store (at_hand begun k None) s.store (at_hand m k None) (comes_drives eq hash s.store k None 0 loads begun m comes) (Some f) None None begins
+    searches loads m comes = computing_drives (call_answers loads) s.store (at_hand begun k None) s.store (at_hand m k None)
+        (comes_drives eq hash s.store k None 0 loads begun m comes) (Some f) None None begins
 
     -- its closure may be called at what the search found
-    pub computation_takes : (pre : Option (Bor K × Bor V) → Type 0) → Takes pre (map_in eq s.store k) → (turn : Turn) → IsRootTurn (eq k) s.store (hash s.store.hasher k) turn → TakesAt pre s.store turn
+    pub computation_takes : (pre : Option (Bor K × Bor V) → Type 0) → Takes pre (map_in eq s.store k) → (turn : Turn)
+        → IsRootTurn (eq k) s.store (hash s.store.hasher k) turn → TakesAt pre s.store turn
     computation_takes pre takes (turns.Empty place) root =
         let came = root.sees begun in
         let m : Machine = record begun { state = Offering (At place) } in
-        subst (Takes pre) (none_held eq input build write finish classes respects s lawful k fits post f s.store (at_hand {A = Unit {0}} m k None) (Some f) None None (searches came.0 m came.1) refl) takes
+        subst (Takes pre) (none_held eq input build write finish classes respects s lawful k fits post f s.store (at_hand {A = Unit {0}} m k None)
+        (Some f) None None (searches came.0 m came.1) refl) takes
     computation_takes pre takes (turns.Here place word) root = λ live.
         let came = root.sees begun in
         let m : Machine = record begun { state = Showing (record { place = place; word = word }) } in
         let comes = subst (λ (kind : Kind). Comes (eq k) s.store begun came.0 (record begun { state = finds kind nothing place word })) live came.1 in
-        let (q, here, number, logged) = pair_held eq input build write finish classes respects s lawful k fits post f s.store (at_hand {A = Unit {0}} m k None) (Some f) None None (searches came.0 m comes) (number_of word) refl in
+        let (q, here, number, logged) = pair_held eq input build write finish classes respects s lawful k fits post f s.store
+        (at_hand {A = Unit {0}} m k None) (Some f) None None (searches came.0 m comes) (number_of word) refl in
         subst (Takes pre) (here ∙ sym logged) takes
     computation_takes pre takes turn root = tt
 
     -- one that was made at once leaves what its machine does
-    pub computation_done : (shown : Option ℕ) (result : Result (Computed ℕ T) Refused) (store : StoreState K V S) → IsComputedFrom eq hash k (Says (post f)) s.store begun shown result store → ComputationDone eq hash s k (Says (post f)) shown result (record s { store = store })
+    pub computation_done : (shown : Option ℕ) (result : Result (Computed ℕ T) Refused) (store : StoreState K V S)
+        → IsComputedFrom eq hash k (Says (post f)) s.store begun shown result store
+        → ComputationDone eq hash s k (Says (post f)) shown result (record s { store = store })
     computation_done shown result store run =
         computation_over store run.replied.end None shown (ended_by run.operation) run.reply (sym (ap reply_in run.replied.replied))
-        (computing_drives run.replied.answers s.store (at_hand (calls.after run.shows (Op (told_by run.operation))) k (value_by run.operation)) store run.replied.end run.replied.drives None shown (ended_by run.operation)
+        (computing_drives run.replied.answers s.store (at_hand (calls.after run.shows (Op (told_by run.operation))) k (value_by run.operation)) store
+        run.replied.end run.replied.drives None shown (ended_by run.operation)
         (subst (HasDecided run.shows run.operation) (sym run.shown_is) (decides run.held run.asked run.logged run.answered)))
         result run.computed
       where
         now : Waits run.shows
         now = searches run.loads run.shows run.comes
 
-        decides : (held : Option (Stored K V)) → calls.ask_of run.shows ≡ show_of held → IsLogged s.store held → Says (post f) held run.operation → HasDecided run.shows run.operation (option_map (λ p. p.number) held)
+        decides : (held : Option (Stored K V)) → calls.ask_of run.shows ≡ show_of held → IsLogged s.store held → Says (post f) held run.operation
+            → HasDecided run.shows run.operation (option_map (λ p. p.number) held)
         decides None asked logged said = none_decided run.shows now asked run.operation said
         decides (Some p) asked logged said = pair_decided run.shows now p asked logged run.operation said

@@ -1,5 +1,7 @@
 -- A copy by a loop: its turns lead the machine of a copy on.
-use Rattle.std.proofs.Common.{le-ltb, lt-ltb, ◌≡◌, ℕ, ◌+◌, ◌^◌, ◌<◌, ◌≤◌, ◌==◌, nat_lt, Bool, true, false, cond, List, [], ◌∷◌, ◌++◌, Option, Some, refl, sym, ◌∙◌, ap, subst}
+use Rattle.std.proofs.Common.{le-ltb, lt-ltb, ◌≡◌, ℕ, ◌+◌, ◌^◌, ◌<◌, ◌≤◌, ◌==◌, nat_lt, Bool, true}
+use Rattle.std.proofs.Common.{false, cond, List, [], ◌∷◌, ◌++◌, Option, Some, refl, sym, ◌∙◌, ap}
+use Rattle.std.proofs.Common.{subst}
 use Rattle.papaya_words.specs.Word.{kind_of, pair_of as number_of, hint_of, live_word, may_hold, shut_hint}
 use Rattle.papaya_words.specs.declared.word.Kind.{Kind}
 use Rattle.papaya_words.specs.declared.probe.ResizeMode.{ResizeMode}
@@ -16,7 +18,9 @@ use Rattle.papaya_ask.specs.Search as search_specs
 use Rattle.papaya_ask.specs.Search.{first_place, next_place}
 use Rattle.papaya_copy.specs.Carry as carries
 use Rattle.papaya_copy.specs.Copying.{leads}
-use Rattle.papaya_copy.specs.Settle.{at_exchanged, at_found, at_hash, at_ok, at_size, at_word, copied_as, finishes as settle_finishes, look_at as settle_look, marked_as, settle_ask, settled_by}
+use Rattle.papaya_copy.specs.Settle.{at_exchanged, at_found, at_hash, at_ok, at_size, at_word}
+use Rattle.papaya_copy.specs.Settle.{copied_as, finishes as settle_finishes, look_at as settle_look}
+use Rattle.papaya_copy.specs.Settle.{marked_as, settle_ask, settled_by}
 use Rattle.papaya_copy.specs.Step.{next_in, next_slot, settled_to, slot_of}
 use Rattle.papaya_copy.specs.declared.carry.Carried.TheVariants.{On as Carry_on}
 use Rattle.papaya_copy.specs.declared.carry.Carry.{Carry}
@@ -52,30 +56,41 @@ use Rattle.papaya_seq.specs.Copies.{Comes, Copies, IsSized, Settles, asked_in, c
 use Rattle.papaya_seq.proofs.Exchanging.{exchange_done, exchange_made}
 
 -- where a hint leads the search for a place, it leads a search for a key
-pub looks_on : (hash : ℕ) (at next : Place) (mode : ResizeMode) (hint : ℕ) → search_specs.hinted at hash hint ≡ seen.On (searches.Looking next) → carries.hinted hash at mode hint ≡ Carry_on (Looking hash next)
+pub looks_on : (hash : ℕ) (at next : Place) (mode : ResizeMode) (hint : ℕ) → search_specs.hinted at hash hint ≡ seen.On (searches.Looking next)
+    → carries.hinted hash at mode hint ≡ Carry_on (Looking hash next)
 looks_on hash at next mode hint = go (may_hold hint hash) (nat_lt at.probe.len at.limit)
   where
-    go : (held more : Bool) → cond held (seen.On (searches.Reading at)) (cond more (seen.On (searches.Looking (next_place at))) (seen.Over at.table)) ≡ seen.On (searches.Looking next) → cond held (Carry_on (Reading hash at)) (cond more (Carry_on (Looking hash (next_place at))) (Carry_on (carries.fills hash at.table mode))) ≡ Carry_on (Looking hash next)
+    go : (held more : Bool) → cond held (seen.On (searches.Reading at)) (cond more (seen.On (searches.Looking (next_place at))) (seen.Over at.table))
+        ≡ seen.On (searches.Looking next) → cond held (Carry_on (Reading hash at))
+        (cond more (Carry_on (Looking hash (next_place at))) (Carry_on (carries.fills hash at.table mode))) ≡ Carry_on (Looking hash next)
     go true more e = absurd cc
     go false true e = let same : next_place at ≡ next = cc e in ap (λ p. Carry_on (Looking hash p)) same
     go false false e = absurd cc
 
-pub reads_on : (hash : ℕ) (at other : Place) (mode : ResizeMode) (hint : ℕ) → search_specs.hinted at hash hint ≡ seen.On (searches.Reading other) → carries.hinted hash at mode hint ≡ Carry_on (Reading hash at)
+pub reads_on : (hash : ℕ) (at other : Place) (mode : ResizeMode) (hint : ℕ) → search_specs.hinted at hash hint ≡ seen.On (searches.Reading other)
+    → carries.hinted hash at mode hint ≡ Carry_on (Reading hash at)
 reads_on hash at other mode hint = go (may_hold hint hash) (nat_lt at.probe.len at.limit)
   where
-    go : (held more : Bool) → cond held (seen.On (searches.Reading at)) (cond more (seen.On (searches.Looking (next_place at))) (seen.Over at.table)) ≡ seen.On (searches.Reading other) → cond held (Carry_on (Reading hash at)) (cond more (Carry_on (Looking hash (next_place at))) (Carry_on (carries.fills hash at.table mode))) ≡ Carry_on (Reading hash at)
+    go : (held more : Bool) → cond held (seen.On (searches.Reading at)) (cond more (seen.On (searches.Looking (next_place at))) (seen.Over at.table))
+        ≡ seen.On (searches.Reading other) → cond held (Carry_on (Reading hash at))
+        (cond more (Carry_on (Looking hash (next_place at))) (Carry_on (carries.fills hash at.table mode))) ≡ Carry_on (Reading hash at)
     go true more e = refl
     go false true e = absurd cc
     go false false e = absurd cc
 
 module _ {K V S : Type 0} (eq : K → K → Bool) (hash : S → K → ℕ) where
   -- one run of answers after another
-  copies_then : {M : Type 0} (asks : M → Option CopyAsk) (leads_on : M → Answer → M) (first rest : List Answer) (s : StoreState K V S) (m : M) (s' : StoreState K V S) (m' : M) (s'' : StoreState K V S) (m'' : M) → Copies eq hash asks leads_on first s m s' m' → Copies eq hash asks leads_on rest s' m' s'' m'' → Copies eq hash asks leads_on (first ++ rest) s m s'' m''
-  copies_then asks leads_on [] rest s m s' m' s'' m'' (store, machine) more = subst (λ x. Copies eq hash asks leads_on rest x m s'' m'') store (subst (λ x. Copies eq hash asks leads_on rest s' x s'' m'') machine more)
-  copies_then asks leads_on (answer ∷ first) rest s m s' m' s'' m'' (ask, is, middle, performs, led) more = (ask, is, middle, performs, copies_then asks leads_on first rest middle (leads_on m answer) s' m' s'' m'' led more)
+  copies_then : {M : Type 0} (asks : M → Option CopyAsk) (leads_on : M → Answer → M) (first rest : List Answer) (s : StoreState K V S) (m : M)
+      (s' : StoreState K V S) (m' : M) (s'' : StoreState K V S) (m'' : M) → Copies eq hash asks leads_on first s m s' m'
+      → Copies eq hash asks leads_on rest s' m' s'' m'' → Copies eq hash asks leads_on (first ++ rest) s m s'' m''
+  copies_then asks leads_on [] rest s m s' m' s'' m'' (store, machine) more = subst (λ x. Copies eq hash asks leads_on rest x m s'' m'') store
+      (subst (λ x. Copies eq hash asks leads_on rest s' x s'' m'') machine more)
+  copies_then asks leads_on (answer ∷ first) rest s m s' m' s'' m'' (ask, is, middle, performs, led)
+      more = (ask, is, middle, performs, copies_then asks leads_on first rest middle (leads_on m answer) s' m' s'' m'' led more)
 
   module _ (mode : ResizeMode) where
-    pub comes_then : (s : StoreState K V S) (from : Copied) (s' : StoreState K V S) (to : Copied) (s'' : StoreState K V S) (end : Copied) → Comes eq hash mode s from s' to → Comes eq hash mode s' to s'' end → Comes eq hash mode s from s'' end
+    pub comes_then : (s : StoreState K V S) (from : Copied) (s' : StoreState K V S) (to : Copied) (s'' : StoreState K V S) (end : Copied)
+        → Comes eq hash mode s from s' to → Comes eq hash mode s' to s'' end → Comes eq hash mode s from s'' end
     comes_then s from s' to s'' end first rest initial number =
         let (told, led) = first initial number in
         let (more, later) = rest initial number in
@@ -85,12 +100,17 @@ module _ {K V S : Type 0} (eq : K → K → Bool) (hash : S → K → ℕ) where
       pub settles_none : (s : StoreState K V S) (at : Settled) → Settles eq hash mode slot s at s at
       settles_none s at aim chunk is initial number = ([], (refl, refl))
 
-      pub settles_then : (s : StoreState K V S) (from : Settled) (s' : StoreState K V S) (to : Settled) (s'' : StoreState K V S) (end : Settled) → Settles eq hash mode slot s from s' to → Settles eq hash mode slot s' to s'' end → Settles eq hash mode slot s from s'' end
-      settles_then s from s' to s'' end first rest aim chunk is = comes_then s (leads aim mode (settled_to chunk from)) s' (leads aim mode (settled_to chunk to)) s'' (leads aim mode (settled_to chunk end)) (first aim chunk is) (rest aim chunk is)
+      pub settles_then : (s : StoreState K V S) (from : Settled) (s' : StoreState K V S) (to : Settled) (s'' : StoreState K V S) (end : Settled)
+          → Settles eq hash mode slot s from s' to → Settles eq hash mode slot s' to s'' end → Settles eq hash mode slot s from s'' end
+      settles_then s from s' to s'' end first rest aim chunk is = comes_then s (leads aim mode (settled_to chunk from)) s'
+          (leads aim mode (settled_to chunk to)) s'' (leads aim mode (settled_to chunk end)) (first aim chunk is) (rest aim chunk is)
 
       module _ (s s' : StoreState K V S) (settle : Settle) where
         -- one ask is answered
-        one : (answer : Answer) (to : Slot → Settled) → PerformsCopy eq hash false (settle_ask settle slot) s answer s' → ((aim : Aim) (chunk : Chunk) (initial number : ℕ) → leads aim mode (settled_to chunk (to (slot_of chunk))) ≡ copying_after (Stepping aim (Settling chunk settle)) mode initial number answer) → Settles eq hash mode slot s (On settle) s' (to slot)
+        one : (answer : Answer) (to : Slot → Settled) → PerformsCopy eq hash false (settle_ask settle slot) s answer s'
+            → ((aim : Aim) (chunk : Chunk) (initial number : ℕ)
+            → leads aim mode (settled_to chunk (to (slot_of chunk))) ≡ copying_after (Stepping aim (Settling chunk settle)) mode initial number answer)
+            → Settles eq hash mode slot s (On settle) s' (to slot)
         one answer to performs led aim chunk is initial number = (
           answer ∷ [],
           (
@@ -102,22 +122,27 @@ module _ {K V S : Type 0} (eq : K → K → Bool) (hash : S → K → ℕ) where
           ),
         )
 
-        pub told_word : (word : ℕ) → PerformsCopy eq hash false (settle_ask settle slot) s (Call (Word_read word)) s' → Settles eq hash mode slot s (On settle) s' (at_word settle slot mode word)
+        pub told_word : (word : ℕ) → PerformsCopy eq hash false (settle_ask settle slot) s (Call (Word_read word)) s'
+            → Settles eq hash mode slot s (On settle) s' (at_word settle slot mode word)
         told_word word performs = one (Call (Word_read word)) (λ y. at_word settle y mode word) performs (λ aim chunk initial number. refl)
 
-        pub told_exchanged : PerformsCopy eq hash false (settle_ask settle slot) s (Call Exchanged) s' → Settles eq hash mode slot s (On settle) s' (at_exchanged settle slot mode)
+        pub told_exchanged : PerformsCopy eq hash false (settle_ask settle slot) s (Call Exchanged) s'
+            → Settles eq hash mode slot s (On settle) s' (at_exchanged settle slot mode)
         told_exchanged performs = one (Call Exchanged) (λ y. at_exchanged settle y mode) performs (λ aim chunk initial number. refl)
 
-        pub told_found : (word : ℕ) → PerformsCopy eq hash false (settle_ask settle slot) s (Call (Found_instead word)) s' → Settles eq hash mode slot s (On settle) s' (at_found settle slot mode word)
+        pub told_found : (word : ℕ) → PerformsCopy eq hash false (settle_ask settle slot) s (Call (Found_instead word)) s'
+            → Settles eq hash mode slot s (On settle) s' (at_found settle slot mode word)
         told_found word performs = one (Call (Found_instead word)) (λ y. at_found settle y mode word) performs (λ aim chunk initial number. refl)
 
         pub told_ok : PerformsCopy eq hash false (settle_ask settle slot) s (Call Ok_done) s' → Settles eq hash mode slot s (On settle) s' (at_ok settle mode)
         told_ok performs = one (Call Ok_done) (λ y. at_ok settle mode) performs (λ aim chunk initial number. refl)
 
-        pub told_hash : (hashed : ℕ) → PerformsCopy eq hash false (settle_ask settle slot) s (Hash hashed) s' → Settles eq hash mode slot s (On settle) s' (On (at_hash settle hashed))
+        pub told_hash : (hashed : ℕ) → PerformsCopy eq hash false (settle_ask settle slot) s (Hash hashed) s'
+            → Settles eq hash mode slot s (On settle) s' (On (at_hash settle hashed))
         told_hash hashed performs = one (Hash hashed) (λ y. On (at_hash settle hashed)) performs (λ aim chunk initial number. refl)
 
-        pub told_size : (len limit : ℕ) → PerformsCopy eq hash false (settle_ask settle slot) s (Call (Size len limit)) s' → Settles eq hash mode slot s (On settle) s' (On (at_size settle len limit))
+        pub told_size : (len limit : ℕ) → PerformsCopy eq hash false (settle_ask settle slot) s (Call (Size len limit)) s'
+            → Settles eq hash mode slot s (On settle) s' (On (at_size settle len limit))
         told_size len limit performs = one (Call (Size len limit)) (λ y. On (at_size settle len limit)) performs (λ aim chunk initial number. refl)
 
       module _ (s : StoreState K V S) (marked : ℕ) where
@@ -125,63 +150,87 @@ module _ {K V S : Type 0} (eq : K → K → Bool) (hash : S → K → ℕ) where
         abbrev pub carried : Carry → Settled
         carried carry = On (settles.Carrying marked carry)
 
-        pub carry_then : (from to end : Carry) → Settles eq hash mode slot s (carried from) s (carried to) → Settles eq hash mode slot s (carried to) s (carried end) → Settles eq hash mode slot s (carried from) s (carried end)
+        pub carry_then : (from to end : Carry) → Settles eq hash mode slot s (carried from) s (carried to)
+            → Settles eq hash mode slot s (carried to) s (carried end) → Settles eq hash mode slot s (carried from) s (carried end)
         carry_then from to end = settles_then s (carried from) s (carried to) s (carried end)
 
-        pub hashes : (table hashed : ℕ) (p : Stored K V) → pair_of s (number_of marked) ≡ Some p → hash s.hasher p.key ≡ hashed → hashed < 2 ^ 64 → Settles eq hash mode slot s (carried (Hashing table)) s (carried (Sizing hashed table))
+        pub hashes : (table hashed : ℕ) (p : Stored K V) → pair_of s (number_of marked) ≡ Some p → hash s.hasher p.key ≡ hashed → hashed < 2 ^ 64
+            → Settles eq hash mode slot s (carried (Hashing table)) s (carried (Sizing hashed table))
         hashes table hashed p there is fits =
             told_hash s s (settles.Carrying marked (Hashing table)) hashed
             (sym (ap (hash_in (hash s.hasher)) there ∙ ap Hash is), fits, refl)
 
-        pub sizes : (table hashed len limit : ℕ) → size_of (table_of s.words.tables table) ≡ Size len limit → Settles eq hash mode slot s (carried (Sizing hashed table)) s (carried (Looking hashed (first_place hashed table len limit)))
+        pub sizes : (table hashed len limit : ℕ) → size_of (table_of s.words.tables table) ≡ Size len limit
+            → Settles eq hash mode slot s (carried (Sizing hashed table)) s (carried (Looking hashed (first_place hashed table len limit)))
         sizes table hashed len limit is = told_size s s (settles.Carrying marked (Sizing hashed table)) len limit (ap Call (sym is), refl)
 
         module _ (hashed : ℕ) (at : Place) where
           -- the hint of a place
-          hinted_so : (to : Carry) → carries.hinted hashed at mode (hint_at s.words at.table at.probe.i) ≡ Carry_on to → Settles eq hash mode slot s (carried (Looking hashed at)) s (carried to)
+          hinted_so : (to : Carry) → carries.hinted hashed at mode (hint_at s.words at.table at.probe.i) ≡ Carry_on to
+              → Settles eq hash mode slot s (carried (Looking hashed at)) s (carried to)
           hinted_so to is =
               subst (λ x. Settles eq hash mode slot s (carried (Looking hashed at)) s (settled_by marked mode x)) is
               (told_word s s (settles.Carrying marked (Looking hashed at)) (hint_at s.words at.table at.probe.i) (refl, refl))
 
-          pub looks_further : (next : Place) → search_specs.hinted at hashed (hint_at s.words at.table at.probe.i) ≡ seen.On (searches.Looking next) → Settles eq hash mode slot s (carried (Looking hashed at)) s (carried (Looking hashed next))
+          pub looks_further : (next : Place) → search_specs.hinted at hashed (hint_at s.words at.table at.probe.i) ≡ seen.On (searches.Looking next)
+              → Settles eq hash mode slot s (carried (Looking hashed at)) s (carried (Looking hashed next))
           looks_further next is = hinted_so (Looking hashed next) (looks_on hashed at next mode (hint_at s.words at.table at.probe.i) is)
 
-          pub reads : (other : Place) → search_specs.hinted at hashed (hint_at s.words at.table at.probe.i) ≡ seen.On (searches.Reading other) → Settles eq hash mode slot s (carried (Looking hashed at)) s (carried (Reading hashed at))
+          pub reads : (other : Place) → search_specs.hinted at hashed (hint_at s.words at.table at.probe.i) ≡ seen.On (searches.Reading other)
+              → Settles eq hash mode slot s (carried (Looking hashed at)) s (carried (Reading hashed at))
           reads other is = hinted_so (Reading hashed at) (reads_on hashed at other mode (hint_at s.words at.table at.probe.i) is)
 
           -- and its word, where the place is empty
-          pub finds : word_at s.words (Slot_at at.table at.probe.i) ≡ 0 → Settles eq hash mode slot s (carried (Reading hashed at)) s (carried (Placing hashed at))
+          pub finds : word_at s.words (Slot_at at.table at.probe.i) ≡ 0
+              → Settles eq hash mode slot s (carried (Reading hashed at)) s (carried (Placing hashed at))
           finds empty =
               subst (λ x. Settles eq hash mode slot s (carried (Reading hashed at)) s (settled_by marked mode (carries.look hashed at mode x))) empty
               (told_word s s (settles.Carrying marked (Reading hashed at)) (word_at s.words (Slot_at at.table at.probe.i)) (refl, refl))
 
       -- the word of the slot
       module _ (s : StoreState K V S) where
-        pub looks : (word : ℕ) → word_at s.words (Slot_at slot.from slot.index) ≡ word → Settles eq hash mode slot s (On settles.Looking) s (at_word settles.Looking slot mode word)
-        looks word is = subst (λ x. Settles eq hash mode slot s (On settles.Looking) s (at_word settles.Looking slot mode x)) is (told_word s s settles.Looking (word_at s.words (Slot_at slot.from slot.index)) (refl, refl))
+        pub looks : (word : ℕ) → word_at s.words (Slot_at slot.from slot.index) ≡ word
+            → Settles eq hash mode slot s (On settles.Looking) s (at_word settles.Looking slot mode word)
+        looks word is = subst (λ x. Settles eq hash mode slot s (On settles.Looking) s (at_word settles.Looking slot mode x)) is
+            (told_word s s settles.Looking (word_at s.words (Slot_at slot.from slot.index)) (refl, refl))
 
-        pub looks_at : (word : ℕ) (kind : Kind) → word_at s.words (Slot_at slot.from slot.index) ≡ word → kind_of word ≡ kind → Settles eq hash mode slot s (On settles.Looking) s (settle_look kind slot word)
+        pub looks_at : (word : ℕ) (kind : Kind) → word_at s.words (Slot_at slot.from slot.index) ≡ word → kind_of word ≡ kind
+            → Settles eq hash mode slot s (On settles.Looking) s (settle_look kind slot word)
         looks_at word kind is says = subst (λ x. Settles eq hash mode slot s (On settles.Looking) s (settle_look x slot word)) says (looks word is)
 
       module _ (s s' : StoreState K V S) (told : Call_answer) where
         -- an exchange whose old word stands there
-        made : (settle : Settle) (at : At) (old new : ℕ) → settle_ask settle slot ≡ Exchange at old new → word_at s.words at ≡ old → Exchanges (word_at s.words at) old (put s.words at new) told s s' → Settles eq hash mode slot s (On settle) s' (at_exchanged settle slot mode)
+        made : (settle : Settle) (at : At) (old new : ℕ) → settle_ask settle slot ≡ Exchange at old new → word_at s.words at ≡ old
+            → Exchanges (word_at s.words at) old (put s.words at new) told s s' → Settles eq hash mode slot s (On settle) s' (at_exchanged settle slot mode)
         made settle at old new asks stands exchanges =
-            told_exchanged s s' settle (subst (λ a. PerformsCopy eq hash false a s (Call Exchanged) s') (sym asks) (Exchanged, refl, subst (λ x. Exchanges (word_at s.words at) old (put s.words at new) Exchanged s x) (sym (exchange_done s at old new stands s' told exchanges)) (exchange_made s at old new stands)))
+            told_exchanged s s' settle (subst (λ a. PerformsCopy eq hash false a s (Call Exchanged) s') (sym asks) (
+              Exchanged,
+              refl,
+              subst (λ x. Exchanges (word_at s.words at) old (put s.words at new) Exchanged s x)
+                  (sym (exchange_done s at old new stands s' told exchanges)) (exchange_made s at old new stands),
+            ))
 
-        pub closes : word_at s.words (Slot_at slot.from slot.index) ≡ 0 → Exchanges (word_at s.words (Slot_at slot.from slot.index)) 0 (put s.words (Slot_at slot.from slot.index) 5) told s s' → Settles eq hash mode slot s (On settles.Closing) s' (On settles.Shutting)
+        pub closes : word_at s.words (Slot_at slot.from slot.index) ≡ 0
+            → Exchanges (word_at s.words (Slot_at slot.from slot.index)) 0 (put s.words (Slot_at slot.from slot.index) 5) told s s'
+            → Settles eq hash mode slot s (On settles.Closing) s' (On settles.Shutting)
         closes = made settles.Closing (Slot_at slot.from slot.index) 0 5 refl
 
-        pub marks : (word : ℕ) → word_at s.words (Slot_at slot.from slot.index) ≡ word → Exchanges (word_at s.words (Slot_at slot.from slot.index)) word (put s.words (Slot_at slot.from slot.index) (marked_as word)) told s s' → Settles eq hash mode slot s (On (settles.Marking word)) s' (On (settles.Carrying (marked_as word) (Hashing slot.to)))
+        pub marks : (word : ℕ) → word_at s.words (Slot_at slot.from slot.index) ≡ word
+            → Exchanges (word_at s.words (Slot_at slot.from slot.index)) word (put s.words (Slot_at slot.from slot.index) (marked_as word)) told s s'
+            → Settles eq hash mode slot s (On (settles.Marking word)) s' (On (settles.Carrying (marked_as word) (Hashing slot.to)))
         marks word = made (settles.Marking word) (Slot_at slot.from slot.index) word (marked_as word) refl
 
-        pub places : (marked hashed : ℕ) (at : Place) → word_at s.words (Slot_at at.table at.probe.i) ≡ 0 → Exchanges (word_at s.words (Slot_at at.table at.probe.i)) 0 (put s.words (Slot_at at.table at.probe.i) (live_word (number_of marked))) told s s' → Settles eq hash mode slot s (On (settles.Carrying marked (Placing hashed at))) s' (On (settles.Carrying marked (Placed hashed at)))
+        pub places : (marked hashed : ℕ) (at : Place) → word_at s.words (Slot_at at.table at.probe.i) ≡ 0
+            → Exchanges (word_at s.words (Slot_at at.table at.probe.i)) 0 (put s.words (Slot_at at.table at.probe.i) (live_word (number_of marked)))
+            told s s' → Settles eq hash mode slot s (On (settles.Carrying marked (Placing hashed at))) s' (On (settles.Carrying marked (Placed hashed at)))
         places marked hashed at = made (settles.Carrying marked (Placing hashed at)) (Slot_at at.table at.probe.i) 0 (live_word (number_of marked)) refl
 
         -- a word that was to be finished is settled, whatever stands there
-        pub finishes : (marked : ℕ) → Exchanges (word_at s.words (Slot_at slot.from slot.index)) marked (put s.words (Slot_at slot.from slot.index) (copied_as marked)) told s s' → Settles eq hash mode slot s (On (settles.Finishing marked)) s' Was_settled
+        pub finishes : (marked : ℕ) → Exchanges (word_at s.words (Slot_at slot.from slot.index)) marked
+            (put s.words (Slot_at slot.from slot.index) (copied_as marked)) told s s' → Settles eq hash mode slot s (On (settles.Finishing marked)) s' Was_settled
         finishes marked exchanges =
-            matched (Settles eq hash mode slot s (On (settles.Finishing marked)) s' Was_settled) (word_at s.words (Slot_at slot.from slot.index) == marked) _ _ exchanges
+            matched (Settles eq hash mode slot s (On (settles.Finishing marked)) s' Was_settled)
+            (word_at s.words (Slot_at slot.from slot.index) == marked) _ _ exchanges
             (λ same done. told_exchanged s s' (settles.Finishing marked) (told, ap Call (sym done.0), exchanges))
             (λ other lost. told_found s s' (settles.Finishing marked) (word_at s.words (Slot_at slot.from slot.index)) (told, ap Call (sym lost.0), exchanges))
 
@@ -190,15 +239,18 @@ module _ {K V S : Type 0} (eq : K → K → Bool) (hash : S → K → ℕ) where
         pub shuts : s' ≡ record s { words = note s.words slot.from slot.index shut_hint } → Settles eq hash mode slot s (On settles.Shutting) s' Was_settled
         shuts is = told_ok s s' settles.Shutting (refl, is)
 
-        pub notes : (marked hashed : ℕ) (at : Place) → s' ≡ record s { words = note s.words at.table at.probe.i (hint_of hashed) } → Settles eq hash mode slot s (On (settles.Carrying marked (Placed hashed at))) s' (settle_finishes marked mode)
+        pub notes : (marked hashed : ℕ) (at : Place) → s' ≡ record s { words = note s.words at.table at.probe.i (hint_of hashed) }
+            → Settles eq hash mode slot s (On (settles.Carrying marked (Placed hashed at))) s' (settle_finishes marked mode)
         notes marked hashed at is = told_ok s s' (settles.Carrying marked (Placed hashed at)) (refl, is)
 
 -- the next slot of a chunk, or none
 pub next_slots : (chunk : Chunk) → chunk.at + 1 < chunk.end → next_in (next_slot chunk) ≡ stepped.On (Settling (next_slot chunk) settles.Looking)
-next_slots chunk more = ap (λ b. cond b (stepped.On (Settling (next_slot chunk) settles.Looking)) (stepped.On (Advancing chunk.cursor))) (lt-ltb (chunk.at + 1) chunk.end more)
+next_slots chunk more = ap (λ b. cond b (stepped.On (Settling (next_slot chunk) settles.Looking)) (stepped.On (Advancing chunk.cursor)))
+    (lt-ltb (chunk.at + 1) chunk.end more)
 
 pub last_slot : (chunk : Chunk) → chunk.end ≤ chunk.at + 1 → next_in (next_slot chunk) ≡ stepped.On (Advancing chunk.cursor)
-last_slot chunk none = ap (λ b. cond b (stepped.On (Settling (next_slot chunk) settles.Looking)) (stepped.On (Advancing chunk.cursor))) (le-ltb (chunk.at + 1) chunk.end none)
+last_slot chunk none = ap (λ b. cond b (stepped.On (Settling (next_slot chunk) settles.Looking)) (stepped.On (Advancing chunk.cursor)))
+    (le-ltb (chunk.at + 1) chunk.end none)
 
 -- a call that copies asks just that
 pub copy_asked : (ask : Ask) (copy : CopyAsk) → copy_in ask ≡ Some copy → ask ≡ asks.Copy copy
@@ -215,21 +267,27 @@ same_copied m copying (copied_to.Refused refused) = refl
 
 module _ {K V S : Type 0} (eq : K → K → Bool) (hash : S → K → ℕ) where
   -- the tables keep the sizes of tables
-  pub exchange_sized : (s s' : StoreState K V S) (at : At) (old new : ℕ) (told : Call_answer) → Exchanges (word_at s.words at) old (put s.words at new) told s s' → IsSized s → IsSized s'
-  exchange_sized s s' at old new told exchanges sized = numbered s'.words.tables (performed_copy eq hash false (Exchange at old new) s (Call told) s' (unnumbered s.words.tables sized) tt (told, refl, exchanges)).sized
+  pub exchange_sized : (s s' : StoreState K V S) (at : At) (old new : ℕ) (told : Call_answer)
+      → Exchanges (word_at s.words at) old (put s.words at new) told s s' → IsSized s → IsSized s'
+  exchange_sized s s' at old new told exchanges sized = numbered s'.words.tables
+      (performed_copy eq hash false (Exchange at old new) s (Call told) s' (unnumbered s.words.tables sized) tt (told, refl, exchanges)).sized
 
   pub note_sized : (s s' : StoreState K V S) (n i hint : ℕ) → s' ≡ record s { words = note s.words n i hint } → IsSized s → IsSized s'
-  note_sized s s' n i hint is sized = numbered s'.words.tables (performed_copy eq hash false (WriteHint n i hint) s (Call Ok_done) s' (unnumbered s.words.tables sized) tt (refl, is)).sized
+  note_sized s s' n i hint is sized = numbered s'.words.tables
+      (performed_copy eq hash false (WriteHint n i hint) s (Call Ok_done) s' (unnumbered s.words.tables sized) tt (refl, is)).sized
 
   -- the copy of the root is that of a call
-  pub calls_so : (m : Machine) (told : List Answer) (s : StoreState K V S) (from : Copied) (s' : StoreState K V S) (to : Copied) → Copies eq hash asked_in (led_on m.call.mode m.call.initial m.number) told s from s' to → Copies eq hash copy_of after told s (after_copied m from) s' (after_copied m to)
+  pub calls_so : (m : Machine) (told : List Answer) (s : StoreState K V S) (from : Copied) (s' : StoreState K V S) (to : Copied)
+      → Copies eq hash asked_in (led_on m.call.mode m.call.initial m.number) told s from s' to
+      → Copies eq hash copy_of after told s (after_copied m from) s' (after_copied m to)
   calls_so m [] s from s' to (store, copied) = (store, ap (after_copied m) copied)
   calls_so m (answer ∷ rest) s (copied_to.On copying) s' to (ask, is, middle, performs, more) = (
     ask,
     is,
     middle,
     performs,
-    subst (λ x. Copies eq hash copy_of after rest middle x s' (after_copied m to)) (sym (same_copied m copying (copying_after copying m.call.mode m.call.initial m.number answer)))
+    subst (λ x. Copies eq hash copy_of after rest middle x s' (after_copied m to))
+        (sym (same_copied m copying (copying_after copying m.call.mode m.call.initial m.number answer)))
         (calls_so m rest middle (copying_after copying m.call.mode m.call.initial m.number answer) s' to more),
   )
   calls_so m (answer ∷ rest) s (copied_to.Search table) s' to (ask, is, middle, performs, more) = absurd (cc is)
@@ -238,7 +296,10 @@ module _ {K V S : Type 0} (eq : K → K → Bool) (hash : S → K → ℕ) where
   calls_so m (answer ∷ rest) s (copied_to.Refused refused) s' to (ask, is, middle, performs, more) = absurd (cc is)
 
   -- and so of one that resizes the map
-  pub resizes_so : (z : Resizer) (root : ℕ) (told : List Answer) (s : StoreState K V S) (from : Copied) (s' : StoreState K V S) (to : Copied) → Copies eq hash asked_in (led_on z.mode z.initial z.number) told s from s' to → Copies eq hash resizers.ask_of resizers.after told s (record z { state = resizers.copied z.resize root from }) s' (record z { state = resizers.copied z.resize root to })
+  pub resizes_so : (z : Resizer) (root : ℕ) (told : List Answer) (s : StoreState K V S) (from : Copied) (s' : StoreState K V S) (to : Copied)
+      → Copies eq hash asked_in (led_on z.mode z.initial z.number) told s from s' to
+      → Copies eq hash resizers.ask_of resizers.after told s (record z { state = resizers.copied z.resize root from }) s'
+      (record z { state = resizers.copied z.resize root to })
   resizes_so z root [] s from s' to (store, copied) = (store, ap (λ x. record z { state = resizers.copied z.resize root x }) copied)
   resizes_so z root (answer ∷ rest) s (copied_to.On copying) s' to (ask, is, middle, performs, more) =
       (ask, is, middle, performs, resizes_so z root rest middle (copying_after copying z.mode z.initial z.number answer) s' to more)

@@ -32,7 +32,8 @@ taken_back sum n fits is =
     let few : n < 2 ^ 63 = (subst (FitsSigned w64) is fits).sfits in
     let shown : to_z w64 n ≡ pos n = to_z_pos w64 n few in
     let less : FitsSigned w64 (pos 0 -ℤ pos n) = fits_signed_from_abs w64 (pos 0 -ℤ pos n) (omega (arith, ints, few)) in
-    let back : to_z w64 (of_z w64 (pos 0 -ℤ to_z w64 n)) ≡ pos 0 -ℤ pos n = ap (λ z. to_z w64 (of_z w64 (pos 0 -ℤ z))) shown ∙ to_z-of_z w64 (pos 0 -ℤ pos n) less in
+    let back : to_z w64 (of_z w64 (pos 0 -ℤ to_z w64 n)) ≡ pos 0 -ℤ pos n = ap (λ z. to_z w64 (of_z w64 (pos 0 -ℤ z))) shown
+    ∙ to_z-of_z w64 (pos 0 -ℤ pos n) less in
     let none : pos n +ℤ (pos 0 -ℤ pos n) ≡ pos 0 = omega (arith, ints) in
     ap (λ z. int_wrap w64 (z +ℤ to_z w64 (of_z w64 (pos 0 -ℤ to_z w64 n)))) is
     ∙ ap (λ z. int_wrap w64 (pos n +ℤ z)) back

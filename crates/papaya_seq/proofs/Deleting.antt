@@ -10,7 +10,10 @@ use Rattle.papaya_words.specs.declared.word.Kind.TheVariants.{Live}
 use Rattle.papaya_ask.specs.declared.ask.Answer.{Answer}
 use Rattle.papaya_ask.specs.declared.ask.Answer.TheVariants.{Exchanged, Found as Found_instead, Yes, Ok as Ok_done}
 use Rattle.papaya_ask.specs.declared.ask.Ask.{Ask}
-use Rattle.papaya_ask.specs.declared.ask.Ask.TheVariants.{Load, Exchange, LoadHint, WriteHint, SameKey, ShowNone, ShowPair, SizeOf, MakeKey, MakeValue, MakePair, MakePairOf, MakeTable, AddToShard, Done as Ask_done}
+use Rattle.papaya_ask.specs.declared.ask.Ask.TheVariants.{Load, Exchange, LoadHint, WriteHint}
+use Rattle.papaya_ask.specs.declared.ask.Ask.TheVariants.{SameKey, ShowNone, ShowPair, SizeOf}
+use Rattle.papaya_ask.specs.declared.ask.Ask.TheVariants.{MakeKey, MakeValue, MakePair, MakePairOf}
+use Rattle.papaya_ask.specs.declared.ask.Ask.TheVariants.{MakeTable, AddToShard, Done as Ask_done}
 use Rattle.papaya_ask.specs.declared.ask.At.{At}
 use Rattle.papaya_ask.specs.declared.ask.At.TheVariants.{Slot}
 use Rattle.papaya_ask.specs.declared.call.Reply.{Reply}
@@ -45,9 +48,12 @@ use Rattle.papaya_seq.proofs.Removing.{answered_call}
 
 module _ {K V S F : Type 0} (g : Mut F (Bor K × (Bor V × Unit {0})) Bool) (matches : K → Bool) where
   -- one run of answers after another
-  pub leads_on : (first rest : List Answer) (s : StoreState K V S) (f : F) (m : Machine) (s' : StoreState K V S) (f' : F) (m' : Machine) (s'' : StoreState K V S) (f'' : F) (m'' : Machine) → Leads g matches first s f m s' f' m' → Leads g matches rest s' f' m' s'' f'' m'' → Leads g matches (first ++ rest) s f m s'' f'' m''
+  pub leads_on : (first rest : List Answer) (s : StoreState K V S) (f : F) (m : Machine) (s' : StoreState K V S) (f' : F) (m' : Machine)
+      (s'' : StoreState K V S) (f'' : F) (m'' : Machine) → Leads g matches first s f m s' f' m' → Leads g matches rest s' f' m' s'' f'' m''
+      → Leads g matches (first ++ rest) s f m s'' f'' m''
   leads_on [] rest s f m s' f' m' s'' f'' m'' (store, closure, machine) more =
-      subst (λ x. Leads g matches rest x f m s'' f'' m'') store (subst (λ x. Leads g matches rest s' x m s'' f'' m'') closure (subst (λ x. Leads g matches rest s' f' x s'' f'' m'') machine more))
+      subst (λ x. Leads g matches rest x f m s'' f'' m'') store
+      (subst (λ x. Leads g matches rest s' x m s'' f'' m'') closure (subst (λ x. Leads g matches rest s' f' x s'' f'' m'') machine more))
   leads_on (answer ∷ first) rest s f m s' f' m' s'' f'' m'' (middle, later, step, led) more =
       (middle, later, step, leads_on first rest middle later (after m (answers.Call answer)) s' f' m' s'' f'' m'' led more)
 
@@ -71,7 +77,8 @@ module _ {K V S F : Type 0} (g : Mut F (Bor K × (Bor V × Unit {0})) Bool) (mat
     searched_answer (Ask_done reply) answer asked told = absurd asked
 
     searched_goes : (m : Call_machine) (answer : Answer) → IsSearchAsk (call_ask m) → after (itself m) (answers.Call answer) ≡ itself (call_after m answer)
-    searched_goes m answer asked = goes_itself 0 m answer (λ need e. subst (λ st. IsSearchAsk (call_ask (record m { state = st }))) e asked) (λ t e. absurd (subst (λ st. IsSearchAsk (call_ask (record m { state = st }))) e asked))
+    searched_goes m answer asked = goes_itself 0 m answer (λ need e. subst (λ st. IsSearchAsk (call_ask (record m { state = st }))) e asked)
+        (λ t e. absurd (subst (λ st. IsSearchAsk (call_ask (record m { state = st }))) e asked))
 
     comes_leads : (told : List Answer) (m m' : Call_machine) → Comes matches s m told m' → Leads g matches told s f (itself m) s f (itself m')
     comes_leads [] m m' is = (refl, refl, ap (λ (x : Call_machine). itself x) is)
@@ -88,7 +95,8 @@ module _ {K V S F : Type 0} (g : Mut F (Bor K × (Bor V × Unit {0})) Bool) (mat
       stands_at state = itself (record m { task = RemoveIf; state = state })
 
       -- its closure kept the pair
-      pub kept : (f' : F) → IsShown g (pair_of s (number_of removal.word)) f (Yes false) f' → (n : ℕ) → n ≡ number_of removal.word → IsRemovedFrom g matches s f (stands_at (Showing removal)) (Kept n) s f'
+      pub kept : (f' : F) → IsShown g (pair_of s (number_of removal.word)) f (Yes false) f' → (n : ℕ) → n ≡ number_of removal.word
+          → IsRemovedFrom g matches s f (stands_at (Showing removal)) (Kept n) s f'
       kept f' shown n n_is = record {
         answers = Yes false ∷ [];
         end = stands_at (Ended (Kept (number_of removal.word)));
@@ -97,7 +105,8 @@ module _ {K V S F : Type 0} (g : Mut F (Bor K × (Bor V × Unit {0})) Bool) (mat
       }
 
       -- or it agreed, and the pair was deleted and counted out
-      pub removed : (f' : F) → IsShown g (pair_of s (number_of removal.word)) f (Yes true) f' → word_at s.words (slot_of removal.place) ≡ removal.word → (n : ℕ) → n ≡ number_of removal.word → IsRemovedFrom g matches s f (stands_at (Showing removal)) (Removed n) (deleting s removal) f'
+      pub removed : (f' : F) → IsShown g (pair_of s (number_of removal.word)) f (Yes true) f' → word_at s.words (slot_of removal.place) ≡ removal.word
+          → (n : ℕ) → n ≡ number_of removal.word → IsRemovedFrom g matches s f (stands_at (Showing removal)) (Removed n) (deleting s removal) f'
       removed f' shown stands n n_is = record {
         answers = Yes true ∷ Exchanged ∷ Ok_done ∷ [];
         end = stands_at (Ended (Removed (number_of removal.word)));
@@ -108,7 +117,11 @@ module _ {K V S F : Type 0} (g : Mut F (Bor K × (Bor V × Unit {0})) Bool) (mat
           (
             record s { words = put s.words (slot_of removal.place) (grave_word removal.word) },
             f',
-            record { ask = call_ask (record m { task = RemoveIf; state = Deleting removal }); asked = refl; answered = (exchange_made s (slot_of removal.place) removal.word (grave_word removal.word) stands, refl) },
+            record {
+              ask = call_ask (record m { task = RemoveIf; state = Deleting removal });
+              asked = refl;
+              answered = (exchange_made s (slot_of removal.place) removal.word (grave_word removal.word) stands, refl);
+            },
             (deleting s removal, f', record { ask = AddToShard (negsuc 0); asked = refl; answered = (refl, (0, refl), refl) }, (refl, refl, refl)),
           ),
         );
@@ -120,28 +133,42 @@ module _ {K V S F : Type 0} (g : Mut F (Bor K × (Bor V × Unit {0})) Bool) (mat
       abbrev removing : State → Machine
       removing state = itself (record (started RemoveIf hashed mode initial limit) { state = state })
 
-      root_led : (turn : Turn) (state : State) → IsRootTurn matches s hashed turn → goes (started RemoveIf hashed mode initial limit) (seen_by turn) ≡ state → (reply : Reply) (s' : StoreState K V S) (f' : F) → IsRemovedFrom g matches s f (removing state) reply s' f' → IsRemovedFrom g matches s f (removing AtRoot) reply s' f'
+      root_led : (turn : Turn) (state : State) → IsRootTurn matches s hashed turn
+          → goes (started RemoveIf hashed mode initial limit) (seen_by turn) ≡ state → (reply : Reply) (s' : StoreState K V S) (f' : F)
+          → IsRemovedFrom g matches s f (removing state) reply s' f' → IsRemovedFrom g matches s f (removing AtRoot) reply s' f'
       root_led turn state root is reply s' f' done =
           let begun : Call_machine = started RemoveIf hashed mode initial limit in
           let came = root.sees begun in
-          let led : Comes matches s begun came.0 (record begun { state = state }) = subst (λ (st : State). Comes matches s begun came.0 (record begun { state = st })) is came.1 in
+          let led : Comes matches s begun came.0 (record begun { state = state }) =
+          subst (λ (st : State). Comes matches s begun came.0 (record begun { state = st })) is came.1 in
           record {
             answers = came.0 ++ done.answers;
             end = done.end;
-            leads = leads_on came.0 done.answers s f (removing AtRoot) s f (removing state) s' f' done.end (comes_leads came.0 begun (record begun { state = state }) led) done.leads;
+            leads = leads_on came.0 done.answers s f (removing AtRoot) s f (removing state) s' f' done.end
+                (comes_leads came.0 begun (record begun { state = state }) led) done.leads;
             replied = done.replied;
           }
 
       pub found_none : (at : Place) → IsRootTurn matches s hashed (turns.Empty at) → IsRemovedFrom g matches s f (removing AtRoot) Absent s f
-      found_none at root = root_led (turns.Empty at) (Ended Absent) root refl Absent s f (record { answers = []; end = removing (Ended Absent); leads = (refl, refl, refl); replied = refl })
+      found_none at root = root_led (turns.Empty at) (Ended Absent) root refl Absent s f
+          (record { answers = []; end = removing (Ended Absent); leads = (refl, refl, refl); replied = refl })
 
-      pub found_it : (at : Place) (word : ℕ) → kind_of word ≡ Live → IsRootTurn matches s hashed (turns.Here at word) → (reply : Reply) (s' : StoreState K V S) (f' : F) → IsDeleted g matches (record { place = at; word = word }) s f reply s' f' → IsRemovedFrom g matches s f (removing AtRoot) reply s' f'
-      found_it at word live root reply s' f' tombstone = root_led (turns.Here at word) (Showing (record { place = at; word = word })) root (ap (λ kind. removes kind at word) live) reply s' f' (tombstone (started RemoveIf hashed mode initial limit))
+      pub found_it : (at : Place) (word : ℕ) → kind_of word ≡ Live → IsRootTurn matches s hashed (turns.Here at word)
+          → (reply : Reply) (s' : StoreState K V S) (f' : F) → IsDeleted g matches (record { place = at; word = word }) s f reply s' f'
+          → IsRemovedFrom g matches s f (removing AtRoot) reply s' f'
+      found_it at word live root reply s' f' tombstone = root_led (turns.Here at word) (Showing (record { place = at; word = word })) root
+          (ap (λ kind. removes kind at word) live) reply s' f' (tombstone (started RemoveIf hashed mode initial limit))
 
 -- each answer leads a removal on
-pub leads_under_way : {K V S F : Type 0} (g : Mut F (Bor K × (Bor V × Unit {0})) Bool) (eq : K → K → Bool) (hash : S → K → ℕ) (matches : K → Bool) (hashed : ℕ) (map : MapState K V S) (agrees : F) (told : List Answer) (s : StoreState K V S) (f : F) (m : Machine) (s' : StoreState K V S) (f' : F) (m' : Machine) → Leads g matches told s f m s' f' m' → IsUnderWay g eq hash matches hashed map agrees s f m → IsUnderWay g eq hash matches hashed map agrees s' f' m'
+pub leads_under_way : {K V S F : Type 0} (g : Mut F (Bor K × (Bor V × Unit {0})) Bool) (eq : K → K → Bool) (hash : S → K → ℕ) (matches : K → Bool)
+    (hashed : ℕ) (map : MapState K V S) (agrees : F) (told : List Answer) (s : StoreState K V S) (f : F) (m : Machine) (s' : StoreState K V S)
+    (f' : F) (m' : Machine) → Leads g matches told s f m s' f' m' → IsUnderWay g eq hash matches hashed map agrees s f m
+    → IsUnderWay g eq hash matches hashed map agrees s' f' m'
 leads_under_way g eq hash matches hashed map agrees [] s f m s' f' m' (store, closure, machine) now =
-    subst (λ x. IsUnderWay g eq hash matches hashed map agrees x f' m') (sym store) (subst (λ x. IsUnderWay g eq hash matches hashed map agrees s x m') (sym closure) (subst (IsUnderWay g eq hash matches hashed map agrees s f) (sym machine) now))
+    subst (λ x. IsUnderWay g eq hash matches hashed map agrees x f' m') (sym store)
+    (subst (λ x. IsUnderWay g eq hash matches hashed map agrees s x m') (sym closure)
+    (subst (IsUnderWay g eq hash matches hashed map agrees s f) (sym machine) now))
 leads_under_way g eq hash matches hashed map agrees (answer ∷ rest) s f m s' f' m' (middle, later, step, more) now =
     leads_under_way g eq hash matches hashed map agrees rest middle later (after m (answers.Call answer)) s' f' m' more
-    (under_way_more g eq hash matches hashed map agrees s f m now (answers.Call answer) middle later (answered_call g eq hash matches m step.ask step.asked s f answer middle later step.answered (answers.Call answer) middle later refl refl refl))
+    (under_way_more g eq hash matches hashed map agrees s f m now (answers.Call answer) middle later
+    (answered_call g eq hash matches m step.ask step.asked s f answer middle later step.answered (answers.Call answer) middle later refl refl refl))

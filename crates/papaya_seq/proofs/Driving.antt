@@ -8,7 +8,11 @@ use Rattle.papaya_ask.specs.declared.call.Task.{Task}
 use Rattle.papaya_ask.specs.declared.call.Task.TheVariants.{Get, Insert, RemoveIf, Compute}
 use Rattle.papaya_call.specs.declared.machine.Machine.{Machine as Call_machine}
 use Rattle.papaya_call.specs.declared.machine.State.{State}
-use Rattle.papaya_call.specs.declared.machine.State.TheVariants.{AtRoot, Making, Opening, Searching, Writing, Offering, Showing, Pairing, Putting, Deleting, Counting, Noting, Uncounting, Leaving, Growing, Ended}
+use Rattle.papaya_call.specs.declared.machine.State.TheVariants.{AtRoot, Making, Opening, Searching}
+use Rattle.papaya_call.specs.declared.machine.State.TheVariants.{Writing, Offering, Showing}
+use Rattle.papaya_call.specs.declared.machine.State.TheVariants.{Pairing, Putting, Deleting}
+use Rattle.papaya_call.specs.declared.machine.State.TheVariants.{Counting, Noting, Uncounting}
+use Rattle.papaya_call.specs.declared.machine.State.TheVariants.{Leaving, Growing, Ended}
 use Rattle.papaya_call.specs.declared.need.Need.{Need}
 use Rattle.papaya_call.specs.Machine.{after}
 use Rattle.papaya_chain.specs.declared.ask.Ask.TheVariants as chain_asks
@@ -31,17 +35,24 @@ abbrev pub reply_in : Ask → Option Reply
 reply_in ask = advances.reply_in (chain_asks.Call ask)
 
 -- a call that leaves a table with no next one
-last_left : (n : ℕ) (m : Call_machine) (task : Task) (word : ℕ) → word ≡ 0 → chain.leaves (calling_by n m) task word ≡ chain.stepped (calling_by n m) (Word_read word)
+last_left : (n : ℕ) (m : Call_machine) (task : Task) (word : ℕ) → word ≡ 0
+    → chain.leaves (calling_by n m) task word ≡ chain.stepped (calling_by n m) (Word_read word)
 last_left n m Get word none = refl
-last_left n m (Insert replace) word none = ap (λ b. cond b (chain.stepped (calling_by n m) (Word_read word)) (chain.onward (calling_by n m) word)) (ap (λ x. x == 0) none)
-last_left n m RemoveIf word none = ap (λ b. cond b (chain.stepped (calling_by n m) (Word_read word)) (chain.onward (calling_by n m) word)) (ap (λ x. x == 0) none)
-last_left n m Compute word none = ap (λ b. cond b (chain.stepped (calling_by n m) (Word_read word)) (chain.onward (calling_by n m) word)) (ap (λ x. x == 0) none)
+last_left n m (Insert replace) word none = ap (λ b. cond b (chain.stepped (calling_by n m) (Word_read word)) (chain.onward (calling_by n m) word))
+    (ap (λ x. x == 0) none)
+last_left n m RemoveIf word none = ap (λ b. cond b (chain.stepped (calling_by n m) (Word_read word)) (chain.onward (calling_by n m) word))
+    (ap (λ x. x == 0) none)
+last_left n m Compute word none = ap (λ b. cond b (chain.stepped (calling_by n m) (Word_read word)) (chain.onward (calling_by n m) word))
+    (ap (λ x. x == 0) none)
 
 -- a call goes on for itself that needs no next table, and is told of none
-pub goes_itself : (n : ℕ) (m : Call_machine) (answer : Answer) → ((need : Need) → m.state ≡ Growing need → ⊥) → ((t : ℕ) → m.state ≡ Leaving t → (m.task ≡ Get) ⊎ (answer ≡ Word_read 0)) → chain.after (calling_by n m) (answers.Call answer) ≡ calling_by n (after m answer)
+pub goes_itself : (n : ℕ) (m : Call_machine) (answer : Answer) → ((need : Need) → m.state ≡ Growing need → ⊥)
+    → ((t : ℕ) → m.state ≡ Leaving t → (m.task ≡ Get) ⊎ (answer ≡ Word_read 0))
+    → chain.after (calling_by n m) (answers.Call answer) ≡ calling_by n (after m answer)
 goes_itself n m (Word_read word) grows leaves = by_state m.state refl
   where
-    left_so : (task : Task) → m.task ≡ task → (task ≡ Get) ⊎ (Word_read word ≡ Word_read 0) → chain.leaves (calling_by n m) task word ≡ chain.stepped (calling_by n m) (Word_read word)
+    left_so : (task : Task) → m.task ≡ task → (task ≡ Get) ⊎ (Word_read word ≡ Word_read 0)
+        → chain.leaves (calling_by n m) task word ≡ chain.stepped (calling_by n m) (Word_read word)
     left_so task is (inl get) = ap (λ t. chain.leaves (calling_by n m) t word) get
     left_so task is (inr e) = last_left n m task word cc
 

@@ -1,5 +1,7 @@
 -- One look-up for each pair decides whether two maps of one length are equal.
-use Rattle.std.proofs.Common.{◌≡◌, ⊎_elim, suc, ◌≤◌, Bool, true, false, cond, List, [], ◌∷◌, ◌++◌, map, length, Option, Some, None, MatchOption, refl, sym, ap, ◌∙◌, subst, arith}
+use Rattle.std.proofs.Common.{◌≡◌, ⊎_elim, suc, ◌≤◌, Bool, true, false, cond, List, [], ◌∷◌, ◌++◌}
+use Rattle.std.proofs.Common.{map, length, Option, Some, None, MatchOption, refl, sym, ap, ◌∙◌}
+use Rattle.std.proofs.Common.{subst, arith}
 use Rattle.std.specs.Prelude.{Decides, is_some}
 use Rattle.std.proofs.lemmas.Bool.{cases_Bool, cond-true, cond-false}
 use Rattle.std.specs.Cmp.{IsEquivalence}
@@ -19,7 +21,8 @@ module _ {K P : Type 0} (eq : K → K → Bool) (law : IsEquivalence eq) (key : 
   without_long [] k e = absurd cc
   without_long (p ∷ ps) k e = go (eq k (key p)) (without_long ps k) e
     where
-      go : (b : Bool) → (is_some (lookup eq key ps k) ≡ true → length ps ≡ suc (length (without ps k))) → is_some (cond b (Some p) (lookup eq key ps k)) ≡ true → length (p ∷ ps) ≡ suc (length (cond b ps (p ∷ without ps k)))
+      go : (b : Bool) → (is_some (lookup eq key ps k) ≡ true → length ps ≡ suc (length (without ps k)))
+          → is_some (cond b (Some p) (lookup eq key ps k)) ≡ true → length (p ∷ ps) ≡ suc (length (cond b ps (p ∷ without ps k)))
       go true rest e = refl
       go false rest e = ap suc (rest e)
 
@@ -31,7 +34,8 @@ module _ {K P : Type 0} (eq : K → K → Bool) (law : IsEquivalence eq) (key : 
   without_other [] k l n = refl
   without_other (p ∷ ps) k l n = go (eq k (key p)) (without_other ps k l n) refl
     where
-      go : (b : Bool) → lookup eq key (without ps k) l ≡ lookup eq key ps l → eq k (key p) ≡ b → lookup eq key (cond b ps (p ∷ without ps k)) l ≡ cond (eq l (key p)) (Some p) (lookup eq key ps l)
+      go : (b : Bool) → lookup eq key (without ps k) l ≡ lookup eq key ps l → eq k (key p) ≡ b
+          → lookup eq key (cond b ps (p ∷ without ps k)) l ≡ cond (eq l (key p)) (Some p) (lookup eq key ps l)
       go true rest y = sym (cond-false (eq l (key p)) (Some p) (lookup eq key ps l) (differs k l (key p) n y))
       go false rest y = ap (cond (eq l (key p)) (Some p)) rest
 
@@ -42,7 +46,8 @@ module _ {K P : Type 0} (eq : K → K → Bool) (law : IsEquivalence eq) (key : 
   covers_without ys k [] none all = tt
   covers_without ys k (z ∷ zs) none (found, more) = go (eq k (key z)) (λ rest. covers_without ys k zs rest more) refl none
     where
-      go : (b : Bool) → (lookup eq key zs k ≡ None → Covers (without ys k) zs) → eq k (key z) ≡ b → cond b (Some z) (lookup eq key zs k) ≡ None → Covers (without ys k) (z ∷ zs)
+      go : (b : Bool) → (lookup eq key zs k ≡ None → Covers (without ys k) zs) → eq k (key z) ≡ b → cond b (Some z) (lookup eq key zs k) ≡ None
+          → Covers (without ys k) (z ∷ zs)
       go true on y none = absurd cc
       go false on n none = (ap is_some (without_other ys k (key z) (law.symm (key z) k ∙ n)) ∙ found, on none)
 
@@ -64,19 +69,23 @@ module _ {K P : Type 0} (eq : K → K → Bool) (law : IsEquivalence eq) (key : 
   found_key [] k p e = absurd cc
   found_key (q ∷ qs) k p e = go (eq k (key q)) (found_key qs k p) refl e
     where
-      go : (b : Bool) → (lookup eq key qs k ≡ Some p → eq k (key p) ≡ true) → eq k (key q) ≡ b → cond b (Some q) (lookup eq key qs k) ≡ Some p → eq k (key p) ≡ true
+      go : (b : Bool) → (lookup eq key qs k ≡ Some p → eq k (key p) ≡ true) → eq k (key q) ≡ b → cond b (Some q) (lookup eq key qs k) ≡ Some p
+          → eq k (key p) ≡ true
       go true on y e = let same : q ≡ p = cc e in subst (λ (z : P). eq k (key z) ≡ true) same y
       go false on n e = on e
 
   -- a pair that is found behind another is found from there
-  later : (p : P) (rest : List P) → lookup eq key rest (key p) ≡ None → (q : P) → lookup eq key rest (key q) ≡ Some q → cond (eq (key q) (key p)) (Some p) (lookup eq key rest (key q)) ≡ Some q
+  later : (p : P) (rest : List P) → lookup eq key rest (key p) ≡ None → (q : P) → lookup eq key rest (key q) ≡ Some q
+      → cond (eq (key q) (key p)) (Some p) (lookup eq key rest (key q)) ≡ Some q
   later p rest alone q is =
       ⊎_elim
       (λ (y : eq (key q) (key p) ≡ true). let both : None ≡ Some q = sym alone ∙ sym (alike (key q) (key p) y rest) ∙ is in absurd cc)
       (λ (n : eq (key q) (key p) ≡ false). cond-false (eq (key q) (key p)) (Some p) (lookup eq key rest (key q)) n ∙ is)
       (cases_Bool (eq (key q) (key p)))
 
-  each_from : (R : P → Type 0) (ps rest : List P) → AreApart eq key rest → ((p : P) → lookup eq key rest (key p) ≡ Some p → lookup eq key ps (key p) ≡ Some p) → ((p : P) → lookup eq key ps (key p) ≡ Some p → R p) → AllByRecursion R rest
+  each_from : (R : P → Type 0) (ps rest : List P) → AreApart eq key rest
+      → ((p : P) → lookup eq key rest (key p) ≡ Some p → lookup eq key ps (key p) ≡ Some p) → ((p : P) → lookup eq key ps (key p) ≡ Some p → R p)
+      → AllByRecursion R rest
   each_from R ps [] apart up f = tt
   each_from R ps (p ∷ rest) (alone, apart) up f = (
     f p (up p (cond-true (eq (key p) (key p)) (Some p) (lookup eq key rest (key p)) (law.refl (key p)))),
@@ -141,7 +150,10 @@ module _ {K V S : Type 0} (eq : K → K → Bool) (law : IsEquivalence eq) (same
   -- equal maps, read at a pair of the first
   equal_at : AreEqual eq same a b → (p : Stored K V) → map_in eq a p.key ≡ Some p → HasEqual eq same b (entry_of p)
   equal_at equal p is =
-      let here : MatchOption (Some p) (map_in eq b p.key ≡ None) (λ (p' : Stored K V). (q : Stored K V) × (map_in eq b p.key ≡ Some q) × Like p' q) = subst (λ (o : Option (Stored K V)). MatchOption o (map_in eq b p.key ≡ None) (λ (p' : Stored K V). (q : Stored K V) × (map_in eq b p.key ≡ Some q) × Like p' q)) is (equal p.key) in
+      let here : MatchOption (Some p) (map_in eq b p.key ≡ None)
+      (λ (p' : Stored K V). (q : Stored K V) × (map_in eq b p.key ≡ Some q)
+      × Like p' q) = subst (λ (o : Option (Stored K V)).
+      MatchOption o (map_in eq b p.key ≡ None) (λ (p' : Stored K V). (q : Stored K V) × (map_in eq b p.key ≡ Some q) × Like p' q)) is (equal p.key) in
       (here.0.value, ap value_of here.1, here.2)
 
   pub equal_each : AreApart eq keyed (content eq a) → AreEqual eq same a b → AllByRecursion (λ p. HasEqual eq same b (entry_of p)) (content eq a)
@@ -150,19 +162,26 @@ module _ {K V S : Type 0} (eq : K → K → Bool) (law : IsEquivalence eq) (same
   some_there : (p : Stored K V) → HasEqual eq same b (entry_of p) → is_some (map_in eq b p.key) ≡ true
   some_there p (w, is, like) = ap is_some (value_there (map_in eq b p.key) w is).1
 
-  all_there : (ps : List (Stored K V)) → AllByRecursion (λ p. HasEqual eq same b (entry_of p)) ps → AllByRecursion (λ p. is_some (lookup eq keyed (content eq b) (keyed p)) ≡ true) ps
+  all_there : (ps : List (Stored K V)) → AllByRecursion (λ p. HasEqual eq same b (entry_of p)) ps
+      → AllByRecursion (λ p. is_some (lookup eq keyed (content eq b) (keyed p)) ≡ true) ps
   all_there [] all = tt
   all_there (p ∷ ps) (here, rest) = (some_there p here, all_there ps rest)
 
   -- each pair of the first map is found, and the other one is as long
-  pub equal_all : AreApart eq keyed (content eq a) → length (content eq a) ≡ length (content eq b) → AllByRecursion (λ p. HasEqual eq same b (entry_of p)) (content eq a) → AreEqual eq same a b
+  pub equal_all : AreApart eq keyed (content eq a) → length (content eq a) ≡ length (content eq b)
+      → AllByRecursion (λ p. HasEqual eq same b (entry_of p)) (content eq a) → AreEqual eq same a b
   equal_all apart long all k = of_option (map_in eq a k) refl
     where
-      of_option : (o : Option (Stored K V)) → map_in eq a k ≡ o → MatchOption o (map_in eq b k ≡ None) (λ (p : Stored K V). (q : Stored K V) × (map_in eq b k ≡ Some q) × Like p q)
+      of_option : (o : Option (Stored K V)) → map_in eq a k ≡ o
+          → MatchOption o (map_in eq b k ≡ None) (λ (p : Stored K V). (q : Stored K V) × (map_in eq b k ≡ Some q) × Like p q)
       of_option (Some p) is =
           let has : HasEqual eq same b (entry_of p) = at_found eq law keyed (λ q. HasEqual eq same b (entry_of q)) (content eq a) k p is all in
-          let there = value_there (map_in eq b p.key) has.0 has.1 in
-          (there.0, alike eq law keyed k p.key (found_key eq law keyed (content eq a) k p is) (content eq b) ∙ there.1, subst (λ (w : V). same p.value w ≡ true) (sym there.2) has.2)
+          let there = value_there (map_in eq b p.key) has.0 has.1 in (
+            there.0,
+            alike eq law keyed k p.key (found_key eq law keyed (content eq a) k p is) (content eq b)
+                ∙ there.1,
+            subst (λ (w : V). same p.value w ≡ true) (sym there.2) has.2,
+          )
       of_option None is = none (map_in eq b k) refl
         where
           none : (o : Option (Stored K V)) → map_in eq b k ≡ o → map_in eq b k ≡ None
@@ -176,7 +195,8 @@ module _ {K V S : Type 0} (eq : K → K → Bool) (law : IsEquivalence eq) (same
   pub equal_long : AreApart eq keyed (content eq a) → AreApart eq keyed (content eq b) → AreEqual eq same a b → length (content eq a) ≡ length (content eq b)
   equal_long apart apart' equal =
       let one = covered eq law keyed (content eq a) (content eq b) apart (all_there (content eq a) (equal_each apart equal)) in
-      let two = covered eq law keyed (content eq b) (content eq a) apart' (each_found eq law keyed (λ q. is_some (map_in eq a q.key) ≡ true) (content eq b) apart' back) in
+      let two = covered eq law keyed (content eq b) (content eq a) apart'
+      (each_found eq law keyed (λ q. is_some (map_in eq a q.key) ≡ true) (content eq b) apart' back) in
       omega (arith, one, two)
     where
       back : (q : Stored K V) → map_in eq b q.key ≡ Some q → is_some (map_in eq a q.key) ≡ true
@@ -185,5 +205,8 @@ module _ {K V S : Type 0} (eq : K → K → Bool) (law : IsEquivalence eq) (same
           of_option : (o : Option (Stored K V)) → map_in eq a q.key ≡ o → is_some (map_in eq a q.key) ≡ true
           of_option (Some p) e = ap is_some e
           of_option None e =
-              let here : MatchOption None (map_in eq b q.key ≡ None) (λ (p : Stored K V). (r : Stored K V) × (map_in eq b q.key ≡ Some r) × Like p r) = subst (λ (o : Option (Stored K V)). MatchOption o (map_in eq b q.key ≡ None) (λ (p : Stored K V). (r : Stored K V) × (map_in eq b q.key ≡ Some r) × Like p r)) e (equal q.key) in
+              let here : MatchOption None (map_in eq b q.key ≡ None)
+              (λ (p : Stored K V). (r : Stored K V) × (map_in eq b q.key ≡ Some r)
+              × Like p r) = subst (λ (o : Option (Stored K V)).
+              MatchOption o (map_in eq b q.key ≡ None) (λ (p : Stored K V). (r : Stored K V) × (map_in eq b q.key ≡ Some r) × Like p r)) e (equal q.key) in
               let clash : None ≡ Some q = sym here ∙ is in absurd cc

@@ -12,11 +12,13 @@ module _ {K V S : Type 0} (s : StoreState K V S) (at : At) (old new : ℕ) (stan
   -- it may be made
   pub exchange_made : Exchanges (word_at s.words at) old (put s.words at new) Exchanged s (record s { words = put s.words at new })
   exchange_made =
-      subst (λ b. MatchBool b ((Exchanged ≡ Exchanged) × (record s { words = put s.words at new } ≡ record s { words = put s.words at new })) ((Exchanged ≡ Found_instead (word_at s.words at)) × (record s { words = put s.words at new } ≡ s)))
+      subst (λ b. MatchBool b ((Exchanged ≡ Exchanged) × (record s { words = put s.words at new } ≡ record s { words = put s.words at new }))
+      ((Exchanged ≡ Found_instead (word_at s.words at)) × (record s { words = put s.words at new } ≡ s)))
       (sym (eq-eqb (word_at s.words at) old stands)) (refl, refl)
 
   -- and was made
-  pub exchange_done : (s' : StoreState K V S) (told : Answer) → Exchanges (word_at s.words at) old (put s.words at new) told s s' → s' ≡ record s { words = put s.words at new }
+  pub exchange_done : (s' : StoreState K V S) (told : Answer) → Exchanges (word_at s.words at) old (put s.words at new) told s s'
+      → s' ≡ record s { words = put s.words at new }
   exchange_done s' told made =
       matched (s' ≡ record s { words = put s.words at new }) (word_at s.words at == old) _ _ made
       (λ _ done. done.1)

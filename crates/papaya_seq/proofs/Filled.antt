@@ -27,9 +27,11 @@ pub keeps_itself : {K V S : Type 0} (a : MapState K V S) → Keeps a a
 keeps_itself a = record { hasher = refl; mode = refl; initial = refl; pairs = λ n p logged. logged }
 
 -- maps that agree, after the same pairs
-pub put_all_alike : {K V A : Type 0} (eq : K → K → Bool) (shows : A → K × V) (items : List A) (m n : Entries K V) → ((k : K) → m k ≡ n k) → (k : K) → put_all eq shows m items k ≡ put_all eq shows n items k
+pub put_all_alike : {K V A : Type 0} (eq : K → K → Bool) (shows : A → K × V) (items : List A) (m n : Entries K V) → ((k : K) → m k ≡ n k) → (k : K)
+    → put_all eq shows m items k ≡ put_all eq shows n items k
 put_all_alike eq shows [] m n same k = same k
-put_all_alike {K} {V} eq shows (x ∷ xs) m n same k = put_all_alike eq shows xs (put eq m (shows x)) (put eq n (shows x)) (λ j i. cond (eq j (shows x).0) (Some (kept (same (shows x).0 i) (shows x))) (same j i)) k
+put_all_alike {K} {V} eq shows (x ∷ xs) m n same k = put_all_alike eq shows xs (put eq m (shows x)) (put eq n (shows x))
+    (λ j i. cond (eq j (shows x).0) (Some (kept (same (shows x).0 i) (shows x))) (same j i)) k
 
 -- a list to which an item was added is not empty
 pub not_empty : {A P : Type 0} (xs : List A) (x : A) → xs ++ x ∷ [] ≡ [] → P
@@ -37,7 +39,8 @@ not_empty [] x e = absurd cc
 not_empty (y ∷ ys) x e = absurd cc
 
 -- a new map has the hasher that it was made with
-pub new_with_own : {K V S : Type 0} (mode : ResizeMode) (capacity shards : ℕ) (hasher : S) (s : MapState K V S) → IsNew {A = Unit {0}} mode capacity shards hasher (core_of s) → IsNew {A = Unit {0}} mode capacity shards s.store.hasher (core_of s)
+pub new_with_own : {K V S : Type 0} (mode : ResizeMode) (capacity shards : ℕ) (hasher : S) (s : MapState K V S)
+    → IsNew {A = Unit {0}} mode capacity shards hasher (core_of s) → IsNew {A = Unit {0}} mode capacity shards s.store.hasher (core_of s)
 new_with_own mode capacity shards hasher s new = subst (λ h. IsNew {A = Unit {0}} mode capacity shards h (core_of s)) (sym new.store_is.hasher_is) new
 
 -- what comes into a class has the key that is there
@@ -47,15 +50,19 @@ kept_entry k v (Some p) = refl
 
 module _ {K V S : Type 0} (eq : K → K → Bool) where
   -- an insertion puts its pair in
-  pub entries_put : (k : K) (v : V) (s : StoreState K V S) (went : Option V) (s' : StoreState K V S) → Inserts eq k v s went s' → (j : K) → entries_in eq s' j ≡ put eq (entries_in eq s) (k, v) j
+  pub entries_put : (k : K) (v : V) (s : StoreState K V S) (went : Option V) (s' : StoreState K V S) → Inserts eq k v s went s' → (j : K)
+      → entries_in eq s' j ≡ put eq (entries_in eq s) (k, v) j
   entries_put k v s went s' inserts j =
       ⊎_elim
       (λ (y : eq j k ≡ true).
       let new : entries_in eq s' j ≡ Some (entry_of inserts.new) = ap (option_map entry_of) (inserts.update.class j y) in
       let pair : entry_of inserts.new ≡ (kept_key k inserts.old, v) = λ i. (inserts.key i, inserts.value i) in
-      let was : kept (option_map entry_of inserts.old) (k, v) ≡ kept (entries_in eq s k) (k, v) = ap (λ (o : Option (Stored K V)). kept (option_map entry_of o) (k, v)) (sym inserts.update.before) in
-      new ∙ ap (λ (e : K × V). Some e) (pair ∙ kept_entry k v inserts.old ∙ was) ∙ sym (cond-true (eq j k) (Some (kept (entries_in eq s k) (k, v))) (entries_in eq s j) y))
-      (λ (n : eq j k ≡ false). ap (option_map entry_of) (inserts.update.others j n) ∙ sym (cond-false (eq j k) (Some (kept (entries_in eq s k) (k, v))) (entries_in eq s j) n))
+      let was : kept (option_map entry_of inserts.old) (k, v) ≡ kept (entries_in eq s k) (k, v) = ap
+      (λ (o : Option (Stored K V)). kept (option_map entry_of o) (k, v)) (sym inserts.update.before) in
+      new ∙ ap (λ (e : K × V). Some e) (pair ∙ kept_entry k v inserts.old ∙ was)
+      ∙ sym (cond-true (eq j k) (Some (kept (entries_in eq s k) (k, v))) (entries_in eq s j) y))
+      (λ (n : eq j k ≡ false). ap (option_map entry_of) (inserts.update.others j n)
+      ∙ sym (cond-false (eq j k) (Some (kept (entries_in eq s k) (k, v))) (entries_in eq s j) n))
       (cases_Bool (eq j k))
 
   -- a new map has no entries
@@ -68,7 +75,8 @@ module _ {K V S : Type 0} (eq : K → K → Bool) where
 
     module _ (items : List A) (at : MapState K V S) (fills : Fills eq shows s items at) where
       module _ (item : A) where
-        pub fills_more : (absent : Bool) (s' : MapState K V S) → IsPut eq (shows item).0 (shows item).1 at (Ok absent) s' → Fills eq shows s (items ++ item ∷ []) s'
+        pub fills_more : (absent : Bool) (s' : MapState K V S) → IsPut eq (shows item).0 (shows item).1 at (Ok absent) s'
+            → Fills eq shows s (items ++ item ∷ []) s'
         fills_more absent s' (went, is, inserts, keeps) = record {
           entries = λ j. entries_put (shows item).0 (shows item).1 at.store went s'.store inserts j
               ∙ (λ i. cond (eq j (shows item).0) (Some (kept (fills.entries (shows item).0 i) (shows item))) (fills.entries j i))
@@ -77,14 +85,16 @@ module _ {K V S : Type 0} (eq : K → K → Bool) where
           idle = λ none. not_empty items item none;
         }
 
-        pub cut : (refused : Refused) (s' : MapState K V S) → IsPut eq (shows item).0 (shows item).1 at (Err refused) s' → IsCut eq shows s items item refused s'
+        pub cut : (refused : Refused) (s' : MapState K V S) → IsPut eq (shows item).0 (shows item).1 at (Err refused) s'
+            → IsCut eq shows s items item refused s'
         cut refused s' (cause, unchanged, keeps) = record { at = at; fills = fills; cause = cause; unchanged = unchanged; keeps = keeps }
 
       -- a new map that was filled has just what it was filled with
       pub just : (hasher : S) → content eq s.store ≡ [] → IsNew {A = Unit {0}} (Incremental DEFAULT_CHUNK) 0 1 hasher (core_of s) → HasJust eq shows items at
       just hasher none new = record {
         entries = λ k. fills.entries k ∙ put_all_alike eq shows items (entries_in eq s.store) nothing (empty_entries s.store none) k;
-        no_table = λ idle. ap (λ (m : MapState K V S). slots_of m.store) (fills.idle idle) ∙ ap (λ words. slots_of (record s.store { words = words })) new.store_is.words;
+        no_table = λ idle. ap (λ (m : MapState K V S). slots_of m.store) (fills.idle idle)
+            ∙ ap (λ words. slots_of (record s.store { words = words })) new.store_is.words;
         mode = fills.keeps.mode ∙ new.mode_is;
         initial = subst (λ n. IsEntriesFor 0 n) (sym fills.keeps.initial) new.store_is.initial;
       }

@@ -3,7 +3,10 @@ use Rattle.std.proofs.Common.{◌≡◌, inl, inr, ℕ, ◌+◌, ◌≤◌, ◌=
 use Rattle.std.proofs.lemmas.List.{length_push}
 use Rattle.papaya_ask.specs.declared.ask.Answer.{Answer as Call_answer}
 use Rattle.papaya_ask.specs.declared.ask.Ask.{Ask as Call_ask}
-use Rattle.papaya_ask.specs.declared.ask.Ask.TheVariants.{Load, Exchange, LoadHint, WriteHint, SameKey, ShowNone, ShowPair, SizeOf, MakeKey, MakeValue, MakePair, MakePairOf, MakeTable, AddToShard, Done as Ask_done}
+use Rattle.papaya_ask.specs.declared.ask.Ask.TheVariants.{Load, Exchange, LoadHint, WriteHint}
+use Rattle.papaya_ask.specs.declared.ask.Ask.TheVariants.{SameKey, ShowNone, ShowPair, SizeOf}
+use Rattle.papaya_ask.specs.declared.ask.Ask.TheVariants.{MakeKey, MakeValue, MakePair, MakePairOf}
+use Rattle.papaya_ask.specs.declared.ask.Ask.TheVariants.{MakeTable, AddToShard, Done as Ask_done}
 use Rattle.papaya_ask.specs.declared.copy_ask.CopyAsk.{CopyAsk}
 use Rattle.papaya_ask.specs.declared.copy_ask.CopyAsk.TheVariants as copies
 use Rattle.papaya_call.specs.Answers.{Says}
@@ -53,30 +56,38 @@ module _ {K V S : Type 0} where
 
   module _ (eq : K → K → Bool) where
     -- a copy logs none
-    pub copy_pairs : (hash : S → K → ℕ) (refuse : Bool) (ask : CopyAsk) (s : StoreState K V S) (a : _) (s' : StoreState K V S) → PerformsCopy eq hash refuse ask s a s' → SamePairs s s'
+    pub copy_pairs : (hash : S → K → ℕ) (refuse : Bool) (ask : CopyAsk) (s : StoreState K V S) (a : _) (s' : StoreState K V S)
+        → PerformsCopy eq hash refuse ask s a s' → SamePairs s s'
     copy_pairs hash refuse (copies.Load at) s a s' (is, same) = same_pairs s s' same
     copy_pairs hash refuse (copies.Exchange at old new) s a s' (told, is, h) =
         matched (SamePairs s s') (word_at s.words at == old) _ _ h
         (λ _ done. (ap (λ (y : StoreState K V S). y.pairs) done.1, ap (λ (y : StoreState K V S). y.count.shards) done.1)) (λ _ lost. same_pairs s s' lost.1)
     copy_pairs hash refuse (copies.LoadHint t x) s a s' (is, same) = same_pairs s s' same
-    copy_pairs hash refuse (copies.WriteHint t x hint) s a s' (is, same) = (ap (λ (y : StoreState K V S). y.pairs) same, ap (λ (y : StoreState K V S). y.count.shards) same)
+    copy_pairs hash refuse (copies.WriteHint t x hint) s a s'
+        (is, same) = (ap (λ (y : StoreState K V S). y.pairs) same, ap (λ (y : StoreState K V S). y.count.shards) same)
     copy_pairs hash refuse (copies.SizeOf n) s a s' (is, same) = same_pairs s s' same
     copy_pairs hash refuse (copies.HashOf n) s a s' (is, hashed, same) = same_pairs s s' same
     copy_pairs hash refuse (copies.SamePair m n) s a s' (is, same) = same_pairs s s' same
     copy_pairs hash refuse copies.Count s a s' (is, same) = same_pairs s s' same
     copy_pairs hash refuse (copies.MakeTable slots limit chunks) s a s' (told, is, h) =
         matched (SamePairs s s') refuse _ _ h (λ _ none. same_pairs s s' none.1)
-        (λ _ makes. elim makes [ inl refused ↦ same_pairs s s' refused.1 | inr (is, few, same) ↦ (ap (λ (y : StoreState K V S). y.pairs) same, ap (λ (y : StoreState K V S). y.count.shards) same) ])
+        (λ _ makes. elim makes [
+          | inl refused ↦ same_pairs s s' refused.1
+          | inr (is, few, same) ↦
+              (ap (λ (y : StoreState K V S). y.pairs) same, ap (λ (y : StoreState K V S). y.count.shards) same)
+        ])
 
 module _ {K V S A : Type 0} (eq : K → K → Bool) (says : Says K V A) (refuse : Bool) where
   -- such an ask logs none
-  plain_pairs : (ask : Call_ask) (s : StoreState K V S) (r : Running K V A) (a : Call_answer) (s' : StoreState K V S) (r' : Running K V A) → IsPlain ask → Performs eq says refuse ask s r a s' r' → SamePairs s s'
+  plain_pairs : (ask : Call_ask) (s : StoreState K V S) (r : Running K V A) (a : Call_answer) (s' : StoreState K V S) (r' : Running K V A)
+      → IsPlain ask → Performs eq says refuse ask s r a s' r' → SamePairs s s'
   plain_pairs (Load at) s r a s' r' plain (e, stays) = same_pairs s s' stays.0
   plain_pairs (Exchange at old new) s r a s' r' plain (h, moved) =
       matched (SamePairs s s') (word_at s.words at == old) _ _ h
       (λ _ done. (ap (λ (y : StoreState K V S). y.pairs) done.1, ap (λ (y : StoreState K V S). y.count.shards) done.1)) (λ _ lost. same_pairs s s' lost.1)
   plain_pairs (LoadHint t x) s r a s' r' plain (e, stays) = same_pairs s s' stays.0
-  plain_pairs (WriteHint t x hint) s r a s' r' plain (e, same, moved) = (ap (λ (y : StoreState K V S). y.pairs) same, ap (λ (y : StoreState K V S). y.count.shards) same)
+  plain_pairs (WriteHint t x hint) s r a s' r' plain
+      (e, same, moved) = (ap (λ (y : StoreState K V S). y.pairs) same, ap (λ (y : StoreState K V S). y.count.shards) same)
   plain_pairs (SameKey n) s r a s' r' plain (e, stays) = same_pairs s s' stays.0
   plain_pairs ShowNone s r a s' r' plain h = same_pairs s s' (none_shown says s r a s' r' h).store
   plain_pairs (ShowPair n) s r a s' r' plain h = same_pairs s s' (pair_shown says r.machine.call.task n s r a s' r' h).store
@@ -87,8 +98,13 @@ module _ {K V S A : Type 0} (eq : K → K → Bool) (says : Says K V A) (refuse 
   plain_pairs (MakePairOf n) s r a s' r' plain h = absurd plain
   plain_pairs (MakeTable slots limit chunks) s r a s' r' plain h =
       matched (SamePairs s s') refuse _ _ h (λ _ none. same_pairs s s' none.1.0)
-      (λ _ makes. elim makes.0 [ inl refused ↦ same_pairs s s' refused.1 | inr (is, few, same) ↦ (ap (λ (y : StoreState K V S). y.pairs) same, ap (λ (y : StoreState K V S). y.count.shards) same) ])
-  plain_pairs (AddToShard by) s r a s' r' plain (e, (number, same), moved) = (ap (λ (y : StoreState K V S). y.pairs) same, ap (λ (y : StoreState K V S). y.count.shards) same)
+      (λ _ makes. elim makes.0 [
+        | inl refused ↦ same_pairs s s' refused.1
+        | inr (is, few, same) ↦
+            (ap (λ (y : StoreState K V S). y.pairs) same, ap (λ (y : StoreState K V S). y.count.shards) same)
+      ])
+  plain_pairs (AddToShard by) s r a s' r' plain
+      (e, (number, same), moved) = (ap (λ (y : StoreState K V S). y.pairs) same, ap (λ (y : StoreState K V S). y.count.shards) same)
   plain_pairs (Ask_done reply) s r a s' r' plain (e, stays) = same_pairs s s' stays.0
 
   -- one for a pair logs one at most
@@ -99,9 +115,11 @@ module _ {K V S A : Type 0} (eq : K → K → Bool) (says : Says K V A) (refuse 
       record { pairs = omega (arith, long); shards = ap (λ (y : StoreState K V S). y.count.shards) more }
 
   -- so an insertion logs one pair at most, which has logged none until it asks for its pair
-  pub insertion_logs : (ask : Call_ask) (first s : StoreState K V S) (r : Running K V A) (a : Call_answer) (s' : StoreState K V S) (r' : Running K V A) → (MakesPair ask → length s.pairs ≡ length first.pairs) → Performs eq says refuse ask s r a s' r' → LogsOne first s → LogsOne first s'
+  pub insertion_logs : (ask : Call_ask) (first s : StoreState K V S) (r : Running K V A) (a : Call_answer) (s' : StoreState K V S)
+      (r' : Running K V A) → (MakesPair ask → length s.pairs ≡ length first.pairs) → Performs eq says refuse ask s r a s' r' → LogsOne first s → LogsOne first s'
   insertion_logs MakePair first s r a s' r' none h before = logs_from first s s' (none tt) before.shards (logs_one s r a s' r' (own_logs s r a s' r' refuse h))
-  insertion_logs (MakePairOf n) first s r a s' r' none h before = logs_from first s s' (none tt) before.shards (logs_one s r a s' r' (of_logs s r a s' r' refuse n h))
+  insertion_logs (MakePairOf n) first s r a s' r' none h before = logs_from first s s' (none tt) before.shards
+      (logs_one s r a s' r' (of_logs s r a s' r' refuse n h))
   insertion_logs (Load at) first s r a s' r' none h before = logs_still first s s' before (plain_pairs (Load at) s r a s' r' tt h)
   insertion_logs (Exchange at old new) first s r a s' r' none h before = logs_still first s s' before (plain_pairs (Exchange at old new) s r a s' r' tt h)
   insertion_logs (LoadHint t x) first s r a s' r' none h before = logs_still first s s' before (plain_pairs (LoadHint t x) s r a s' r' tt h)
@@ -112,6 +130,7 @@ module _ {K V S A : Type 0} (eq : K → K → Bool) (says : Says K V A) (refuse 
   insertion_logs (SizeOf n) first s r a s' r' none h before = logs_still first s s' before (plain_pairs (SizeOf n) s r a s' r' tt h)
   insertion_logs MakeKey first s r a s' r' none h before = logs_still first s s' before (plain_pairs MakeKey s r a s' r' tt h)
   insertion_logs MakeValue first s r a s' r' none h before = logs_still first s s' before (plain_pairs MakeValue s r a s' r' tt h)
-  insertion_logs (MakeTable slots limit chunks) first s r a s' r' none h before = logs_still first s s' before (plain_pairs (MakeTable slots limit chunks) s r a s' r' tt h)
+  insertion_logs (MakeTable slots limit chunks) first s r a s' r' none h before = logs_still first s s' before
+      (plain_pairs (MakeTable slots limit chunks) s r a s' r' tt h)
   insertion_logs (AddToShard by) first s r a s' r' none h before = logs_still first s s' before (plain_pairs (AddToShard by) s r a s' r' tt h)
   insertion_logs (Ask_done reply) first s r a s' r' none h before = logs_still first s s' before (plain_pairs (Ask_done reply) s r a s' r' tt h)

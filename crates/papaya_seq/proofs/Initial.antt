@@ -45,11 +45,13 @@ module _ (m : Machine) where
 
   grows_initial : (mode : ResizeMode) (need : Need) (next : ℕ) → Alike (grows_as m mode need next)
   grows_initial Blocking need next = refl
-  grows_initial (Incremental chunk) need next = cond_both (next == 0) (record m { phase = Linking (links.Sizing (needed need) (needed need) false) }) (onward m next) Alike (λ _. refl) (λ _. onward_initial next)
+  grows_initial (Incremental chunk) need next = cond_both (next == 0) (record m { phase = Linking (links.Sizing (needed need) (needed need) false) })
+      (onward m next) Alike (λ _. refl) (λ _. onward_initial next)
 
   leaves_initial : (task : Task) (next : ℕ) → Alike (leaves m task next)
   leaves_initial tasks.Get next = stepped_initial (Word_read next)
-  leaves_initial task next = cond_both (next == 0) (stepped m (Word_read next)) (onward m next) Alike (λ _. stepped_initial (Word_read next)) (λ _. onward_initial next)
+  leaves_initial task next = cond_both (next == 0) (stepped m (Word_read next)) (onward m next) Alike (λ _. stepped_initial (Word_read next))
+      (λ _. onward_initial next)
 
   next_initial : (state : State) (next : ℕ) → Alike (told_next m state next)
   next_initial (Leaving t) next = leaves_initial m.call.task next

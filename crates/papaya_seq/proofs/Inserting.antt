@@ -6,7 +6,10 @@ use Rattle.papaya_words.specs.declared.probe.ResizeMode.{ResizeMode}
 use Rattle.papaya_words.specs.declared.word.Kind.{Kind}
 use Rattle.papaya_words.specs.declared.word.Kind.TheVariants as kinds
 use Rattle.papaya_ask.specs.declared.ask.Answer.{Answer}
-use Rattle.papaya_ask.specs.declared.ask.Answer.TheVariants.{Word as Word_read, Exchanged, Found as Found_instead, Yes, Op, Size, Made as Made_number, Ok as Ok_done, Refused as Was_refused}
+use Rattle.papaya_ask.specs.declared.ask.Answer.TheVariants.{Word as Word_read, Exchanged}
+use Rattle.papaya_ask.specs.declared.ask.Answer.TheVariants.{Found as Found_instead, Yes, Op, Size}
+use Rattle.papaya_ask.specs.declared.ask.Answer.TheVariants.{Made as Made_number, Ok as Ok_done}
+use Rattle.papaya_ask.specs.declared.ask.Answer.TheVariants.{Refused as Was_refused}
 use Rattle.papaya_ask.specs.declared.call.Reply.TheVariants.{Replaced, Occupied}
 use Rattle.papaya_ask.specs.declared.call.Task.{Task}
 use Rattle.papaya_ask.specs.declared.call.Task.TheVariants.{Insert}
@@ -92,11 +95,15 @@ module _ (m : Machine) (made : Made) where
   in_state state = record m { made = made; state = state }
 
   -- an insertion that searches a table stays in it, or ends there
-  pub searches_in : (replace : Bool) (t : ℕ) (search : Search) (told : Answer) → m.task ≡ Insert replace → table_of search ≡ t → IsIn t (after (in_state (Searching search)) told).state
-  searches_in replace t search (Word_read word) task is = subst (λ (y : Task). IsIn t (goes_as y m.mode m.remembered (search_loaded search m.hash word))) (sym task) (goes_in t replace m.mode m.remembered (search_loaded search m.hash word) (loaded_in Anything t search m.hash word (is, compares search) (λ _. tt)))
+  pub searches_in : (replace : Bool) (t : ℕ) (search : Search) (told : Answer) → m.task ≡ Insert replace → table_of search ≡ t
+      → IsIn t (after (in_state (Searching search)) told).state
+  searches_in replace t search (Word_read word) task
+      is = subst (λ (y : Task). IsIn t (goes_as y m.mode m.remembered (search_loaded search m.hash word))) (sym task)
+      (goes_in t replace m.mode m.remembered (search_loaded search m.hash word) (loaded_in Anything t search m.hash word (is, compares search) (λ _. tt)))
   searches_in replace t search Exchanged task is = is
   searches_in replace t search (Found_instead word) task is = is
-  searches_in replace t search (Yes same) task is = subst (λ (y : Task). IsIn t (goes_as y m.mode m.remembered (search_compared search same))) (sym task) (goes_in t replace m.mode m.remembered (search_compared search same) (compared_in Anything t search same (is, compares search)))
+  searches_in replace t search (Yes same) task is = subst (λ (y : Task). IsIn t (goes_as y m.mode m.remembered (search_compared search same)))
+      (sym task) (goes_in t replace m.mode m.remembered (search_compared search same) (compared_in Anything t search same (is, compares search)))
   searches_in replace t search (Op kind) task is = is
   searches_in replace t search (Size slots limit) task is = (sized_in Anything t search m.hash slots limit (is, compares search)).0
   searches_in replace t search (Made_number n) task is = is
@@ -104,12 +111,15 @@ module _ (m : Machine) (made : Made) where
   searches_in replace t search (Was_refused refused) task is = is
 
   -- a write that is not beaten stays one, is made or refused
-  pub writes_on : (write : Write) (told : Answer) → ((n word : ℕ) → serves made write ≡ Some n → told ≡ Found_instead word → ⊥) → HasWritten (after (in_state (Writing write)) told).state
+  pub writes_on : (write : Write) (told : Answer) → ((n word : ℕ) → serves made write ≡ Some n → told ≡ Found_instead word → ⊥)
+      → HasWritten (after (in_state (Writing write)) told).state
   writes_on write told unbeaten = subst HasWritten (sym (write_then_is m made write told)) (by_served (serves made write) refl told unbeaten)
     where
-      by_served : (served : Option ℕ) → serves made write ≡ served → (told : Answer) → ((n word : ℕ) → serves made write ≡ Some n → told ≡ Found_instead word → ⊥) → HasWritten (write_then m served made write told)
+      by_served : (served : Option ℕ) → serves made write ≡ served → (told : Answer)
+          → ((n word : ℕ) → serves made write ≡ Some n → told ≡ Found_instead word → ⊥) → HasWritten (write_then m served made write told)
       by_served served is (Word_read word) unbeaten = told_leads HasWritten tt write tt served made word
-      by_served served is Exchanged unbeaten = exchanged_leads HasWritten write tt (λ n. cond_both (write.old == 0) (Counting (claimed_by write n)) (Ended (Replaced (pair_of write.old) n)) HasWritten (λ _. tt) (λ _. tt)) served
+      by_served served is Exchanged unbeaten = exchanged_leads HasWritten write tt
+          (λ n. cond_both (write.old == 0) (Counting (claimed_by write n)) (Ended (Replaced (pair_of write.old) n)) HasWritten (λ _. tt) (λ _. tt)) served
       by_served None is (Found_instead word) unbeaten = numbered_leads HasWritten tt (Writing write) tt (told_made made word)
       by_served (Some n) is (Found_instead word) unbeaten = absurd (unbeaten n word is refl)
       by_served served is (Yes same) unbeaten = tt

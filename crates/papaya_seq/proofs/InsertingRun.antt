@@ -3,7 +3,10 @@ use Rattle.std.proofs.Common.{◌≡◌, ◌⊎◌, inl, inr, ℕ, ◌^◌, ◌<
 use Rattle.std.proofs.lemmas.Bool.{cases_eq}
 use Rattle.papaya_words.specs.declared.probe.Refused.{Refused}
 use Rattle.papaya_ask.specs.declared.ask.Answer.TheVariants.{Op, Ok as Ok_done}
-use Rattle.papaya_ask.specs.declared.ask.Ask.TheVariants.{Load, Exchange, LoadHint, WriteHint, SameKey, ShowNone, ShowPair, SizeOf, MakeKey, MakeValue, MakePair, MakePairOf, MakeTable, AddToShard, Done as Ask_done}
+use Rattle.papaya_ask.specs.declared.ask.Ask.TheVariants.{Load, Exchange, LoadHint, WriteHint}
+use Rattle.papaya_ask.specs.declared.ask.Ask.TheVariants.{SameKey, ShowNone, ShowPair, SizeOf}
+use Rattle.papaya_ask.specs.declared.ask.Ask.TheVariants.{MakeKey, MakeValue, MakePair, MakePairOf}
+use Rattle.papaya_ask.specs.declared.ask.Ask.TheVariants.{MakeTable, AddToShard, Done as Ask_done}
 use Rattle.papaya_ask.specs.declared.ask.OpKind.TheVariants.{Remove}
 use Rattle.papaya_ask.specs.declared.call.Reply.{Reply}
 use Rattle.papaya_ask.specs.declared.call.Reply.TheVariants.{Occupied, Refused as Reply_refused}
@@ -42,7 +45,9 @@ use Rattle.papaya_timeline.proofs.KeptSettings.{IsLawfulKeys}
 use Rattle.papaya_timeline.proofs.StoreLemmas.{performed_ask, unnumbered}
 use Rattle.papaya_seq.specs.Map.{Grows, IsLawfulMap, IsResizing, LogsOne, IsTryCause, IsWriteCause, IsWriteCauseAt, MapState, insertion, next_of}
 use Rattle.papaya_seq.proofs.Answering.{answering, silent_performs}
-use Rattle.papaya_seq.proofs.Causes.{IsLogRefusal, IsNoTableRefusal, IsRemoveNothing, IsTableAsk, IsUnlogged, pair_stage_of, refused_so, unlogged_more, unlogged_none, write_cause}
+use Rattle.papaya_seq.proofs.Causes.{IsLogRefusal, IsNoTableRefusal, IsRemoveNothing, IsTableAsk}
+use Rattle.papaya_seq.proofs.Causes.{IsUnlogged, pair_stage_of, refused_so, unlogged_more}
+use Rattle.papaya_seq.proofs.Causes.{unlogged_none, write_cause}
 use Rattle.papaya_seq.proofs.Ending.{left_of}
 use Rattle.papaya_seq.proofs.Grown.{copy_pairs, insertion_logs, logs_none, logs_still}
 use Rattle.papaya_seq.proofs.Served.{IsServed, left_unmade, served_after, served_pairs, unmade_served}
@@ -104,10 +109,14 @@ unreplied (asks.Copy ask) open_still = refl
 
 module _ {K V S A : Type 0} (eq : K → K → Bool) (hash : S → K → ℕ) (s : MapState K V S) (replace : Bool) (k : K) (value : V) where
   -- it begins
-  pub inserting_begin : (m : Machine) (hashed number : ℕ) → m ≡ started (Insert replace) hashed s.mode.resize s.initial number s.mode.limit → hashed ≡ hash s.store.hasher k → IsStanding m → IsInserting {A = A} eq hash s replace k value s.store (record { machine = m; key = Own k; value = Some (Own value); answers = None })
+  pub inserting_begin : (m : Machine) (hashed number : ℕ) → m ≡ started (Insert replace) hashed s.mode.resize s.initial number s.mode.limit
+      → hashed ≡ hash s.store.hasher k → IsStanding m
+      → IsInserting {A = A} eq hash s replace k value s.store (record { machine = m; key = Own k; value = Some (Own value); answers = None })
   inserting_begin m hashed number is hash_same standing =
-      let machine : m ≡ started (Insert replace) (hash s.store.hasher k) s.mode.resize s.initial number s.mode.limit = is ∙ ap (λ n. started (Insert replace) n s.mode.resize s.initial number s.mode.limit) hash_same in
-      subst (λ (x : Machine). IsInserting {A = A} eq hash s replace k value s.store (record { machine = x; key = Own k; value = Some (Own value); answers = None })) (sym machine) (record {
+      let machine : m ≡ started (Insert replace) (hash s.store.hasher k) s.mode.resize s.initial number s.mode.limit = is
+      ∙ ap (λ n. started (Insert replace) n s.mode.resize s.initial number s.mode.limit) hash_same in
+      subst (λ (x : Machine). IsInserting {A = A} eq hash s replace k value s.store
+      (record { machine = x; key = Own k; value = Some (Own value); answers = None })) (sym machine) (record {
         steps = made_none eq hash s (keyed_insertion replace k value) number;
         silence = refl;
         standing = subst IsStanding machine standing;
@@ -119,8 +128,12 @@ module _ {K V S A : Type 0} (eq : K → K → Bool) (hash : S → K → ℕ) (s 
         caused = λ refused e. let f : None ≡ Some (Reply_refused refused) = e in absurd cc;
       })
 
-  module _ (keys : IsLawfulKeys eq (hash s.store.hasher)) (lawful : IsLawfulMap eq (hash s.store.hasher) s.store s.mode s.initial) (fits : hash s.store.hasher k < 2 ^ 64) where
-    module _ (says : Says K V A) (store : StoreState K V S) (r : Running K V A) (answer : Answer) (store' : StoreState K V S) (later : Running K V A) (ask : Ask) (is : ask ≡ ask_of r.machine) (open_still : (reply : Reply) → ask ≡ asks.Call (Ask_done reply) → ⊥) (performed : PerformsAsk eq says hash false ask store r answer store' later) (same : later.machine ≡ r.machine) (now : IsInserting eq hash s replace k value store r) where
+  module _ (keys : IsLawfulKeys eq (hash s.store.hasher)) (lawful : IsLawfulMap eq (hash s.store.hasher) s.store s.mode s.initial)
+      (fits : hash s.store.hasher k < 2 ^ 64) where
+    module _ (says : Says K V A) (store : StoreState K V S) (r : Running K V A) (answer : Answer) (store' : StoreState K V S) (later : Running K V A)
+        (ask : Ask) (is : ask ≡ ask_of r.machine) (open_still : (reply : Reply) → ask ≡ asks.Call (Ask_done reply) → ⊥)
+        (performed : PerformsAsk eq says hash false ask store r answer store' later) (same : later.machine ≡ r.machine)
+        (now : IsInserting eq hash s replace k value store r) where
       -- it has not replied
       going : reply_in (ask_of r.machine) ≡ None
       going = ap reply_in (sym is) ∙ unreplied ask open_still
@@ -135,54 +148,69 @@ module _ {K V S A : Type 0} (eq : K → K → Bool) (hash : S → K → ℕ) (s 
       performs = subst (λ y. PerformsAsk eq says hash false y store r answer store' later) is performed
 
       -- nothing is shown to a closure
-      silent : PerformsAsk eq whatever hash false (ask_of r.machine) store (answering {B = Unit {0}} None r) answer store' (answering None later) × (later.answers ≡ r.answers)
+      silent : PerformsAsk eq whatever hash false (ask_of r.machine) store (answering {B = Unit {0}} None r) answer store' (answering None later)
+          × (later.answers ≡ r.answers)
       silent = silent_performs eq says hash false replace (ask_of r.machine) store r answer store' later now.silence task performs
 
       -- the answer is within the limits
       pub inserting_fit : IsFitAsk ask → IsFit answer
-      inserting_fit fit = (performed_ask eq hash says false ask store r answer store' later (unnumbered store.words.tables came.lawful.core.sizes) fit performed).fit
+      inserting_fit fit = (performed_ask eq hash says false ask store r answer store' later (unnumbered store.words.tables came.lawful.core.sizes) fit
+          performed).fit
 
       -- less is left
       pub inserting_nears : left_of store' (after r.machine answer) < left_of store r.machine
-      inserting_nears = came_nears eq hash s (keyed_insertion replace k value) store (answering None r) answer store' (answering None later) going silent.0 same keys came
+      inserting_nears = came_nears eq hash s (keyed_insertion replace k value) store (answering None r) answer store' (answering None later) going
+          silent.0 same keys came
 
       -- a write goes on
-      writes_more : (state : State) → r.machine.phase ≡ Calling → r.machine.call.state ≡ state → HasWritten state → IsAtHand value (after r.machine answer) later.value
-      writes_more state calling e written = inr (written_more eq hash s replace k value keys lawful fits store (answering None r) answer store' (answering None later) going silent.0 same came state calling e written)
+      writes_more : (state : State) → r.machine.phase ≡ Calling → r.machine.call.state ≡ state → HasWritten state
+          → IsAtHand value (after r.machine answer) later.value
+      writes_more state calling e written = inr
+          (written_more eq hash s replace k value keys lawful fits store (answering None r) answer store' (answering None later) going silent.0 same
+          came state calling e written)
 
       -- the value is at hand until the call writes
       hand_more : IsAtHand value r.machine r.value → IsAtHand value (after r.machine answer) later.value
       hand_more (inr (calling, written)) = writes_more r.machine.call.state calling refl written
       hand_more (inl has) = by_phase (copy_stays eq says store r hash answer store' later)
         where
-          by_phase : (r.machine.phase ≡ Calling) ⊎ (PerformsAsk eq says hash false (ask_of r.machine) store r answer store' later → later ≡ r) → IsAtHand value (after r.machine answer) later.value
+          by_phase : (r.machine.phase ≡ Calling) ⊎ (PerformsAsk eq says hash false (ask_of r.machine) store r answer store' later → later ≡ r)
+              → IsAtHand value (after r.machine answer) later.value
           by_phase (inr stays) = inl (ap (λ (q : Running K V A). q.value) (stays performs) ∙ has)
           by_phase (inl calling) =
-              let (told, told_is, own) = subst (λ phase. PerformsAsk eq says hash false (asks_in r.machine.call phase) store r answer store' later) calling performs in
-              by_value calling (value_stays eq says store r told store' later replace r.machine.call.made r.machine.call.hash r.machine.call.state (subst (λ t. IsStandingState t r.machine.call.state) task now.standing.call.state) own)
+              let (told, told_is, own) = subst (λ phase. PerformsAsk eq says hash false (asks_in r.machine.call phase) store r answer store' later)
+              calling performs in
+              by_value calling (value_stays eq says store r told store' later replace r.machine.call.made r.machine.call.hash r.machine.call.state
+              (subst (λ t. IsStandingState t r.machine.call.state) task now.standing.call.state) own)
             where
-              by_value : r.machine.phase ≡ Calling → HasWritten r.machine.call.state ⊎ (later.value ≡ r.value) → IsAtHand value (after r.machine answer) later.value
+              by_value : r.machine.phase ≡ Calling → HasWritten r.machine.call.state ⊎ (later.value ≡ r.value)
+                  → IsAtHand value (after r.machine answer) later.value
               by_value calling (inl written) = writes_more r.machine.call.state calling refl written
               by_value calling (inr stays) = inl (stays ∙ has)
 
       -- nothing is offered to a closure
       unoffered : (refused : Refused) → IsRemoveNothing r.machine answer refused → ⊥
-      unoffered refused (none, asked, removes) = by_answer (subst (λ y. PerformsAsk {A = Unit {0}} eq whatever hash false y store (answering None r) answer store' (answering None later)) asked silent.0)
+      unoffered refused (none, asked, removes) = by_answer
+          (subst (λ y. PerformsAsk {A = Unit {0}} eq whatever hash false y store (answering None r) answer store' (answering None later)) asked silent.0)
         where
           by_answer : PerformsAsk {A = Unit {0}} eq whatever hash false (asks.Call ShowNone) store (answering None r) answer store' (answering None later) → ⊥
-          by_answer (told, told_is, inl (shown, (e, stays))) = let f : answers.Call (Op Remove) ≡ answers.Call Ok_done = sym removes ∙ told_is ∙ ap answers.Call e in absurd cc
+          by_answer (told, told_is, inl (shown, (e, stays))) = let f : answers.Call (Op Remove) ≡ answers.Call Ok_done = sym removes ∙ told_is
+              ∙ ap answers.Call e in absurd cc
           by_answer (told, told_is, inr (a, op, after_it, has, said, e, same, stays)) = let f : None ≡ Some a = has in absurd cc
 
       -- a refusal is of a log, or of a table
-      refusal : (refused : Refused) → reply_in (ask_of (after r.machine answer)) ≡ Some (Reply_refused refused) → IsLogRefusal s refused ⊎ (IsTableAsk r.machine × IsNoTableRefusal (left_in s store') refused)
-      refusal refused e = elim (refused_so eq hash s (keyed_insertion replace k value) store (answering None r) answer store' (answering None later) going silent.0 same keys came now.unlogged (served_pairs r.machine.call replace task now.served) refused e) [
-        | inl log ↦ inl log
-        | inr (inl table) ↦ inr table
-        | inr (inr removes) ↦ absurd (unoffered refused removes)
-      ]
+      refusal : (refused : Refused) → reply_in (ask_of (after r.machine answer)) ≡ Some (Reply_refused refused) → IsLogRefusal s refused
+          ⊎ (IsTableAsk r.machine × IsNoTableRefusal (left_in s store') refused)
+      refusal refused e = elim (refused_so eq hash s (keyed_insertion replace k value) store (answering None r) answer store' (answering None later)
+          going silent.0 same keys came now.unlogged (served_pairs r.machine.call replace task now.served) refused e) [
+            | inl log ↦ inl log
+            | inr (inl table) ↦ inr table
+            | inr (inr removes) ↦ absurd (unoffered refused removes)
+          ]
 
       -- a call that writes asks for no table
-      log_refusal : (write : Write) → r.machine.phase ≡ Calling → r.machine.call.state ≡ Writing write → (refused : Refused) → reply_in (ask_of (after r.machine answer)) ≡ Some (Reply_refused refused) → IsLogRefusal s refused
+      log_refusal : (write : Write) → r.machine.phase ≡ Calling → r.machine.call.state ≡ Writing write → (refused : Refused)
+          → reply_in (ask_of (after r.machine answer)) ≡ Some (Reply_refused refused) → IsLogRefusal s refused
       log_refusal write calling writes refused e = elim (refusal refused e) [
         | inl log ↦ log
         | inr table ↦ let making : Writing write ≡ Making = sym writes ∙ table.0 calling in absurd cc
@@ -192,11 +220,13 @@ module _ {K V S A : Type 0} (eq : K → K → Bool) (hash : S → K → ℕ) (s 
       logs_more : (phase : Phase) → PerformsAsk eq says hash false (asks_in r.machine.call phase) store r answer store' later → LogsOne s.store store'
       logs_more Calling (told, told_is, own) =
           insertion_logs eq says false (call_ask r.machine.call) s.store store r told store' later
-          (λ makes. now.unlogged.pairs (served_pairs r.machine.call replace task now.served (pair_stage_of r.machine.call.made r.machine.call.hash r.machine.call.state (pair_asked (call_ask r.machine.call) makes)))) own now.logs
+          (λ makes. now.unlogged.pairs (served_pairs r.machine.call replace task now.served
+          (pair_stage_of r.machine.call.made r.machine.call.hash r.machine.call.state (pair_asked (call_ask r.machine.call) makes)))) own now.logs
       logs_more (Linking link) (h, stays) = logs_still s.store store store' now.logs (copy_pairs eq hash false (link_ask link) store answer store' h)
       logs_more (Copying_root copying) (h, stays) = logs_still s.store store store' now.logs (copy_pairs eq hash false _ store answer store' h)
 
-      served_call : {then : Call_machine} → (after r.machine answer).call ≡ then → IsServed then.made then.state → IsServed (after r.machine answer).call.made (after r.machine answer).call.state
+      served_call : {then : Call_machine} → (after r.machine answer).call ≡ then → IsServed then.made then.state
+          → IsServed (after r.machine answer).call.made (after r.machine answer).call.state
       served_call is h = subst (λ (y : Call_machine). IsServed y.made y.state) (sym is) h
 
       aside_served : (t : ℕ) → left_by r.machine.call.state ≡ Some t → (state : State) → IsServed r.machine.call.made state
@@ -207,26 +237,34 @@ module _ {K V S A : Type 0} (eq : K → K → Bool) (hash : S → K → ℕ) (s 
       served_more (inl waits) = served_call waits.call now.served
       served_more (inr (inl step)) =
           served_call step.call (served_after r.machine.call step.told
-          (λ write n word is. unbeaten eq hash s replace k value keys lawful fits store (answering None r) answer store' (answering None later) going silent.0 same came write step.phase is step.told step.is n word) now.served)
+          (λ write n word is. unbeaten eq hash s replace k value keys lawful fits store (answering None r) answer store' (answering None later) going
+          silent.0 same came write step.phase is step.told step.is n word) now.served)
       served_more (inr (inr (inl enters))) = served_call enters.call (aside_served enters.from enters.left (Searching (Sizing enters.table)))
-      served_more (inr (inr (inr (inl begins)))) = served_call begins.call (aside_served begins.from begins.left (at_root r.machine.call.task r.machine.call.remembered.fill begins.root))
+      served_more (inr (inr (inr (inl begins)))) = served_call begins.call
+          (aside_served begins.from begins.left (at_root r.machine.call.task r.machine.call.remembered.fill begins.root))
       served_more (inr (inr (inr (inr ends)))) = served_call ends.call tt
 
       -- and it goes on
-      pub inserting_more : IsStanding (after r.machine answer) → IsInserting eq hash s replace k value store' (record later { machine = after r.machine answer })
+      pub inserting_more : IsStanding (after r.machine answer)
+          → IsInserting eq hash s replace k value store' (record later { machine = after r.machine answer })
       inserting_more standing = record {
-        steps = made_more eq hash s (keyed_insertion replace k value) store (answering None r) answer store' (answering None later) going silent.0 same now.steps;
+        steps = made_more eq hash s (keyed_insertion replace k value) store (answering None r) answer store' (answering None later) going silent.0
+            same now.steps;
         silence = silent.1 ∙ now.silence;
         standing = standing;
         hand = hand_more now.hand;
-        relying = λ last. relying_more eq hash s replace k value keys lawful fits store (answering None r) answer store' (answering None later) going silent.0 same came log_refusal (now.relying last);
-        unlogged = unlogged_more eq hash s (keyed_insertion replace k value) store (answering None r) answer store' (answering None later) going silent.0 same keys came now.unlogged;
-        served = served_more (made_goes eq hash s (keyed_insertion replace k value) store (answering None r) answer store' (answering None later) going silent.0 same keys came);
+        relying = λ last. relying_more eq hash s replace k value keys lawful fits store (answering None r) answer store' (answering None later) going
+            silent.0 same came log_refusal (now.relying last);
+        unlogged = unlogged_more eq hash s (keyed_insertion replace k value) store (answering None r) answer store' (answering None later) going
+            silent.0 same keys came now.unlogged;
+        served = served_more (made_goes eq hash s (keyed_insertion replace k value) store (answering None r) answer store' (answering None later)
+            going silent.0 same keys came);
         logs = logs_more r.machine.phase performs;
         caused = λ refused e. write_cause s refused r.machine (left_in s store') (refusal refused e);
       }
 
-    module _ (store : StoreState K V S) (r : Running K V A) (reply : Reply) (e : asks.Call (Ask_done reply) ≡ ask_of r.machine) (now : IsInserting eq hash s replace k value store r) where
+    module _ (store : StoreState K V S) (r : Running K V A) (reply : Reply) (e : asks.Call (Ask_done reply) ≡ ask_of r.machine)
+        (now : IsInserting eq hash s replace k value store r) where
       -- it has replied: it was made alone
       pub inserting_alone : IsOver eq hash s (insertion replace k value) store reply
       inserting_alone = made_alone eq hash s (keyed_insertion replace k value) keys lawful fits store (answering None r) reply (sym (ap reply_in e)) now.steps
@@ -251,13 +289,15 @@ module _ {K V S A : Type 0} (eq : K → K → Bool) (hash : S → K → ℕ) (s 
               absurd (subst HasWritten (ended calling ∙ ap Ended is) written)
 
       -- Where no pairs are being moved, a refusal is of a log, and of a call that may replace, or the key is absent.
-      refused_where : (refused : Refused) → reply ≡ Reply_refused refused → (((map_in eq s.store k ≡ None) ⊎ IsResizing s) ⊎ ((replace ≡ true) × IsLogRefusal s refused))
+      refused_where : (refused : Refused) → reply ≡ Reply_refused refused
+          → (((map_in eq s.store k ≡ None) ⊎ IsResizing s) ⊎ ((replace ≡ true) × IsLogRefusal s refused))
       refused_where refused is = elim (cases_eq (next_of s.store) 0) [
         | inl last ↦ by_relying (now.relying last)
         | inr moves ↦ inl (inr moves)
       ]
         where
-          by_relying : IsRelying eq hash s replace k value store r.machine → (((map_in eq s.store k ≡ None) ⊎ IsResizing s) ⊎ ((replace ≡ true) × IsLogRefusal s refused))
+          by_relying : IsRelying eq hash s replace k value store r.machine
+              → (((map_in eq s.store k ≡ None) ⊎ IsResizing s) ⊎ ((replace ≡ true) × IsLogRefusal s refused))
           by_relying (inl absent) = inl (inl absent)
           by_relying (inr root) = inr (subst (IsRootStage eq hash s replace k value store) (ended root.calling ∙ ap Ended is) root.stage)
 
@@ -268,7 +308,8 @@ module _ {K V S A : Type 0} (eq : K → K → Bool) (hash : S → K → ℕ) (s 
       pub inserting_cause : (refused : Refused) → reply ≡ Reply_refused refused → IsWriteCauseAt s (map_in eq s.store k) refused (left_in s store)
       inserting_cause refused is = at (refused_where refused is) (caused_end refused is)
         where
-          at : (((map_in eq s.store k ≡ None) ⊎ IsResizing s) ⊎ ((replace ≡ true) × IsLogRefusal s refused)) → IsWriteCause s refused (left_in s store) → IsWriteCauseAt s (map_in eq s.store k) refused (left_in s store)
+          at : (((map_in eq s.store k ≡ None) ⊎ IsResizing s) ⊎ ((replace ≡ true) × IsLogRefusal s refused))
+              → IsWriteCause s refused (left_in s store) → IsWriteCauseAt s (map_in eq s.store k) refused (left_in s store)
           at (inr (only, inl memory)) cause = inl memory
           at (inr (only, inr (inl (capacity, full)))) cause = inr (inl (capacity, inl full))
           at (inr (only, inr (inr spent))) cause = inr (inr spent)
@@ -278,7 +319,8 @@ module _ {K V S A : Type 0} (eq : K → K → Bool) (hash : S → K → ℕ) (s 
           at (inl away) (inr (inr spent)) = inr (inr spent)
 
       -- and one that replaces nothing is refused only where the key is absent, or pairs are being moved
-      pub inserting_absent : replace ≡ false → (refused : Refused) → reply ≡ Reply_refused refused → IsTryCause s (map_in eq s.store k) refused (left_in s store)
+      pub inserting_absent : replace ≡ false → (refused : Refused) → reply ≡ Reply_refused refused
+          → IsTryCause s (map_in eq s.store k) refused (left_in s store)
       inserting_absent never refused is = (by_where (refused_where refused is), caused_end refused is)
         where
           by_where : (((map_in eq s.store k ≡ None) ⊎ IsResizing s) ⊎ ((replace ≡ true) × IsLogRefusal s refused)) → (map_in eq s.store k ≡ None) ⊎ IsResizing s

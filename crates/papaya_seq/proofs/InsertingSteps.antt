@@ -9,7 +9,11 @@ use Rattle.papaya_ask.specs.declared.search.Search.TheVariants.{Sizing, Looking,
 use Rattle.papaya_ask.specs.Search.{ask_of as search_ask}
 use Rattle.papaya_call.specs.Answers.{Says}
 use Rattle.papaya_call.specs.declared.machine.State.{State}
-use Rattle.papaya_call.specs.declared.machine.State.TheVariants.{AtRoot, Making, Opening, Searching, Writing, Offering, Showing, Pairing, Putting, Deleting, Counting, Noting, Uncounting, Leaving, Growing, Ended}
+use Rattle.papaya_call.specs.declared.machine.State.TheVariants.{AtRoot, Making, Opening, Searching}
+use Rattle.papaya_call.specs.declared.machine.State.TheVariants.{Writing, Offering, Showing}
+use Rattle.papaya_call.specs.declared.machine.State.TheVariants.{Pairing, Putting, Deleting}
+use Rattle.papaya_call.specs.declared.machine.State.TheVariants.{Counting, Noting, Uncounting}
+use Rattle.papaya_call.specs.declared.machine.State.TheVariants.{Leaving, Growing, Ended}
 use Rattle.papaya_call.specs.declared.made.Made.{Made}
 use Rattle.papaya_call.specs.declared.write.Write.{Write}
 use Rattle.papaya_call.specs.Machine.{IsStandingState, asks}
@@ -28,13 +32,17 @@ use Rattle.papaya_seq.proofs.Inserting.{HasWritten}
 
 module _ {K V S A : Type 0} (eq : K → K → Bool) (says : Says K V A) (store : StoreState K V S) (r : Running K V A) where
   -- a copy changes nothing of the call
-  pub copy_stays : (hash : S → K → ℕ) (answer : Answer) (store' : StoreState K V S) (later : Running K V A) → (r.machine.phase ≡ Calling) ⊎ (PerformsAsk eq says hash false (ask_of r.machine) store r answer store' later → later ≡ r)
+  pub copy_stays : (hash : S → K → ℕ) (answer : Answer) (store' : StoreState K V S) (later : Running K V A) → (r.machine.phase ≡ Calling)
+      ⊎ (PerformsAsk eq says hash false (ask_of r.machine) store r answer store' later → later ≡ r)
   copy_stays hash answer store' later = by_phase r.machine.phase refl
     where
-      by_phase : (phase : Phase) → r.machine.phase ≡ phase → (r.machine.phase ≡ Calling) ⊎ (PerformsAsk eq says hash false (ask_of r.machine) store r answer store' later → later ≡ r)
+      by_phase : (phase : Phase) → r.machine.phase ≡ phase → (r.machine.phase ≡ Calling)
+          ⊎ (PerformsAsk eq says hash false (ask_of r.machine) store r answer store' later → later ≡ r)
       by_phase Calling e = inl e
-      by_phase (Linking link) e = inr (λ performs. (subst (λ phase. PerformsAsk eq says hash false (asks_in r.machine.call phase) store r answer store' later) e performs).1)
-      by_phase (Copying_root copying) e = inr (λ performs. (subst (λ phase. PerformsAsk eq says hash false (asks_in r.machine.call phase) store r answer store' later) e performs).1)
+      by_phase (Linking link) e = inr (λ performs.
+          (subst (λ phase. PerformsAsk eq says hash false (asks_in r.machine.call phase) store r answer store' later) e performs).1)
+      by_phase (Copying_root copying) e = inr (λ performs.
+          (subst (λ phase. PerformsAsk eq says hash false (asks_in r.machine.call phase) store r answer store' later) e performs).1)
 
   module _ (told : Call_answer) (store' : StoreState K V S) (later : Running K V A) where
     -- a search changes nothing
@@ -45,7 +53,8 @@ module _ {K V S A : Type 0} (eq : K → K → Bool) (says : Says K V A) (store :
     search_stays (Comparing at word) (e, (same, stays)) = same
 
     -- the word that a write looks for stands there
-    pub write_unbeaten : (made : Made) (write : Write) → word_at store.words (Slot write.place.table write.place.probe.i) ≡ write.old → (n : ℕ) → serves made write ≡ Some n → Performs eq says false (write_ask write made) store r told store' later → (word : ℕ) → told ≡ Found_instead word → ⊥
+    pub write_unbeaten : (made : Made) (write : Write) → word_at store.words (Slot write.place.table write.place.probe.i) ≡ write.old → (n : ℕ)
+        → serves made write ≡ Some n → Performs eq says false (write_ask write made) store r told store' later → (word : ℕ) → told ≡ Found_instead word → ⊥
     write_unbeaten made write read n serves_so performs word found =
         let (moved, stays) = subst (λ served. Performs eq says false (served_ask served write made) store r told store' later) serves_so performs in
         let done = exchange_done _ _ (word_at store.words (Slot write.place.table write.place.probe.i)) write.old read moved in
@@ -53,7 +62,8 @@ module _ {K V S A : Type 0} (eq : K → K → Bool) (says : Says K V A) (store :
         absurd cc
 
     -- an insertion logs its value only where it writes
-    pub value_stays : (replace : Bool) (made : Made) (hash : ℕ) (state : State) → IsStandingState (Insert replace) state → Performs eq says false (asks made hash state) store r told store' later → HasWritten state ⊎ (later.value ≡ r.value)
+    pub value_stays : (replace : Bool) (made : Made) (hash : ℕ) (state : State) → IsStandingState (Insert replace) state
+        → Performs eq says false (asks made hash state) store r told store' later → HasWritten state ⊎ (later.value ≡ r.value)
     value_stays replace made hash AtRoot standing (e, (same, stays)) = inr (ap (λ q. q.value) stays)
     value_stays replace made hash Making standing (made_table, stays) = inr (ap (λ q. q.value) stays)
     value_stays replace made hash (Opening t) standing (exchanged, stays) = inr (ap (λ q. q.value) stays)

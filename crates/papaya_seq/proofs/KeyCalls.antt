@@ -19,7 +19,8 @@ pub record KeyCall (K V : Type 0) : Type 0 where
   pub value : Option V
   pub answers : Option (Unit {0})
   pub key_is : key_of call ≡ Some key
-  pub begins : (hash : K → ℕ) (mode : Mode) (initial number : ℕ) → begun_work hash mode initial number call ≡ works.Call (begun hash mode initial number task key value answers)
+  pub begins : (hash : K → ℕ) (mode : Mode) (initial number : ℕ)
+      → begun_work hash mode initial number call ≡ works.Call (begun hash mode initial number task key value answers)
 
 -- as it begins
 abbrev pub first_of : {K V : Type 0} → (K → ℕ) → Mode → (initial number : ℕ) → KeyCall K V → Running K V (Unit {0})
@@ -31,19 +32,46 @@ key_fits hash call fits k e = let same : call.key ≡ k = cc (call.key_is, e) in
 
 -- an insertion that replaces the key's pair, or one that doesn't
 abbrev pub keyed_insertion : {K V : Type 0} → Bool → K → V → KeyCall K V
-keyed_insertion replace k value = record { call = insertion replace k value; key = k; task = Insert replace; value = Some value; answers = None; key_is = key_is replace k value; begins = begins replace k value }
+keyed_insertion replace k value = record {
+  call = insertion replace k value;
+  key = k;
+  task = Insert replace;
+  value = Some value;
+  answers = None;
+  key_is = key_is replace k value;
+  begins = begins replace k value;
+}
   where
     key_is : {K V : Type 0} (replace : Bool) (k : K) (value : V) → key_of (insertion replace k value) ≡ Some k
     key_is true k value = refl
     key_is false k value = refl
 
-    begins : {K V : Type 0} (replace : Bool) (k : K) (value : V) (hash : K → ℕ) (mode : Mode) (initial number : ℕ) → begun_work hash mode initial number (insertion replace k value) ≡ works.Call (begun hash mode initial number (Insert replace) k (Some value) None)
+    begins : {K V : Type 0} (replace : Bool) (k : K) (value : V) (hash : K → ℕ) (mode : Mode) (initial number : ℕ)
+        → begun_work hash mode initial number (insertion replace k value) ≡ works.Call (begun hash mode initial number (Insert replace) k (Some value) None)
     begins true k value hash mode initial number = refl
     begins false k value hash mode initial number = refl
 
 -- a removal, and a compute, whatever a closure answers
 abbrev pub keyed_removal : {K V : Type 0} → K → KeyCall K V
-keyed_removal k = record { call = calls.RemoveIf k tt; key = k; task = RemoveIf; value = None; answers = Some tt; key_is = refl; begins = λ hash mode initial number. refl }
+keyed_removal k = record {
+  call = calls.RemoveIf k tt;
+  key = k;
+  task = RemoveIf;
+  value = None;
+  answers = Some tt;
+  key_is = refl;
+  begins = λ hash mode
+      initial number. refl;
+}
 
 abbrev pub keyed_compute : {K V : Type 0} → K → KeyCall K V
-keyed_compute k = record { call = calls.Compute k tt; key = k; task = Compute; value = None; answers = Some tt; key_is = refl; begins = λ hash mode initial number. refl }
+keyed_compute k = record {
+  call = calls.Compute k tt;
+  key = k;
+  task = Compute;
+  value = None;
+  answers = Some tt;
+  key_is = refl;
+  begins = λ hash mode
+      initial number. refl;
+}

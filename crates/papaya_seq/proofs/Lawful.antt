@@ -1,5 +1,7 @@
 -- What is known of the words and the logs of a map that is in order.
-use Rattle.std.proofs.Common.{◌≡◌, ◌⊎◌, ⊎_elim, inl, inr, ℕ, zero, suc, ◌<◌, ◌≤◌, Bool, true, false, List, [], ◌∷◌, length, Option, Some, None, refl, sym, ◌∙◌, ap, subst, arith}
+use Rattle.std.proofs.Common.{◌≡◌, ◌⊎◌, ⊎_elim, inl, inr, ℕ, zero, suc, ◌<◌, ◌≤◌, Bool, true, false}
+use Rattle.std.proofs.Common.{List, [], ◌∷◌, length, Option, Some, None, refl, sym, ◌∙◌, ap, subst}
+use Rattle.std.proofs.Common.{arith}
 use Rattle.std.proofs.lemmas.Bool.{cases_Bool, cases_lt, cond-true, cond-false}
 use Rattle.std.proofs.lemmas.List.Elements.{All-append, All-cons, All-nil}
 use Rattle.std.specs.Prelude.{slice_index_or}
@@ -30,7 +32,8 @@ use Rattle.papaya_store.proofs.Logs.{pair_below, pair_number}
 use Rattle.papaya_timeline.proofs.KeptSettings.{IsLawfulKeys, tables_hashed}
 use Rattle.papaya_seq.specs.Map.{HasNone, Holds, IsLawfulMap}
 
-module _ {K V S A : Type 0} (eq : K → K → Bool) (hash : K → ℕ) (callers : List (Seat K V A)) (mode : Mode) (store : StoreState K V S) (lawful : IsLawfulCore eq hash store callers mode) where
+module _ {K V S A : Type 0} (eq : K → K → Bool) (hash : K → ℕ) (callers : List (Seat K V A)) (mode : Mode) (store : StoreState K V S)
+    (lawful : IsLawfulCore eq hash store callers mode) where
   -- the words of a core as the law has them
   abbrev law_words : State (Stored K V)
   law_words = run lawful.law.0 start
@@ -47,7 +50,8 @@ module _ {K V S A : Type 0} (eq : K → K → Bool) (hash : K → ℕ) (callers 
 
   -- a table of the chain is there
   core_comes_there : (n : ℕ) → Comes law_words n → (n ≡ 0 → ⊥) → (t : TableWords) × (table_of store.words.tables n ≡ Some t)
-  core_comes_there n comes some = lawful.law.1.1.made n (⊎_elim (λ (positive : 0 < n). positive) (λ (least : n ≤ 0). absurd (some (omega arith))) (cases_lt 0 n)) comes
+  core_comes_there n comes some = lawful.law.1.1.made n
+      (⊎_elim (λ (positive : 0 < n). positive) (λ (least : n ≤ 0). absurd (some (omega arith))) (cases_lt 0 n)) comes
 
   -- the words are sound
   core_sound : IsLawfulKeys eq hash → IsSound (setting_of {V = V} eq (low hash) mode store.words.tables) law_words
@@ -59,22 +63,28 @@ module _ {K V S A : Type 0} (eq : K → K → Bool) (hash : K → ℕ) (callers 
   pub core_root_there : IsLawfulKeys eq hash → (store.words.root ≡ 0 → ⊥) → (t : TableWords) × (table_of store.words.tables store.words.root ≡ Some t)
   core_root_there keys some =
       let is : law_words.root ≡ store.words.root = lawful.law.1.1.coded Root in
-      let comes : Comes law_words law_words.root = ⊎_elim (λ (none : (law_words.root ≡ 0) × (law_words.first ≡ 0)). absurd (some (sym is ∙ none.0))) (on_comes law_words law_words.root) (core_sound keys).root in
+      let comes : Comes law_words law_words.root =
+      ⊎_elim (λ (none : (law_words.root ≡ 0) × (law_words.first ≡ 0)). absurd (some (sym is ∙ none.0))) (on_comes law_words law_words.root)
+      (core_sound keys).root in
       subst (λ n. (t : TableWords) × (table_of store.words.tables n ≡ Some t)) is (core_comes_there law_words.root comes (λ zero. some (sym is ∙ zero)))
 
   -- and so is each next table
-  pub core_next_there : (t : ℕ) → (word_at store.words (Next t) ≡ 0 → ⊥) → (v : TableWords) × (table_of store.words.tables (word_at store.words (Next t)) ≡ Some v)
+  pub core_next_there : (t : ℕ) → (word_at store.words (Next t) ≡ 0 → ⊥) → (v : TableWords)
+      × (table_of store.words.tables (word_at store.words (Next t)) ≡ Some v)
   core_next_there t some =
       let is : law_words.next t ≡ word_at store.words (Next t) = lawful.law.1.1.coded (Next t) in
-      subst (λ n. (v : TableWords) × (table_of store.words.tables n ≡ Some v)) is (core_comes_there (law_words.next t) (inr (t, refl)) (λ zero. some (sym is ∙ zero)))
+      subst (λ n. (v : TableWords) × (table_of store.words.tables n ≡ Some v)) is
+      (core_comes_there (law_words.next t) (inr (t, refl)) (λ zero. some (sym is ∙ zero)))
 
   -- whose number is greater
   pub core_next_rises : IsLawfulKeys eq hash → (t : ℕ) → (word_at store.words (Next t) ≡ 0 → ⊥) → t < word_at store.words (Next t)
   core_next_rises keys t some =
       let is : law_words.next t ≡ word_at store.words (Next t) = lawful.law.1.1.coded (Next t) in
-      ⊎_elim (λ (zero : law_words.next t ≡ 0). absurd (some (sym is ∙ zero))) (λ (up : (0 < t) × (t < law_words.next t)). subst (λ n. t < n) is up.1) ((core_sound keys).rises t)
+      ⊎_elim (λ (zero : law_words.next t ≡ 0). absurd (some (sym is ∙ zero))) (λ (up : (0 < t) × (t < law_words.next t)). subst (λ n. t < n) is up.1)
+      ((core_sound keys).rises t)
 
-module _ {K V S : Type 0} (eq : K → K → Bool) (hash : K → ℕ) (mode : Mode) (store : StoreState K V S) {initial : ℕ} (lawful : IsLawfulMap eq hash store mode initial) where
+module _ {K V S : Type 0} (eq : K → K → Bool) (hash : K → ℕ) (mode : Mode) (store : StoreState K V S) {initial : ℕ}
+    (lawful : IsLawfulMap eq hash store mode initial) where
   -- the word of an empty slot is 0
   pub bare : IsBare (λ at. word_at store.words at)
   bare = core_bare eq hash [] mode store lawful.lawful
@@ -106,7 +116,8 @@ module _ {K V S : Type 0} (store : StoreState K V S) where
 
   slots_logged : (words : List ℕ) → AreLogged (pairs_of_slots store words)
   slots_logged [] = All-nil (λ p. pair_of store p.number ≡ Some p)
-  slots_logged (word ∷ words) = All-append (λ p. pair_of store p.number ≡ Some p) (pairs_of_kind store (kind_of word) (number_of word)) (pairs_of_slots store words) (kind_logged (kind_of word) (number_of word)) (slots_logged words)
+  slots_logged (word ∷ words) = All-append (λ p. pair_of store p.number ≡ Some p) (pairs_of_kind store (kind_of word) (number_of word))
+      (pairs_of_slots store words) (kind_logged (kind_of word) (number_of word)) (slots_logged words)
 
   module _ (eq : K → K → Bool) where
     -- the pairs of a next table whose keys were not found before
@@ -163,7 +174,8 @@ module _ {K V S : Type 0} (store : StoreState K V S) where
     decided_at m (Some q) is none =
         ⊎_elim
         (λ (y : matches q.key ≡ true). inl (record { pair = q; there = logged_itself m q is; matched = y }))
-        (λ (n : matches q.key ≡ false). inr (below_more m none (λ p e. let f : Some q ≡ Some p = sym is ∙ e in let same : q ≡ p = cc f in subst (λ (x : Stored K V). matches x.key ≡ false) same n)))
+        (λ (n : matches q.key ≡ false). inr (below_more m none
+        (λ p e. let f : Some q ≡ Some p = sym is ∙ e in let same : q ≡ p = cc f in subst (λ (x : Stored K V). matches x.key ≡ false) same n)))
         (cases_Bool (matches q.key))
 
     decided_below : (m : ℕ) → IsMatched ⊎ MatchesBelow m
@@ -172,7 +184,8 @@ module _ {K V S : Type 0} (store : StoreState K V S) where
 
     -- a pair of the log matches, or none does
     pub decided : IsMatched ⊎ MatchesNone
-    decided = ⊎_elim (λ (one : IsMatched). inl one) (λ (none : MatchesBelow (length store.pairs)). inr (λ n p e. none n p (pair_below store n p e) e)) (decided_below (length store.pairs))
+    decided = ⊎_elim (λ (one : IsMatched). inl one) (λ (none : MatchesBelow (length store.pairs)). inr (λ n p e. none n p (pair_below store n p e) e))
+        (decided_below (length store.pairs))
 
     -- where no pair of the log matches, none of the map's does
     pub none_held : (eq : K → K → Bool) → MatchesNone → HasNone eq matches store
@@ -184,15 +197,18 @@ lookup_none eq [] k e = All-nil (λ p. eq k p.key ≡ false)
 lookup_none {K} {V} eq (q ∷ ps) k e =
     ⊎_elim
     (λ (y : eq k q.key ≡ true). let s = cond-true (eq k q.key) (Some q) (lookup eq (λ (p : Stored K V). p.key) ps k) y in absurd cc)
-    (λ (n : eq k q.key ≡ false). All-cons (λ (p : Stored K V). eq k p.key ≡ false) q ps n (lookup_none eq ps k (sym (cond-false (eq k q.key) (Some q) (lookup eq (λ (p : Stored K V). p.key) ps k) n) ∙ e)))
+    (λ (n : eq k q.key ≡ false). All-cons (λ (p : Stored K V). eq k p.key ≡ false) q ps n
+    (lookup_none eq ps k (sym (cond-false (eq k q.key) (Some q) (lookup eq (λ (p : Stored K V). p.key) ps k) n) ∙ e)))
     (cases_Bool (eq k q.key))
 
 -- what is found in a list stands in it, and its key is equal
-pub lookup_some : {K V : Type 0} (eq : K → K → Bool) (ps : List (Stored K V)) (k : K) (p : Stored K V) → lookup eq (λ q. q.key) ps k ≡ Some p → Contains ps p × (eq k p.key ≡ true)
+pub lookup_some : {K V : Type 0} (eq : K → K → Bool) (ps : List (Stored K V)) (k : K) (p : Stored K V) → lookup eq (λ q. q.key) ps k ≡ Some p
+    → Contains ps p × (eq k p.key ≡ true)
 lookup_some eq [] k p e = let f : None ≡ Some p = e in cc
 lookup_some {K} {V} eq (q ∷ ps) k p e =
     ⊎_elim
-    (λ (y : eq k q.key ≡ true). let s = cond-true (eq k q.key) (Some q) (lookup eq (λ (r : Stored K V). r.key) ps k) y in let is : q ≡ p = cc (s, e) in ((0, omega arith, is), subst (λ (r : Stored K V). eq k r.key ≡ true) is y))
+    (λ (y : eq k q.key ≡ true). let s = cond-true (eq k q.key) (Some q) (lookup eq (λ (r : Stored K V). r.key) ps k) y in
+    let is : q ≡ p = cc (s, e) in ((0, omega arith, is), subst (λ (r : Stored K V). eq k r.key ≡ true) is y))
     (λ (n : eq k q.key ≡ false).
     let rest = lookup_some eq ps k p (sym (cond-false (eq k q.key) (Some q) (lookup eq (λ (r : Stored K V). r.key) ps k) n) ∙ e) in
     ((suc rest.0.0, let within = rest.0.1 in omega (arith, within), rest.0.2), rest.1))

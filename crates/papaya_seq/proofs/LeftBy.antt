@@ -40,7 +40,8 @@ module _ {K V A : Type 0} where
   no_resize : (w : Work K V A) (z : Resizer) → resizer_in (Some w) ≡ None → w ≡ works.Resize z → ⊥
   no_resize w z none is = let f : None ≡ Some z = sym none ∙ ap (λ (x : Work K V A). resizer_in (Some x)) is in absurd cc
 
-  pub resized_same : (hash : K → ℕ) (mode : Mode) (initial number : ℕ) (call : Call K V A) (z : Resizer) → begun_work hash mode initial number call ≡ works.Resize z → (m m' : Map K V) → (IsLeftBy call m m' → Same m m') × (IsDoneBy call m m' → Same m m')
+  pub resized_same : (hash : K → ℕ) (mode : Mode) (initial number : ℕ) (call : Call K V A) (z : Resizer)
+      → begun_work hash mode initial number call ≡ works.Resize z → (m m' : Map K V) → (IsLeftBy call m m' → Same m m') × (IsDoneBy call m m' → Same m m')
   resized_same hash mode initial number (Get j) z is m m' = (λ h. h, λ h. h)
   resized_same hash mode initial number (Insert j v) z is m m' = (λ h. h, λ h. h)
   resized_same hash mode initial number (TryInsert j v) z is m m' = (λ h. h, λ h. h)

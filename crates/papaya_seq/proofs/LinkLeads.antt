@@ -80,7 +80,9 @@ begun_stable = record {
 }
 
 -- where a copy makes a table, the answer goes to the making
-step_form : (initial number : ℕ) (mode : ResizeMode) (aim : Aim) (from : ℕ) (made : Link) (answer : Answer) → copying_after (Stepping aim (steps.Linking from made)) mode initial number answer ≡ copying.leads aim mode (step.linked_to from (link_after made mode initial answer))
+step_form : (initial number : ℕ) (mode : ResizeMode) (aim : Aim) (from : ℕ) (made : Link) (answer : Answer)
+    → copying_after (Stepping aim (steps.Linking from made)) mode initial number answer ≡ copying.leads aim mode
+    (step.linked_to from (link_after made mode initial answer))
 step_form initial number mode aim from made (answers.Call (told.Word word)) = refl
 step_form initial number mode aim from made (answers.Call told.Exchanged) = refl
 step_form initial number mode aim from made (answers.Call (told.Found word)) = refl
@@ -93,7 +95,9 @@ step_form initial number mode aim from made (answers.Call (told.Refused refused)
 step_form initial number mode aim from made (answers.Hash hash) = refl
 step_form initial number mode aim from made (answers.Count count) = refl
 
-settle_form : (initial number : ℕ) (mode : ResizeMode) (aim : Aim) (chunk : Chunk) (marked hash : ℕ) (made : Link) (answer : Answer) → copying_after (Stepping aim (steps.Settling chunk (settles.Carrying marked (carries.Linking hash made)))) mode initial number answer ≡ copying.leads aim mode (step.settled_to chunk (settle.settled_by marked mode (carry.carried_on hash (link_after made mode initial answer))))
+settle_form : (initial number : ℕ) (mode : ResizeMode) (aim : Aim) (chunk : Chunk) (marked hash : ℕ) (made : Link) (answer : Answer)
+    → copying_after (Stepping aim (steps.Settling chunk (settles.Carrying marked (carries.Linking hash made)))) mode initial number answer
+    ≡ copying.leads aim mode (step.settled_to chunk (settle.settled_by marked mode (carry.carried_on hash (link_after made mode initial answer))))
 settle_form initial number mode aim chunk marked hash made (answers.Call (told.Word word)) = refl
 settle_form initial number mode aim chunk marked hash made (answers.Call told.Exchanged) = refl
 settle_form initial number mode aim chunk marked hash made (answers.Call (told.Found word)) = refl
@@ -106,7 +110,9 @@ settle_form initial number mode aim chunk marked hash made (answers.Call (told.R
 settle_form initial number mode aim chunk marked hash made (answers.Hash other) = refl
 settle_form initial number mode aim chunk marked hash made (answers.Count count) = refl
 
-lone_form : (initial number : ℕ) (mode : ResizeMode) (slot : Slot) (marked hash : ℕ) (made : Link) (answer : Answer) → copying_after (Lone slot (settles.Carrying marked (carries.Linking hash made))) mode initial number answer ≡ copying.lone slot (settle.settled_by marked mode (carry.carried_on hash (link_after made mode initial answer)))
+lone_form : (initial number : ℕ) (mode : ResizeMode) (slot : Slot) (marked hash : ℕ) (made : Link) (answer : Answer)
+    → copying_after (Lone slot (settles.Carrying marked (carries.Linking hash made))) mode initial number answer ≡ copying.lone slot
+    (settle.settled_by marked mode (carry.carried_on hash (link_after made mode initial answer)))
 lone_form initial number mode slot marked hash made (answers.Call (told.Word word)) = refl
 lone_form initial number mode slot marked hash made (answers.Call told.Exchanged) = refl
 lone_form initial number mode slot marked hash made (answers.Call (told.Found word)) = refl
@@ -124,7 +130,8 @@ in_carry : (goes : Carry) (made : Link) → link_in_carry goes ≡ Some made →
 in_carry (carries.Linking hash link) made e = let same : link ≡ made = cc e in (hash, ap (carries.Linking hash) same)
 in_carry other made e = absurd cc
 
-in_settle : (goes : Settle) (made : Link) → link_in_settle goes ≡ Some made → (marked : ℕ) × (hash : ℕ) × (goes ≡ settles.Carrying marked (carries.Linking hash made))
+in_settle : (goes : Settle) (made : Link) → link_in_settle goes ≡ Some made → (marked : ℕ) × (hash : ℕ)
+    × (goes ≡ settles.Carrying marked (carries.Linking hash made))
 in_settle (settles.Carrying marked goes) made e = let (hash, is) = in_carry goes made e in (marked, hash, ap (settles.Carrying marked) is)
 in_settle other made e = absurd cc
 
@@ -145,17 +152,20 @@ module _ (mode : ResizeMode) (initial : ℕ) (answer : Answer) where
   IsCopyLed made _ = Unit {0}
 
   module _ (made : Link) where
-    step_led : (aim : Aim) (from : ℕ) (end : Linked) → link_after made mode initial answer ≡ end → IsCopyLed made (copying.leads aim mode (step.linked_to from end))
+    step_led : (aim : Aim) (from : ℕ) (end : Linked) → link_after made mode initial answer ≡ end
+        → IsCopyLed made (copying.leads aim mode (step.linked_to from end))
     step_led aim from (linked.On made') e = inr e
     step_led aim from (linked.Table table) e = tt
     step_led aim from (linked.Refused refused) e = tt
 
-    settle_led : (aim : Aim) (chunk : Chunk) (marked hash : ℕ) (end : Linked) → link_after made mode initial answer ≡ end → IsCopyLed made (copying.leads aim mode (step.settled_to chunk (settle.settled_by marked mode (carry.carried_on hash end))))
+    settle_led : (aim : Aim) (chunk : Chunk) (marked hash : ℕ) (end : Linked) → link_after made mode initial answer ≡ end
+        → IsCopyLed made (copying.leads aim mode (step.settled_to chunk (settle.settled_by marked mode (carry.carried_on hash end))))
     settle_led aim chunk marked hash (linked.On made') e = inr e
     settle_led aim chunk marked hash (linked.Table table) e = tt
     settle_led aim chunk marked hash (linked.Refused refused) e = tt
 
-    lone_led : (slot : Slot) (marked hash : ℕ) (end : Linked) → link_after made mode initial answer ≡ end → IsCopyLed made (copying.lone slot (settle.settled_by marked mode (carry.carried_on hash end)))
+    lone_led : (slot : Slot) (marked hash : ℕ) (end : Linked) → link_after made mode initial answer ≡ end
+        → IsCopyLed made (copying.lone slot (settle.settled_by marked mode (carry.carried_on hash end)))
     lone_led slot marked hash (linked.On made') e = inr e
     lone_led slot marked hash (linked.Table table) e = tt
     lone_led slot marked hash (linked.Refused refused) e = tt
@@ -169,12 +179,14 @@ module _ (mode : ResizeMode) (initial : ℕ) (answer : Answer) where
     copy_led (Stepping aim (steps.Settling chunk goes)) number e =
         let (marked, hash, is) = in_settle goes made e in
         subst (λ x. IsCopyLed made (copying_after (Stepping aim (steps.Settling chunk x)) mode initial number answer)) (sym is)
-        (subst (IsCopyLed made) (sym (settle_form initial number mode aim chunk marked hash made answer)) (settle_led aim chunk marked hash (link_after made mode initial answer) refl))
+        (subst (IsCopyLed made) (sym (settle_form initial number mode aim chunk marked hash made answer))
+        (settle_led aim chunk marked hash (link_after made mode initial answer) refl))
     copy_led (Stepping aim other) number e = absurd cc
     copy_led (Lone slot goes) number e =
         let (marked, hash, is) = in_settle goes made e in
         subst (λ x. IsCopyLed made (copying_after (Lone slot x) mode initial number answer)) (sym is)
-        (subst (IsCopyLed made) (sym (lone_form initial number mode slot marked hash made answer)) (lone_led slot marked hash (link_after made mode initial answer) refl))
+        (subst (IsCopyLed made) (sym (lone_form initial number mode slot marked hash made answer))
+        (lone_led slot marked hash (link_after made mode initial answer) refl))
 
   -- where no table is made, no size is told
   told_none : (o : Option Link) → o ≡ None → (slots : ℕ) → Of Never o slots
@@ -186,8 +198,10 @@ module _ (mode : ResizeMode) (initial : ℕ) (answer : Answer) where
   new_any (Some made) n = tt
 
   -- a copy in which none is made
-  copy_begins : (goes : Copying) (number : ℕ) → link_in_copying goes ≡ None → states.Copied_holds IsBegun Never Always begun_stable (copying_after goes mode initial number answer)
-  copy_begins goes number e = states.copying_after IsBegun Never Always begun_stable goes mode initial number answer (λ slots limit is. told_none (link_in_copying goes) e slots) (λ n is. new_any (link_in_copying goes) n) (subst (In IsBegun) (sym e) tt)
+  copy_begins : (goes : Copying) (number : ℕ) → link_in_copying goes ≡ None
+      → states.Copied_holds IsBegun Never Always begun_stable (copying_after goes mode initial number answer)
+  copy_begins goes number e = states.copying_after IsBegun Never Always begun_stable goes mode initial number answer
+      (λ slots limit is. told_none (link_in_copying goes) e slots) (λ n is. new_any (link_in_copying goes) n) (subst (In IsBegun) (sym e) tt)
 
   -- and so of any copy
   abbrev pub IsCopyLedFrom : Option Link → Copied → Type 0
@@ -225,14 +239,19 @@ machine_leads m answer = by_phase m.phase refl
     calling : m.phase ≡ Calling → In (IsLed m.call.mode m.call.initial answer None) (link_in (after m answer).phase)
     calling e =
         let none : link_in m.phase ≡ None = ap link_in e in
-        begun_led m.call.mode m.call.initial answer None (link_in (after m answer).phase) (states.machine_holds IsBegun Never Always begun_stable m answer (λ slots limit is. told_none m.call.mode m.call.initial answer (link_in m.phase) none slots) (λ n aside is. new_any m.call.mode m.call.initial answer (link_in m.phase) n) (subst (In IsBegun) (sym none) tt))
+        begun_led m.call.mode m.call.initial answer None (link_in (after m answer).phase)
+        (states.machine_holds IsBegun Never Always begun_stable m answer
+        (λ slots limit is. told_none m.call.mode m.call.initial answer (link_in m.phase) none slots)
+        (λ n aside is. new_any m.call.mode m.call.initial answer (link_in m.phase) n) (subst (In IsBegun) (sym none) tt))
 
-    linked_leads : (made : Link) (end : Linked) → link_after made m.call.mode m.call.initial answer ≡ end → In (IsLed m.call.mode m.call.initial answer (Some made)) (link_in (after_linked m end).phase)
+    linked_leads : (made : Link) (end : Linked) → link_after made m.call.mode m.call.initial answer ≡ end
+        → In (IsLed m.call.mode m.call.initial answer (Some made)) (link_in (after_linked m end).phase)
     linked_leads made (linked.On made') e = inr e
     linked_leads made (linked.Table table) e = begins_on (Some made) table
     linked_leads made (linked.Refused refused) e = tt
 
-    copied_leads : (o : Option Link) (end : Copied) → IsCopyLedFrom m.call.mode m.call.initial answer o end → In (IsLed m.call.mode m.call.initial answer o) (link_in (after_copied m end).phase)
+    copied_leads : (o : Option Link) (end : Copied) → IsCopyLedFrom m.call.mode m.call.initial answer o end
+        → In (IsLed m.call.mode m.call.initial answer o) (link_in (after_copied m end).phase)
     copied_leads o (copied.On goes) h = h
     copied_leads o (copied.Search table) h = tt
     copied_leads o (copied.Root root) h = tt
@@ -242,4 +261,5 @@ machine_leads m answer = by_phase m.phase refl
     by_phase : (phase : Phase) → m.phase ≡ phase → In (IsLed m.call.mode m.call.initial answer (link_in phase)) (link_in (after_in m answer phase).phase)
     by_phase Calling e = subst (λ phase. In (IsLed m.call.mode m.call.initial answer None) (link_in (after_in m answer phase).phase)) e (calling e)
     by_phase (Linking made) e = linked_leads made (link_after made m.call.mode m.call.initial answer) refl
-    by_phase (Copying_root goes) e = copied_leads (link_in_copying goes) (copying_after goes m.call.mode m.call.initial m.number answer) (copying_leads m.call.mode m.call.initial answer goes m.number)
+    by_phase (Copying_root goes) e = copied_leads (link_in_copying goes) (copying_after goes m.call.mode m.call.initial m.number answer)
+        (copying_leads m.call.mode m.call.initial answer goes m.number)

@@ -39,10 +39,12 @@ pub next_enough : (initial before count : ℕ) (unfit : Bool) → initial ≤ be
 next_enough initial before count unfit enough =
     cond_both (unfit || nat_le (before / 2) count) (2 * before) (cond (nat_le count (before / 8)) (max initial (before / 2)) before) (λ n. initial ≤ max n 8)
     (λ _. omega (arith, enough))
-    (λ _. cond_both (nat_le count (before / 8)) (max initial (before / 2)) before (λ n. initial ≤ max n 8) (λ _. omega (arith, enough)) (λ _. omega (arith, enough)))
+    (λ _. cond_both (nat_le count (before / 8)) (max initial (before / 2)) before (λ n. initial ≤ max n 8) (λ _. omega (arith, enough))
+    (λ _. omega (arith, enough)))
 
 -- a copy that asks for a table is making it
-link_makes : (made : Link) (slots limit chunks : ℕ) → link_ask made ≡ copies.MakeTable slots limit chunks → (behind : ℕ) × (made ≡ links.Making behind slots limit chunks)
+link_makes : (made : Link) (slots limit chunks : ℕ) → link_ask made ≡ copies.MakeTable slots limit chunks → (behind : ℕ)
+    × (made ≡ links.Making behind slots limit chunks)
 link_makes (links.Making behind n l c) slots limit chunks e =
     let slots_are : n ≡ slots = cc e in
     let limit_is : l ≡ limit = cc e in
@@ -50,20 +52,24 @@ link_makes (links.Making behind n l c) slots limit chunks e =
     (behind, ap (λ x. links.Making behind x l c) slots_are ∙ ap (λ x. links.Making behind slots x c) limit_is ∙ ap (links.Making behind slots limit) chunks_are)
 link_makes other slots limit chunks e = absurd cc
 
-carry_makes : (goes : Carry) (marked slots limit chunks : ℕ) → carry_ask goes marked ≡ copies.MakeTable slots limit chunks → (behind : ℕ) × (link_in_carry goes ≡ Some (links.Making behind slots limit chunks))
+carry_makes : (goes : Carry) (marked slots limit chunks : ℕ) → carry_ask goes marked ≡ copies.MakeTable slots limit chunks → (behind : ℕ)
+    × (link_in_carry goes ≡ Some (links.Making behind slots limit chunks))
 carry_makes (carries.Linking hash made) marked slots limit chunks e = let (behind, is) = link_makes made slots limit chunks e in (behind, ap (λ x. Some x) is)
 carry_makes other marked slots limit chunks e = absurd cc
 
-settle_makes : (goes : Settle) (slot : Slot) (slots limit chunks : ℕ) → settle_ask goes slot ≡ copies.MakeTable slots limit chunks → (behind : ℕ) × (link_in_settle goes ≡ Some (links.Making behind slots limit chunks))
+settle_makes : (goes : Settle) (slot : Slot) (slots limit chunks : ℕ) → settle_ask goes slot ≡ copies.MakeTable slots limit chunks → (behind : ℕ)
+    × (link_in_settle goes ≡ Some (links.Making behind slots limit chunks))
 settle_makes (settles.Carrying marked goes) slot slots limit chunks e = carry_makes goes marked slots limit chunks e
 settle_makes other slot slots limit chunks e = absurd cc
 
-step_makes : (goes : Step) (slots limit chunks : ℕ) → step_ask goes ≡ copies.MakeTable slots limit chunks → (behind : ℕ) × (link_in_step goes ≡ Some (links.Making behind slots limit chunks))
+step_makes : (goes : Step) (slots limit chunks : ℕ) → step_ask goes ≡ copies.MakeTable slots limit chunks → (behind : ℕ)
+    × (link_in_step goes ≡ Some (links.Making behind slots limit chunks))
 step_makes (steps.Linking from made) slots limit chunks e = let (behind, is) = link_makes made slots limit chunks e in (behind, ap (λ x. Some x) is)
 step_makes (steps.Settling chunk goes) slots limit chunks e = settle_makes goes (slot_of chunk) slots limit chunks e
 step_makes other slots limit chunks e = absurd cc
 
-pub copying_makes : (goes : Copying) (slots limit chunks : ℕ) → copying_ask goes ≡ copies.MakeTable slots limit chunks → (behind : ℕ) × (link_in_copying goes ≡ Some (links.Making behind slots limit chunks))
+pub copying_makes : (goes : Copying) (slots limit chunks : ℕ) → copying_ask goes ≡ copies.MakeTable slots limit chunks → (behind : ℕ)
+    × (link_in_copying goes ≡ Some (links.Making behind slots limit chunks))
 copying_makes (Stepping aim goes) slots limit chunks e = step_makes goes slots limit chunks e
 copying_makes (Lone slot goes) slots limit chunks e = settle_makes goes slot slots limit chunks e
 
@@ -80,7 +86,8 @@ module _ (Good : ℕ → Type 0) (lengths : List ℕ) where
   pub link_good : (made : Link) (slots limit chunks : ℕ) → link_ask made ≡ copies.MakeTable slots limit chunks → IsLongLink made → Good slots
   link_good made slots limit chunks e h = let (behind, is) = link_makes made slots limit chunks e in subst IsLongLink is h
 
-  pub copy_good : (goes : Copying) (slots limit chunks : ℕ) → copying_ask goes ≡ copies.MakeTable slots limit chunks → In IsLongLink (link_in_copying goes) → Good slots
+  pub copy_good : (goes : Copying) (slots limit chunks : ℕ) → copying_ask goes ≡ copies.MakeTable slots limit chunks
+      → In IsLongLink (link_in_copying goes) → Good slots
   copy_good goes slots limit chunks e h = let (behind, is) = copying_makes goes slots limit chunks e in subst (In IsLongLink) is h
 
   begun_long : (made : Link) → IsBegun made → IsLongLink made
@@ -91,9 +98,11 @@ module _ (Good : ℕ → Type 0) (lengths : List ℕ) where
   begun_long (links.Linking behind table chunks) h = absurd h
 
   -- where an answer leads
-  size_long : (made : Link) (slots : ℕ) → ((behind copied : ℕ) (unfit : Bool) → made ≡ links.Sizing behind copied unfit → Contains lengths slots) → IsLongLink made → IsLongLink (link.at_size made slots)
+  size_long : (made : Link) (slots : ℕ) → ((behind copied : ℕ) (unfit : Bool) → made ≡ links.Sizing behind copied unfit → Contains lengths slots)
+      → IsLongLink made → IsLongLink (link.at_size made slots)
   size_long (links.Sizing behind copied unfit) slots size h =
-      cond_both (copied == behind) (links.Counting behind unfit slots slots) (links.Measuring behind copied unfit slots) IsLongLink (λ _. size behind copied unfit refl) (λ _. size behind copied unfit refl)
+      cond_both (copied == behind) (links.Counting behind unfit slots slots) (links.Measuring behind copied unfit slots) IsLongLink
+      (λ _. size behind copied unfit refl) (λ _. size behind copied unfit refl)
   size_long (links.Measuring behind copied unfit before) slots size h = h
   size_long other slots size h = h
 
@@ -114,20 +123,26 @@ module _ (Good : ℕ → Type 0) (lengths : List ℕ) where
   found_long other word h = h
 
   module _ (mode : ResizeMode) (initial : ℕ) where
-    count_long : (made : Link) (count : ℕ) → ((behind before copied : ℕ) (unfit : Bool) → made ≡ links.Counting behind unfit before copied → Contains lengths before → Good (max (length_after before count initial unfit) 8)) → IsLongLink made → Linked_in IsLongLink (link.at_count made mode count initial)
+    count_long : (made : Link) (count : ℕ) →
+        ((behind before copied : ℕ) (unfit : Bool) → made ≡ links.Counting behind unfit before copied → Contains lengths before
+        → Good (max (length_after before count initial unfit) 8)) → IsLongLink made → Linked_in IsLongLink (link.at_count made mode count initial)
     count_long (links.Counting behind unfit before copied) count counts h =
         let asked : ℕ = length_after before count initial unfit in
-        cond_both (nat_le asked (2 ^ 32)) (linked.On (link.making behind before unfit (chunk_count copied (chunk_len mode)) asked)) (linked.Refused Capacity) (Linked_in IsLongLink) (λ _. counts behind before copied unfit refl h) (λ _. tt)
+        cond_both (nat_le asked (2 ^ 32)) (linked.On (link.making behind before unfit (chunk_count copied (chunk_len mode)) asked))
+        (linked.Refused Capacity) (Linked_in IsLongLink) (λ _. counts behind before copied unfit refl h) (λ _. tt)
     count_long other count counts h = h
 
     -- the size is that of a table that is there, and the length that follows by the count may be made
     abbrev pub Sizes : Answer → Link → Type 0
-    Sizes answer made = (slots limit : ℕ) → answer ≡ answers.Call (told.Size slots limit) → (behind copied : ℕ) (unfit : Bool) → made ≡ links.Sizing behind copied unfit → Contains lengths slots
+    Sizes answer made = (slots limit : ℕ) → answer ≡ answers.Call (told.Size slots limit) → (behind copied : ℕ) (unfit : Bool)
+        → made ≡ links.Sizing behind copied unfit → Contains lengths slots
 
     abbrev pub Counts : Answer → Link → Type 0
-    Counts answer made = (count : ℕ) → answer ≡ answers.Count count → (behind before copied : ℕ) (unfit : Bool) → made ≡ links.Counting behind unfit before copied → Contains lengths before → Good (max (length_after before count initial unfit) 8)
+    Counts answer made = (count : ℕ) → answer ≡ answers.Count count → (behind before copied : ℕ) (unfit : Bool)
+        → made ≡ links.Counting behind unfit before copied → Contains lengths before → Good (max (length_after before count initial unfit) 8)
 
-    pub after_long : (made : Link) (answer : Answer) → Sizes answer made → Counts answer made → IsLongLink made → Linked_in IsLongLink (link_after made mode initial answer)
+    pub after_long : (made : Link) (answer : Answer) → Sizes answer made → Counts answer made → IsLongLink made
+        → Linked_in IsLongLink (link_after made mode initial answer)
     after_long made (answers.Call (told.Size slots limit)) sizes counts h = size_long made slots (sizes slots limit refl) h
     after_long made (answers.Call (told.Made n)) sizes counts h = made_long made n h
     after_long made (answers.Call (told.Refused refused)) sizes counts h = refused_long made refused h
@@ -141,14 +156,17 @@ module _ (Good : ℕ → Type 0) (lengths : List ℕ) where
     after_long made (answers.Count count) sizes counts h = count_long made count (counts count refl) h
 
     -- so it is of what an answer led to
-    pub led_long : (answer : Answer) (o o' : Option Link) → In (IsLed mode initial answer o) o' → ((made : Link) → o ≡ Some made → Sizes answer made) → ((made : Link) → o ≡ Some made → Counts answer made) → In IsLongLink o → In IsLongLink o'
+    pub led_long : (answer : Answer) (o o' : Option Link) → In (IsLed mode initial answer o) o' → ((made : Link) → o ≡ Some made → Sizes answer made)
+        → ((made : Link) → o ≡ Some made → Counts answer made) → In IsLongLink o → In IsLongLink o'
     led_long answer o None led sizes counts h = tt
     led_long answer None (Some made') led sizes counts h = begun_long made' led
     led_long answer (Some made) (Some made') (inl begun) sizes counts h = begun_long made' begun
-    led_long answer (Some made) (Some made') (inr e) sizes counts h = subst (Linked_in IsLongLink) e (after_long made answer (sizes made refl) (counts made refl) h)
+    led_long answer (Some made) (Some made') (inr e) sizes counts h = subst (Linked_in IsLongLink) e
+        (after_long made answer (sizes made refl) (counts made refl) h)
 
 -- it is so beside more tables
-pub long_beside : (Good Good' : ℕ → Type 0) (lengths lengths' : List ℕ) → ((n : ℕ) → Good n → Good' n) → ((n : ℕ) → Contains lengths n → Contains lengths' n) → (o : Option Link) → In (IsLongLink Good lengths) o → In (IsLongLink Good' lengths') o
+pub long_beside : (Good Good' : ℕ → Type 0) (lengths lengths' : List ℕ) → ((n : ℕ) → Good n → Good' n)
+    → ((n : ℕ) → Contains lengths n → Contains lengths' n) → (o : Option Link) → In (IsLongLink Good lengths) o → In (IsLongLink Good' lengths') o
 long_beside Good Good' lengths lengths' good there None h = tt
 long_beside Good Good' lengths lengths' good there (Some (links.Sizing behind copied unfit)) h = tt
 long_beside Good Good' lengths lengths' good there (Some (links.Measuring behind copied unfit slots)) h = there slots h

@@ -12,7 +12,8 @@ module _ {K V S : Type 0} (eq : K → K → Bool) (store : StoreState K V S) (at
   numbers ps = map (λ p. p.number) ps
 
   -- one more pair is listed, and one fewer is left
-  pub listed_more : (n : ℕ) (list all : List ℕ) → IsNext eq store at (Some n) at' → list ++ numbers (left_to eq store at) ≡ all → (list ++ n ∷ []) ++ numbers (left_to eq store at') ≡ all
+  pub listed_more : (n : ℕ) (list all : List ℕ) → IsNext eq store at (Some n) at' → list ++ numbers (left_to eq store at) ≡ all
+      → (list ++ n ∷ []) ++ numbers (left_to eq store at') ≡ all
   listed_more n list all (p, there, is) so_far =
       append_assoc list (n ∷ []) (numbers (left_to eq store at'))
       ∙ ap (λ m. list ++ m ∷ numbers (left_to eq store at')) (sym (pair_number store n p there))

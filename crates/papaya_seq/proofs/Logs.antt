@@ -17,7 +17,11 @@ use Rattle.papaya_call.specs.declared.compute.Purpose.TheVariants.{Fill, Replace
 use Rattle.papaya_call.specs.declared.compute.Remembered.{Remembered}
 use Rattle.papaya_call.specs.declared.machine.Machine.{Machine as Call_machine}
 use Rattle.papaya_call.specs.declared.machine.State.{State as Stage}
-use Rattle.papaya_call.specs.declared.machine.State.TheVariants.{AtRoot, Making, Opening, Searching, Writing, Offering, Showing, Pairing, Putting, Deleting, Counting, Noting, Uncounting, Leaving, Growing, Ended}
+use Rattle.papaya_call.specs.declared.machine.State.TheVariants.{AtRoot, Making, Opening, Searching}
+use Rattle.papaya_call.specs.declared.machine.State.TheVariants.{Writing, Offering, Showing}
+use Rattle.papaya_call.specs.declared.machine.State.TheVariants.{Pairing, Putting, Deleting}
+use Rattle.papaya_call.specs.declared.machine.State.TheVariants.{Counting, Noting, Uncounting}
+use Rattle.papaya_call.specs.declared.machine.State.TheVariants.{Leaving, Growing, Ended}
 use Rattle.papaya_call.specs.declared.made.Grown.{Grown}
 use Rattle.papaya_call.specs.declared.made.Grown.TheVariants.{On, Pair}
 use Rattle.papaya_call.specs.declared.made.Made.{Made}
@@ -26,8 +30,12 @@ use Rattle.papaya_call.specs.declared.made.Number.TheVariants.{Wanted, Free, Tak
 use Rattle.papaya_call.specs.declared.remove.Removal.{Removal}
 use Rattle.papaya_call.specs.declared.write.Write.{Write}
 use Rattle.papaya_call.specs.Compute.{in_place_of, nothing, with_pair}
-use Rattle.papaya_call.specs.Made.{answered, grown, grown_as, make_ask, number_ask, of_grown, own_grown, pair_ask, serves_at, paired as pair_done, taken, taken_as, told, told_as, told_limit}
-use Rattle.papaya_call.specs.Machine.{IsComputer, IsStandingState, IsWriter, after, ask_of, asks, decided_held, held_at_op, held_in, made_at_exchanged, made_in, made_to_pair, number_told, paired_held, write_taken}
+use Rattle.papaya_call.specs.Made.{answered, grown, grown_as, make_ask, number_ask, of_grown}
+use Rattle.papaya_call.specs.Made.{own_grown, pair_ask, serves_at, paired as pair_done, taken}
+use Rattle.papaya_call.specs.Made.{taken_as, told, told_as, told_limit}
+use Rattle.papaya_call.specs.Machine.{IsComputer, IsStandingState, IsWriter, after, ask_of, asks}
+use Rattle.papaya_call.specs.Machine.{decided_held, held_at_op, held_in, made_at_exchanged, made_in}
+use Rattle.papaya_call.specs.Machine.{made_to_pair, number_told, paired_held, write_taken}
 use Rattle.papaya_call.specs.Write.{made_of, made_to_write, served_ask, served_of, serves, with_pair_at, write_grown}
 use Rattle.papaya_chain.specs.declared.ask.Answer.TheVariants as answers
 use Rattle.papaya_chain.specs.declared.ask.Ask.TheVariants as chain_asks
@@ -66,7 +74,8 @@ like_unmade made made' (limit, own, of) unmade = (own ∙ unmade.0, of ∙ unmad
 module _ (made : Made) where
   limit_like : (limit : Option ℕ) (count : ℕ) → IsLike made (number_told (told_limit made limit count) made)
   limit_like None count = (refl, refl, refl)
-  limit_like (Some most) count = cond_both (nat_lt count most) (Some (record made { number = Free count })) None (λ o. IsLike made (number_told o made)) (λ _. (refl, refl, refl)) (λ _. (refl, refl, refl))
+  limit_like (Some most) count = cond_both (nat_lt count most) (Some (record made { number = Free count })) None
+      (λ o. IsLike made (number_told o made)) (λ _. (refl, refl, refl)) (λ _. (refl, refl, refl))
 
   pub told_like : (number : Number) (count : ℕ) → IsLike made (number_told (told_as made number count) made)
   told_like Wanted count = limit_like made.limit count
@@ -95,31 +104,38 @@ module _ (made : Made) where
   pub grown_like : (number : Number) (old : ℕ) → IsLike made (made_to_pair (grown_as number made old))
   grown_like Wanted old = (refl, refl, refl)
   grown_like (Free n) old = (refl, refl, refl)
-  grown_like Taken old = cond_both (old == 0) (own_grown made.keyed made.valued made) (of_grown made.valued made) (λ G. IsLike made (made_to_pair G)) (λ _. own_like made.keyed made.valued) (λ _. of_like made.valued)
+  grown_like Taken old = cond_both (old == 0) (own_grown made.keyed made.valued made) (of_grown made.valued made) (λ G. IsLike made (made_to_pair G))
+      (λ _. own_like made.keyed made.valued) (λ _. of_like made.valued)
 
 -- a pair that was made for a place is one, and serves there
 pub placed_made : (made : Made) (write : Write) (n : ℕ) → IsUnmade (with_pair_at made write n) → ⊥
-placed_made made write n = cond_both (write.old == 0) (record made { own = Some n }) (record made { of = Some (made_of write n) }) (λ (y : Made). IsUnmade y → ⊥) (λ _ unmade. let f : Some n ≡ None = unmade.0 in absurd cc) (λ _ unmade. let f : Some (made_of write n) ≡ None = unmade.1 in absurd cc)
+placed_made made write n = cond_both (write.old == 0) (record made { own = Some n }) (record made { of = Some (made_of write n) })
+    (λ (y : Made). IsUnmade y → ⊥) (λ _ unmade. let f : Some n ≡ None = unmade.0 in absurd cc)
+    (λ _ unmade. let f : Some (made_of write n) ≡ None = unmade.1 in absurd cc)
 
 pub placed_serves : (made : Made) (write : Write) (n : ℕ) → serves (with_pair_at made write n) write ≡ Some n
 placed_serves made write n = by_old (write.old == 0)
   where
     here : serves_at (made_of write n) write.place.table write.place.probe.i ≡ true
-    here = ap (λ b. b && (write.place.probe.i == write.place.probe.i)) (eq-eqb write.place.table write.place.table refl) ∙ eq-eqb write.place.probe.i write.place.probe.i refl
+    here = ap (λ b. b && (write.place.probe.i == write.place.probe.i)) (eq-eqb write.place.table write.place.table refl)
+        ∙ eq-eqb write.place.probe.i write.place.probe.i refl
 
-    by_old : (b : Bool) → cond b (cond b (record made { own = Some n }) (record made { of = Some (made_of write n) })).own (served_of (cond b (record made { own = Some n }) (record made { of = Some (made_of write n) })).of write.place) ≡ Some n
+    by_old : (b : Bool) → cond b (cond b (record made { own = Some n }) (record made { of = Some (made_of write n) })).own
+        (served_of (cond b (record made { own = Some n }) (record made { of = Some (made_of write n) })).of write.place) ≡ Some n
     by_old true = refl
     by_old false = ap (λ b. cond b (Some n) None) here
 
 placed_limit : (made : Made) (write : Write) (n : ℕ) → (with_pair_at made write n).limit ≡ made.limit
-placed_limit made write n = cond_both (write.old == 0) (record made { own = Some n }) (record made { of = Some (made_of write n) }) (λ (y : Made). y.limit ≡ made.limit) (λ _. refl) (λ _. refl)
+placed_limit made write n = cond_both (write.old == 0) (record made { own = Some n }) (record made { of = Some (made_of write n) })
+    (λ (y : Made). y.limit ≡ made.limit) (λ _. refl) (λ _. refl)
 
 written_after : (made : Made) (write : Write) (n : ℕ) (G : Grown) → IsAfter made (made_to_pair G) → IsAfter made (made_to_write G write n)
 written_after made write n (On made') h = h
 written_after made write n (Pair made') h = (placed_limit made' write n ∙ h.0, λ unmade. absurd (placed_made made' write n unmade))
 
 grew_after : (made : Made) (write : Write) (n : ℕ) (served : Option ℕ) → IsAfter made (write_grown served made write n)
-grew_after made write n None = written_after made write n (grown made write.old) (like_after made (made_to_pair (grown made write.old)) (grown_like made made.number write.old))
+grew_after made write n None = written_after made write n (grown made write.old)
+    (like_after made (made_to_pair (grown made write.old)) (grown_like made made.number write.old))
 grew_after made write n (Some i) = (refl, λ h. h)
 
 logged_after : (made : Made) (n : ℕ) (s : Stage) → IsAfter made (made_in made n s)
@@ -166,7 +182,8 @@ held_made made held n stage e = e
 
 held_decided : (task : Task) (held : Remembered) (removal : Removal) (kind : OpKind) → decided_held task held removal kind ≡ nothing → held ≡ nothing
 held_decided tasks.Compute held removal kinds.Insert e = e
-held_decided tasks.Compute held removal kinds.Remove e = let f : Some (To_remove (pair_of removal.word)) ≡ None = ap (λ (y : Remembered). y.choice) e in absurd cc
+held_decided tasks.Compute held removal kinds.Remove e = let f : Some (To_remove (pair_of removal.word)) ≡ None = ap (λ (y : Remembered). y.choice) e
+    in absurd cc
 held_decided tasks.Compute held removal (kinds.Abort t) e = e
 held_decided task held removal kind e = e
 
@@ -180,7 +197,8 @@ held_before m (Op kind) e = held_op m.task m.remembered kind m.state e
 held_before m told e = e
 
 -- and one without a pair had none
-first_held : (task : Task) (made made' : Made) (held held' : Remembered) → (IsUnmade made' → IsUnmade made) → (held' ≡ nothing → held ≡ nothing) → IsFirst task made' held' → IsFirst task made held
+first_held : (task : Task) (made made' : Made) (held held' : Remembered) → (IsUnmade made' → IsUnmade made) → (held' ≡ nothing → held ≡ nothing)
+    → IsFirst task made' held' → IsFirst task made held
 first_held tasks.Compute made made' held held' unmade was h = was h
 first_held tasks.Get made made' held held' unmade was h = unmade h
 first_held (tasks.Insert replace) made made' held held' unmade was h = unmade h
@@ -204,11 +222,14 @@ computer_first tasks.Compute made held computes h = h
 
 module _ (m : Call_machine) where
   -- where the pair that is asked for is logged, the call has one
-  first_not : (s : Stage) → IsStandingState m.task s → MakesPair (asks m.made m.hash s) → (n : ℕ) → IsFirst m.task (made_in m.made n s) (held_in m.made m.remembered n s) → ⊥
-  first_not (Writing write) stands makes n first = by_served (serves m.made write) makes (writer_first m.task (write_grown (serves m.made write) m.made write n) m.remembered stands.0 first)
+  first_not : (s : Stage) → IsStandingState m.task s → MakesPair (asks m.made m.hash s) → (n : ℕ)
+      → IsFirst m.task (made_in m.made n s) (held_in m.made m.remembered n s) → ⊥
+  first_not (Writing write) stands makes n first = by_served (serves m.made write) makes
+      (writer_first m.task (write_grown (serves m.made write) m.made write n) m.remembered stands.0 first)
     where
       by_served : (served : Option ℕ) → MakesPair (served_ask served write m.made) → IsUnmade (write_grown served m.made write n) → ⊥
-      by_served None makes unmade = placed_made (pair_done m.made) write n (subst (λ G. IsUnmade (made_to_write G write n)) (pair_made m.made write.old makes) unmade)
+      by_served None makes unmade = placed_made (pair_done m.made) write n
+          (subst (λ G. IsUnmade (made_to_write G write n)) (pair_made m.made write.old makes) unmade)
       by_served (Some i) makes unmade = makes
   first_not (Pairing purpose) stands makes n first =
       paired_held_some m.remembered purpose n (subst (λ G. paired_held G m.remembered purpose n ≡ nothing) (pair_made m.made (in_place_of purpose) makes)
@@ -231,7 +252,8 @@ module _ (m : Call_machine) where
   first_not (Growing need) stands makes n first = makes
   first_not (Ended reply) stands makes n first = makes
 
-  pub paired_first : IsStandingState m.task m.state → MakesPair (ask_of m) → (n : ℕ) → IsFirst m.task (after m (Made_number n)).made (after m (Made_number n)).remembered → ⊥
+  pub paired_first : IsStandingState m.task m.state → MakesPair (ask_of m) → (n : ℕ)
+      → IsFirst m.task (after m (Made_number n)).made (after m (Made_number n)).remembered → ⊥
   paired_first = first_not m.state
 
 -- what was logged leaves the number, unless it was the pair
@@ -252,7 +274,8 @@ module _ (made : Made) where
   grown_number : (number : Number) (old : ℕ) → HasSameNumber made (grown_as number made old)
   grown_number Wanted old = refl
   grown_number (Free n) old = refl
-  grown_number Taken old = cond_both (old == 0) (own_grown made.keyed made.valued made) (of_grown made.valued made) (HasSameNumber made) (λ _. own_number made.keyed made.valued) (λ _. of_number made.valued)
+  grown_number Taken old = cond_both (old == 0) (own_grown made.keyed made.valued made) (of_grown made.valued made) (HasSameNumber made)
+      (λ _. own_number made.keyed made.valued) (λ _. of_number made.valued)
 
 module _ (m : Call_machine) (has : m.made.number ≡ Taken) where
   -- a number that was taken is kept until the pair is logged
@@ -264,18 +287,22 @@ module _ (m : Call_machine) (has : m.made.number ≡ Taken) where
   answered_number kinds.Remove = has
   answered_number (kinds.Abort t) = has
 
-  write_number : (write : Write) (n : ℕ) (served : Option ℕ) → ((write_grown served m.made write n).number ≡ Taken) ⊎ ((i : ℕ) × (Made_number n ≡ Made_number i) × MakesPair (served_ask served write m.made))
+  write_number : (write : Write) (n : ℕ) (served : Option ℕ) → ((write_grown served m.made write n).number ≡ Taken)
+      ⊎ ((i : ℕ) × (Made_number n ≡ Made_number i) × MakesPair (served_ask served write m.made))
   write_number write n (Some i) = inl has
   write_number write n None = by_grown (grown m.made write.old) refl (grown_number m.made m.made.number write.old)
     where
-      by_grown : (G : Grown) → grown m.made write.old ≡ G → HasSameNumber m.made G → ((made_to_write G write n).number ≡ Taken) ⊎ ((i : ℕ) × (Made_number n ≡ Made_number i) × MakesPair (pair_ask m.made write.old))
+      by_grown : (G : Grown) → grown m.made write.old ≡ G → HasSameNumber m.made G → ((made_to_write G write n).number ≡ Taken)
+          ⊎ ((i : ℕ) × (Made_number n ≡ Made_number i) × MakesPair (pair_ask m.made write.old))
       by_grown (On made') is same = inl (same ∙ has)
       by_grown (Pair made') is same = inr (n, refl, makes_pair m.made write.old made' is)
 
-  pairing_number : (purpose : Purpose) (n : ℕ) → ((made_to_pair (grown m.made (in_place_of purpose))).number ≡ Taken) ⊎ ((i : ℕ) × (Made_number n ≡ Made_number i) × MakesPair (pair_ask m.made (in_place_of purpose)))
+  pairing_number : (purpose : Purpose) (n : ℕ) → ((made_to_pair (grown m.made (in_place_of purpose))).number ≡ Taken)
+      ⊎ ((i : ℕ) × (Made_number n ≡ Made_number i) × MakesPair (pair_ask m.made (in_place_of purpose)))
   pairing_number purpose n = by_grown (grown m.made (in_place_of purpose)) refl (grown_number m.made m.made.number (in_place_of purpose))
     where
-      by_grown : (G : Grown) → grown m.made (in_place_of purpose) ≡ G → HasSameNumber m.made G → ((made_to_pair G).number ≡ Taken) ⊎ ((i : ℕ) × (Made_number n ≡ Made_number i) × MakesPair (pair_ask m.made (in_place_of purpose)))
+      by_grown : (G : Grown) → grown m.made (in_place_of purpose) ≡ G → HasSameNumber m.made G → ((made_to_pair G).number ≡ Taken)
+          ⊎ ((i : ℕ) × (Made_number n ≡ Made_number i) × MakesPair (pair_ask m.made (in_place_of purpose)))
       by_grown (On made') is same = inl (same ∙ has)
       by_grown (Pair made') is same = inr (n, refl, makes_pair m.made (in_place_of purpose) made' is)
 
@@ -306,7 +333,8 @@ module _ (m : Call_machine) (has : m.made.number ≡ Taken) where
   }) (λ n. logged_number n m.state)
 
 -- so a call without a pair and without a number had no number
-pub numberless_before : (m : Call_machine) (a : Call_answer) → IsStandingState m.task m.state → IsFirst m.task (after m a).made (after m a).remembered → IsNumberless (after m a).made → IsNumberless m.made
+pub numberless_before : (m : Call_machine) (a : Call_answer) → IsStandingState m.task m.state → IsFirst m.task (after m a).made (after m a).remembered
+    → IsNumberless (after m a).made → IsNumberless m.made
 numberless_before m a stands first none has = elim (number_stable m has a) [
   | inl still ↦ none still
   | inr (n, is, makes) ↦ paired_first m stands makes n (subst (λ y. IsFirst m.task (after m y).made (after m y).remembered) is first)
@@ -351,6 +379,7 @@ takes_in made hash (Growing need) takes = absurd takes
 takes_in made hash (Ended reply) takes = absurd takes
 
 -- a number that was taken is the call's
-pub number_taken : (m : Call_machine) (told : Call_answer) → IsNumberTaken (chain_asks.Call (ask_of m)) (answers.Call told) → IsNumberless (after m told).made → ⊥
+pub number_taken : (m : Call_machine) (told : Call_answer) → IsNumberTaken (chain_asks.Call (ask_of m)) (answers.Call told)
+    → IsNumberless (after m told).made → ⊥
 number_taken m Exchanged took none = none (takes_in m.made m.hash m.state took)
 number_taken m told took none = absurd took

@@ -28,17 +28,23 @@ use Rattle.papaya_seq.proofs.Lawful.{IsMatched, MatchesNone, decided, logged_con
 use Rattle.papaya_seq.proofs.LookRun.{look_alone}
 use Rattle.papaya_seq.proofs.LookSteps.{IsLooking, IsLookReply, IsLookUp, look_replies, lookup_looks, lookup_meets_none, none_replies}
 
-module _ {K V S : Type 0} (eq : K → K → Bool) (hash : K → ℕ) (mode : Mode) (store : StoreState K V S) (lawful : IsLawfulCore {A = Unit {0}} eq hash store [] mode) (keys : IsLawfulKeys eq hash) (matches : K → Bool) where
+module _ {K V S : Type 0} (eq : K → K → Bool) (hash : K → ℕ) (mode : Mode) (store : StoreState K V S)
+    (lawful : IsLawfulCore {A = Unit {0}} eq hash store [] mode) (keys : IsLawfulKeys eq hash) (matches : K → Bool) where
   -- where no pair of the log matches, the reply is that there is none
-  unmatched_reply : MatchesNone store matches → (answers : List Answer) (m : Machine) (reply : Reply) → m.task ≡ Get_task → IsLooking store m.state → HasMetNone m.state → Replies matches store m answers reply → reply ≡ Absent
+  unmatched_reply : MatchesNone store matches → (answers : List Answer) (m : Machine) (reply : Reply) → m.task ≡ Get_task → IsLooking store m.state
+      → HasMetNone m.state → Replies matches store m answers reply → reply ≡ Absent
   unmatched_reply none [] m reply is_get looking met done = none_replies m.made m.hash m.state reply met done
   unmatched_reply none (answer ∷ rest) m reply is_get looking met (told, more) =
-      unmatched_reply none rest (after m answer) reply ((same_task m answer).0 ∙ is_get) (lookup_looks eq hash mode store lawful keys matches m is_get looking answer told) (lookup_meets_none eq hash mode store lawful keys matches m is_get looking answer told none met) more
+      unmatched_reply none rest (after m answer) reply ((same_task m answer).0 ∙ is_get)
+      (lookup_looks eq hash mode store lawful keys matches m is_get looking answer told)
+      (lookup_meets_none eq hash mode store lawful keys matches m is_get looking answer told none met) more
 
   -- the replies of a lookup
-  reply_fits : (answers : List Answer) (m : Machine) (reply : Reply) → m.task ≡ Get_task → IsLooking store m.state → Replies matches store m answers reply → IsLookReply reply
+  reply_fits : (answers : List Answer) (m : Machine) (reply : Reply) → m.task ≡ Get_task → IsLooking store m.state
+      → Replies matches store m answers reply → IsLookReply reply
   reply_fits [] m reply is_get looking done = look_replies store m.made m.hash m.state reply looking done
-  reply_fits (answer ∷ rest) m reply is_get looking (told, more) = reply_fits rest (after m answer) reply ((same_task m answer).0 ∙ is_get) (lookup_looks eq hash mode store lawful keys matches m is_get looking answer told) more
+  reply_fits (answer ∷ rest) m reply is_get looking (told, more) = reply_fits rest (after m answer) reply ((same_task m answer).0 ∙ is_get)
+      (lookup_looks eq hash mode store lawful keys matches m is_get looking answer told) more
 
   -- the pair that a reply names is the map's, or there is none
   pub record Finds (reply : Reply) : Type 0 where
@@ -47,15 +53,18 @@ module _ {K V S : Type 0} (eq : K → K → Bool) (hash : K → ℕ) (mode : Mod
     pub is_reply : reply_of found ≡ reply
 
   -- what the finite map does in a lookup of an equal key
-  does_find : (k : K) → ((l : K) → matches l ≡ eq k l) → (reply : Reply) → IsLookReply reply → (m' : Map K V) → IsAnswered {A = Unit {0}} eq (Get k) (map_of {A = Unit {0}} eq (core_of (record { store = store; mode = mode; initial = 0 }))) reply m' → Finds reply
+  does_find : (k : K) → ((l : K) → matches l ≡ eq k l) → (reply : Reply) → IsLookReply reply → (m' : Map K V)
+      → IsAnswered {A = Unit {0}} eq (Get k) (map_of {A = Unit {0}} eq (core_of (record { store = store; mode = mode; initial = 0 }))) reply m' → Finds reply
   does_find k alike Absent fit m' done = has_none done.went done.update.before done.does
     where
-      has_none : (o : Option (Stored K V)) → map_of {A = Unit {0}} eq (core_of (record { store = store; mode = mode; initial = 0 })) k ≡ o → Does {A = Unit {0}} (Get k) o Absent done.came → Finds Absent
+      has_none : (o : Option (Stored K V)) → map_of {A = Unit {0}} eq (core_of (record { store = store; mode = mode; initial = 0 })) k ≡ o
+          → Does {A = Unit {0}} (Get k) o Absent done.came → Finds Absent
       has_none None is does = record { found = None; is_found = lookup_has_none eq matches k alike store is; is_reply = refl }
       has_none (Some p) is does = absurd does
   does_find k alike (Found n) fit m' done = has_pair done.went done.update.before done.does
     where
-      has_pair : (o : Option (Stored K V)) → map_of {A = Unit {0}} eq (core_of (record { store = store; mode = mode; initial = 0 })) k ≡ o → Does {A = Unit {0}} (Get k) o (Found n) done.came → Finds (Found n)
+      has_pair : (o : Option (Stored K V)) → map_of {A = Unit {0}} eq (core_of (record { store = store; mode = mode; initial = 0 })) k ≡ o
+          → Does {A = Unit {0}} (Get k) o (Found n) done.came → Finds (Found n)
       has_pair None is does = absurd does
       has_pair (Some p) is does =
           let holds : Holds eq matches store p = lookup_holds eq matches k alike store p is in
@@ -69,39 +78,61 @@ module _ {K V S : Type 0} (eq : K → K → Bool) (hash : K → ℕ) (mode : Mod
   does_find k alike Done fit m' done = absurd fit
   does_find k alike (Refused refused) fit m' done = absurd fit
 
-module _ {K V S H : Type 0} (eq : K → K → Bool) (input : K → List (List ℕ)) (build : S → H) (write : H → List ℕ → H) (finish : H → ℕ) (classes : IsEquivalence eq) (respects : (x y : K) → eq x y ≡ true → input x ≡ input y)
-    (s : MapState K V S) (lawful : IsLawfulCore {A = Unit {0}} eq (hash_of input build write finish s.store.hasher) s.store [] s.mode) (power : IsPowerOfTwo s.initial)
-    (matches : K → Bool) (hashed : ℕ) (alike : (k l : K) → matches k ≡ true → matches l ≡ eq k l) (hashes_alike : (k : K) → matches k ≡ true → hashed ≡ hash_of input build write finish s.store.hasher k) (fits : hashed < 2 ^ 64) where
+module _ {K V S H : Type 0} (eq : K → K → Bool) (input : K → List (List ℕ)) (build : S → H) (write : H → List ℕ → H) (finish : H → ℕ)
+    (classes : IsEquivalence eq) (respects : (x y : K) → eq x y ≡ true → input x ≡ input y)
+    (s : MapState K V S) (lawful : IsLawfulCore {A = Unit {0}} eq (hash_of input build write finish s.store.hasher) s.store [] s.mode)
+    (power : IsPowerOfTwo s.initial)
+    (matches : K → Bool) (hashed : ℕ) (alike : (k l : K) → matches k ≡ true → matches l ≡ eq k l)
+    (hashes_alike : (k : K) → matches k ≡ true → hashed ≡ hash_of input build write finish s.store.hasher k) (fits : hashed < 2 ^ 64) where
   -- equal keys hash alike
   pub keys : IsLawfulKeys eq (hash_of input build write finish s.store.hasher)
   keys = keys_lawful eq input build write finish classes respects s.store.hasher
 
   -- a lookup whose asks are answered by what stands in the tables finds the map's pair, or that there is none
-  pub looked_up : (answers : List Answer) (reply : Reply) → Replies matches s.store (started Get_task hashed s.mode.resize s.initial s.mode.limit) answers reply → Finds eq (hash_of input build write finish s.store.hasher) s.mode s.store lawful keys matches reply
+  pub looked_up : (answers : List Answer) (reply : Reply)
+      → Replies matches s.store (started Get_task hashed s.mode.resize s.initial s.mode.limit) answers reply
+      → Finds eq (hash_of input build write finish s.store.hasher) s.mode s.store lawful keys matches reply
   looked_up answers reply replies = ⊎_elim by_call by_none (decided s.store matches)
     where
       fit : IsLookReply reply
-      fit = reply_fits eq (hash_of input build write finish s.store.hasher) s.mode s.store lawful keys matches answers (started Get_task hashed s.mode.resize s.initial s.mode.limit) reply refl tt replies
+      fit = reply_fits eq (hash_of input build write finish s.store.hasher) s.mode s.store lawful keys matches answers
+          (started Get_task hashed s.mode.resize s.initial s.mode.limit) reply refl tt replies
 
       by_call : IsMatched s.store matches → Finds eq (hash_of input build write finish s.store.hasher) s.mode s.store lawful keys matches reply
       by_call one =
           let k : K = one.pair.key in
           let same : hashed ≡ hash_of input build write finish s.store.hasher k = hashes_alike k one.matched in
-          let alone = look_alone eq (hash_of input build write finish) s lawful power keys k matches (λ l. alike k l one.matched) (subst (λ n. n < 2 ^ 64) same fits) answers reply (subst (λ n. Replies matches s.store (started Get_task n s.mode.resize s.initial s.mode.limit) answers reply) same replies) in
-          does_find eq (hash_of input build write finish s.store.hasher) s.mode s.store lawful keys matches k (λ l. alike k l one.matched) reply fit _ (alone_answered eq input build write finish classes respects (core_of s) _ (Get k) reply lawful alone)
+          let alone = look_alone eq (hash_of input build write finish) s lawful power keys k matches (λ l. alike k l one.matched)
+          (subst (λ n. n < 2 ^ 64) same fits) answers reply
+          (subst (λ n. Replies matches s.store (started Get_task n s.mode.resize s.initial s.mode.limit) answers reply) same replies) in
+          does_find eq (hash_of input build write finish s.store.hasher) s.mode s.store lawful keys matches k (λ l. alike k l one.matched) reply fit _
+          (alone_answered eq input build write finish classes respects (core_of s) _ (Get k) reply lawful alone)
 
       by_none : MatchesNone s.store matches → Finds eq (hash_of input build write finish s.store.hasher) s.mode s.store lawful keys matches reply
       by_none none =
-          let absent : reply ≡ Absent = unmatched_reply eq (hash_of input build write finish s.store.hasher) s.mode s.store lawful keys matches none answers (started Get_task hashed s.mode.resize s.initial s.mode.limit) reply refl tt tt replies in
+          let absent : reply ≡ Absent = unmatched_reply eq (hash_of input build write finish s.store.hasher) s.mode s.store lawful keys matches none
+          answers (started Get_task hashed s.mode.resize s.initial s.mode.limit) reply refl tt tt replies in
           record { found = None; is_found = none_held s.store matches eq none; is_reply = sym absent }
 
   -- the pair that a lookup which was told of the tables has found when it replies
-  pub look_up_finds : (m : Machine) → IsLookUp matches s.store (started Get_task hashed s.mode.resize s.initial s.mode.limit) m → (reply : Reply) → ask_of m ≡ Ask_done reply
-      → (found : Option (Stored K V)) × LooksUp eq matches s.store (started Get_task hashed s.mode.resize s.initial s.mode.limit) found × (reply_of found ≡ reply)
+  pub look_up_finds : (m : Machine) → IsLookUp matches s.store (started Get_task hashed s.mode.resize s.initial s.mode.limit) m → (reply : Reply)
+      → ask_of m ≡ Ask_done reply
+      → (found : Option (Stored K V)) × LooksUp eq matches s.store (started Get_task hashed s.mode.resize s.initial s.mode.limit) found
+      × (reply_of found ≡ reply)
   look_up_finds m kept reply done =
       let all = kept.told [] reply done in
-      let finds = looked_up all.0 reply all.1 in
-      (finds.found, (finds.is_found, (all.0, subst (Replies matches s.store (started Get_task hashed s.mode.resize s.initial s.mode.limit) all.0) (sym finds.is_reply) all.1)), finds.is_reply)
+      let finds = looked_up all.0 reply all.1 in (
+        finds.found,
+        (
+          finds.is_found,
+          (
+            all.0,
+            subst (Replies matches s.store (started Get_task hashed s.mode.resize s.initial s.mode.limit) all.0)
+                (sym finds.is_reply) all.1,
+          ),
+        ),
+        finds.is_reply,
+      )
 
 -- the number in a reply that names a pair that was found
 abbrev pub found_number : Reply → Option ℕ

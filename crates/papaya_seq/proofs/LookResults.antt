@@ -11,7 +11,8 @@ use Rattle.papaya_seq.proofs.CallsDone.{found_apart, found_none}
 
 module _ {K V S : Type 0} (eq : K → K → Bool) (matches : K → Bool) (store : StoreState K V S) where
   -- a key is in the map where a pair was found
-  pub contains_found : (found : Option (Stored K V)) (there : Bool) → IsFound eq matches store found → there ≡ is_some (option_map (λ p. p.number) found) → MatchBool there ((p : Stored K V) × Holds eq matches store p) (HasNone eq matches store)
+  pub contains_found : (found : Option (Stored K V)) (there : Bool) → IsFound eq matches store found
+      → there ≡ is_some (option_map (λ p. p.number) found) → MatchBool there ((p : Stored K V) × Holds eq matches store p) (HasNone eq matches store)
   contains_found None there is e = subst (λ b. MatchBool b ((p : Stored K V) × Holds eq matches store p) (HasNone eq matches store)) (sym e) is
   contains_found (Some p) there is e = subst (λ b. MatchBool b ((q : Stored K V) × Holds eq matches store q) (HasNone eq matches store)) (sym e) (p, is.0)
 
@@ -24,23 +25,27 @@ module _ {K V S : Type 0} (eq : K → K → Bool) (matches : K → Bool) (store 
   RefersTo entry = MatchOption entry (HasNone eq matches store) (λ e. (p : Stored K V) × Holds eq matches store p × (p.key ≡ e.0.now) × (p.value ≡ e.1.now))
 
   -- the entry of a number in the log is the pair that was found
-  entry_found : (p : Stored K V) (n : ℕ) (entry : Option (Bor K × Bor V)) → Holds eq matches store p → pair_of store n ≡ Some p → Refers n entry → RefersTo entry
+  entry_found : (p : Stored K V) (n : ℕ) (entry : Option (Bor K × Bor V)) → Holds eq matches store p → pair_of store n ≡ Some p → Refers n entry
+      → RefersTo entry
   entry_found p n None held is told = let f : None ≡ Some p = sym told ∙ is in absurd cc
   entry_found p n (Some e) held is told =
       let f : Some (record { number = n; key = e.0.now; value = e.1.now }) ≡ Some p = sym told ∙ is in
       let same : record { number = n; key = e.0.now; value = e.1.now } ≡ p = cc f in
       (p, held, sym (ap (λ (q : Stored K V). q.key) same), sym (ap (λ (q : Stored K V). q.value) same))
 
-  pub refers_found : (found : Option (Stored K V)) (n : ℕ) (entry : Option (Bor K × Bor V)) → IsFound eq matches store found → Some n ≡ option_map (λ p. p.number) found → Refers n entry → RefersTo entry
+  pub refers_found : (found : Option (Stored K V)) (n : ℕ) (entry : Option (Bor K × Bor V)) → IsFound eq matches store found
+      → Some n ≡ option_map (λ p. p.number) found → Refers n entry → RefersTo entry
   refers_found None n entry is e told = absurd cc
   refers_found (Some p) n entry is e told = let number : n ≡ p.number = cc e in entry_found p n entry is.0 (ap (pair_of store) number ∙ is.1) told
 
-module _ {K V S : Type 0} (eq : K → K → Bool) (classes : IsEquivalence eq) (matches : K → Bool) (store : StoreState K V S) (apart : AreApart eq (λ p. p.key) (content eq store)) (k : K) (alike : (l : K) → matches l ≡ eq k l) where
+module _ {K V S : Type 0} (eq : K → K → Bool) (classes : IsEquivalence eq) (matches : K → Bool) (store : StoreState K V S)
+    (apart : AreApart eq (λ p. p.key) (content eq store)) (k : K) (alike : (l : K) → matches l ≡ eq k l) where
   -- what a lookup by a key that matches k refers to is what the finite map has at k
   pub refers_map : (entry : Option (Bor K × Bor V)) → RefersTo eq matches store entry → option_map deref_pair entry ≡ option_map entry_of (map_in eq store k)
   refers_map None none = ap (option_map entry_of) (sym (found_none eq classes (content eq store) k (λ i d within. sym (alike _) ∙ none i d within)))
   refers_map (Some e) (p, holds, key, value) =
-      ap (λ x. Some (x, e.1.now)) (sym key) ∙ ap (λ y. Some (p.key, y)) (sym value) ∙ ap (option_map entry_of) (sym (found_apart eq classes (content eq store) apart k p holds.there (sym (alike p.key) ∙ holds.key)))
+      ap (λ x. Some (x, e.1.now)) (sym key) ∙ ap (λ y. Some (p.key, y)) (sym value)
+      ∙ ap (option_map entry_of) (sym (found_apart eq classes (content eq store) apart k p holds.there (sym (alike p.key) ∙ holds.key)))
 
   -- what a lookup by such a key found is what the finite map has
   pub found_map : (found : Option (Stored K V)) → IsFound eq matches store found → map_in eq store k ≡ found

@@ -5,7 +5,10 @@ use Rattle.papaya_words.specs.declared.probe.Refused.{Refused}
 use Rattle.papaya_ask.specs.declared.ask.Answer.{Answer}
 use Rattle.papaya_ask.specs.declared.ask.Answer.TheVariants.{Yes}
 use Rattle.papaya_ask.specs.declared.ask.Ask.{Ask}
-use Rattle.papaya_ask.specs.declared.ask.Ask.TheVariants.{Load, Exchange, LoadHint, WriteHint, SameKey, ShowNone, ShowPair, SizeOf, MakeKey, MakeValue, MakePair, MakePairOf, MakeTable, AddToShard, Done as Ask_done}
+use Rattle.papaya_ask.specs.declared.ask.Ask.TheVariants.{Load, Exchange, LoadHint, WriteHint}
+use Rattle.papaya_ask.specs.declared.ask.Ask.TheVariants.{SameKey, ShowNone, ShowPair, SizeOf}
+use Rattle.papaya_ask.specs.declared.ask.Ask.TheVariants.{MakeKey, MakeValue, MakePair, MakePairOf}
+use Rattle.papaya_ask.specs.declared.ask.Ask.TheVariants.{MakeTable, AddToShard, Done as Ask_done}
 use Rattle.papaya_ask.specs.declared.call.Call.TheVariants.{Get}
 use Rattle.papaya_ask.specs.declared.call.Task.TheVariants.{Get as Get_task}
 use Rattle.papaya_ask.specs.declared.call.Reply.{Reply}
@@ -40,7 +43,9 @@ use Rattle.papaya_seq.specs.Map.{MapState, core_of}
 use Rattle.papaya_seq.proofs.Driving.{calling, goes_itself, reply_in}
 use Rattle.papaya_seq.proofs.LookSteps.{IsLooking, IsLookReply, look_replies, lookup_looks}
 
-module _ {K V S : Type 0} (eq : K → K → Bool) (hash : S → K → ℕ) (s : MapState K V S) (lawful : IsLawfulCore {A = Unit {0}} eq (hash s.store.hasher) s.store [] s.mode) (power : IsPowerOfTwo s.initial) (keys : IsLawfulKeys eq (hash s.store.hasher))
+module _ {K V S : Type 0} (eq : K → K → Bool) (hash : S → K → ℕ) (s : MapState K V S)
+    (lawful : IsLawfulCore {A = Unit {0}} eq (hash s.store.hasher) s.store [] s.mode) (power : IsPowerOfTwo s.initial)
+    (keys : IsLawfulKeys eq (hash s.store.hasher))
     (k : K) (matches : K → Bool) (alike : (l : K) → matches l ≡ eq k l) where
   -- the call under way, with its machine here
   abbrev pub getting : Machine → Running K V (Unit {0})
@@ -56,7 +61,8 @@ module _ {K V S : Type 0} (eq : K → K → Bool) (hash : S → K → ℕ) (s : 
   matches_same (Some p) = alike p.key
 
   -- what is told of the tables is what the core answers
-  told_performs : (m : Machine) (ask : Ask) (answer : Answer) → IsToldBy matches s.store ask answer → Performs eq whatever false ask s.store (getting m) answer s.store (getting m)
+  told_performs : (m : Machine) (ask : Ask) (answer : Answer) → IsToldBy matches s.store ask answer
+      → Performs eq whatever false ask s.store (getting m) answer s.store (getting m)
   told_performs m (Load at) answer told = (told, (refl, refl))
   told_performs m (SameKey n) answer told = (told ∙ ap Yes (matches_same (pair_of s.store n)), (refl, refl))
   told_performs m (SizeOf t) answer told = (told, (refl, refl))
@@ -100,10 +106,12 @@ module _ {K V S : Type 0} (eq : K → K → Bool) (hash : S → K → ℕ) (s : 
   not_growing need state e looking = subst (IsLooking s.store) e looking
 
   -- a step of the core, after which the call goes on or has replied
-  told_steps : (m : Machine) (answer : Answer) (reply : Option Reply) → m.task ≡ Get_task → IsLooking s.store m.state → IsToldBy matches s.store (ask_of m) answer → reply ≡ reply_in (ask_of (after m answer)) → ((refused : Refused) → reply ≡ Some (Reply_refused refused) → ⊥)
+  told_steps : (m : Machine) (answer : Answer) (reply : Option Reply) → m.task ≡ Get_task → IsLooking s.store m.state
+      → IsToldBy matches s.store (ask_of m) answer → reply ≡ reply_in (ask_of (after m answer)) → ((refused : Refused) → reply ≡ Some (Reply_refused refused) → ⊥)
       → Advances eq whatever hash false (core_in (Some (getting m))) 0 (core_in (goes_on reply (getting (after m answer)))) (event_at m answer) reply
   told_steps m answer reply is_get looking told is unrefused =
-      let own : chain.after (calling m) (answers.Call answer) ≡ calling (after m answer) = goes_itself 0 m answer (λ need e. not_growing need m.state e looking) (λ t e. inl is_get) in
+      let own : chain.after (calling m) (answers.Call answer) ≡ calling (after m answer) = goes_itself 0 m answer
+      (λ need e. not_growing need m.state e looking) (λ t e. inl is_get) in
       record {
         before = getting m;
         was = refl;
@@ -113,7 +121,11 @@ module _ {K V S : Type 0} (eq : K → K → Bool) (hash : S → K → ℕ) (s : 
         machine = refl;
         event_is = refl;
         reply_is = is ∙ ap (λ (y : Chain_machine). chain_reply (chain.ask_of y)) (sym own);
-        callers = ap (λ (y : Chain_machine). record { caller = 0; work = as_work (goes_on reply (record { machine = y; key = Own k; value = None; answers = None })) } ∷ []) (sym own);
+        callers = ap (λ (y : Chain_machine). record {
+          caller = 0;
+          work = as_work
+              (goes_on reply (record { machine = y; key = Own k; value = None; answers = None }));
+        } ∷ []) (sym own);
         mode = refl;
         initial = refl;
         cause = λ refused e. absurd (unrefused refused e);
@@ -128,23 +140,36 @@ module _ {K V S : Type 0} (eq : K → K → Bool) (hash : S → K → ℕ) (s : 
     pub replied : last.event ≡ Replied reply
 
   -- from the machine on the rest of the answers leads there
-  run_rest : (begun m : Machine) (so_far : History) (steps : ℕ) (answer : Answer) (rest : List Answer) (reply : Reply) → m.task ≡ Get_task → IsLooking s.store m.state
+  run_rest : (begun m : Machine) (so_far : History) (steps : ℕ) (answer : Answer) (rest : List Answer) (reply : Reply) → m.task ≡ Get_task
+      → IsLooking s.store m.state
       → StepsRun eq whatever hash 1 0 steps (core_in (Some (getting begun))) (with_event 0 0 Begun []) (core_in (Some (getting m))) so_far
       → Replies matches s.store m (answer ∷ rest) reply → IsRun begun reply
   run_rest begun m so_far steps answer [] reply is_get looking run (told, done) =
       let event : Event = event_at m answer in
-      let looks : IsLooking s.store (after m answer).state = lookup_looks eq (hash s.store.hasher) s.mode s.store lawful keys matches m is_get looking answer told in
+      let looks : IsLooking s.store (after m answer).state = lookup_looks eq (hash s.store.hasher) s.mode s.store lawful keys matches m is_get looking
+      answer told in
       let fit : IsLookReply reply = look_replies s.store (after m answer).made (after m answer).hash (after m answer).state reply looks done in
-      let step = told_steps m answer (Some reply) is_get looking told (sym (ap reply_in done)) (λ refused e. let is : reply ≡ Reply_refused refused = cc e in subst IsLookReply is fit) in
-      record { steps = suc steps; last = record { turn = 1; caller = 0; event = Replied reply }; before = with_event 1 0 event so_far; runs = (core_in (Some (getting m)), so_far, run, inl (event, Some reply, inl step, refl)); replied = refl }
+      let step = told_steps m answer (Some reply) is_get looking told (sym (ap reply_in done))
+      (λ refused e. let is : reply ≡ Reply_refused refused = cc e in subst IsLookReply is fit) in
+      record {
+        steps = suc steps;
+        last = record { turn = 1; caller = 0; event = Replied reply };
+        before = with_event 1 0 event so_far;
+        runs = (core_in (Some (getting m)), so_far, run, inl (event, Some reply, inl step, refl));
+        replied = refl;
+      }
   run_rest begun m so_far steps answer (next ∷ rest) reply is_get looking run (told, more) =
       let event : Event = event_at m answer in
-      let looks : IsLooking s.store (after m answer).state = lookup_looks eq (hash s.store.hasher) s.mode s.store lawful keys matches m is_get looking answer told in
+      let looks : IsLooking s.store (after m answer).state = lookup_looks eq (hash s.store.hasher) s.mode s.store lawful keys matches m is_get looking
+      answer told in
       let step = told_steps m answer None is_get looking told (sym (told_goes (ask_of (after m answer)) next more.0)) (λ refused e. absurd cc) in
-      run_rest begun (after m answer) (with_event 1 0 event so_far) (suc steps) next rest reply ((same_task m answer).0 ∙ is_get) looks (core_in (Some (getting m)), so_far, run, inl (event, None, inl step, refl)) more
+      run_rest begun (after m answer) (with_event 1 0 event so_far) (suc steps) next rest reply ((same_task m answer).0 ∙ is_get) looks
+      (core_in (Some (getting m)), so_far, run, inl (event, None, inl step, refl)) more
 
   -- the whole call
-  pub look_alone : hash s.store.hasher k < 2 ^ 64 → (answers : List Answer) (reply : Reply) → Replies matches s.store (started Get_task (hash s.store.hasher k) s.mode.resize s.initial s.mode.limit) answers reply → RunsAlone eq hash (core_of s) (Get k) reply (core_in None)
+  pub look_alone : hash s.store.hasher k < 2 ^ 64 → (answers : List Answer) (reply : Reply)
+      → Replies matches s.store (started Get_task (hash s.store.hasher k) s.mode.resize s.initial s.mode.limit) answers reply
+      → RunsAlone eq hash (core_of s) (Get k) reply (core_in None)
   look_alone fits [] reply replies = absurd cc
   look_alone fits (answer ∷ rest) reply replies =
       let m : Machine = started Get_task (hash s.store.hasher k) s.mode.resize s.initial s.mode.limit in
@@ -154,6 +179,33 @@ module _ {K V S : Type 0} (eq : K → K → Bool) (hash : S → K → ℕ) (s : 
         steps = run.steps;
         last = run.last;
         before = run.before;
-        runs = (Finish 0 run.steps, core_in (Some (getting m)), with_event 0 0 Begun [], refl, (Begin 0 (Get k), core_of s, [], refl, (refl, refl), inl (refl, record { number = 0; store = refl; callers = refl; mode = refl; initial = refl; fits = λ j e. subst (λ x. hash s.store.hasher x < 2 ^ 64) (let same : k ≡ j = cc e in same) fits; power = power }, refl)), run.runs);
+        runs = (
+          Finish 0 run.steps,
+          core_in (Some (getting m)),
+          with_event 0 0 Begun [],
+          refl,
+          (
+            Begin 0 (Get k),
+            core_of s,
+            [],
+            refl,
+            (refl, refl),
+            inl (
+              refl,
+              record {
+                number = 0;
+                store = refl;
+                callers = refl;
+                mode = refl;
+                initial = refl;
+                fits = λ j e.
+                    subst (λ x. hash s.store.hasher x < 2 ^ 64) (let same : k ≡ j = cc e in same) fits;
+                power = power;
+              },
+              refl,
+            ),
+          ),
+          run.runs,
+        );
         replied = run.replied;
       }

@@ -1,5 +1,7 @@
 -- The machine of a lookup, whose asks are answered by the words that stand in the tables.
-use Rattle.std.proofs.Common.{◌≡◌, ℕ, ◌+◌, ◌*◌, ◌-◌, ◌^◌, ◌<◌, ◌≤◌, ◌==◌, nat_lt, Bool, true, false, List, [], ◌∷◌, Option, Some, None, length, refl, sym, ◌∙◌, ap, subst, arith, eq-eqb}
+use Rattle.std.proofs.Common.{◌≡◌, ℕ, ◌+◌, ◌*◌, ◌-◌, ◌^◌, ◌<◌, ◌≤◌, ◌==◌, nat_lt, Bool, true, false}
+use Rattle.std.proofs.Common.{List, [], ◌∷◌, Option, Some, None, length, refl, sym, ◌∙◌, ap, subst}
+use Rattle.std.proofs.Common.{arith, eq-eqb}
 use Rattle.std.proofs.lemmas.Bool.{cond_both}
 use Rattle.papaya_words.specs.Table.{TableWords}
 use Rattle.papaya_words.specs.Word.{kind_of, may_hold, pair_of as number_of}
@@ -20,7 +22,11 @@ use Rattle.papaya_ask.specs.declared.call.Task.TheVariants.{Get}
 use Rattle.papaya_call.specs.declared.compute.Remembered.{Remembered}
 use Rattle.papaya_call.specs.declared.machine.Machine.{Machine}
 use Rattle.papaya_call.specs.declared.machine.State.{State}
-use Rattle.papaya_call.specs.declared.machine.State.TheVariants.{AtRoot, Making, Opening, Searching, Writing, Offering, Showing, Pairing, Putting, Deleting, Counting, Noting, Uncounting, Leaving, Growing, Ended}
+use Rattle.papaya_call.specs.declared.machine.State.TheVariants.{AtRoot, Making, Opening, Searching}
+use Rattle.papaya_call.specs.declared.machine.State.TheVariants.{Writing, Offering, Showing}
+use Rattle.papaya_call.specs.declared.machine.State.TheVariants.{Pairing, Putting, Deleting}
+use Rattle.papaya_call.specs.declared.machine.State.TheVariants.{Counting, Noting, Uncounting}
+use Rattle.papaya_call.specs.declared.machine.State.TheVariants.{Leaving, Growing, Ended}
 use Rattle.papaya_ask.specs.declared.search.Place.{Place}
 use Rattle.papaya_ask.specs.declared.search.Search.TheVariants.{Sizing, Looking, Reading, Comparing}
 use Rattle.papaya_ask.specs.declared.search.Probed.{Probed}
@@ -196,7 +202,8 @@ module _ {K V S : Type 0} (store : StoreState K V S) where
   look_replies made hash (Uncounting n) reply looking e = absurd looking
   look_replies made hash (Growing t) reply looking e = absurd looking
 
-  module _ (matches : K → Bool) (root_there : (store.words.root ≡ 0 → ⊥) → (t : TableWords) × (table_of store.words.tables store.words.root ≡ Some t)) (next_there : (t : ℕ) → (word_at store.words (Next t) ≡ 0 → ⊥) → (v : TableWords) × (table_of store.words.tables (word_at store.words (Next t)) ≡ Some v))
+  module _ (matches : K → Bool) (root_there : (store.words.root ≡ 0 → ⊥) → (t : TableWords) × (table_of store.words.tables store.words.root ≡ Some t))
+      (next_there : (t : ℕ) → (word_at store.words (Next t) ≡ 0 → ⊥) → (v : TableWords) × (table_of store.words.tables (word_at store.words (Next t)) ≡ Some v))
       (made : Made) (held : Remembered) (hash : ℕ) (mode : ResizeMode) (initial : ℕ) where
     -- the machine in this state
     abbrev at_state : State → Machine
@@ -206,15 +213,22 @@ module _ {K V S : Type 0} (store : StoreState K V S) where
     looks_in : (s : State) (answer : Answer) → IsLooking s → IsToldBy matches store (asks made hash s) answer → IsLooking (after (at_state s) answer).state
     looks_in AtRoot answer looking told =
         subst (λ a. IsLooking (after (at_state AtRoot) a).state) (sym told)
-        (cond_both (store.words.root == 0) (Ended Absent) (Searching (Sizing store.words.root)) IsLooking (λ _. tt) (λ some. root_there (some_number store.words.root some)))
+        (cond_both (store.words.root == 0) (Ended Absent) (Searching (Sizing store.words.root)) IsLooking (λ _. tt)
+        (λ some. root_there (some_number store.words.root some)))
     looks_in (Searching (Sizing t)) answer (table, there) told =
         subst (λ a. IsLooking (after (at_state (Searching (Sizing t))) a).state) (sym (told ∙ ap size_of there)) tt
     looks_in (Searching (Looking at)) answer looking told =
-        subst (λ a. IsLooking (after (at_state (Searching (Looking at))) a).state) (sym told) (goes_looking mode held at.table (hinted at hash (hint_at store.words at.table at.probe.i)) (hinted_place at hash (hint_at store.words at.table at.probe.i)))
+        subst (λ a. IsLooking (after (at_state (Searching (Looking at))) a).state) (sym told)
+        (goes_looking mode held at.table (hinted at hash (hint_at store.words at.table at.probe.i))
+        (hinted_place at hash (hint_at store.words at.table at.probe.i)))
     looks_in (Searching (Reading at)) answer looking told =
-        subst (λ a. IsLooking (after (at_state (Searching (Reading at))) a).state) (sym told) (goes_looking mode held at.table (look at (word_at store.words (Slot at.table at.probe.i))) (look_place (kind_of (word_at store.words (Slot at.table at.probe.i))) at (word_at store.words (Slot at.table at.probe.i))))
+        subst (λ a. IsLooking (after (at_state (Searching (Reading at))) a).state) (sym told)
+        (goes_looking mode held at.table (look at (word_at store.words (Slot at.table at.probe.i)))
+        (look_place (kind_of (word_at store.words (Slot at.table at.probe.i))) at (word_at store.words (Slot at.table at.probe.i))))
     looks_in (Searching (Comparing at word)) answer looking told =
-        subst (λ a. IsLooking (after (at_state (Searching (Comparing at word))) a).state) (sym told) (goes_looking mode held at.table (search_compared (Comparing at word) (matches_in matches (pair_of store (number_of word)))) (compared_place at word (matches_in matches (pair_of store (number_of word)))))
+        subst (λ a. IsLooking (after (at_state (Searching (Comparing at word))) a).state) (sym told)
+        (goes_looking mode held at.table (search_compared (Comparing at word) (matches_in matches (pair_of store (number_of word))))
+        (compared_place at word (matches_in matches (pair_of store (number_of word)))))
     looks_in (Leaving t) answer looking told =
         let word : ℕ = word_at store.words (Next t) in
         subst (λ a. IsLooking (after (at_state (Leaving t)) a).state) (sym told)
@@ -257,35 +271,53 @@ module _ {K V S : Type 0} (store : StoreState K V S) where
     Lowers s answer = lookup_left (length store.words.tables) (after (in_state s) answer) < lookup_left (length store.words.tables) (in_state s)
 
     -- the next table comes after the one that was left
-    enters_lowers : (t : ℕ) → (word_at store.words (Next t) ≡ 0 → ⊥) → lookup_left (length store.words.tables) (in_state (Searching (Sizing (word_at store.words (Next t))))) < lookup_left (length store.words.tables) (in_state (Leaving t))
+    enters_lowers : (t : ℕ) → (word_at store.words (Next t) ≡ 0 → ⊥)
+        → lookup_left (length store.words.tables) (in_state (Searching (Sizing (word_at store.words (Next t))))) < lookup_left
+        (length store.words.tables) (in_state (Leaving t))
     enters_lowers t some =
         let (v, there) = next_there t some in
-        enters (length store.words.tables) t (word_at store.words (Next t)) (next_rises t some) (table_low store.words.tables (word_at store.words (Next t)) v there)
+        enters (length store.words.tables) t (word_at store.words (Next t)) (next_rises t some)
+        (table_low store.words.tables (word_at store.words (Next t)) v there)
 
     -- each answer does
-    lowers_in : (s : State) (answer : Answer) → IsLooking s → IsRead (λ at. word_at store.words at) s → IsToldBy matches store (asks made hash s) answer → Lowers s answer
+    lowers_in : (s : State) (answer : Answer) → IsLooking s → IsRead (λ at. word_at store.words at) s
+        → IsToldBy matches store (asks made hash s) answer → Lowers s answer
     lowers_in AtRoot answer looking read told =
-        let ahead : tables_ahead (length store.words.tables) (at_root Get held.fill store.words.root) ≤ length store.words.tables = cond_both (store.words.root == 0) (Ended Absent) (Searching (Sizing store.words.root)) (λ s. tables_ahead (length store.words.tables) s ≤ length store.words.tables) (λ _. omega arith) (λ _. omega arith) in
-        subst (Lowers AtRoot) (sym told) (stays_ahead ahead (machine_nears unlinked unlinked (in_state AtRoot) (Word_read store.words.root) (unlinked_number made.number known) tt (λ t. refl) (refl, λ at. refl)))
+        let ahead : tables_ahead (length store.words.tables) (at_root Get held.fill store.words.root) ≤ length store.words.tables = cond_both
+        (store.words.root == 0) (Ended Absent) (Searching (Sizing store.words.root))
+        (λ s. tables_ahead (length store.words.tables) s ≤ length store.words.tables) (λ _. omega arith) (λ _. omega arith) in
+        subst (Lowers AtRoot) (sym told) (stays_ahead ahead
+        (machine_nears unlinked unlinked (in_state AtRoot) (Word_read store.words.root) (unlinked_number made.number known) tt (λ t. refl)
+        (refl, λ at. refl)))
     lowers_in (Searching (Sizing t)) answer (table, there) read told =
         let ahead : length store.words.tables - t ≤ length store.words.tables - t = omega arith in
-        subst (Lowers (Searching (Sizing t))) (sym (told ∙ ap size_of there)) (stays_ahead ahead (machine_nears unlinked unlinked (in_state (Searching (Sizing t))) (Size (length table.slots) table.limit) (unlinked_number made.number known) tt (λ u. refl) ((length table.slots, table.limit, sized t table there, refl), λ at. refl)))
+        subst (Lowers (Searching (Sizing t))) (sym (told ∙ ap size_of there))
+        (stays_ahead ahead (machine_nears unlinked unlinked (in_state (Searching (Sizing t))) (Size (length table.slots) table.limit)
+        (unlinked_number made.number known) tt (λ u. refl) ((length table.slots, table.limit, sized t table there, refl), λ at. refl)))
     lowers_in (Searching (Looking at)) answer looking read told =
         let hint : ℕ = hint_at store.words at.table at.probe.i in
         let ahead = goes_ahead (length store.words.tables) mode held at.table (hinted at hash hint) (hinted_place at hash hint) in
-        subst (Lowers (Searching (Looking at))) (sym told) (stays_ahead ahead (machine_nears unlinked unlinked (in_state (Searching (Looking at))) (Word_read hint) (unlinked_number made.number known) tt (λ t. refl) ((hint, refl), λ at. refl)))
+        subst (Lowers (Searching (Looking at))) (sym told)
+        (stays_ahead ahead (machine_nears unlinked unlinked (in_state (Searching (Looking at))) (Word_read hint) (unlinked_number made.number known)
+        tt (λ t. refl) ((hint, refl), λ at. refl)))
     lowers_in (Searching (Reading at)) answer looking read told =
         let word : ℕ = word_at store.words (Slot at.table at.probe.i) in
         let ahead = goes_ahead (length store.words.tables) mode held at.table (look at word) (look_place (kind_of word) at word) in
-        subst (Lowers (Searching (Reading at))) (sym told) (stays_ahead ahead (machine_nears unlinked unlinked (in_state (Searching (Reading at))) (Word_read word) (unlinked_number made.number known) tt (λ t. refl) (refl, λ at. refl)))
+        subst (Lowers (Searching (Reading at))) (sym told)
+        (stays_ahead ahead (machine_nears unlinked unlinked (in_state (Searching (Reading at))) (Word_read word) (unlinked_number made.number known)
+        tt (λ t. refl) (refl, λ at. refl)))
     lowers_in (Searching (Comparing at word)) answer looking read told =
         let same : Bool = matches_in matches (pair_of store (number_of word)) in
         let ahead = goes_ahead (length store.words.tables) mode held at.table (search_compared (Comparing at word) same) (compared_place at word same) in
-        subst (Lowers (Searching (Comparing at word))) (sym told) (stays_ahead ahead (machine_nears unlinked unlinked (in_state (Searching (Comparing at word))) (Yes same) (unlinked_number made.number known) read (λ t. refl) ((same, refl), λ at. refl)))
+        subst (Lowers (Searching (Comparing at word))) (sym told)
+        (stays_ahead ahead (machine_nears unlinked unlinked (in_state (Searching (Comparing at word))) (Yes same)
+        (unlinked_number made.number known) read (λ t. refl) ((same, refl), λ at. refl)))
     lowers_in (Leaving t) answer looking read told =
         let word : ℕ = word_at store.words (Next t) in
         subst (Lowers (Leaving t)) (sym told)
-        (cond_both (word == 0) (Ended Absent) (Searching (Sizing word)) (λ s. lookup_left (length store.words.tables) (in_state s) < lookup_left (length store.words.tables) (in_state (Leaving t))) (λ _. omega arith) (λ some. enters_lowers t (some_number word some)))
+        (cond_both (word == 0) (Ended Absent) (Searching (Sizing word))
+        (λ s. lookup_left (length store.words.tables) (in_state s) < lookup_left (length store.words.tables) (in_state (Leaving t)))
+        (λ _. omega arith) (λ some. enters_lowers t (some_number word some)))
     lowers_in (Ended reply) answer looking read told = absurd told
     lowers_in Making answer looking read told = absurd looking
     lowers_in (Opening t) answer looking read told = absurd looking
@@ -302,9 +334,12 @@ module _ {K V S : Type 0} (store : StoreState K V S) where
 
   module _ (matches : K → Bool) (made : Made) (hash : ℕ) where
     -- the words that it is told stand in the tables
-    prompt_in : (task : Task) (sized : (n : ℕ) (t : TableWords) → table_of store.words.tables n ≡ Some t → IsSize (length t.slots) t.limit) → (s : State) (answer : Answer) → IsLooking s → IsToldBy matches store (asks made hash s) answer → IsPrompt task (λ at. word_at store.words at) (asks made hash s) answer (λ at. word_at store.words at)
+    prompt_in : (task : Task) (sized : (n : ℕ) (t : TableWords) → table_of store.words.tables n ≡ Some t → IsSize (length t.slots) t.limit)
+        → (s : State) (answer : Answer) → IsLooking s → IsToldBy matches store (asks made hash s) answer
+        → IsPrompt task (λ at. word_at store.words at) (asks made hash s) answer (λ at. word_at store.words at)
     prompt_in task sized AtRoot answer looking told = (told, λ at. refl)
-    prompt_in task sized (Searching (Sizing t)) answer (table, there) told = ((length table.slots, table.limit, sized t table there, told ∙ ap size_of there), λ at. refl)
+    prompt_in task sized (Searching (Sizing t)) answer (table, there)
+        told = ((length table.slots, table.limit, sized t table there, told ∙ ap size_of there), λ at. refl)
     prompt_in task sized (Searching (Looking at)) answer looking told = ((hint_at store.words at.table at.probe.i, told), λ at. refl)
     prompt_in task sized (Searching (Reading at)) answer looking told = (told, λ at. refl)
     prompt_in task sized (Searching (Comparing at word)) answer looking told = ((matches_in matches (pair_of store (number_of word)), told), λ at. refl)
@@ -332,7 +367,8 @@ module _ {K V S : Type 0} (store : StoreState K V S) where
         go (Some p) is = none n p is
 
     -- where no pair of the log matches, it is told of none
-    unmatched_in : MatchesNone store matches → (s : State) (answer : Answer) → IsLooking s → IsToldBy matches store (asks made hash s) answer → IsUnmatched (asks made hash s) answer
+    unmatched_in : MatchesNone store matches → (s : State) (answer : Answer) → IsLooking s → IsToldBy matches store (asks made hash s) answer
+        → IsUnmatched (asks made hash s) answer
     unmatched_in none AtRoot answer looking told = (store.words.root, told)
     unmatched_in none (Searching (Sizing t)) answer (table, there) told = (length table.slots, table.limit, told ∙ ap size_of there)
     unmatched_in none (Searching (Looking at)) answer looking told = (hint_at store.words at.table at.probe.i, told)
@@ -383,19 +419,24 @@ pub record IsLookUp {K V S : Type 0} (matches : K → Bool) (store : StoreState 
   -- what it replies from here on, it replies from its begin
   pub told : (answers : List Answer) (reply : Reply) → Replies matches store m answers reply → (all : List Answer) × Replies matches store begun all reply
 
-module _ {K V S : Type 0} (eq : K → K → Bool) (hash : K → ℕ) (mode : Mode) (store : StoreState K V S) (lawful : IsLawfulCore {A = Unit {0}} eq hash store [] mode) (keys : IsLawfulKeys eq hash) (matches : K → Bool)
+module _ {K V S : Type 0} (eq : K → K → Bool) (hash : K → ℕ) (mode : Mode) (store : StoreState K V S)
+    (lawful : IsLawfulCore {A = Unit {0}} eq hash store [] mode) (keys : IsLawfulKeys eq hash) (matches : K → Bool)
     (m : Machine) (getting : m.task ≡ Get) (looking : IsLooking store m.state) (answer : Answer) (told : IsToldBy matches store (ask_of m) answer) where
   -- a lookup that is told what stands in the tables goes on, or has replied
   pub lookup_looks : IsLooking store (after m answer).state
   lookup_looks =
       subst (λ task. IsLooking store (after (record m { task = task }) answer).state) (sym getting)
-      (looks_in store matches (core_root_there eq hash [] mode store lawful keys) (core_next_there eq hash [] mode store lawful) m.made m.remembered m.hash m.mode m.initial m.state answer looking told)
+      (looks_in store matches (core_root_there eq hash [] mode store lawful keys) (core_next_there eq hash [] mode store lawful) m.made m.remembered
+      m.hash m.mode m.initial m.state answer looking told)
 
   -- it is nearer its end
-  pub lookup_nears : IsCurrent (λ at. word_at store.words at) m → lookup_left (length store.words.tables) (after m answer) < lookup_left (length store.words.tables) m
+  pub lookup_nears : IsCurrent (λ at. word_at store.words at) m
+      → lookup_left (length store.words.tables) (after m answer) < lookup_left (length store.words.tables) m
   lookup_nears current =
-      subst (λ task. lookup_left (length store.words.tables) (after (record m { task = task }) answer) < lookup_left (length store.words.tables) m) (sym getting)
-      (lowers_in store matches lawful.core.sizes (core_next_there eq hash [] mode store lawful) (core_next_rises eq hash [] mode store lawful keys) m.made m.remembered m.hash m.mode m.initial current.number m.state answer looking current.read told)
+      subst (λ task. lookup_left (length store.words.tables) (after (record m { task = task }) answer) < lookup_left (length store.words.tables) m)
+      (sym getting)
+      (lowers_in store matches lawful.core.sizes (core_next_there eq hash [] mode store lawful) (core_next_rises eq hash [] mode store lawful keys)
+      m.made m.remembered m.hash m.mode m.initial current.number m.state answer looking current.read told)
 
   -- and what it has read stands there still
   pub lookup_current : IsCurrent (λ at. word_at store.words at) m → IsCurrent (λ at. word_at store.words at) (after m answer)
@@ -405,7 +446,8 @@ module _ {K V S : Type 0} (eq : K → K → Bool) (hash : K → ℕ) (mode : Mod
 
   -- where no pair of the log matches, it meets none
   pub lookup_meets_none : MatchesNone store matches → HasMetNone m.state → HasMetNone (after m answer).state
-  lookup_meets_none none met = machine_meets_none m (subst IsSeeker (sym getting) tt) answer met (unmatched_in store matches m.made m.hash none m.state answer looking told)
+  lookup_meets_none none met = machine_meets_none m (subst IsSeeker (sym getting) tt) answer met
+      (unmatched_in store matches m.made m.hash none m.state answer looking told)
 
   -- so what is kept of it is kept
   pub look_up_goes : (begun : Machine) → IsLookUp matches store begun m → IsLookUp matches store begun (after m answer)
@@ -418,6 +460,14 @@ module _ {K V S : Type 0} (eq : K → K → Bool) (hash : K → ℕ) (mode : Mod
       }
 
 -- and it is kept of one that begins
-pub look_up_begins : {K V S : Type 0} (eq : K → K → Bool) (hash : K → ℕ) (mode : Mode) (store : StoreState K V S) → IsLawfulCore {A = Unit {0}} eq hash store [] mode → (matches : K → Bool) (hashed initial : ℕ) → IsLookUp matches store (started Get hashed mode.resize initial mode.limit) (started Get hashed mode.resize initial mode.limit)
+pub look_up_begins : {K V S : Type 0} (eq : K → K → Bool) (hash : K → ℕ) (mode : Mode) (store : StoreState K V S)
+    → IsLawfulCore {A = Unit {0}} eq hash store [] mode → (matches : K → Bool) (hashed initial : ℕ)
+    → IsLookUp matches store (started Get hashed mode.resize initial mode.limit) (started Get hashed mode.resize initial mode.limit)
 look_up_begins eq hash mode store lawful matches hashed initial =
-    record { task = refl; looking = tt; current = record { bare = core_bare eq hash [] mode store lawful; number = begun_number mode.limit (λ at. word_at store.words at); read = tt }; told = λ answers reply replies. (answers, replies) }
+    record {
+      task = refl;
+      looking = tt;
+      current =
+          record { bare = core_bare eq hash [] mode store lawful; number = begun_number mode.limit (λ at. word_at store.words at); read = tt };
+      told = λ answers reply replies. (answers, replies);
+    }

@@ -1,5 +1,6 @@
 -- A lookup as a loop over tables: where each turn leads its machine, that nothing runs.
-use Rattle.std.proofs.Common.{◌≡◌, ℕ, ◌<◌, ◌≤◌, ◌==◌, if◌then◌else◌, Bool, List, [], ◌∷◌, Option, Some, None, length, inl, inr, refl, sym, ◌∙◌, ap, subst, arith}
+use Rattle.std.proofs.Common.{◌≡◌, ℕ, ◌<◌, ◌≤◌, ◌==◌, if◌then◌else◌, Bool, List, [], ◌∷◌, Option}
+use Rattle.std.proofs.Common.{Some, None, length, inl, inr, refl, sym, ◌∙◌, ap, subst, arith}
 use Rattle.std.proofs.lemmas.Bool.{cases_eq, ne_eqb}
 use Rattle.papaya_words.specs.Table.{TableWords}
 use Rattle.papaya_words.specs.declared.probe.ResizeMode.{ResizeMode}
@@ -36,19 +37,25 @@ numbered_some : (n : ℕ) → (n ≡ 0 → ⊥) → numbered n ≡ Searching (Si
 numbered_some n some = ap (λ (b : Bool). if b then Ended Absent else Searching (Sizing n)) (ne_eqb n 0 some)
 
 -- a turn that neither goes on, nor found a pair, nor passed the table
-pub empty_else : (turn : Turn) → ((at : Place) → turn ≡ turns.Next at → ⊥) → ((at : Place) (word : ℕ) → turn ≡ turns.Here at word → ⊥) → ((t : ℕ) → turn ≡ turns.Over t → ⊥) → (at : Place) × (turn ≡ turns.Empty at)
+pub empty_else : (turn : Turn) → ((at : Place) → turn ≡ turns.Next at → ⊥) → ((at : Place) (word : ℕ) → turn ≡ turns.Here at word → ⊥)
+    → ((t : ℕ) → turn ≡ turns.Over t → ⊥) → (at : Place) × (turn ≡ turns.Empty at)
 empty_else (turns.Next at) on here over = absurd (on at refl)
 empty_else (turns.Empty at) on here over = (at, refl)
 empty_else (turns.Here at word) on here over = absurd (here at word refl)
 empty_else (turns.Over t) on here over = absurd (over t refl)
 
-module _ {K V S : Type 0} (eq : K → K → Bool) (hash : K → ℕ) (mode : Mode) (store : StoreState K V S) (lawful : IsLawfulCore {A = Unit {0}} eq hash store [] mode) (keys : IsLawfulKeys eq hash) (matches : K → Bool) where
+module _ {K V S : Type 0} (eq : K → K → Bool) (hash : K → ℕ) (mode : Mode) (store : StoreState K V S)
+    (lawful : IsLawfulCore {A = Unit {0}} eq hash store [] mode) (keys : IsLawfulKeys eq hash) (matches : K → Bool) where
   -- each answer by what stands in the tables leads a lookup on
-  look_up_comes : (begun : Machine) (answers : List Answer) (m m' : Machine) → IsLookUp matches store begun m → Comes matches store m answers m' → IsLookUp matches store begun m' × (lookup_left (length store.words.tables) m' ≤ lookup_left (length store.words.tables) m)
-  look_up_comes begun [] m m' kept is = subst (λ (x : Machine). IsLookUp matches store begun x × (lookup_left (length store.words.tables) x ≤ lookup_left (length store.words.tables) m)) (sym is) (kept, omega arith)
+  look_up_comes : (begun : Machine) (answers : List Answer) (m m' : Machine) → IsLookUp matches store begun m → Comes matches store m answers m'
+      → IsLookUp matches store begun m' × (lookup_left (length store.words.tables) m' ≤ lookup_left (length store.words.tables) m)
+  look_up_comes begun [] m m' kept is = subst (λ (x : Machine). IsLookUp matches store begun x
+      × (lookup_left (length store.words.tables) x ≤ lookup_left (length store.words.tables) m)) (sym is) (kept, omega arith)
   look_up_comes begun (answer ∷ rest) m m' kept (asked, told, came) =
-      let more = look_up_comes begun rest (after m answer) m' (look_up_goes eq hash mode store lawful keys matches m kept.task kept.looking answer told begun kept) came in
-      let less : lookup_left (length store.words.tables) (after m answer) < lookup_left (length store.words.tables) m = lookup_nears eq hash mode store lawful keys matches m kept.task kept.looking answer told kept.current in
+      let more = look_up_comes begun rest (after m answer) m'
+      (look_up_goes eq hash mode store lawful keys matches m kept.task kept.looking answer told begun kept) came in
+      let less : lookup_left (length store.words.tables) (after m answer) < lookup_left (length store.words.tables) m = lookup_nears eq hash mode
+      store lawful keys matches m kept.task kept.looking answer told kept.current in
       let fewer : lookup_left (length store.words.tables) m' ≤ lookup_left (length store.words.tables) (after m answer) = more.1 in
       (more.0, omega (arith, less, fewer))
 
@@ -68,7 +75,8 @@ module _ {K V S : Type 0} (eq : K → K → Bool) (hash : K → ℕ) (mode : Mod
     left_at s = lookup_left (length store.words.tables) (stands_at s)
 
     -- one answer led it on
-    answered : (s : State) (answer : Answer) → IsToldBy matches store (ask_of (stands_at s)) answer → HasCome s → IsLookUp matches store begun (after (stands_at s) answer) × (lookup_left (length store.words.tables) (after (stands_at s) answer) < left_at s)
+    answered : (s : State) (answer : Answer) → IsToldBy matches store (ask_of (stands_at s)) answer → HasCome s
+        → IsLookUp matches store begun (after (stands_at s) answer) × (lookup_left (length store.words.tables) (after (stands_at s) answer) < left_at s)
     answered s answer told kept = (
       look_up_goes eq hash mode store lawful keys matches (stands_at s) kept.task kept.looking answer told begun kept,
       lookup_nears eq hash mode store lawful keys matches (stands_at s) kept.task kept.looking answer told kept.current,
@@ -89,7 +97,8 @@ module _ {K V S : Type 0} (eq : K → K → Bool) (hash : K → ℕ) (mode : Mod
         )
 
     -- the search of a table begins
-    pub first_looked : (t slots limit : ℕ) → size_of (table_of store.words.tables t) ≡ Size slots limit → HasCome (numbered t) → IsSize slots limit × HasCome (Searching (Looking (first_place h t slots limit))) × (left_at (Searching (Looking (first_place h t slots limit))) < left_at (numbered t))
+    pub first_looked : (t slots limit : ℕ) → size_of (table_of store.words.tables t) ≡ Size slots limit → HasCome (numbered t) → IsSize slots limit
+        × HasCome (Searching (Looking (first_place h t slots limit))) × (left_at (Searching (Looking (first_place h t slots limit))) < left_at (numbered t))
     first_looked t slots limit size kept =
         let (fit, some) = sized t slots limit (table_of store.words.tables t) refl size in
         let state = numbered_some t some in
@@ -97,7 +106,8 @@ module _ {K V S : Type 0} (eq : K → K → Bool) (hash : K → ℕ) (mode : Mod
         (fit, goes.0, subst (λ s. left_at (Searching (Looking (first_place h t slots limit))) < left_at s) (sym state) goes.1)
 
     -- or there is no table, and the lookup has ended
-    pub none_sized : (t : ℕ) → ((slots limit : ℕ) → size_of (table_of store.words.tables t) ≡ Size slots limit → ⊥) → HasCome (numbered t) → HasCome (Ended Absent)
+    pub none_sized : (t : ℕ) → ((slots limit : ℕ) → size_of (table_of store.words.tables t) ≡ Size slots limit → ⊥) → HasCome (numbered t)
+        → HasCome (Ended Absent)
     none_sized t none kept = elim (cases_eq t 0) [
       | inl zero ↦ subst (λ n. HasCome (numbered n)) zero kept
       | inr some ↦
@@ -106,13 +116,15 @@ module _ {K V S : Type 0} (eq : K → K → Bool) (hash : K → ℕ) (mode : Mod
     ]
 
     -- a search of a table led on
-    pub turned : (at : Place) (turn : Turn) → IsTurn matches store h at turn → HasCome (Searching (Looking at)) → HasCome (goes begun (seen_by turn)) × (left_at (goes begun (seen_by turn)) ≤ left_at (Searching (Looking at)))
+    pub turned : (at : Place) (turn : Turn) → IsTurn matches store h at turn → HasCome (Searching (Looking at)) → HasCome (goes begun (seen_by turn))
+        × (left_at (goes begun (seen_by turn)) ≤ left_at (Searching (Looking at)))
     turned at turn is kept =
         let came = is.sees begun in
         look_up_comes begun came.0 (stands_at (Searching (Looking at))) (stands_at (goes begun (seen_by turn))) kept came.1
 
     -- and past its table the number of the next one was loaded
-    pub next_loaded : (t chunk : ℕ) → mode.resize ≡ Incremental chunk → HasCome (passes Get mode.resize None t) → HasCome (numbered (word_at store.words (Next t))) × (left_at (numbered (word_at store.words (Next t))) < left_at (passes Get mode.resize None t))
+    pub next_loaded : (t chunk : ℕ) → mode.resize ≡ Incremental chunk → HasCome (passes Get mode.resize None t)
+        → HasCome (numbered (word_at store.words (Next t))) × (left_at (numbered (word_at store.words (Next t))) < left_at (passes Get mode.resize None t))
     next_loaded t chunk incremental kept =
         let leaves : passes Get mode.resize None t ≡ Leaving t = ap (λ (x : ResizeMode). passes Get x None t) incremental in
         let goes = answered (Leaving t) (Word_read (word_at store.words (Next t))) refl (subst HasCome leaves kept) in
@@ -123,7 +135,9 @@ module _ {K V S : Type 0} (eq : K → K → Bool) (hash : K → ℕ) (mode : Mod
     passed_last t blocking kept = subst HasCome (ap (λ (x : ResizeMode). passes Get x None t) blocking) kept
 
     -- a table was searched
-    pub searched : (t slots limit : ℕ) → size_of (table_of store.words.tables t) ≡ Size slots limit → HasCome (numbered t) → (at : Place) → at ≡ first_place h t slots limit → (turn : Turn) → IsTurn matches store h at turn → HasCome (goes begun (seen_by turn)) × (left_at (goes begun (seen_by turn)) < left_at (numbered t))
+    pub searched : (t slots limit : ℕ) → size_of (table_of store.words.tables t) ≡ Size slots limit → HasCome (numbered t) → (at : Place)
+        → at ≡ first_place h t slots limit → (turn : Turn) → IsTurn matches store h at turn → HasCome (goes begun (seen_by turn))
+        × (left_at (goes begun (seen_by turn)) < left_at (numbered t))
     searched t slots limit size kept at is turn by =
         let (fit, looks, nearer) = first_looked t slots limit size kept in
         let first : Place = first_place h t slots limit in

@@ -36,7 +36,9 @@ next_word : (o : Option TableWords) → next_in o ≡ 0 → word_in (λ v. v.nex
 next_word None e = refl
 next_word (Some t) e = e
 
-module _ {K V S A : Type 0} (eq : K → K → Bool) (hash : K → ℕ) (law : IsLawfulKeys eq hash) (s : CoreState K V S A) (core : IsCore s.store s.callers s.mode) (es : List (Exchange (Stored K V))) (call_traces : ℕ → CallTrace K V) (kept : IsKept eq hash s.mode s.store s.callers es call_traces) (caller : ℕ) (r : Running K V A) (was : running s.callers caller ≡ Some r) where
+module _ {K V S A : Type 0} (eq : K → K → Bool) (hash : K → ℕ) (law : IsLawfulKeys eq hash) (s : CoreState K V S A)
+    (core : IsCore s.store s.callers s.mode) (es : List (Exchange (Stored K V))) (call_traces : ℕ → CallTrace K V)
+    (kept : IsKept eq hash s.mode s.store s.callers es call_traces) (caller : ℕ) (r : Running K V A) (was : running s.callers caller ≡ Some r) where
   abbrev g : Setting K (Stored K V)
   g = setting_of eq (low hash) s.mode s.store.words.tables
 
@@ -71,17 +73,26 @@ module _ {K V S A : Type 0} (eq : K → K → Bool) (hash : K → ℕ) (law : Is
   rootless_absent none = left_in_map ∙ (means_map g hashed.lawful all may call.key).no_root (root_is ∙ none)
 
   -- An insertion that replaces nothing and is about to write in the root has found a place for its key, which is not in the map.
-  pub writing_absent : (write : Write) → r.machine.call.task ≡ Insert false → r.machine.call.state ≡ Writing write → write.place.table ≡ s.store.words.root → word_at s.store.words (Slot write.place.table write.place.probe.i) ≡ write.old → map_in eq s.store call.key ≡ None
+  pub writing_absent : (write : Write) → r.machine.call.task ≡ Insert false → r.machine.call.state ≡ Writing write
+      → write.place.table ≡ s.store.words.root → word_at s.store.words (Slot write.place.table write.place.probe.i) ≡ write.old
+      → map_in eq s.store call.key ≡ None
   writing_absent write inserts writes here read =
-      let may_write = subst (λ task. ReliesStage g c (call_traces caller).begun (call_traces caller).since call.key (call_traces caller).loaded.call task (Writing write)) inserts
-      (subst (ReliesStage g c (call_traces caller).begun (call_traces caller).since call.key (call_traces caller).loaded.call r.machine.call.task) writes call.relies.call.stage) in
+      let may_write = subst (λ task. ReliesStage g c (call_traces caller).begun (call_traces caller).since call.key (call_traces caller).loaded.call
+      task (Writing write)) inserts
+      (subst (ReliesStage g c (call_traces caller).begun (call_traces caller).since call.key (call_traces caller).loaded.call r.machine.call.task)
+      writes call.relies.call.stage) in
       let at = may_write.stands in
       let zero_word : write.old ≡ 0 = elim may_write.old [ inl none ↦ none | inr replaced ↦ let never = replaced.0 in absurd cc ] in
       let place_is : write.place.probe.i ≡ g.place call.key write.place.table write.place.probe.len = at.slot in
-      let word : word_of g c now (Slot write.place.table write.place.probe.i) ≡ 0 = ap (λ (l : List (Exchange (Stored K V))). word_of g c (run l first_state) (Slot write.place.table write.place.probe.i)) call.split ∙ kept.coded (Slot write.place.table write.place.probe.i) ∙ read ∙ zero_word in
-      let empty : now.slot write.place.table (g.place call.key write.place.table write.place.probe.len) ≡ Empty = ap (now.slot write.place.table) (sym place_is) ∙ code_empty g c (now.slot write.place.table write.place.probe.i) word in
+      let word : word_of g c now (Slot write.place.table write.place.probe.i) ≡ 0 = ap
+      (λ (l : List (Exchange (Stored K V))). word_of g c (run l first_state) (Slot write.place.table write.place.probe.i)) call.split
+      ∙ kept.coded (Slot write.place.table write.place.probe.i) ∙ read ∙ zero_word in
+      let empty : now.slot write.place.table (g.place call.key write.place.table write.place.probe.len) ≡ Empty = ap (now.slot write.place.table)
+      (sym place_is) ∙ code_empty g c (now.slot write.place.table write.place.probe.i) word in
       left_in_map
-      ∙ (means_map g hashed.lawful all may call.key).empty write.place.table write.place.probe.len (come_reached g c hashed (call_traces caller).begun (call_traces caller).since may call.key write.place.table at.come) (λ _. root_is ∙ sym here) at.within at.before
+      ∙ (means_map g hashed.lawful all may call.key).empty write.place.table write.place.probe.len
+      (come_reached g c hashed (call_traces caller).begun (call_traces caller).since may call.key write.place.table at.come)
+      (λ _. root_is ∙ sym here) at.within at.before
       (ap (view g call.key) empty)
 
   module _ (last : next_of s.store ≡ 0) where
@@ -94,14 +105,17 @@ module _ {K V S A : Type 0} (eq : K → K → Bool) (hash : K → ℕ) (law : Is
         ∙ next_word (table_of s.store.words.tables s.store.words.root) last
 
     -- a search that passed the root has met each pair there is
-    passed_absent : (t : ℕ) → t ≡ s.store.words.root → HasComeTo g c (call_traces caller).begun (call_traces caller).since call.key t → IsPassed g.places (look g now call.key) t → map_in eq s.store call.key ≡ None
+    passed_absent : (t : ℕ) → t ≡ s.store.words.root → HasComeTo g c (call_traces caller).begun (call_traces caller).since call.key t
+        → IsPassed g.places (look g now call.key) t → map_in eq s.store call.key ≡ None
     passed_absent t here come passed =
         left_in_map
-        ∙ (means_map g hashed.lawful all may call.key).over t (come_reached g c hashed (call_traces caller).begun (call_traces caller).since may call.key t come) passed
+        ∙ (means_map g hashed.lawful all may call.key).over t
+        (come_reached g c hashed (call_traces caller).begun (call_traces caller).since may call.key t come) passed
         (elim (cases_Bool g.blocking) [ inl blocking ↦ inl (blocking, root_is ∙ sym here) | inr going ↦ inr (going, next_is t here) ])
 
     -- no pair of the root is being copied
-    needs_absent : (task : Task) (need : Need) → needed need ≡ s.store.words.root → ReliesGrowing g c (call_traces caller).begun (call_traces caller).since call.key task need → map_in eq s.store call.key ≡ None
+    needs_absent : (task : Task) (need : Need) → needed need ≡ s.store.words.root
+        → ReliesGrowing g c (call_traces caller).begun (call_traces caller).since call.key task need → map_in eq s.store call.key ≡ None
     needs_absent task (Room t) here relies = passed_absent t here relies.1.0 relies.1.1
     needs_absent task (Pair_at t x) here relies =
         let more = moving_further g c hashed.lawful (call_traces caller).begun (call_traces caller).since may call.key t x relies.1.1 in
@@ -111,4 +125,6 @@ module _ {K V S A : Type 0} (eq : K → K → Bool) (hash : K → ℕ) (law : Is
     -- a call that needs a table after the root
     pub growing_absent : (need : Need) → r.machine.call.state ≡ Growing need → needed need ≡ s.store.words.root → map_in eq s.store call.key ≡ None
     growing_absent need grows here =
-        needs_absent r.machine.call.task need here (subst (ReliesStage g c (call_traces caller).begun (call_traces caller).since call.key (call_traces caller).loaded.call r.machine.call.task) grows call.relies.call.stage)
+        needs_absent r.machine.call.task need here
+        (subst (ReliesStage g c (call_traces caller).begun (call_traces caller).since call.key (call_traces caller).loaded.call r.machine.call.task)
+        grows call.relies.call.stage)

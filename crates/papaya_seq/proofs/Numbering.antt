@@ -1,5 +1,7 @@
 -- A map that has no limit gets one, with some numbers taken. The exchanges that led to its words lead there without the numbers that they took, and then each number is taken in turn.
-use Rattle.std.proofs.Common.{◌≡◌, inl, inr, ℕ, zero, suc, ◌+◌, ◌<◌, ◌≤◌, Bool, List, [], ◌∷◌, ◌++◌, length, MatchOption, Option, None, Some, pos, refl, sym, ◌∙◌, ap, subst, arith}
+use Rattle.std.proofs.Common.{◌≡◌, inl, inr, ℕ, zero, suc, ◌+◌, ◌<◌, ◌≤◌, Bool, List, [], ◌∷◌, ◌++◌}
+use Rattle.std.proofs.Common.{length, MatchOption, Option, None, Some, pos, refl, sym, ◌∙◌, ap}
+use Rattle.std.proofs.Common.{subst, arith}
 use Rattle.papaya_words.specs.Table.{TableWords}
 use Rattle.papaya_call.specs.Made.{IsLimit}
 use Rattle.papaya_ask.specs.declared.ask.At.{At}
@@ -9,7 +11,10 @@ use Rattle.papaya_law.specs.Code.{Coding}
 use Rattle.papaya_law.specs.Grows.{Comes}
 use Rattle.papaya_law.specs.Invariant.{named}
 use Rattle.papaya_law.specs.Copying.{IsCopied, IsSettled, IsTaker, IsTarget}
-use Rattle.papaya_law.specs.Exchange.{Word, Empty, Closed, Live, Marked, Copied, Tombstone, Exchange, Open, Claim, Replace, Delete, Link, Mark, Close, Place, Finish, Advance, Promote, Abort, Take, Setting, State, after, run, start}
+use Rattle.papaya_law.specs.Exchange.{Word, Empty, Closed, Live, Marked, Copied, Tombstone}
+use Rattle.papaya_law.specs.Exchange.{Exchange, Open, Claim, Replace, Delete, Link, Mark, Close}
+use Rattle.papaya_law.specs.Exchange.{Place, Finish, Advance, Promote, Abort, Take, Setting, State}
+use Rattle.papaya_law.specs.Exchange.{after, run, start}
 use Rattle.papaya_law.specs.Hints.{IsHint, IsHintOf}
 use Rattle.papaya_law.specs.View.{IsNextPlace, IsReached, View}
 use Rattle.papaya_law.proofs.Moments.{allowed_append, run-append}
@@ -78,7 +83,12 @@ module _ {K P : Type 0} (g : Setting K P) (limit : Option ℕ) where
 
     allows_there : (e : Exchange P) → Allows g s e → AllowsThere e
     allows_there (Open t) may = may
-    allows_there (Claim t x p) may = record { empty = may.empty; reached = reached_there (g.key p) t may.reached; place = place_there (g.key p) _ t x may.place }
+    allows_there (Claim t x p) may = record {
+      empty = may.empty;
+      reached = reached_there (g.key p) t may.reached;
+      place = place_there (g.key p) _ t x
+          may.place;
+    }
     allows_there (Replace t x p q) may = record { live = may.live; reached = reached_there (g.key p) t may.reached; same = may.same; kept = may.kept }
     allows_there (Delete t x p) may = record { live = may.live; reached = reached_there (g.key p) t may.reached }
     allows_there (Link t n) may = record {
@@ -92,7 +102,13 @@ module _ {K P : Type 0} (g : Setting K P) (limit : Option ℕ) where
     allows_there (Mark t x p) may = record { live = may.live; was = may.was; further = may.further }
     allows_there (Close t x) may = record { empty = may.empty; was = may.was; further = may.further }
     allows_there (Place n x p) may = record { empty = may.empty; source = copied_there n p may.source; place = place_there (g.key p) _ n x may.place }
-    allows_there (Finish t x p) may = record { marked = may.marked; mode = may.mode; to = may.to; taker = taker_there (g.key p) t may.to may.taker; has = may.has }
+    allows_there (Finish t x p) may = record {
+      marked = may.marked;
+      mode = may.mode;
+      to = may.to;
+      taker = taker_there (g.key p) t may.to may.taker;
+      has = may.has;
+    }
     allows_there (Advance n c) may = record {
       done = may.done;
       from = may.from;
@@ -165,13 +181,15 @@ module _ {K V S : Type 0} (store : StoreState K V S) (made : ℕ) where
   from_same eq zero o = refl
   from_same eq (suc n) None = refl
   from_same eq (suc n) (Some t) =
-      ap (λ l. joined eq (λ p. p.key) l (pairs_from eq numbered_store n (table_of store.words.tables t.next))) (slots_same store numbered_store (λ i. refl) t.slots)
+      ap (λ l. joined eq (λ p. p.key) l (pairs_from eq numbered_store n (table_of store.words.tables t.next)))
+      (slots_same store numbered_store (λ i. refl) t.slots)
       ∙ ap (joined eq (λ p. p.key) (pairs_of_slots store t.slots)) (from_same eq n (table_of store.words.tables t.next))
 
   pub numbered_content : (eq : K → K → Bool) → content eq numbered_store ≡ content eq store
   numbered_content eq = from_same eq (length store.words.tables) (table_of store.words.tables store.words.root)
 
-module _ {K V S : Type 0} (eq : K → K → Bool) (hash : K → ℕ) (store : StoreState K V S) (mode : Mode) {initial : ℕ} (lawful : IsLawfulMap eq hash store mode initial) (limit : Option ℕ) (made : ℕ) (fits : IsLimit limit) (most : (n : ℕ) → limit ≡ Some n → made ≤ n) where
+module _ {K V S : Type 0} (eq : K → K → Bool) (hash : K → ℕ) (store : StoreState K V S) (mode : Mode) {initial : ℕ}
+    (lawful : IsLawfulMap eq hash store mode initial) (limit : Option ℕ) (made : ℕ) (fits : IsLimit limit) (most : (n : ℕ) → limit ≡ Some n → made ≤ n) where
   abbrev g : Setting K (Stored K V)
   g = setting_of eq (low hash) mode store.words.tables
 
@@ -198,12 +216,14 @@ module _ {K V S : Type 0} (eq : K → K → Bool) (hash : K → ℕ) (store : St
   es' = stripped es ++ taken_from made 0
 
   ran : run es' start ≡ with_made made now
-  ran = run-append (stripped es) (taken_from made 0) start ∙ ap (run (taken_from made 0)) (stripped_run 0 es start) ∙ taken_run made 0 now ∙ ap (λ n. with_made n now) (let e : 0 + made ≡ made = omega arith in e)
+  ran = run-append (stripped es) (taken_from made 0) start ∙ ap (run (taken_from made 0)) (stripped_run 0 es start) ∙ taken_run made 0 now
+      ∙ ap (λ n. with_made n now) (let e : 0 + made ≡ made = omega arith in e)
 
   allowed' : AllAllowed (limited g limit) start es'
   allowed' =
       allowed_append (limited g limit) (stripped es) (taken_from made 0) start (all_there g limit 0 es start kept.allowed)
-      (subst (λ s. AllAllowed (limited g limit) s (taken_from made 0)) (sym (stripped_run 0 es start)) (takes_there g limit made 0 now (λ n is. let le = most n is in omega (arith, le))))
+      (subst (λ s. AllAllowed (limited g limit) s (taken_from made 0)) (sym (stripped_run 0 es start))
+      (takes_there g limit made 0 now (λ n is. let le = most n is in omega (arith, le))))
 
   -- each word but how many numbers were taken is as it was
   word_there : (at : At) → word_of (limited g limit) c (with_made made now) at ≡ word_at store'.words at
@@ -227,7 +247,8 @@ module _ {K V S : Type 0} (eq : K → K → Bool) (hash : K → ℕ) (store : St
   kept' = record {
     allowed = allowed';
     coded = λ at. ap (λ s. word_of (limited g limit) c s at) ran ∙ word_there at;
-    hints = λ t x. subst (λ (s : State (Stored K V)). IsHint (limited g limit) c s t x (hint_at store.words t x)) (sym ran) (hint_there (now.slot t x) (hint_at store.words t x) (kept.hints t x));
+    hints = λ t x. subst (λ (s : State (Stored K V)). IsHint (limited g limit) c s t x (hint_at store.words t x)) (sym ran)
+        (hint_there (now.slot t x) (hint_at store.words t x) (kept.hints t x));
     made = λ t some comes. kept.made t some (subst (λ s. Comes s t) ran comes);
     logged = λ t x p names. kept.logged t x p (subst (λ (s : State (Stored K V)). named (s.slot t x) ≡ Some p) ran names);
     few = kept.few;
@@ -242,7 +263,16 @@ module _ {K V S : Type 0} (eq : K → K → Bool) (hash : K → ℕ) (store : St
   pub numbered_lawful : length store.pairs ≤ made → IsLawfulMap eq hash store' mode' initial
   numbered_lawful each = record {
     lawful = record {
-      core = record { chunked = lawful.lawful.core.chunked; limit = fits; sizes = lawful.lawful.core.sizes; standing = λ d q e. absurd cc; going = λ d q e. absurd cc; resizers = λ d z e. absurd cc; scanners = λ d v e. absurd cc };
+      core = record {
+        chunked = lawful.lawful.core.chunked;
+        limit = fits;
+        sizes = lawful.lawful.core.sizes;
+        standing = λ d q e.
+            absurd cc;
+        going = λ d q e. absurd cc;
+        resizers = λ d z e. absurd cc;
+        scanners = λ d v e. absurd cc;
+      };
       law = (es', (lawful.lawful.law.1.0, kept'));
     };
     counted = lawful.counted ∙ ap (λ (l : List (Stored K V)). pos (length l)) (sym (numbered_content store made eq));

@@ -1,5 +1,7 @@
 -- A pair that is logged for one place, and written there.
-use Rattle.std.proofs.Common.{◌≡◌, ℕ, ◌<◌, ◌==◌, if◌then◌else◌, slice_get, Bool, true, false, cond, [], ◌∷◌, ◌++◌, Option, None, Some, length, inl, inr, refl, sym, ◌∙◌, ap, subst, eq-eqb}
+use Rattle.std.proofs.Common.{◌≡◌, ℕ, ◌<◌, ◌==◌, if◌then◌else◌, slice_get, Bool, true, false, cond}
+use Rattle.std.proofs.Common.{[], ◌∷◌, ◌++◌, Option, None, Some, length, inl, inr, refl, sym, ◌∙◌}
+use Rattle.std.proofs.Common.{ap, subst, eq-eqb}
 use Rattle.std.proofs.lemmas.Bool.{ne_eqb}
 use Rattle.std.specs.Prelude.{pos}
 use Rattle.papaya_words.specs.Counter.{added}
@@ -32,7 +34,8 @@ wants old = if old == 0 then MakePair else MakePairOf (number_of old)
 
 module _ {K V S : Type 0} (eq : K → K → Bool) where
   -- The store has answered for what is at hand of a call, whatever its machine.
-  module _ {A : Type 0} (says : Says K V A) (s : StoreState K V S) (key : K) (value : V) (r : Running K V A) (own : r.key ≡ Own key) (has : r.value ≡ Some (Own value)) (answer : Answer) (s' : StoreState K V S) (r' : Running K V A) where
+  module _ {A : Type 0} (says : Says K V A) (s : StoreState K V S) (key : K) (value : V) (r : Running K V A) (own : r.key ≡ Own key)
+      (has : r.value ≡ Some (Own value)) (answer : Answer) (s' : StoreState K V S) (r' : Running K V A) where
     -- the pair that was logged for such a place, which is an empty one or not
     abbrev IsPairFor : (empty : Bool) → ℕ → Pair K V → Type 0
     IsPairFor true old p = p ≡ pairs.Own key value
@@ -57,7 +60,8 @@ module _ {K V S : Type 0} (eq : K → K → Bool) where
         let (number, few, (pair, for_it, store)) = by_old (old == 0) performs in
         record { number = number; few = few; pair = pair; is = for_it; store = store }
       where
-        by_old : (b : Bool) → Performs eq says false (wants_by b old) s r answer s' r' → (n ≡ length s.pairs) × (length s.pairs < MAX_LOG_LEN) × ((p : Pair K V) × IsPairFor b old p × (s' ≡ record s { pairs = s.pairs ++ p ∷ [] }))
+        by_old : (b : Bool) → Performs eq says false (wants_by b old) s r answer s' r' → (n ≡ length s.pairs) × (length s.pairs < MAX_LOG_LEN)
+            × ((p : Pair K V) × IsPairFor b old p × (s' ≡ record s { pairs = s.pairs ++ p ∷ [] }))
         by_old true (inl (inl memory, stays)) = let f : Made_number n ≡ _ = sym is ∙ memory in absurd cc
         by_old true (inl (inr (capacity, full), stays)) = let f : Made_number n ≡ _ = sym is ∙ capacity in absurd cc
         by_old true (inr (inl ((ok, none), stays))) = let f : Made_number n ≡ Ok_done = sym is ∙ ok in absurd cc
@@ -76,40 +80,59 @@ module _ {K V S : Type 0} (eq : K → K → Bool) where
         )
 
     -- or refused
-    pub pair_was_refused : (old : ℕ) → Performs eq says false (wants old) s r answer s' r' → (refused : Refused) → answer ≡ Was_refused refused → (left : Option V) → left ≡ value_left r'.value → Refuses MAX_LOG_LEN (length s.pairs) (Was_refused refused) × (left ≡ Some value) × (s' ≡ s)
+    pub pair_was_refused : (old : ℕ) → Performs eq says false (wants old) s r answer s' r' → (refused : Refused) → answer ≡ Was_refused refused
+        → (left : Option V) → left ≡ value_left r'.value → Refuses MAX_LOG_LEN (length s.pairs) (Was_refused refused) × (left ≡ Some value) × (s' ≡ s)
     pair_was_refused old performs refused is left left_is = by_old (old == 0) performs
       where
-        refused_so : Refuses MAX_LOG_LEN (length s.pairs) answer → s' ≡ s → r' ≡ r → Refuses MAX_LOG_LEN (length s.pairs) (Was_refused refused) × (left ≡ Some value) × (s' ≡ s)
-        refused_so cause store call = (subst (Refuses MAX_LOG_LEN (length s.pairs)) is cause, left_is ∙ ap (λ (q : Running K V A). value_left q.value) call ∙ ap value_left has, store)
+        refused_so : Refuses MAX_LOG_LEN (length s.pairs) answer → s' ≡ s → r' ≡ r → Refuses MAX_LOG_LEN (length s.pairs) (Was_refused refused)
+            × (left ≡ Some value) × (s' ≡ s)
+        refused_so cause store call = (
+          subst (Refuses MAX_LOG_LEN (length s.pairs)) is cause,
+          left_is
+              ∙ ap (λ (q : Running K V A). value_left q.value) call ∙ ap value_left has,
+          store,
+        )
 
-        by_old : (b : Bool) → Performs eq says false (wants_by b old) s r answer s' r' → Refuses MAX_LOG_LEN (length s.pairs) (Was_refused refused) × (left ≡ Some value) × (s' ≡ s)
+        by_old : (b : Bool) → Performs eq says false (wants_by b old) s r answer s' r' → Refuses MAX_LOG_LEN (length s.pairs) (Was_refused refused)
+            × (left ≡ Some value) × (s' ≡ s)
         by_old true (inl (cause, (store, call))) = refused_so cause store call
         by_old true (inr (inl ((ok, none), stays))) = let f : Was_refused refused ≡ Ok_done = sym is ∙ ok in absurd cc
-        by_old true (inr (inr (part, value_at, made, few, store, call))) = let f : Was_refused refused ≡ Made_number (length s.pairs) = sym is ∙ made in absurd cc
+        by_old true (inr (inr (part, value_at, made, few, store, call))) = let f : Was_refused refused ≡ Made_number (length s.pairs) = sym is
+            ∙ made in absurd cc
         by_old false (inl (cause, (store, call))) = refused_so cause store call
         by_old false (inr (inl ((ok, none), stays))) = let f : Was_refused refused ≡ Ok_done = sym is ∙ ok in absurd cc
-        by_old false (inr (inr (first, from, (part, value_at, made, few, store, call)))) = let f : Was_refused refused ≡ Made_number (length s.pairs) = sym is ∙ made in absurd cc
+        by_old false (inr (inr (first, from, (part, value_at, made, few, store, call)))) = let f : Was_refused refused ≡ Made_number
+            (length s.pairs) = sym is ∙ made in absurd cc
 
     -- its word was written
-    module _ (write : Write) (n : ℕ) (logged : PairLogged write.old n) (stands : word_at s.words (slot_of write.place) ≡ write.old) (word : ℕ) (word_is : word ≡ live_word n) (told : Answer) (s3 : StoreState K V S) (exchanges : Exchanges (word_at s'.words (slot_of write.place)) write.old (put s'.words (slot_of write.place) word) told s' s3) where
+    module _ (write : Write) (n : ℕ) (logged : PairLogged write.old n) (stands : word_at s.words (slot_of write.place) ≡ write.old) (word : ℕ)
+        (word_is : word ≡ live_word n) (told : Answer) (s3 : StoreState K V S)
+        (exchanges : Exchanges (word_at s'.words (slot_of write.place)) write.old (put s'.words (slot_of write.place) word) told s' s3) where
       stored : IsStored s n None
       stored = record { number = logged.number; few = logged.few; left_is = refl }
 
       written_so : (p : Pair K V) → logged.pair ≡ p → s3 ≡ storing s write.place p
       written_so p is =
-          exchange_done s' (slot_of write.place) write.old word (ap (λ (x : StoreState K V S). word_at x.words (slot_of write.place)) logged.store ∙ stands) s3 told exchanges
+          exchange_done s' (slot_of write.place) write.old word
+          (ap (λ (x : StoreState K V S). word_at x.words (slot_of write.place)) logged.store ∙ stands) s3 told exchanges
           ∙ ap (λ (x : StoreState K V S). record x { words = put x.words (slot_of write.place) word }) logged.store
           ∙ ap (λ z. record (storing s write.place logged.pair) { words = put s.words (slot_of write.place) z }) (word_is ∙ ap live_word logged.number)
           ∙ ap (storing s write.place) is
 
       -- an empty place was claimed
-      pub was_inserted : write.old ≡ 0 → (hashed : ℕ) (counted noted : StoreState K V S) → counted ≡ record s3 { count = added s3.count 0 (pos 1) } → (hint : ℕ) → hint ≡ hint_of hashed → noted ≡ record counted { words = note counted.words write.place.table write.place.probe.i hint } → IsWritten s hashed write key value (Inserted n) None noted
+      pub was_inserted : write.old ≡ 0 → (hashed : ℕ) (counted noted : StoreState K V S) → counted ≡ record s3 { count = added s3.count 0 (pos 1) }
+          → (hint : ℕ) → hint ≡ hint_of hashed → noted ≡ record counted { words = note counted.words write.place.table write.place.probe.i hint }
+          → IsWritten s hashed write key value (Inserted n) None noted
       was_inserted empty hashed counted noted counts hint hint_is notes = (
         empty,
         stored,
         notes ∙ ap (λ h. record counted { words = note counted.words write.place.table write.place.probe.i h }) hint_is
             ∙ ap (λ (x : StoreState K V S). record x { words = note x.words write.place.table write.place.probe.i (hint_of hashed) }) counts
-            ∙ ap (λ (x : StoreState K V S). record x { words = note x.words write.place.table write.place.probe.i (hint_of hashed); count = added x.count 0 (pos 1) }) (written_so (pairs.Own key value) own_pair),
+            ∙ ap (λ (x : StoreState K V S). record x {
+              words = note x.words write.place.table write.place.probe.i (hint_of hashed);
+              count = added
+                  x.count 0 (pos 1);
+            }) (written_so (pairs.Own key value) own_pair),
       )
         where
           own_pair : logged.pair ≡ pairs.Own key value

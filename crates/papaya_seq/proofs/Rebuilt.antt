@@ -1,5 +1,7 @@
 -- A map of clones: what it has, its parts, and why there is none.
-use Rattle.std.proofs.Common.{◌≡◌, ◌⊎◌, inl, inr, ⊎_elim, ℕ, zero, suc, ◌+◌, ◌*◌, ◌<◌, ◌≤◌, ◌^◌, Bool, true, false, cond, List, [], ◌∷◌, map, length, MatchOption, Option, None, Some, refl, sym, ap, ◌∙◌, subst, arith}
+use Rattle.std.proofs.Common.{◌≡◌, ◌⊎◌, inl, inr, ⊎_elim, ℕ, zero, suc, ◌+◌, ◌*◌, ◌<◌, ◌≤◌, ◌^◌}
+use Rattle.std.proofs.Common.{Bool, true, false, cond, List, [], ◌∷◌, map, length, MatchOption}
+use Rattle.std.proofs.Common.{Option, None, Some, refl, sym, ap, ◌∙◌, subst, arith}
 use Rattle.std.proofs.lemmas.List.{length-map}
 use Rattle.std.proofs.lemmas.Bool.{cases_lt, cond-true}
 use Rattle.std.proofs.lemmas.Nat.{pow_pos}
@@ -65,19 +67,26 @@ four_thirds n (suc (suc k), is) more =
     omega (arith, four)
 
 pub asks_for : (initial : ℕ) → IsPowerOfTwo initial → 8 < initial → IsAskedFor initial (initial / 4 * 3)
-asks_for initial power more = inr (omega arith, λ entries is. same_power initial entries power (subst (λ n. IsNextPowerOfTwo n entries) (four_thirds initial power more) is))
+asks_for initial power more = inr (
+  omega arith,
+  λ entries is.
+      same_power initial entries power (subst (λ n. IsNextPowerOfTwo n entries) (four_thirds initial power more) is),
+)
 
 -- so the first table of the map that is built anew is long enough
-pub asked_long : (initial capacity entries : ℕ) (words : Tables) → IsAskedFor initial capacity → IsEntriesFor capacity entries → HasCapacity capacity entries words → IsLongEnough initial words
+pub asked_long : (initial capacity entries : ℕ) (words : Tables) → IsAskedFor initial capacity → IsEntriesFor capacity entries
+    → HasCapacity capacity entries words → IsLongEnough initial words
 asked_long initial capacity entries words (inl (none, few)) is has =
     let empty : words ≡ record { root = 0; tables = []; made = 0 } = subst (λ n. HasCapacity n entries words) none has in
     record { tables = subst (λ (w : Tables). All (λ len. initial ≤ len) (lengths_of w)) (sym empty) (All-nil (λ len. initial ≤ len)); first = λ _. few }
-asked_long initial capacity entries words (inr (low, same)) is has = subst (λ n. IsLongEnough n words) (same entries is) (new_long capacity entries words is has)
+asked_long initial capacity entries words (inr (low, same)) is has = subst (λ n. IsLongEnough n words) (same entries is)
+    (new_long capacity entries words is has)
 
 -- and there may be such a one
 asked_fits : (initial capacity : ℕ) → initial ≤ 2 ^ 32 → IsAskedFor initial capacity → IsTooMuch capacity → ⊥
 asked_fits initial capacity most (inl (none, few)) (inl over) = absurd (omega (arith, none, over))
-asked_fits initial capacity most (inl (none, few)) (inr (entries, (power, least, below), over)) = let half : entries / 2 < max 1 (capacity * 8 / 6) = below in absurd (omega (arith, none, half, over))
+asked_fits initial capacity most (inl (none, few)) (inr (entries, (power, least, below), over)) = let half : entries / 2 < max 1
+    (capacity * 8 / 6) = below in absurd (omega (arith, none, half, over))
 asked_fits initial capacity most (inr (low, same)) (inl over) = absurd (omega (arith, most, low, over))
 asked_fits initial capacity most (inr (low, same)) (inr (entries, is, over)) = let e = same entries is in absurd (omega (arith, most, e, over))
 
@@ -89,7 +98,8 @@ module _ {K V S : Type 0} (eq : K → K → Bool) (law : IsEquivalence eq) where
       of_list : (ps : List (Stored K V)) → content eq s' ≡ ps → ps ≡ []
       of_list [] is = refl
       of_list (p ∷ ps) is =
-          let here : map_in eq s' p.key ≡ Some p = ap (λ (qs : List (Stored K V)). lookup eq (λ q. q.key) qs p.key) is ∙ cond-true (eq p.key p.key) (Some p) (lookup eq (λ (q : Stored K V). q.key) ps p.key) (law.refl p.key) in
+          let here : map_in eq s' p.key ≡ Some p = ap (λ (qs : List (Stored K V)). lookup eq (λ q. q.key) qs p.key) is
+          ∙ cond-true (eq p.key p.key) (Some p) (lookup eq (λ (q : Stored K V). q.key) ps p.key) (law.refl p.key) in
           let gone : map_in eq s p.key ≡ None = ap (λ (qs : List (Stored K V)). lookup eq (λ q. q.key) qs p.key) empty in
           let clash : Some p ≡ None = sym here ∙ same p.key ∙ gone in
           absurd cc
@@ -112,7 +122,8 @@ module _ {K V S : Type 0} (eq : K → K → Bool) (law : IsEquivalence eq) (s : 
       one None few = omega (arith, few)
       one (Some p) few = omega (arith, few)
 
-  found_below : (k : K) (q : Stored K V) (m : ℕ) → pair_of s m ≡ Some q → eq k q.key ≡ true → (n : ℕ) → m < n → is_some (lookup eq (λ p. p.key) (logged_below n) k) ≡ true
+  found_below : (k : K) (q : Stored K V) (m : ℕ) → pair_of s m ≡ Some q → eq k q.key ≡ true → (n : ℕ) → m < n
+      → is_some (lookup eq (λ p. p.key) (logged_below n) k) ≡ true
   found_below k q m is same zero less = absurd (omega (arith, less))
   found_below k q m is same (suc n) less =
       ⊎_elim
@@ -123,7 +134,8 @@ module _ {K V S : Type 0} (eq : K → K → Bool) (law : IsEquivalence eq) (s : 
       (ap is_some (cond-true (eq k q.key) (Some q) (lookup eq (λ (p : Stored K V). p.key) (logged_below n) k) same)))
       (cases_lt m n)
     where
-      behind : (o : Option (Stored K V)) → is_some (lookup eq (λ p. p.key) (logged_below n) k) ≡ true → is_some (lookup eq (λ p. p.key) (with_one o (logged_below n)) k) ≡ true
+      behind : (o : Option (Stored K V)) → is_some (lookup eq (λ p. p.key) (logged_below n) k) ≡ true
+          → is_some (lookup eq (λ p. p.key) (with_one o (logged_below n)) k) ≡ true
       behind None e = e
       behind (Some p) e = go (eq k p.key)
         where
@@ -135,22 +147,28 @@ module _ {K V S : Type 0} (eq : K → K → Bool) (law : IsEquivalence eq) (s : 
   ClonedAt CK CV k o = MatchOption o (map_in eq s k ≡ None) (λ p. (q : Stored K V) × (map_in eq s k ≡ Some q) × (CK p.key q.key × CV p.value q.value))
 
   -- a map of clones has logged a pair for each of them at least
-  logged_least : {Z : Type 0} (CK : K → K → Type 0) (CV : V → V → Type 0) (from : StoreState K V Z) → AreApart eq (λ p. p.key) (content eq from) → IsCloned eq CK CV from s → length (content eq from) ≤ length s.pairs
+  logged_least : {Z : Type 0} (CK : K → K → Type 0) (CV : V → V → Type 0) (from : StoreState K V Z) → AreApart eq (λ p. p.key) (content eq from)
+      → IsCloned eq CK CV from s → length (content eq from) ≤ length s.pairs
   logged_least CK CV from apart cloned =
-      let all = each_found eq law (λ (p : Stored K V). p.key) (λ p. is_some (lookup eq (λ r. r.key) (logged_below (length s.pairs)) p.key) ≡ true) (content eq from) apart found in
+      let all = each_found eq law (λ (p : Stored K V). p.key) (λ p. is_some (lookup eq (λ r. r.key) (logged_below (length s.pairs)) p.key) ≡ true)
+      (content eq from) apart found in
       let most = covered eq law (λ (p : Stored K V). p.key) (content eq from) (logged_below (length s.pairs)) apart all in
       let few = few_below (length s.pairs) in
       omega (arith, most, few)
     where
-      found : (p : Stored K V) → lookup eq (λ r. r.key) (content eq from) p.key ≡ Some p → is_some (lookup eq (λ r. r.key) (logged_below (length s.pairs)) p.key) ≡ true
+      found : (p : Stored K V) → lookup eq (λ r. r.key) (content eq from) p.key ≡ Some p
+          → is_some (lookup eq (λ r. r.key) (logged_below (length s.pairs)) p.key) ≡ true
       found p is =
           let own : ClonedAt CK CV p.key (Some p) = subst (ClonedAt CK CV p.key) is (cloned p.key) in
           let there : pair_of s own.0.number ≡ Some own.0 = logged_there eq law s p.key own.0.number own.0 own.1 refl in
-          found_below p.key own.0 own.0.number there (found_key eq law (λ (r : Stored K V). r.key) (content eq s) p.key own.0 own.1) (length s.pairs) (pair_below s own.0.number own.0 there)
+          found_below p.key own.0 own.0.number there (found_key eq law (λ (r : Stored K V). r.key) (content eq s) p.key own.0 own.1) (length s.pairs)
+          (pair_below s own.0.number own.0 there)
 
 module _ {K V S : Type 0} (eq : K → K → Bool) (law : IsEquivalence eq) (CK : K → K → Type 0) (CV : V → V → Type 0) where
   -- a map without pairs and without a log, once clones were put into it
-  pub rebuilt_of : ((k l : K) → CK k l → eq k l ≡ true) → (CS : S → S → Type 0) (s new made : MapState K V S) → AreApart eq (λ p. p.key) (content eq s.store) → content eq new.store ≡ [] → new.store.pairs ≡ [] → CS s.store.hasher new.store.hasher → IsCopied eq CK CV new (map entry_of (content eq s.store)) made → IsRebuilt eq CK CV CS s made
+  pub rebuilt_of : ((k l : K) → CK k l → eq k l ≡ true) → (CS : S → S → Type 0) (s new made : MapState K V S)
+      → AreApart eq (λ p. p.key) (content eq s.store) → content eq new.store ≡ [] → new.store.pairs ≡ [] → CS s.store.hasher new.store.hasher
+      → IsCopied eq CK CV new (map entry_of (content eq s.store)) made → IsRebuilt eq CK CV CS s made
   rebuilt_of same CS s new made apart empty none clones copied =
       let first : length new.store.pairs ≡ 0 = ap length none in
       let long : length (map entry_of (content eq s.store)) ≡ length (content eq s.store) = length-map (content eq s.store) entry_of in
@@ -164,7 +182,9 @@ module _ {K V S : Type 0} (eq : K → K → Bool) (law : IsEquivalence eq) (CK :
       }
 
   -- a new map that was made for so many pairs
-  pub clone_parts : (n : ℕ) (hasher : S) (new made : MapState K V S) (es : List (K × V)) → IsNew {A = Unit {0}} (Incremental DEFAULT_CHUNK) n 1 hasher (core_of new) → IsCopied eq CK CV new es made → (len : ℕ) → n ≡ len → (made.mode ≡ unlimited (Incremental DEFAULT_CHUNK)) × IsEntriesFor len made.initial × (made.store.count.shards ≡ 1)
+  pub clone_parts : (n : ℕ) (hasher : S) (new made : MapState K V S) (es : List (K × V))
+      → IsNew {A = Unit {0}} (Incremental DEFAULT_CHUNK) n 1 hasher (core_of new) → IsCopied eq CK CV new es made → (len : ℕ) → n ≡ len
+      → (made.mode ≡ unlimited (Incremental DEFAULT_CHUNK)) × IsEntriesFor len made.initial × (made.store.count.shards ≡ 1)
   clone_parts n hasher new made es is_new copied len is = (
     copied.fills.keeps.mode ∙ is_new.mode_is,
     subst (λ k. IsEntriesFor k made.initial) is (subst (IsEntriesFor n) (sym copied.fills.keeps.initial) is_new.store_is.initial),
@@ -180,17 +200,22 @@ module _ {K V S : Type 0} (eq : K → K → Bool) (law : IsEquivalence eq) (CK :
   }
 
   -- a clone that was refused
-  pub clone_cut : (s : StoreState K V S) (n : ℕ) (hasher : S) (new left : MapState K V S) → n ≡ length (content eq s) → IsNew {A = Unit {0}} (Incremental DEFAULT_CHUNK) n 1 hasher (core_of new) → (e : Refused) → (e ≡ Memory) ⊎ IsCopyCut eq CK CV s new e left → IsCloneRefusal eq CK CV s e
+  pub clone_cut : (s : StoreState K V S) (n : ℕ) (hasher : S) (new left : MapState K V S) → n ≡ length (content eq s)
+      → IsNew {A = Unit {0}} (Incremental DEFAULT_CHUNK) n 1 hasher (core_of new) → (e : Refused) → (e ≡ Memory) ⊎ IsCopyCut eq CK CV s new e left
+      → IsCloneRefusal eq CK CV s e
   clone_cut s n hasher new left is is_new e (inl memory) = inl memory
   clone_cut s n hasher new left is is_new e (inr cut) = inr (inr (record {
     new = new;
     left = left;
-    is_new = subst (λ k. IsNew {A = Unit {0}} (Incremental DEFAULT_CHUNK) k 1 new.store.hasher (core_of new)) is (new_with_own (Incremental DEFAULT_CHUNK) n 1 hasher new is_new);
+    is_new = subst (λ k. IsNew {A = Unit {0}} (Incremental DEFAULT_CHUNK) k 1 new.store.hasher (core_of new)) is
+        (new_with_own (Incremental DEFAULT_CHUNK) n 1 hasher new is_new);
     cut = cut;
   }))
 
   -- a new map that gets the initial capacity of this one
-  pub fresh_parts : (s fresh : MapState K V S) (mode : ResizeMode) (capacity shards : ℕ) (hasher : S) → mode ≡ s.mode.resize → shards ≡ s.store.count.shards → IsPowerOfTwo shards → IsNew {A = Unit {0}} mode capacity shards hasher (core_of fresh) → (initial : ℕ) → initial ≡ s.initial → HasFreeParts s (record fresh { initial = initial })
+  pub fresh_parts : (s fresh : MapState K V S) (mode : ResizeMode) (capacity shards : ℕ) (hasher : S) → mode ≡ s.mode.resize
+      → shards ≡ s.store.count.shards → IsPowerOfTwo shards → IsNew {A = Unit {0}} mode capacity shards hasher (core_of fresh) → (initial : ℕ)
+      → initial ≡ s.initial → HasFreeParts s (record fresh { initial = initial })
   fresh_parts s fresh mode capacity shards hasher mode_is shards_is power new initial initial_is = record {
     mode = new.mode_is ∙ ap unlimited mode_is;
     initial = initial_is;
@@ -198,7 +223,8 @@ module _ {K V S : Type 0} (eq : K → K → Bool) (law : IsEquivalence eq) (CK :
   }
 
   -- room changes none of its parts
-  pub roomy_parts : (s fresh roomy : MapState K V S) → HasFreeParts s fresh → Keeps fresh roomy → roomy.store ≡ record fresh.store { words = roomy.store.words } → HasFreeParts s roomy
+  pub roomy_parts : (s fresh roomy : MapState K V S) → HasFreeParts s fresh → Keeps fresh roomy
+      → roomy.store ≡ record fresh.store { words = roomy.store.words } → HasFreeParts s roomy
   roomy_parts s fresh roomy parts keeps words = record {
     mode = keeps.mode ∙ parts.mode;
     initial = keeps.initial ∙ parts.initial;
@@ -206,7 +232,8 @@ module _ {K V S : Type 0} (eq : K → K → Bool) (law : IsEquivalence eq) (CK :
   }
 
   -- the limit is the last of them
-  pub limited_parts : (s free made : MapState K V S) → HasFreeParts s free → made.mode ≡ record free.mode { limit = s.mode.limit } → made.initial ≡ free.initial → made.store.count ≡ free.store.count → HasParts s made
+  pub limited_parts : (s free made : MapState K V S) → HasFreeParts s free → made.mode ≡ record free.mode { limit = s.mode.limit }
+      → made.initial ≡ free.initial → made.store.count ≡ free.store.count → HasParts s made
   limited_parts s free made parts mode initial count = record {
     mode = mode ∙ ap (λ (m : Mode). record m { limit = s.mode.limit }) parts.mode;
     initial = initial ∙ parts.initial;
@@ -214,22 +241,27 @@ module _ {K V S : Type 0} (eq : K → K → Bool) (law : IsEquivalence eq) (CK :
   }
 
   -- so it is where the numbers are set
-  pub limited_rebuilt : (CS : S → S → Type 0) (s free : MapState K V S) (made : MapState K V S) (n : ℕ) → made.store ≡ numbered_store free.store n → IsRebuilt eq CK CV CS s free → IsRebuilt eq CK CV CS s made
+  pub limited_rebuilt : (CS : S → S → Type 0) (s free : MapState K V S) (made : MapState K V S) (n : ℕ) → made.store ≡ numbered_store free.store n
+      → IsRebuilt eq CK CV CS s free → IsRebuilt eq CK CV CS s made
   limited_rebuilt CS s free made n is rebuilt = record {
     cloned = λ k.
-        subst (λ (o : Option (Stored K V)). MatchOption (map_in eq s.store k) (o ≡ None) (λ p. (q : Stored K V) × (o ≡ Some q) × (CK p.key q.key × CV p.value q.value)))
-        (sym (ap (λ (y : StoreState K V S). map_in eq y k) is ∙ ap (λ (ps : List (Stored K V)). lookup eq (λ q. q.key) ps k) (numbered_content free.store n eq))) (rebuilt.cloned k);
+        subst (λ (o : Option (Stored K V)). MatchOption (map_in eq s.store k) (o ≡ None)
+        (λ p. (q : Stored K V) × (o ≡ Some q) × (CK p.key q.key × CV p.value q.value)))
+        (sym (ap (λ (y : StoreState K V S). map_in eq y k) is
+        ∙ ap (λ (ps : List (Stored K V)). lookup eq (λ q. q.key) ps k) (numbered_content free.store n eq))) (rebuilt.cloned k);
     logged = ap (λ (y : StoreState K V S). length y.pairs) is ∙ rebuilt.logged;
     hasher = subst (CS s.store.hasher) (sym (ap (λ (y : StoreState K V S). y.hasher) is)) rebuilt.hasher;
   }
 
   -- a limit is no cause where there is none
-  pub cut_below : (from : StoreState K V S) (to left : MapState K V S) → to.mode.limit ≡ None → (e : Refused) → (e ≡ Memory) ⊎ IsCopyCut eq CK CV from to e left → e ≡ Limit → ⊥
+  pub cut_below : (from : StoreState K V S) (to left : MapState K V S) → to.mode.limit ≡ None → (e : Refused) → (e ≡ Memory)
+      ⊎ IsCopyCut eq CK CV from to e left → e ≡ Limit → ⊥
   cut_below from to left free e (inl memory) is = let f : Memory ≡ Limit = sym memory ∙ is in cc f
   cut_below from to left free e (inr cut) is = elim cut.cut.cause [
     | inl memory ↦ let f : Memory ≡ Limit = sym memory ∙ is in cc f
     | inr (inl (capacity, why)) ↦ let f : Capacity ≡ Limit = sym capacity ∙ is in cc f
-    | inr (inr (limit, spent)) ↦ let f : None ≡ Some cut.cut.at.store.words.made = sym free ∙ ap (λ (m : Mode). m.limit) (sym cut.cut.fills.keeps.mode) ∙ spent in cc f
+    | inr (inr (limit, spent)) ↦ let f : None ≡ Some cut.cut.at.store.words.made = sym free
+        ∙ ap (λ (m : Mode). m.limit) (sym cut.cut.fills.keeps.mode) ∙ spent in cc f
   ]
 
   -- a map has no more pairs than it has logged
@@ -241,15 +273,20 @@ module _ {K V S : Type 0} (eq : K → K → Bool) (law : IsEquivalence eq) (CK :
       own (Some p) = (p, refl, (tt, tt))
 
   -- a new map that was refused
-  pub fresh_refused : (s : MapState K V S) (mode : ResizeMode) (capacity shards : ℕ) (initial : ℕ) → IsChunked mode → initial ≤ 2 ^ 32 → IsAskedFor initial capacity → shards ≡ s.store.count.shards → (e : Refused) → IsSizeRefusal mode capacity shards e → IsRebuildRefusal eq CK CV s e
-  fresh_refused s (Incremental chunk) capacity shards initial chunked most asked shards_is e (inl (zero_chunk, is)) = let some : 1 ≤ chunk = chunked in let none : chunk ≡ 0 = cc is in absurd (omega (arith, some, none))
+  pub fresh_refused : (s : MapState K V S) (mode : ResizeMode) (capacity shards : ℕ) (initial : ℕ) → IsChunked mode → initial ≤ 2 ^ 32
+      → IsAskedFor initial capacity → shards ≡ s.store.count.shards → (e : Refused) → IsSizeRefusal mode capacity shards e → IsRebuildRefusal eq CK CV s e
+  fresh_refused s (Incremental chunk) capacity shards initial chunked most asked shards_is e (inl (zero_chunk, is)) = let some : 1 ≤ chunk = chunked
+      in let none : chunk ≡ 0 = cc is in absurd (omega (arith, some, none))
   fresh_refused s Blocking capacity shards initial chunked most asked shards_is e (inl (zero_chunk, is)) = absurd cc
-  fresh_refused s mode capacity shards initial chunked most asked shards_is e (inr (inl (is, also, inl much))) = absurd (asked_fits initial capacity most asked much)
-  fresh_refused s mode capacity shards initial chunked most asked shards_is e (inr (inl (is, also, inr many))) = inr (inl (is, subst (λ n. MAX_SHARDS < n) shards_is many))
+  fresh_refused s mode capacity shards initial chunked most asked shards_is e (inr (inl (is, also, inl much))) = absurd
+      (asked_fits initial capacity most asked much)
+  fresh_refused s mode capacity shards initial chunked most asked shards_is e (inr (inl (is, also, inr many))) = inr
+      (inl (is, subst (λ n. MAX_SHARDS < n) shards_is many))
   fresh_refused s mode capacity shards initial chunked most asked shards_is e (inr (inr (memory, allowed))) = inl memory
 
   -- room for its pairs that was refused
-  pub room_refused : (s fresh left : MapState K V S) → HasFreeParts s fresh → content eq fresh.store ≡ [] → (n : ℕ) → n ≡ length (content eq s.store) → (e : Refused) → IsReserveCause eq fresh n e left → IsRebuildRefusal eq CK CV s e
+  pub room_refused : (s fresh left : MapState K V S) → HasFreeParts s fresh → content eq fresh.store ≡ [] → (n : ℕ) → n ≡ length (content eq s.store)
+      → (e : Refused) → IsReserveCause eq fresh n e left → IsRebuildRefusal eq CK CV s e
   room_refused s fresh left parts empty n is e cause = inr (inr (record {
     fresh = fresh;
     empty = empty;
@@ -259,7 +296,8 @@ module _ {K V S : Type 0} (eq : K → K → Bool) (law : IsEquivalence eq) (CK :
   }))
 
   -- a clone that was refused there
-  pub rebuild_cut : (s fresh roomy left : MapState K V S) → HasFreeParts s fresh → content eq fresh.store ≡ [] → HasFreeParts s roomy → content eq roomy.store ≡ [] → (e : Refused) → (e ≡ Memory) ⊎ IsCopyCut eq CK CV s.store roomy e left → IsRebuildRefusal eq CK CV s e
+  pub rebuild_cut : (s fresh roomy left : MapState K V S) → HasFreeParts s fresh → content eq fresh.store ≡ [] → HasFreeParts s roomy
+      → content eq roomy.store ≡ [] → (e : Refused) → (e ≡ Memory) ⊎ IsCopyCut eq CK CV s.store roomy e left → IsRebuildRefusal eq CK CV s e
   rebuild_cut s fresh roomy left parts empty parts' empty' e (inl memory) = inl memory
   rebuild_cut s fresh roomy left parts empty parts' empty' e (inr cut) = inr (inr (record {
     fresh = fresh;
@@ -270,9 +308,12 @@ module _ {K V S : Type 0} (eq : K → K → Bool) (law : IsEquivalence eq) (CK :
   }))
 
 -- clones are equal where clones of values are
-pub clones_equal : {K V S : Type 0} (eq : K → K → Bool) (CK : K → K → Type 0) (CV : V → V → Type 0) (same : V → V → Bool) → ((v w : V) → CV v w → same v w ≡ true) → (s s' : StoreState K V S) → IsCloned eq CK CV s s' → AreEqual eq same s s'
+pub clones_equal : {K V S : Type 0} (eq : K → K → Bool) (CK : K → K → Type 0) (CV : V → V → Type 0) (same : V → V → Bool)
+    → ((v w : V) → CV v w → same v w ≡ true) → (s s' : StoreState K V S) → IsCloned eq CK CV s s' → AreEqual eq same s s'
 clones_equal {K} {V} {S} eq CK CV same equal s s' cloned k = of_option (map_in eq s k) (cloned k)
   where
-    of_option : (o : Option (Stored K V)) → MatchOption o (map_in eq s' k ≡ None) (λ p. (q : Stored K V) × (map_in eq s' k ≡ Some q) × (CK p.key q.key × CV p.value q.value)) → MatchOption o (map_in eq s' k ≡ None) (λ p. (q : Stored K V) × (map_in eq s' k ≡ Some q) × (same p.value q.value ≡ true))
+    of_option : (o : Option (Stored K V)) → MatchOption o (map_in eq s' k ≡ None)
+        (λ p. (q : Stored K V) × (map_in eq s' k ≡ Some q) × (CK p.key q.key × CV p.value q.value))
+        → MatchOption o (map_in eq s' k ≡ None) (λ p. (q : Stored K V) × (map_in eq s' k ≡ Some q) × (same p.value q.value ≡ true))
     of_option None none = none
     of_option (Some p) (q, there, clones) = (q, there, equal p.value q.value clones.1)

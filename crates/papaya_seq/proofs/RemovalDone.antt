@@ -26,21 +26,25 @@ use Rattle.papaya_seq.proofs.SeekLaw.{seek_ends, seek_lawful}
 use Rattle.papaya_seq.proofs.Turns.{IsOver}
 
 -- what it did, that it is refused for a cause alone, and what stays
-pub record RemovalDone {K V S F : Type 0} (g : Mut F (Bor K × (Bor V × Unit {0})) Bool) (eq : K → K → Bool) (hash : S → K → ℕ) (matches : K → Bool) (map : MapState K V S) (agrees : F) (reply : Reply) (s' : MapState K V S) : Type 0 where
+pub record RemovalDone {K V S F : Type 0} (g : Mut F (Bor K × (Bor V × Unit {0})) Bool) (eq : K → K → Bool) (hash : S → K → ℕ) (matches : K → Bool)
+    (map : MapState K V S) (agrees : F) (reply : Reply) (s' : MapState K V S) : Type 0 where
   pub whole : IsRemovalBy eq matches (Judges g agrees) map.store reply s'.store
   pub cause : (refused : Refused) → reply ≡ Reply_refused refused → IsCopyCause map refused s'
   pub keeps : KeepsRemoving map s'
   pub orderly : IsLawfulMap eq (hash s'.store.hasher) s'.store s'.mode s'.initial
 
-module _ {K V S H F : Type 0} (g : Mut F (Bor K × (Bor V × Unit {0})) Bool) (eq : K → K → Bool) (input : K → List (List ℕ)) (build : S → H) (write : H → List ℕ → H) (finish : H → ℕ) (classes : IsEquivalence eq) (respects : (x y : K) → eq x y ≡ true → input x ≡ input y)
+module _ {K V S H F : Type 0} (g : Mut F (Bor K × (Bor V × Unit {0})) Bool) (eq : K → K → Bool) (input : K → List (List ℕ)) (build : S → H)
+    (write : H → List ℕ → H) (finish : H → ℕ) (classes : IsEquivalence eq) (respects : (x y : K) → eq x y ≡ true → input x ≡ input y)
     (matches : K → Bool) (hashed : ℕ) (map : MapState K V S) (agrees : F) (query : IsQuery g eq (hash_of input build write finish) matches hashed map agrees)
-    (later : StoreState K V S) (f : F) (m : Machine) (now : IsUnderWay g eq (hash_of input build write finish) matches hashed map agrees later f m) (reply : Reply) (ends : ask_of m ≡ asks.Call (Ask_done reply)) where
+    (later : StoreState K V S) (f : F) (m : Machine) (now : IsUnderWay g eq (hash_of input build write finish) matches hashed map agrees later f m)
+    (reply : Reply) (ends : ask_of m ≡ asks.Call (Ask_done reply)) where
   abbrev hash : S → K → ℕ
   hash = hash_of input build write finish
 
   -- where a pair matches, the removal is that by the pair's key, made alone
   made : (has : HasMatch g eq hash matches hashed map agrees later f m) → IsOver eq hash map (removal_by has.one.pair.key) later reply
-  made has = matched_over g eq hash matches hashed map agrees has.one.pair.key (key_of g eq hash matches hashed map agrees query has.one) later f m has.run reply ends
+  made has = matched_over g eq hash matches hashed map agrees has.one.pair.key (key_of g eq hash matches hashed map agrees query has.one) later f m
+      has.run reply ends
 
   -- where it is refused, pairs were being moved
   moving : (refused : Refused) → ask_of m ≡ asks.Call (Ask_done (Reply_refused refused)) → IsResizing map
@@ -57,9 +61,11 @@ module _ {K V S H F : Type 0} (g : Mut F (Bor K × (Bor V × Unit {0})) Bool) (e
           (λ (has : HasMatch g eq hash matches hashed map agrees later f m).
           removal_done g eq classes matches has.one.pair.key (query.alike has.one.pair.key has.one.matched) map.store later agrees f reply
           (map_answered eq input build write finish classes respects map (removal_by has.one.pair.key) reply later query.lawful (made has))
-          (matched_judged g eq hash matches hashed map agrees has.one.pair.key (key_of g eq hash matches hashed map agrees query has.one) later f m has.run reply ends))
+          (matched_judged g eq hash matches hashed map agrees has.one.pair.key (key_of g eq hash matches hashed map agrees query has.one) later f m
+          has.run reply ends))
           (λ (lacks : HasNoMatch g eq hash matches hashed map agrees later m).
-          removal_none eq matches (Judges g agrees) map.store later reply lacks.none (seek_ends eq hash g matches map hashed later m lacks.seeking reply (ap reply_in ends)) lacks.seeking.same)
+          removal_none eq matches (Judges g agrees) map.store later reply lacks.none
+          (seek_ends eq hash g matches map hashed later m lacks.seeking reply (ap reply_in ends)) lacks.seeking.same)
           (now.way query);
     };
     cause = λ refused is. let told = ends ∙ ap (λ r. asks.Call (Ask_done r)) is in (moving refused told, now.refusal query refused (ap reply_in told));
@@ -72,7 +78,9 @@ module _ {K V S H F : Type 0} (g : Mut F (Bor K × (Bor V × Unit {0})) Bool) (e
           (now.way query),
     );
     orderly = ⊎_elim
-        (λ (has : HasMatch g eq hash matches hashed map agrees later f m). map_lawful eq input build write finish classes respects map (removal_by has.one.pair.key) reply later query.lawful (made has))
-        (λ (lacks : HasNoMatch g eq hash matches hashed map agrees later m). seek_lawful eq hash map hashed query.keys query.fits query.lawful later m lacks.seeking)
+        (λ (has : HasMatch g eq hash matches hashed map agrees later f m).
+        map_lawful eq input build write finish classes respects map (removal_by has.one.pair.key) reply later query.lawful (made has))
+        (λ (lacks : HasNoMatch g eq hash matches hashed map agrees later m).
+        seek_lawful eq hash map hashed query.keys query.fits query.lawful later m lacks.seeking)
         (now.way query);
   }

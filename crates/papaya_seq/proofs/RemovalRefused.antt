@@ -6,7 +6,10 @@ use Rattle.papaya_words.specs.Counter.{count_of}
 use Rattle.papaya_words.specs.Table.{TableWords, length_after}
 use Rattle.papaya_words.specs.declared.probe.Refused.{Refused}
 use Rattle.papaya_ask.specs.declared.ask.Ask.{Ask as Call_ask}
-use Rattle.papaya_ask.specs.declared.ask.Ask.TheVariants.{Load, Exchange, LoadHint, SameKey, ShowPair, SizeOf, AddToShard, MakeKey, MakeValue, MakePair, MakePairOf, MakeTable as Make_own, ShowNone}
+use Rattle.papaya_ask.specs.declared.ask.Ask.TheVariants.{Load, Exchange, LoadHint, SameKey}
+use Rattle.papaya_ask.specs.declared.ask.Ask.TheVariants.{ShowPair, SizeOf, AddToShard, MakeKey}
+use Rattle.papaya_ask.specs.declared.ask.Ask.TheVariants.{MakeValue, MakePair, MakePairOf}
+use Rattle.papaya_ask.specs.declared.ask.Ask.TheVariants.{MakeTable as Make_own, ShowNone}
 use Rattle.papaya_ask.specs.declared.ask.Answer.{Answer as Call_answer}
 use Rattle.papaya_ask.specs.declared.ask.Answer.TheVariants.{Size, Refused as Was_refused}
 use Rattle.papaya_ask.specs.declared.ask.At.{At}
@@ -72,37 +75,44 @@ module _ {K V S : Type 0} where
   grown_stays : (s s' : StoreState K V S) → s' ≡ s → HasMoreTables s.words.tables s'.words.tables
   grown_stays s s' same = grown_as s s' s.words (ap (λ (y : StoreState K V S). y.words) same) (grown-same s.words.tables)
 
-  grown_exchanged : (found old : ℕ) (at : At) (new : ℕ) (answer : Call_answer) (s s' : StoreState K V S) → Exchanges found old (put s.words at new) answer s s' → HasMoreTables s.words.tables s'.words.tables
+  grown_exchanged : (found old : ℕ) (at : At) (new : ℕ) (answer : Call_answer) (s s' : StoreState K V S)
+      → Exchanges found old (put s.words at new) answer s s' → HasMoreTables s.words.tables s'.words.tables
   grown_exchanged found old at new answer s s' made =
       matched (HasMoreTables s.words.tables s'.words.tables) (found == old) _ _ made
       (λ _ done. grown_as s s' (put s.words at new) (ap (λ (y : StoreState K V S). y.words) done.1) (put_grown s.words at new))
       (λ _ lost. grown_stays s s' lost.1)
 
   -- an answer to a copy leaves each table, with its slots
-  pub copy_grown : (eq : K → K → Bool) (hash : S → K → ℕ) (ask : CopyAsk) (s : StoreState K V S) (answer : Answer) (s' : StoreState K V S) → PerformsCopy eq hash false ask s answer s' → HasMoreTables s.words.tables s'.words.tables
+  pub copy_grown : (eq : K → K → Bool) (hash : S → K → ℕ) (ask : CopyAsk) (s : StoreState K V S) (answer : Answer) (s' : StoreState K V S)
+      → PerformsCopy eq hash false ask s answer s' → HasMoreTables s.words.tables s'.words.tables
   copy_grown eq hash (copies.Load at) s answer s' (_, same) = grown_stays s s' same
   copy_grown eq hash (copies.Exchange at old new) s answer s' (told, _, made) = grown_exchanged (word_at s.words at) old at new told s s' made
   copy_grown eq hash (copies.LoadHint t x) s answer s' (_, same) = grown_stays s s' same
-  copy_grown eq hash (copies.WriteHint t x hint) s answer s' (_, is) = grown_as s s' (note s.words t x hint) (ap (λ (y : StoreState K V S). y.words) is) (noted-grown s.words t x hint)
+  copy_grown eq hash (copies.WriteHint t x hint) s answer s' (_, is) = grown_as s s' (note s.words t x hint)
+      (ap (λ (y : StoreState K V S). y.words) is) (noted-grown s.words t x hint)
   copy_grown eq hash (copies.SizeOf n) s answer s' (_, same) = grown_stays s s' same
   copy_grown eq hash (copies.HashOf n) s answer s' (_, _, same) = grown_stays s s' same
   copy_grown eq hash (copies.SamePair m n) s answer s' (_, same) = grown_stays s s' same
   copy_grown eq hash copies.Count s answer s' (_, same) = grown_stays s s' same
   copy_grown eq hash (copies.MakeTable slots limit chunks) s answer s' (told, _, inl (_, same)) = grown_stays s s' same
-  copy_grown eq hash (copies.MakeTable slots limit chunks) s answer s' (told, _, inr (_, _, is)) = grown_as s s' _ (ap (λ (y : StoreState K V S). y.words) is) (made-grown s.words _ slots limit chunks)
+  copy_grown eq hash (copies.MakeTable slots limit chunks) s answer s' (told, _, inr (_, _, is)) = grown_as s s' _
+      (ap (λ (y : StoreState K V S). y.words) is) (made-grown s.words _ slots limit chunks)
 
 module _ {K V S F : Type 0} (eq : K → K → Bool) (hash : S → K → ℕ) (g : Mut F (Bor K × (Bor V × Unit {0})) Bool) (matches : K → Bool) where
-  call_grown : (ask : Call_ask) (s : StoreState K V S) (f : F) (answer : Call_answer) (s' : StoreState K V S) (f' : F) → IsRemovalAnswer g matches ask s f answer s' f' → HasMoreTables s.words.tables s'.words.tables
+  call_grown : (ask : Call_ask) (s : StoreState K V S) (f : F) (answer : Call_answer) (s' : StoreState K V S) (f' : F)
+      → IsRemovalAnswer g matches ask s f answer s' f' → HasMoreTables s.words.tables s'.words.tables
   call_grown (Load at) s f answer s' f' (_, same, _) = grown_stays s s' same
   call_grown (Exchange at old new) s f answer s' f' (made, _) = grown_exchanged (word_at s.words at) old at new answer s s' made
   call_grown (LoadHint t x) s f answer s' f' (_, same, _) = grown_stays s s' same
   call_grown (SameKey n) s f answer s' f' (_, same, _) = grown_stays s s' same
   call_grown (ShowPair n) s f answer s' f' (_, same) = grown_stays s s' same
   call_grown (SizeOf t) s f answer s' f' (_, same, _) = grown_stays s s' same
-  call_grown (AddToShard by) s f answer s' f' (_, (number, is), _) = grown_as s s' s.words (ap (λ (y : StoreState K V S). y.words) is) (grown-same s.words.tables)
+  call_grown (AddToShard by) s f answer s' f' (_, (number, is), _) = grown_as s s' s.words (ap (λ (y : StoreState K V S). y.words) is)
+      (grown-same s.words.tables)
   call_grown ask s f answer s' f' told = absurd told
 
-  answered_grown : (ask : Ask) (s : StoreState K V S) (f : F) (answer : Answer) (s' : StoreState K V S) (f' : F) → IsAnswered eq hash g matches ask s f answer s' f' → HasMoreTables s.words.tables s'.words.tables
+  answered_grown : (ask : Ask) (s : StoreState K V S) (f : F) (answer : Answer) (s' : StoreState K V S) (f' : F)
+      → IsAnswered eq hash g matches ask s f answer s' f' → HasMoreTables s.words.tables s'.words.tables
   answered_grown (asks.Call ask) s f answer s' f' (told, is, done) = call_grown ask s f told s' f' done
   answered_grown (asks.Copy ask) s f answer s' f' (done, same) = copy_grown eq hash ask s answer s' done
 
@@ -116,7 +126,8 @@ module _ {K V S F : Type 0} (eq : K → K → Bool) (hash : S → K → ℕ) (g 
     pub counting_begun : (hashed number : ℕ) → IsCounting map.store (started RemoveIf hashed map.mode.resize map.initial number map.mode.limit)
     counting_begun hashed number = record { sized = tt; initial = refl }
 
-    module _ (s : StoreState K V S) (f : F) (m : Machine) (answer : Answer) (s' : StoreState K V S) (f' : F) (answered : IsAnswered eq hash g matches (ask_of m) s f answer s' f') (now : IsCounting s m) where
+    module _ (s : StoreState K V S) (f : F) (m : Machine) (answer : Answer) (s' : StoreState K V S) (f' : F)
+        (answered : IsAnswered eq hash g matches (ask_of m) s f answer s' f') (now : IsCounting s m) where
       -- what is answered where it asks this
       answered_at : (ask : Ask) → ask_of m ≡ ask → IsAnswered eq hash g matches ask s f answer s' f'
       answered_at ask e = subst (λ (a : Ask). IsAnswered eq hash g matches a s f answer s' f') e answered
@@ -126,7 +137,8 @@ module _ {K V S F : Type 0} (eq : K → K → Bool) (hash : S → K → ℕ) (g 
       still_there behind slots (t, there, is) = let more = answered_grown (ask_of m) s f answer s' f' answered behind t there in (more.0, more.1, more.2 ∙ is)
 
       -- a table's size that was answered
-      told_size : (slots limit : ℕ) → answer ≡ answers.Call (Size slots limit) → (behind copied : ℕ) (unfit : Bool) → link_in m.phase ≡ Some (links.Sizing behind copied unfit) → HasSlots s' behind slots
+      told_size : (slots limit : ℕ) → answer ≡ answers.Call (Size slots limit) → (behind copied : ℕ) (unfit : Bool)
+          → link_in m.phase ≡ Some (links.Sizing behind copied unfit) → HasSlots s' behind slots
       told_size slots limit is behind copied unfit e =
           let (told, same) = answered_at (asks.Copy (copies.SizeOf behind)) (link_asked m (links.Sizing behind copied unfit) e) in
           let both : answers.Call (size_of (table_of s.words.tables behind)) ≡ answers.Call (Size slots limit) = sym told.0 ∙ is in
@@ -168,9 +180,12 @@ module _ {K V S F : Type 0} (eq : K → K → Bool) (hash : S → K → ℕ) (g 
             let ((is, stays), same) = answered_at (asks.Copy copies.Count) because.asks in
             let both : answers.Count because.count ≡ answers.Count (count_of s.count.sum) = sym because.is ∙ is in
             let counted : because.count ≡ count_of s.count.sum = cc both in
-            let at_count : 2 ^ 32 < length_after because.slots (count_of s.count.sum) m.call.initial because.unfit = subst (λ n. 2 ^ 32 < length_after because.slots n m.call.initial because.unfit) counted because.long in
-            let at_initial : 2 ^ 32 < length_after because.slots (count_of s.count.sum) map.initial because.unfit = subst (λ n. 2 ^ 32 < length_after because.slots (count_of s.count.sum) n because.unfit) now.initial at_count in
-            table_long map s s' refused because.capacity because.behind because.slots because.unfit (is_sized (HasSlots s) (link_in m.phase) now.sized because.behind because.slots because.copied because.unfit because.link) at_initial stays
+            let at_count : 2 ^ 32 < length_after because.slots (count_of s.count.sum) m.call.initial
+            because.unfit = subst (λ n. 2 ^ 32 < length_after because.slots n m.call.initial because.unfit) counted because.long in
+            let at_initial : 2 ^ 32 < length_after because.slots (count_of s.count.sum) map.initial
+            because.unfit = subst (λ n. 2 ^ 32 < length_after because.slots (count_of s.count.sum) n because.unfit) now.initial at_count in
+            table_long map s s' refused because.capacity because.behind because.slots because.unfit
+            (is_sized (HasSlots s) (link_in m.phase) now.sized because.behind because.slots because.copied because.unfit because.link) at_initial stays
 
         -- so a refusal is one of a next table, where it asks nothing of the numbers for pairs
         pub cause_table : (IsNumberAsk (calls.ask_of m.call) → ⊥) → IsCause m answer refused → IsNoTableRefusal then refused

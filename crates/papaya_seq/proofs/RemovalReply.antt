@@ -24,14 +24,16 @@ abbrev pub IsAbsentOrRefused : Reply → Type 0
 IsAbsentOrRefused reply = (reply ≡ Absent) ⊎ ((refused : Refused_words) × (reply ≡ Refused refused))
 
 -- a removal that found no pair
-pub removal_none : {K V S : Type 0} (eq : K → K → Bool) (matches : K → Bool) (said : Stored K V → Bool → Type 0) (s s' : StoreState K V S) (reply : Reply) → MatchesNone s matches → IsAbsentOrRefused reply → Unchanged eq s s' → IsRemoval eq matches said s reply s'
+pub removal_none : {K V S : Type 0} (eq : K → K → Bool) (matches : K → Bool) (said : Stored K V → Bool → Type 0) (s s' : StoreState K V S)
+    (reply : Reply) → MatchesNone s matches → IsAbsentOrRefused reply → Unchanged eq s s' → IsRemoval eq matches said s reply s'
 removal_none eq matches said s s' reply none ends same =
     ⊎_elim
     (λ (absent : reply ≡ Absent). subst (λ r. IsRemoval eq matches said s r s') (sym absent) (none_held s matches eq none, same))
     (λ (refused : (why : Refused_words) × (reply ≡ Refused why)). subst (λ r. IsRemoval eq matches said s r s') (sym refused.1) same)
     ends
 
-module _ {K V S F : Type 0} (g : Mut F (Bor K × (Bor V × Unit {0})) Bool) (eq : K → K → Bool) (classes : IsEquivalence eq) (matches : K → Bool) (k : K) (alike : (l : K) → matches l ≡ eq k l) (s s' : StoreState K V S) (agrees f : F) where
+module _ {K V S F : Type 0} (g : Mut F (Bor K × (Bor V × Unit {0})) Bool) (eq : K → K → Bool) (classes : IsEquivalence eq) (matches : K → Bool)
+    (k : K) (alike : (l : K) → matches l ≡ eq k l) (s s' : StoreState K V S) (agrees f : F) where
   -- equal keys have one pair
   one_pair : (i j : K) → eq i j ≡ true → map_in eq s i ≡ map_in eq s j
   one_pair i j = lookup_alike eq classes (λ (p : Stored K V). p.key) (content eq s) i j
@@ -51,8 +53,10 @@ module _ {K V S F : Type 0} (g : Mut F (Bor K × (Bor V × Unit {0})) Bool) (eq 
       record { held = holds; logged = ap (pair_of s) (sym number) ∙ logged_content s eq p holds.there }
 
   -- the closure judged that very pair
-  said : (p : Stored K V) (n : ℕ) (answered : Bool) → pair_of s n ≡ Some p → IsJudged g matches s agrees (Some (Agrees n answered)) f → Judges g agrees p answered
-  said p n answered logged (q, there, judges) = let is : Some q ≡ Some p = sym there ∙ logged in let same : q ≡ p = cc in subst (λ (y : Stored K V). Judges g agrees y answered) same judges
+  said : (p : Stored K V) (n : ℕ) (answered : Bool) → pair_of s n ≡ Some p → IsJudged g matches s agrees (Some (Agrees n answered)) f
+      → Judges g agrees p answered
+  said p n answered logged (q, there, judges) = let is : Some q ≡ Some p = sym there ∙ logged in let same : q ≡ p = cc in
+      subst (λ (y : Stored K V). Judges g agrees y answered) same judges
 
   -- it went
   removes : (p : Stored K V) → IsUpdate eq k (Some p) None (map_in eq s) (map_in eq s') → Removes eq matches s p s'
@@ -81,11 +85,13 @@ module _ {K V S F : Type 0} (g : Mut F (Bor K × (Bor V × Unit {0})) Bool) (eq 
   absent None came does = (refl, does)
   absent (Some p) came does = absurd does
 
-  removed : (n : ℕ) (went came : Option (Stored K V)) → Does (removal_by k) went (Removed n) came → (p : Stored K V) × (went ≡ Some p) × (p.number ≡ n) × (came ≡ None)
+  removed : (n : ℕ) (went came : Option (Stored K V)) → Does (removal_by k) went (Removed n) came → (p : Stored K V) × (went ≡ Some p)
+      × (p.number ≡ n) × (came ≡ None)
   removed n None came does = absurd does
   removed n (Some p) came (number, next) = (p, refl, number, next)
 
-  kept : (n : ℕ) (went came : Option (Stored K V)) → Does (removal_by k) went (Kept n) came → (p : Stored K V) × (went ≡ Some p) × (p.number ≡ n) × (came ≡ Some p)
+  kept : (n : ℕ) (went came : Option (Stored K V)) → Does (removal_by k) went (Kept n) came → (p : Stored K V) × (went ≡ Some p) × (p.number ≡ n)
+      × (came ≡ Some p)
   kept n None came does = absurd does
   kept n (Some p) came (number, next) = (p, refl, number, next)
 
@@ -110,7 +116,8 @@ module _ {K V S F : Type 0} (g : Mut F (Bor K × (Bor V × Unit {0})) Bool) (eq 
   aborted_not t (Some p) came does = does
 
   -- what the finite map does in the removal of an owned key
-  pub removal_done : (reply : Reply) → IsAnswered eq (removal_by k) (map_in eq s) reply (map_in eq s') → IsJudged g matches s agrees (said_of_removal reply) f → IsRemoval eq matches (Judges g agrees) s reply s'
+  pub removal_done : (reply : Reply) → IsAnswered eq (removal_by k) (map_in eq s) reply (map_in eq s')
+      → IsJudged g matches s agrees (said_of_removal reply) f → IsRemoval eq matches (Judges g agrees) s reply s'
   removal_done Absent answered judged =
       let none = absent answered.went answered.came answered.does in
       let update = subst (λ o. IsUpdate eq k o answered.came (map_in eq s) (map_in eq s')) none.0 answered.update in

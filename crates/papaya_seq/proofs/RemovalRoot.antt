@@ -1,5 +1,7 @@
 -- A removal in a map of which no pairs are being moved: it stays in the root table, which keeps its slots and has no next one, and is not refused.
-use Rattle.std.proofs.Common.{◌≡◌, ⊎_elim, ◌≢◌, ℕ, ◌==◌, ◌-◌, nat_lt, slice_get, slice_set, length, length-set, Bool, true, false, cond, Option, Some, None, refl, sym, ◌∙◌, ap, subst}
+use Rattle.std.proofs.Common.{◌≡◌, ⊎_elim, ◌≢◌, ℕ, ◌==◌, ◌-◌, nat_lt, slice_get, slice_set, length}
+use Rattle.std.proofs.Common.{length-set, Bool, true, false, cond, Option, Some, None, refl, sym}
+use Rattle.std.proofs.Common.{◌∙◌, ap, subst}
 use denote.Ref.{Bor}
 use Rattle.std.specs.Fn.{Mut}
 use Rattle.std.proofs.lemmas.Bool.{cond_both}
@@ -12,7 +14,11 @@ use Rattle.papaya_call.specs.Machine.{ask_of as call_ask_of, goes_as, passes, re
 use Rattle.papaya_call.specs.Remove.{grave_word}
 use Rattle.papaya_call.specs.declared.compute.Remembered.{Remembered}
 use Rattle.papaya_call.specs.declared.machine.State.{State}
-use Rattle.papaya_call.specs.declared.machine.State.TheVariants.{AtRoot, Making, Opening, Searching, Writing, Offering, Showing, Pairing, Putting, Deleting, Counting, Noting, Uncounting, Leaving, Growing, Ended}
+use Rattle.papaya_call.specs.declared.machine.State.TheVariants.{AtRoot, Making, Opening, Searching}
+use Rattle.papaya_call.specs.declared.machine.State.TheVariants.{Writing, Offering, Showing}
+use Rattle.papaya_call.specs.declared.machine.State.TheVariants.{Pairing, Putting, Deleting}
+use Rattle.papaya_call.specs.declared.machine.State.TheVariants.{Counting, Noting, Uncounting}
+use Rattle.papaya_call.specs.declared.machine.State.TheVariants.{Leaving, Growing, Ended}
 use Rattle.papaya_call.specs.declared.remove.Removal.{Removal}
 use Rattle.papaya_call.specs.declared.made.Made.{Made}
 use Rattle.papaya_ask.specs.Search.{hinted, look}
@@ -76,12 +82,14 @@ module _ (w : Tables) (n i word : ℕ) where
   put_long u = by_table (table_of w.tables n) refl
     where
       by_table : (o : Option TableWords) → table_of w.tables n ≡ o → IsAsLong (table_of w.tables u) (table_of (put w (Slot n i) word).tables u)
-      by_table None none = subst (λ (v : Tables). IsAsLong (table_of w.tables u) (table_of v.tables u)) (sym (put_missing none)) (record { slots = refl; next = refl })
+      by_table None none = subst (λ (v : Tables). IsAsLong (table_of w.tables u) (table_of v.tables u)) (sym (put_missing none))
+          (record { slots = refl; next = refl })
       by_table (Some t) there = ⊎_elim
           (λ (same : u ≡ n). subst (λ v. IsAsLong (table_of w.tables v) (table_of (put w (Slot n i) word).tables v)) (sym same)
           (subst (λ o. IsAsLong o (table_of (put w (Slot n i) word).tables n)) (sym there)
           (subst (λ o. IsAsLong (Some t) o) (sym (written-here w (Slot n i) n word t there)) (written_long t (nat_lt i (length t.slots))))))
-          (λ (other : u ≢ n). subst (λ o. IsAsLong (table_of w.tables u) o) (sym (written-other w (Slot n i) n word t there u other)) (record { slots = refl; next = refl }))
+          (λ (other : u ≢ n). subst (λ o. IsAsLong (table_of w.tables u) o) (sym (written-other w (Slot n i) n word t there u other))
+          (record { slots = refl; next = refl }))
           (cases_same u n)
 
 -- the words of the root table, as another store has them
@@ -118,10 +126,12 @@ passes_root root (Incremental chunk) fill t here = here
 passes_root root Blocking fill t here = tt
 
 -- where a search of it leads
-goes_root : (root : ℕ) (mode : ResizeMode) (held : Remembered) (sight : Probed) → IsSeenIn (λ word. IsSettledKind (kind_of word)) root sight → IsRootStage root (goes_as RemoveIf mode held sight)
+goes_root : (root : ℕ) (mode : ResizeMode) (held : Remembered) (sight : Probed) → IsSeenIn (λ word. IsSettledKind (kind_of word)) root sight
+    → IsRootStage root (goes_as RemoveIf mode held sight)
 goes_root root mode held (seen.On search) is = is
 goes_root root mode held (seen.Empty at) is = tt
-goes_root root mode held (seen.Here at word) (here, settled, uncopied) = subst (λ kind. IsRootStage root (removes kind at word)) (sym (settled_live (kind_of word) settled uncopied)) tt
+goes_root root mode held (seen.Here at word) (here, settled, uncopied) = subst (λ kind. IsRootStage root (removes kind at word))
+    (sym (settled_live (kind_of word) settled uncopied)) tt
 goes_root root mode held (seen.Over t) here = passes_root root mode held.fill t here
 
 -- The removal has stayed in the root table.
@@ -131,10 +141,12 @@ pub record IsInRoot {K V S : Type 0} (first s : StoreState K V S) (m : Machine) 
   pub stage : IsRootStage first.words.root m.call.state
 
 -- as it begins
-pub in_root_begun : {K V S : Type 0} (first : StoreState K V S) (hashed : ℕ) (mode : ResizeMode) (initial number : ℕ) (limit : Option ℕ) → IsInRoot first first (started RemoveIf hashed mode initial number limit)
+pub in_root_begun : {K V S : Type 0} (first : StoreState K V S) (hashed : ℕ) (mode : ResizeMode) (initial number : ℕ) (limit : Option ℕ)
+    → IsInRoot first first (started RemoveIf hashed mode initial number limit)
 in_root_begun first hashed mode initial number limit = record { kept = record { root = refl; slots = refl; next = refl }; phase = refl; stage = tt }
 
-module _ {K V S F : Type 0} (g : Mut F (Bor K × (Bor V × Unit {0})) Bool) (matches : K → Bool) (s : StoreState K V S) (f : F) (s' : StoreState K V S) (f' : F) (last : next_of s ≡ 0) (open_still : (i : ℕ) → kind_of (word_at s.words (Slot s.words.root i)) ≡ kinds.Marked → ⊥)
+module _ {K V S F : Type 0} (g : Mut F (Bor K × (Bor V × Unit {0})) Bool) (matches : K → Bool) (s : StoreState K V S) (f : F) (s' : StoreState K V S)
+    (f' : F) (last : next_of s ≡ 0) (open_still : (i : ℕ) → kind_of (word_at s.words (Slot s.words.root i)) ≡ kinds.Marked → ⊥)
     (made : Made) (hashed : ℕ) (mode : ResizeMode) (initial : ℕ) (held : Remembered) (number : ℕ) (helped : Bool) where
   -- the removal in a state
   abbrev at : State → Machine
@@ -151,25 +163,30 @@ module _ {K V S F : Type 0} (g : Mut F (Bor K × (Bor V × Unit {0})) Bool) (mat
     pub phase : (after (at st) (answers.Call answer)).phase ≡ Calling
     pub stage : IsRootStage s.words.root (after (at st) (answers.Call answer)).call.state
 
-  stays : (st : State) (told answer : Call_answer) → answer ≡ told → IsRootOf s s' → (after (at st) (answers.Call told)).phase ≡ Calling → IsRootStage s.words.root (after (at st) (answers.Call told)).call.state → StaysInRoot st answer
+  stays : (st : State) (told answer : Call_answer) → answer ≡ told → IsRootOf s s' → (after (at st) (answers.Call told)).phase ≡ Calling
+      → IsRootStage s.words.root (after (at st) (answers.Call told)).call.state → StaysInRoot st answer
   stays st told answer e kept phase stage = subst (StaysInRoot st) (sym e) (record { kept = kept; phase = phase; stage = stage })
 
-  sized_root : (t : ℕ) → t ≡ s.words.root → (answer : Call_answer) (o : Option TableWords) → answer ≡ size_of o → IsRootOf s s' → StaysInRoot (Searching (Sizing t)) answer
+  sized_root : (t : ℕ) → t ≡ s.words.root → (answer : Call_answer) (o : Option TableWords) → answer ≡ size_of o → IsRootOf s s'
+      → StaysInRoot (Searching (Sizing t)) answer
   sized_root t here answer None e kept = stays (Searching (Sizing t)) Ok_done answer e kept refl (here, tt)
   sized_root t here answer (Some table) e kept = stays (Searching (Sizing t)) _ answer e kept refl (here, tt)
 
-  shown_root : (removal : Removal) (answer : Call_answer) (o : Option (Stored K V)) → IsShown g o f answer f' → IsRootOf s s' → StaysInRoot (Showing removal) answer
+  shown_root : (removal : Removal) (answer : Call_answer) (o : Option (Stored K V)) → IsShown g o f answer f' → IsRootOf s s'
+      → StaysInRoot (Showing removal) answer
   shown_root removal answer None (e, _) kept = stays (Showing removal) Ok_done answer e kept refl tt
   shown_root removal answer (Some p) (key, value, true, key_is, value_is, e, called) kept = stays (Showing removal) (Yes true) answer e kept refl tt
   shown_root removal answer (Some p) (key, value, false, key_is, value_is, e, called) kept = stays (Showing removal) (Yes false) answer e kept refl tt
 
   -- no table comes after the root
-  left_root : (t : ℕ) → t ≡ s.words.root → (answer : Call_answer) → answer ≡ Word_read (word_at s.words (Next t)) → IsRootOf s s' → StaysInRoot (Leaving t) answer
+  left_root : (t : ℕ) → t ≡ s.words.root → (answer : Call_answer) → answer ≡ Word_read (word_at s.words (Next t)) → IsRootOf s s'
+      → StaysInRoot (Leaving t) answer
   left_root t here answer e kept =
       let none : word_at s.words (Next t) ≡ 0 = next_is s.words.tables t ∙ ap (λ n. next_in (table_of s.words.tables n)) here ∙ last in
       stays (Leaving t) (Word_read 0) answer (e ∙ ap Word_read none) kept refl tt
 
-  pub root_stays : (st : State) (answer : Call_answer) → IsRootStage s.words.root st → IsRead (word_at s.words) st → IsRemovalAnswer g matches (call_ask_of (at st).call) s f answer s' f' → StaysInRoot st answer
+  pub root_stays : (st : State) (answer : Call_answer) → IsRootStage s.words.root st → IsRead (word_at s.words) st
+      → IsRemovalAnswer g matches (call_ask_of (at st).call) s f answer s' f' → StaysInRoot st answer
   root_stays AtRoot answer stage read (e, same, _) =
       stays AtRoot (Word_read s.words.root) answer e (same_root s s' same) refl
       (cond_both (s.words.root == 0) (Ended Absent) (Searching (Sizing s.words.root)) (IsRootStage s.words.root) (λ _. tt) (λ _. (refl, tt)))
@@ -182,18 +199,22 @@ module _ {K V S F : Type 0} (g : Mut F (Bor K × (Bor V × Unit {0})) Bool) (mat
       let word = word_at s.words (Slot place.table place.probe.i) in
       stays (Searching (Reading place)) (Word_read word) answer e (same_root s s' same) refl
       (goes_root s.words.root mode held (look place word)
-      (loaded_in (λ n. IsSettledKind (kind_of n)) s.words.root (Reading place) hashed word stage (settled_kind (kind_of word) (λ marked. open_still place.probe.i (ap (λ t. kind_of (word_at s.words (Slot t place.probe.i))) (sym stage.0) ∙ marked)))))
+      (loaded_in (λ n. IsSettledKind (kind_of n)) s.words.root (Reading place) hashed word stage
+      (settled_kind (kind_of word) (λ marked. open_still place.probe.i (ap (λ t. kind_of (word_at s.words (Slot t place.probe.i))) (sym stage.0) ∙ marked)))))
   root_stays (Searching (Comparing place word)) answer stage read (e, same, _) =
       stays (Searching (Comparing place word)) (Yes (matches_in matches (pair_of s (number_of word)))) answer e (same_root s s' same) refl
-      (goes_root s.words.root mode held _ (compared_in (λ n. IsSettledKind (kind_of n)) s.words.root (Comparing place word) (matches_in matches (pair_of s (number_of word))) stage))
+      (goes_root s.words.root mode held _ (compared_in (λ n. IsSettledKind (kind_of n)) s.words.root (Comparing place word)
+      (matches_in matches (pair_of s (number_of word))) stage))
   root_stays (Showing removal) answer stage read (shown, same) = shown_root removal answer (pair_of s (number_of removal.word)) shown (same_root s s' same)
   root_stays (Deleting removal) answer stage read (exchanges, _) =
       let n = removal.place.table in
       let i = removal.place.probe.i in
-      let done : (answer ≡ Exchanged) × (s' ≡ record s { words = put s.words (Slot n i) (grave_word removal.word) }) = exchange_done _ _ (word_at s.words (Slot n i)) removal.word read exchanges in
+      let done : (answer ≡ Exchanged) × (s' ≡ record s { words = put s.words (Slot n i) (grave_word removal.word) }) = exchange_done _ _
+      (word_at s.words (Slot n i)) removal.word read exchanges in
       let w = put s.words (Slot n i) (grave_word removal.word) in
       let root : w.root ≡ s.words.root = put_root s.words n i (grave_word removal.word) in
-      let long : IsAsLong (table_of s.words.tables s.words.root) (table_of w.tables s.words.root) = put_long s.words n i (grave_word removal.word) s.words.root in
+      let long : IsAsLong (table_of s.words.tables s.words.root) (table_of w.tables s.words.root) = put_long s.words n i (grave_word removal.word)
+      s.words.root in
       let later : IsRootOf s (record s { words = w }) = record {
         root = root;
         slots = ap (λ u. slots_in (table_of w.tables u)) root ∙ long.slots;
@@ -219,20 +240,29 @@ module _ {K V S F : Type 0} (g : Mut F (Bor K × (Bor V × Unit {0})) Bool) (mat
   root_stays (Growing need) answer stage read told = absurd stage
 
 -- a step leaves a removal in the root table
-pub in_root_more : {K V S F : Type 0} (g : Mut F (Bor K × (Bor V × Unit {0})) Bool) (eq : K → K → Bool) (hash : S → K → ℕ) (matches : K → Bool) (first s : StoreState K V S) (f : F) (s' : StoreState K V S) (f' : F) (m : Machine) (answer : Answer)
+pub in_root_more : {K V S F : Type 0} (g : Mut F (Bor K × (Bor V × Unit {0})) Bool) (eq : K → K → Bool) (hash : S → K → ℕ) (matches : K → Bool)
+    (first s : StoreState K V S) (f : F) (s' : StoreState K V S) (f' : F) (m : Machine) (answer : Answer)
     → next_of first ≡ 0 → m.call.task ≡ RemoveIf → ((t : ℕ) → word_at s.words (Next t) ≡ 0 → (i : ℕ) → kind_of (word_at s.words (Slot t i)) ≡ kinds.Marked → ⊥)
-    → (m.phase ≡ Calling → IsRead (word_at s.words) m.call.state) → IsInRoot first s m → IsAnswered eq hash g matches (ask_of m) s f answer s' f' → IsInRoot first s' (after m answer)
+    → (m.phase ≡ Calling → IsRead (word_at s.words) m.call.state) → IsInRoot first s m → IsAnswered eq hash g matches (ask_of m) s f answer s' f'
+    → IsInRoot first s' (after m answer)
 in_root_more {K} {V} {S} {F} g eq hash matches first s f s' f' m answer single task open_still read now told =
     let c = m.call in
-    let it : m ≡ record { call = record c { task = RemoveIf }; number = m.number; helped = m.helped; phase = Calling } = ap (λ t. record m { call = record c { task = t } }) task ∙ ap (λ p. record { call = record c { task = RemoveIf }; number = m.number; helped = m.helped; phase = p }) now.phase in
-    let asked : IsAnswered eq hash g matches (asks_in c Calling) s f answer s' f' = subst (λ phase. IsAnswered eq hash g matches (asks_in c phase) s f answer s' f') now.phase told in
+    let it : m ≡ record { call = record c { task = RemoveIf }; number = m.number; helped = m.helped; phase = Calling } = ap
+    (λ t. record m { call = record c { task = t } }) task
+    ∙ ap (λ p. record { call = record c { task = RemoveIf }; number = m.number; helped = m.helped; phase = p }) now.phase in
+    let asked : IsAnswered eq hash g matches (asks_in c Calling) s f answer s'
+    f' = subst (λ phase. IsAnswered eq hash g matches (asks_in c phase) s f answer s' f') now.phase told in
     let last : next_of s ≡ 0 = now.kept.next ∙ single in
-    let stays = root_stays g matches s f s' f' last (open_still s.words.root (next_is s.words.tables s.words.root ∙ last)) c.made c.hash c.mode c.initial c.remembered m.number m.helped c.state asked.0
+    let stays = root_stays g matches s f s' f' last (open_still s.words.root (next_is s.words.tables s.words.root ∙ last)) c.made c.hash c.mode
+    c.initial c.remembered m.number m.helped c.state asked.0
     (subst (λ root. IsRootStage root c.state) (sym now.kept.root) now.stage) (read now.phase) asked.2 in
     subst (λ (y : Machine). IsInRoot first s' (after y answer)) (sym it)
-    (subst (λ a. IsInRoot first s' (after (record { call = record c { task = RemoveIf }; number = m.number; helped = m.helped; phase = Calling }) a)) (sym asked.1)
+    (subst (λ a. IsInRoot first s' (after (record { call = record c { task = RemoveIf }; number = m.number; helped = m.helped; phase = Calling }) a))
+    (sym asked.1)
     (record {
       kept = record { root = stays.kept.root ∙ now.kept.root; slots = stays.kept.slots ∙ now.kept.slots; next = stays.kept.next ∙ now.kept.next };
       phase = stays.phase;
-      stage = subst (λ root. IsRootStage root (after (record { call = record c { task = RemoveIf }; number = m.number; helped = m.helped; phase = Calling }) (answers.Call asked.0)).call.state) now.kept.root stays.stage;
+      stage = subst (λ root. IsRootStage root (after
+          (record { call = record c { task = RemoveIf }; number = m.number; helped = m.helped; phase = Calling }) (answers.Call asked.0)).call.state)
+          now.kept.root stays.stage;
     }))

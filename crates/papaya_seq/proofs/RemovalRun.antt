@@ -47,7 +47,8 @@ ended_at m reply e = by_phase m.phase e
     by_phase (Linking link) is = absurd cc
     by_phase (Copying_root copying) is = absurd cc
 
-module _ {K V S F : Type 0} (g : Mut F (Bor K × (Bor V × Unit {0})) Bool) (eq : K → K → Bool) (hash : S → K → ℕ) (matches : K → Bool) (hashed : ℕ) (map : MapState K V S) (agrees : F) where
+module _ {K V S F : Type 0} (g : Mut F (Bor K × (Bor V × Unit {0})) Bool) (eq : K → K → Bool) (hash : S → K → ℕ) (matches : K → Bool) (hashed : ℕ)
+    (map : MapState K V S) (agrees : F) where
   -- The map is in order, and this key is equal to those that match, and hashes so.
   pub record IsKey (k : K) : Type 0 where
     pub keys : IsLawfulKeys eq (hash map.store.hasher)
@@ -63,15 +64,18 @@ module _ {K V S F : Type 0} (g : Mut F (Bor K × (Bor V × Unit {0})) Bool) (eq 
     pub rooted : next_of map.store ≡ 0 → IsInRoot map.store s m
 
   -- as it begins
-  pub matched_begun : (number : ℕ) (k : K) → IsKey k → IsMatchedRun k map.store agrees (started RemoveIf hashed map.mode.resize map.initial number map.mode.limit)
+  pub matched_begun : (number : ℕ) (k : K) → IsKey k
+      → IsMatchedRun k map.store agrees (started RemoveIf hashed map.mode.resize map.initial number map.mode.limit)
   matched_begun number k key = record {
-    came = subst (λ h. HasCome eq hash map (keyed_removal k) map.store (removing (started RemoveIf h map.mode.resize map.initial number map.mode.limit) k)) key.hashes
+    came = subst (λ h. HasCome eq hash map (keyed_removal k) map.store
+        (removing (started RemoveIf h map.mode.resize map.initial number map.mode.limit) k)) key.hashes
         (made_none eq hash map (keyed_removal k) number key.keys key.lawful (subst (λ h. h < 2 ^ 64) (sym key.hashes) key.fits));
     judged = refl;
     rooted = λ single. in_root_begun map.store hashed map.mode.resize map.initial number map.mode.limit;
   }
 
-  module _ (k : K) (key : IsKey k) (s : StoreState K V S) (f : F) (m : Machine) (now : IsMatchedRun k s f m) (log : IsLogOf map.store s) (answer : Answer) (s' : StoreState K V S) (f' : F) (told : IsAnswered eq hash g matches (ask_of m) s f answer s' f') where
+  module _ (k : K) (key : IsKey k) (s : StoreState K V S) (f : F) (m : Machine) (now : IsMatchedRun k s f m) (log : IsLogOf map.store s)
+      (answer : Answer) (s' : StoreState K V S) (f' : F) (told : IsAnswered eq hash g matches (ask_of m) s f answer s' f') where
     going : reply_in (ask_of m) ≡ None
     going = answered_going g eq hash matches (ask_of m) s f answer s' f' told
 
@@ -91,18 +95,21 @@ module _ {K V S F : Type 0} (g : Mut F (Bor K × (Bor V × Unit {0})) Bool) (eq 
 
     -- the answer is within the limits
     pub matched_fit : IsFitAsk (ask_of m) → IsFit answer
-    matched_fit fit = (performed_ask eq hash whatever false (ask_of m) s (removing m k) answer s' (removing m k) (unnumbered s.words.tables now.came.lawful.core.sizes) fit performs).fit
+    matched_fit fit = (performed_ask eq hash whatever false (ask_of m) s (removing m k) answer s' (removing m k)
+        (unnumbered s.words.tables now.came.lawful.core.sizes) fit performs).fit
 
     -- a refusal has a cause
     pub matched_caused : (refused : Refused) → reply_in (ask_of (after m answer)) ≡ Some (Reply_refused refused) → IsCause m answer refused
-    matched_caused refused e = made_caused eq hash map (keyed_removal k) s (removing m k) answer s' (removing m k) going performs refl key.keys now.came refused e
+    matched_caused refused e = made_caused eq hash map (keyed_removal k) s (removing m k) answer s' (removing m k) going performs refl key.keys
+        now.came refused e
 
     -- after it
     pub matched_more : IsMatchedRun k s' f' (after m answer)
     matched_more = record {
       came = came_more eq hash map (keyed_removal k) s (removing m k) answer s' (removing m k) going performs refl key.keys now.came;
       judged = judged_more g matches map.store agrees eq hash s f s' f' (log_kept map.store s log) m now.came.task answer
-          (made_goes eq hash map (keyed_removal k) s (removing m k) answer s' (removing m k) going performs refl key.keys now.came) stands.call.state read now.judged told;
+          (made_goes eq hash map (keyed_removal k) s (removing m k) answer s' (removing m k) going performs refl key.keys now.came) stands.call.state
+          read now.judged told;
       rooted = λ single. in_root_more g eq hash matches map.store s f s' f' m answer single now.came.task
           (unmarked eq (hash map.store.hasher) _ map.mode s key.keys now.came.lawful) read (now.rooted single) told;
     }
@@ -111,10 +118,12 @@ module _ {K V S F : Type 0} (g : Mut F (Bor K × (Bor V × Unit {0})) Bool) (eq 
     pub matched_nears : left_of s' (after m answer) < left_of s m
     matched_nears = came_nears eq hash map (keyed_removal k) s (removing m k) answer s' (removing m k) going performs refl key.keys now.came
 
-  module _ (k : K) (key : IsKey k) (s : StoreState K V S) (f : F) (m : Machine) (now : IsMatchedRun k s f m) (reply : Reply) (ends : ask_of m ≡ asks.Call (Ask_done reply)) where
+  module _ (k : K) (key : IsKey k) (s : StoreState K V S) (f : F) (m : Machine) (now : IsMatchedRun k s f m) (reply : Reply)
+      (ends : ask_of m ≡ asks.Call (Ask_done reply)) where
     -- it was made alone
     pub matched_over : IsOver eq hash map (removal_by k) s reply
-    matched_over = made_alone eq hash map (keyed_removal k) key.keys key.lawful (subst (λ h. h < 2 ^ 64) (sym key.hashes) key.fits) s (removing m k) reply (ap reply_in ends) (λ _ _ _. now.came)
+    matched_over = made_alone eq hash map (keyed_removal k) key.keys key.lawful (subst (λ h. h < 2 ^ 64) (sym key.hashes) key.fits) s (removing m k)
+        reply (ap reply_in ends) (λ _ _ _. now.came)
 
     -- its reply is what its closure said
     pub matched_judged : IsJudged g matches map.store agrees (said_of_removal reply) f

@@ -13,7 +13,11 @@ use Rattle.papaya_call.specs.Machine.{IsStandingState, after as call_after, agre
 use Rattle.papaya_call.specs.declared.compute.Remembered.{Remembered}
 use Rattle.papaya_call.specs.declared.machine.Machine.{Machine as Call_machine}
 use Rattle.papaya_call.specs.declared.machine.State.{State}
-use Rattle.papaya_call.specs.declared.machine.State.TheVariants.{AtRoot, Making, Opening, Searching, Writing, Offering, Showing, Pairing, Putting, Deleting, Counting, Noting, Uncounting, Leaving, Growing, Ended}
+use Rattle.papaya_call.specs.declared.machine.State.TheVariants.{AtRoot, Making, Opening, Searching}
+use Rattle.papaya_call.specs.declared.machine.State.TheVariants.{Writing, Offering, Showing}
+use Rattle.papaya_call.specs.declared.machine.State.TheVariants.{Pairing, Putting, Deleting}
+use Rattle.papaya_call.specs.declared.machine.State.TheVariants.{Counting, Noting, Uncounting}
+use Rattle.papaya_call.specs.declared.machine.State.TheVariants.{Leaving, Growing, Ended}
 use Rattle.papaya_call.specs.declared.remove.Removal.{Removal}
 use Rattle.papaya_call.specs.declared.made.Made.{Made}
 use Rattle.papaya_ask.specs.Search.{at_yes as search_compared, hinted, look}
@@ -110,7 +114,8 @@ module _ {K V S F : Type 0} (g : Mut F (Bor K × (Bor V × Unit {0})) Bool) (mat
   unjudged : (state : State) (f f' : F) → IsUnsaid state → f' ≡ f → f ≡ agrees → IsJudgedIn state f'
   unjudged state f f' unsaid same alike = subst (λ said. IsJudged said f') (sym unsaid) (same ∙ alike)
 
-  module _ (eq : K → K → Bool) (hash : S → K → ℕ) (s : StoreState K V S) (f : F) (s' : StoreState K V S) (f' : F) (log : (n : ℕ) → pair_of s n ≡ pair_of first n) where
+  module _ (eq : K → K → Bool) (hash : S → K → ℕ) (s : StoreState K V S) (f : F) (s' : StoreState K V S) (f' : F)
+      (log : (n : ℕ) → pair_of s n ≡ pair_of first n) where
     module _ (made : Made) (hashed : ℕ) (mode : ResizeMode) (initial : ℕ) (held : Remembered) where
       -- the call in a state
       abbrev at : State → Call_machine
@@ -122,40 +127,54 @@ module _ {K V S F : Type 0} (g : Mut F (Bor K × (Bor V × Unit {0})) Bool) (mat
       sized_unsaid t (Some table) = refl
 
       -- a pair that is shown
-      shown_judged : (removal : Removal) (answer : Call_answer) (o : Option (Stored K V)) → pair_of s (number_of removal.word) ≡ o → f ≡ agrees → IsShown g o f answer f' → IsJudgedIn (call_after (at (Showing removal)) answer).state f'
+      shown_judged : (removal : Removal) (answer : Call_answer) (o : Option (Stored K V)) → pair_of s (number_of removal.word) ≡ o → f ≡ agrees
+          → IsShown g o f answer f' → IsJudgedIn (call_after (at (Showing removal)) answer).state f'
       shown_judged removal answer None is alike (e, same) = subst (λ a. IsJudgedIn (call_after (at (Showing removal)) a).state f') (sym e) (same ∙ alike)
       shown_judged removal answer (Some p) is alike (key, value, answered, key_is, value_is, e, called) =
           subst (λ a. IsJudgedIn (call_after (at (Showing removal)) a).state f') (sym e)
-          (by_answer answered (p, sym (log (number_of removal.word)) ∙ is, (key, value, f', key_is, value_is, subst (λ (y : F). Called g y (key, (value, tt)) answered f') alike called)))
+          (by_answer answered (
+            p,
+            sym (log (number_of removal.word))
+                ∙ is,
+            (key, value, f', key_is, value_is, subst (λ (y : F). Called g y (key, (value, tt)) answered f') alike called),
+          ))
         where
           by_answer : (b : Bool) → IsJudged (Some (Agrees (number_of removal.word) b)) f' → IsJudgedIn (agreed removal b) f'
           by_answer true judged = judged
           by_answer false judged = judged
 
       -- a step of the call itself
-      own_judged : (st : State) (answer : Call_answer) → IsStandingState RemoveIf st → IsRead (word_at s.words) st → IsJudgedIn st f → IsRemovalAnswer g matches (call_ask_of (at st)) s f answer s' f' → IsJudgedIn (call_after (at st) answer).state f'
+      own_judged : (st : State) (answer : Call_answer) → IsStandingState RemoveIf st → IsRead (word_at s.words) st → IsJudgedIn st f
+          → IsRemovalAnswer g matches (call_ask_of (at st)) s f answer s' f' → IsJudgedIn (call_after (at st) answer).state f'
       own_judged AtRoot answer stands read alike (e, _, same) =
-          subst (λ a. IsJudgedIn (call_after (at AtRoot) a).state f') (sym e) (unjudged (at_root RemoveIf held.fill (word_at s.words Root)) f f' (root_unsaid held.fill (word_at s.words Root)) same alike)
+          subst (λ a. IsJudgedIn (call_after (at AtRoot) a).state f') (sym e)
+          (unjudged (at_root RemoveIf held.fill (word_at s.words Root)) f f' (root_unsaid held.fill (word_at s.words Root)) same alike)
       own_judged (Searching (Sizing t)) answer stands read alike (e, _, same) =
           subst (λ a. IsJudgedIn (call_after (at (Searching (Sizing t))) a).state f') (sym e)
-          (unjudged (call_after (at (Searching (Sizing t))) (size_of (table_of s.words.tables t))).state f f' (sized_unsaid t (table_of s.words.tables t)) same alike)
+          (unjudged (call_after (at (Searching (Sizing t))) (size_of (table_of s.words.tables t))).state f f'
+          (sized_unsaid t (table_of s.words.tables t)) same alike)
       own_judged (Searching (Looking place)) answer stands read alike (e, _, same) =
           subst (λ a. IsJudgedIn (call_after (at (Searching (Looking place))) a).state f') (sym e)
-          (unjudged (goes_as RemoveIf mode held (hinted place hashed (hint_at s.words place.table place.probe.i))) f f' (goes_unsaid mode held (hinted place hashed (hint_at s.words place.table place.probe.i))) same alike)
+          (unjudged (goes_as RemoveIf mode held (hinted place hashed (hint_at s.words place.table place.probe.i))) f f'
+          (goes_unsaid mode held (hinted place hashed (hint_at s.words place.table place.probe.i))) same alike)
       own_judged (Searching (Reading place)) answer stands read alike (e, _, same) =
           subst (λ a. IsJudgedIn (call_after (at (Searching (Reading place))) a).state f') (sym e)
-          (unjudged (goes_as RemoveIf mode held (look place (word_at s.words (Slot place.table place.probe.i)))) f f' (goes_unsaid mode held (look place (word_at s.words (Slot place.table place.probe.i)))) same alike)
+          (unjudged (goes_as RemoveIf mode held (look place (word_at s.words (Slot place.table place.probe.i)))) f f'
+          (goes_unsaid mode held (look place (word_at s.words (Slot place.table place.probe.i)))) same alike)
       own_judged (Searching (Comparing place word)) answer stands read alike (e, _, same) =
           subst (λ a. IsJudgedIn (call_after (at (Searching (Comparing place word))) a).state f') (sym e)
-          (unjudged (goes_as RemoveIf mode held (search_compared (Comparing place word) (matches_in matches (pair_of s (number_of word))))) f f' (goes_unsaid mode held (search_compared (Comparing place word) (matches_in matches (pair_of s (number_of word))))) same alike)
+          (unjudged (goes_as RemoveIf mode held (search_compared (Comparing place word) (matches_in matches (pair_of s (number_of word))))) f f'
+          (goes_unsaid mode held (search_compared (Comparing place word) (matches_in matches (pair_of s (number_of word))))) same alike)
       own_judged (Showing removal) answer stands read alike (shown, _) = shown_judged removal answer (pair_of s (number_of removal.word)) refl alike shown
       own_judged (Deleting removal) answer stands read judged (exchanges, same) =
           let done = exchange_done _ _ (word_at s.words (Slot removal.place.table removal.place.probe.i)) removal.word read exchanges in
           subst (λ a. IsJudgedIn (call_after (at (Deleting removal)) a).state f') (sym done.0) judged
       own_judged (Uncounting n) answer stands read judged (e, _, same) = subst (λ a. IsJudgedIn (call_after (at (Uncounting n)) a).state f') (sym e) judged
       own_judged (Leaving t) answer stands read alike (e, _, same) =
-          subst (λ a. IsJudgedIn (call_after (at (Leaving t)) a).state f') (sym e) (unjudged (left RemoveIf held.fill t (word_at s.words (Next t))) f f' (left_unsaid held.fill t (word_at s.words (Next t))) same alike)
-      own_judged (Growing need) answer stands read alike (e, _, same) = subst (λ a. IsJudgedIn (call_after (at (Growing need)) a).state f') (sym e) (same ∙ alike)
+          subst (λ a. IsJudgedIn (call_after (at (Leaving t)) a).state f') (sym e)
+          (unjudged (left RemoveIf held.fill t (word_at s.words (Next t))) f f' (left_unsaid held.fill t (word_at s.words (Next t))) same alike)
+      own_judged (Growing need) answer stands read alike (e, _, same) = subst (λ a. IsJudgedIn (call_after (at (Growing need)) a).state f') (sym e)
+          (same ∙ alike)
       own_judged (Ended reply) answer stands read judged told = absurd told
       own_judged Making answer stands read judged told = absurd stands
       own_judged (Opening t) answer stands read judged told = absurd stands
@@ -167,7 +186,17 @@ module _ {K V S F : Type 0} (g : Mut F (Bor K × (Bor V × Unit {0})) Bool) (mat
       own_judged (Noting n) answer stands read judged told = absurd stands
 
     -- a call that is set aside calls no closure
-    aside_call : (made : Made) (hashed : ℕ) (state : State) (t : ℕ) (answer : Call_answer) → left_by state ≡ Some t → IsRemovalAnswer g matches (call_ask_of (record { task = RemoveIf; hash = hashed; mode = Blocking; initial = 0; made = made; remembered = record { fill = None; choice = None }; state = state })) s f answer s' f' → f' ≡ f
+    aside_call : (made : Made) (hashed : ℕ) (state : State) (t : ℕ) (answer : Call_answer) → left_by state ≡ Some t
+        → IsRemovalAnswer g matches (call_ask_of
+        (record {
+          task = RemoveIf;
+          hash = hashed;
+          mode = Blocking;
+          initial = 0;
+          made = made;
+          remembered = record { fill = None; choice = None };
+          state = state;
+        })) s f answer s' f' → f' ≡ f
     aside_call made hashed (Leaving u) t answer e told = told.2
     aside_call made hashed (Growing need) t answer e told = told.2
     aside_call made hashed AtRoot t answer e told = absurd cc
@@ -185,32 +214,39 @@ module _ {K V S F : Type 0} (g : Mut F (Bor K × (Bor V × Unit {0})) Bool) (mat
     aside_call made hashed (Uncounting n) t answer e told = absurd cc
     aside_call made hashed (Ended reply) t answer e told = absurd cc
 
-    aside_same : (call : Call_machine) (phase : Phase) (t : ℕ) (answer : Answer) → left_by call.state ≡ Some t → IsAnswered eq hash g matches (asks_in call phase) s f answer s' f' → f' ≡ f
+    aside_same : (call : Call_machine) (phase : Phase) (t : ℕ) (answer : Answer) → left_by call.state ≡ Some t
+        → IsAnswered eq hash g matches (asks_in call phase) s f answer s' f' → f' ≡ f
     aside_same call Calling t answer e (told, is, answers) = aside_call call.made call.hash call.state t told e answers
     aside_same call (Linking link) t answer e (performs, same) = same
     aside_same call (Copying_root copying) t answer e (performs, same) = same
 
     -- a step of the call, or of the copy that it is set aside for
-    pub judged_more : (m : Machine) → m.call.task ≡ RemoveIf → (answer : Answer) → Goes m answer → IsStandingState m.call.task m.call.state → (m.phase ≡ Calling → IsRead (word_at s.words) m.call.state) → IsJudgedIn m.call.state f → IsAnswered eq hash g matches (ask_of m) s f answer s' f' → IsJudgedIn (after m answer).call.state f'
+    pub judged_more : (m : Machine) → m.call.task ≡ RemoveIf → (answer : Answer) → Goes m answer → IsStandingState m.call.task m.call.state
+        → (m.phase ≡ Calling → IsRead (word_at s.words) m.call.state) → IsJudgedIn m.call.state f
+        → IsAnswered eq hash g matches (ask_of m) s f answer s' f' → IsJudgedIn (after m answer).call.state f'
     judged_more m task answer goes stands read judged told = by_way goes
       where
         -- where it is set aside
-        aside : (t : ℕ) → left_by m.call.state ≡ Some t → (call : Call_machine) → IsUnsaid call.state → (after m answer).call ≡ call → IsJudgedIn (after m answer).call.state f'
+        aside : (t : ℕ) → left_by m.call.state ≡ Some t → (call : Call_machine) → IsUnsaid call.state → (after m answer).call ≡ call
+            → IsJudgedIn (after m answer).call.state f'
         aside t left call unsaid is =
             let alike : f ≡ agrees = subst (λ said. IsJudged said f) (aside_unsaid m.call.state t left) judged in
             subst (λ (c : Call_machine). IsJudgedIn c.state f') (sym is) (unjudged call.state f f' unsaid (aside_same m.call m.phase t answer left told) alike)
 
         by_itself : (own : IsOwnStep m answer) → IsJudgedIn (after m answer).call.state f'
         by_itself own =
-            let asked : IsAnswered eq hash g matches (asks_in m.call Calling) s f answer s' f' = subst (λ phase. IsAnswered eq hash g matches (asks_in m.call phase) s f answer s' f') own.phase told in
+            let asked : IsAnswered eq hash g matches (asks_in m.call Calling) s f answer s'
+            f' = subst (λ phase. IsAnswered eq hash g matches (asks_in m.call phase) s f answer s' f') own.phase told in
             let same : answers.Call asked.0 ≡ answers.Call own.told = sym asked.1 ∙ own.is in
             let is : asked.0 ≡ own.told = cc same in
-            let answered : IsRemovalAnswer g matches (call_ask_of m.call) s f own.told s' f' = subst (λ a. IsRemovalAnswer g matches (call_ask_of m.call) s f a s' f') is asked.2 in
+            let answered : IsRemovalAnswer g matches (call_ask_of m.call) s f own.told s'
+            f' = subst (λ a. IsRemovalAnswer g matches (call_ask_of m.call) s f a s' f') is asked.2 in
             let c = m.call in
             let it : c ≡ at c.made c.hash c.mode c.initial c.remembered c.state = ap (λ t. record c { task = t }) task in
             subst (λ (d : Call_machine). IsJudgedIn d.state f') (sym own.call)
             (subst (λ (d : Call_machine). IsJudgedIn (call_after d own.told).state f') (sym it)
-            (own_judged c.made c.hash c.mode c.initial c.remembered c.state own.told (subst (λ t. IsStandingState t c.state) task stands) (read own.phase) judged answered))
+            (own_judged c.made c.hash c.mode c.initial c.remembered c.state own.told (subst (λ t. IsStandingState t c.state) task stands)
+            (read own.phase) judged answered))
 
         by_way : Goes m answer → IsJudgedIn (after m answer).call.state f'
         by_way (inl waiting) = aside waiting.from waiting.left m.call (aside_unsaid m.call.state waiting.from waiting.left) waiting.call

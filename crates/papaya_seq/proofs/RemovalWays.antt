@@ -45,7 +45,8 @@ own_ask m ask e = by_phase m.phase e
     by_phase (Linking link) is = absurd cc
     by_phase (Copying_root copying) is = absurd cc
 
-module _ {K V S F : Type 0} (g : Mut F (Bor K × (Bor V × Unit {0})) Bool) (eq : K → K → Bool) (hash : S → K → ℕ) (matches : K → Bool) (hashed : ℕ) (map : MapState K V S) (agrees : F) where
+module _ {K V S F : Type 0} (g : Mut F (Bor K × (Bor V × Unit {0})) Bool) (eq : K → K → Bool) (hash : S → K → ℕ) (matches : K → Bool) (hashed : ℕ)
+    (map : MapState K V S) (agrees : F) where
   -- The map is in order, and what matches a key matches as that key is equal, and hashes as it does.
   pub record IsQuery : Type 0 where
     pub keys : IsLawfulKeys eq (hash map.store.hasher)
@@ -87,14 +88,22 @@ module _ {K V S F : Type 0} (g : Mut F (Bor K × (Bor V × Unit {0})) Bool) (eq 
   under_way number = record {
     log = same_log map.store map.store refl;
     way = λ query. ⊎_elim
-        (λ (one : IsMatched map.store matches). inl (record { one = one; run = matched_begun g eq hash matches hashed map agrees number one.pair.key (key_of query one) }))
-        (λ (none : MatchesNone map.store matches). inr (record { none = none; seeking = seek_begin eq hash map hashed query.keys query.fits number query.lawful; rooted = λ single. in_root_begun map.store hashed map.mode.resize map.initial number map.mode.limit }))
+        (λ (one : IsMatched map.store matches). inl
+        (record { one = one; run = matched_begun g eq hash matches hashed map agrees number one.pair.key (key_of query one) }))
+        (λ (none : MatchesNone map.store matches).
+        inr (record {
+          none = none;
+          seeking = seek_begin eq hash map hashed query.keys query.fits number query.lawful;
+          rooted = λ single.
+              in_root_begun map.store hashed map.mode.resize map.initial number map.mode.limit;
+        }))
         (decided map.store matches);
     counting = counting_begun eq hash g matches map hashed number;
     refusal = λ query refused e. absurd cc;
   }
 
-  module _ (s : StoreState K V S) (f : F) (m : Machine) (now : IsUnderWay s f m) (answer : Answer) (s' : StoreState K V S) (f' : F) (told : IsAnswered eq hash g matches (ask_of m) s f answer s' f') where
+  module _ (s : StoreState K V S) (f : F) (m : Machine) (now : IsUnderWay s f m) (answer : Answer) (s' : StoreState K V S) (f' : F)
+      (told : IsAnswered eq hash g matches (ask_of m) s f answer s' f') where
     -- it has not replied
     going : reply_in (ask_of m) ≡ None
     going = answered_going g eq hash matches (ask_of m) s f answer s' f' told
@@ -104,20 +113,24 @@ module _ {K V S F : Type 0} (g : Mut F (Bor K × (Bor V × Unit {0})) Bool) (eq 
     rooted_more query lacks single =
         let seeking = lacks.seeking in
         in_root_more g eq hash matches map.store s f s' f' m answer single seeking.task
-        (unmarked eq (hash s.hasher) [] map.mode s (subst (λ y. IsLawfulKeys eq (hash y)) (sym now.log.hasher) query.keys) (seek_core eq hash map hashed s m seeking))
+        (unmarked eq (hash s.hasher) [] map.mode s (subst (λ y. IsLawfulKeys eq (hash y)) (sym now.log.hasher) query.keys)
+        (seek_core eq hash map hashed s m seeking))
         (λ calling. (subst (IsPhaseRead m.call.mode (word_at s.words) m.call.state) calling seeking.current.read).0) (lacks.rooted single) told
 
     -- a refusal has a cause
     caused : IsQuery → (refused : Refused) → reply_in (ask_of (after m answer)) ≡ Some (Reply_refused refused) → IsCause m answer refused
     caused query refused e = ⊎_elim
-        (λ (has : HasMatch s f m). matched_caused g eq hash matches hashed map agrees has.one.pair.key (key_of query has.one) s f m has.run now.log answer s' f' told refused e)
-        (λ (lacks : HasNoMatch s m). seek_caused eq hash g matches map hashed query.keys query.fits lacks.none s m f answer s' f' lacks.seeking going told refused e)
+        (λ (has : HasMatch s f m). matched_caused g eq hash matches hashed map agrees has.one.pair.key (key_of query has.one) s f m has.run now.log
+        answer s' f' told refused e)
+        (λ (lacks : HasNoMatch s m). seek_caused eq hash g matches map hashed query.keys query.fits lacks.none s m f answer s' f' lacks.seeking going
+        told refused e)
         (now.way query)
 
     -- it asks nothing of the numbers for pairs
     unnumbered : IsQuery → IsNumberAsk (call_ask_of m.call) → ⊥
     unnumbered query = removal_numbers m.call.made m.call.hash m.call.state (⊎_elim
-        (λ (has : HasMatch s f m). matched_stands g eq hash matches hashed map agrees has.one.pair.key (key_of query has.one) s f m has.run now.log answer s' f' told)
+        (λ (has : HasMatch s f m). matched_stands g eq hash matches hashed map agrees has.one.pair.key (key_of query has.one) s f m has.run now.log
+        answer s' f' told)
         (λ (lacks : HasNoMatch s m). subst (λ t. IsStandingState t m.call.state) lacks.seeking.task lacks.seeking.standing.call.state)
         (now.way query))
 
@@ -143,23 +156,28 @@ module _ {K V S F : Type 0} (g : Mut F (Bor K × (Bor V × Unit {0})) Bool) (eq 
     -- it is nearer its end
     pub under_way_nears : IsQuery → left_of s' (after m answer) < left_of s m
     under_way_nears query = ⊎_elim
-        (λ (has : HasMatch s f m). matched_nears g eq hash matches hashed map agrees has.one.pair.key (key_of query has.one) s f m has.run now.log answer s' f' told)
+        (λ (has : HasMatch s f m). matched_nears g eq hash matches hashed map agrees has.one.pair.key (key_of query has.one) s f m has.run now.log
+        answer s' f' told)
         (λ (lacks : HasNoMatch s m). seek_nears eq hash g matches map hashed query.keys query.fits lacks.none s m f answer s' f' lacks.seeking going told)
         (now.way query)
 
     -- and the answer is within the limits
     pub under_way_fit : IsQuery → IsFitAsk (ask_of m) → IsFit answer
     under_way_fit query fit = ⊎_elim
-        (λ (has : HasMatch s f m). matched_fit g eq hash matches hashed map agrees has.one.pair.key (key_of query has.one) s f m has.run now.log answer s' f' told fit)
+        (λ (has : HasMatch s f m). matched_fit g eq hash matches hashed map agrees has.one.pair.key (key_of query has.one) s f m has.run now.log
+        answer s' f' told fit)
         (λ (lacks : HasNoMatch s m). seek_fit eq hash g matches map hashed query.keys query.fits lacks.none s m f answer s' f' lacks.seeking going told)
         (now.way query)
 
   -- it is a removal, which asks for itself what removals ask
-  pub asked_so : IsQuery → (s : StoreState K V S) (f : F) (m : Machine) → IsUnderWay s f m → IsStanding m → (ask : Call_ask) → ask_of m ≡ asks.Call ask → ((reply : Reply) → ask ≡ Ask_done reply → ⊥) → IsRemovalAsk ask
+  pub asked_so : IsQuery → (s : StoreState K V S) (f : F) (m : Machine) → IsUnderWay s f m → IsStanding m → (ask : Call_ask)
+      → ask_of m ≡ asks.Call ask → ((reply : Reply) → ask ≡ Ask_done reply → ⊥) → IsRemovalAsk ask
   asked_so query s f m now stands ask e going =
-      let task : m.call.task ≡ RemoveIf = ⊎_elim (λ (has : HasMatch s f m). has.run.came.task) (λ (lacks : HasNoMatch s m). lacks.seeking.task) (now.way query) in
+      let task : m.call.task ≡ RemoveIf = ⊎_elim (λ (has : HasMatch s f m). has.run.came.task) (λ (lacks : HasNoMatch s m). lacks.seeking.task)
+      (now.way query) in
       let is : call_ask_of m.call ≡ ask = own_ask m ask e in
-      subst IsRemovalAsk is (removal_asks m.call.made m.call.hash m.call.state (subst (λ t. IsStandingState t m.call.state) task stands.call.state) (λ reply done. going reply (sym is ∙ done)))
+      subst IsRemovalAsk is (removal_asks m.call.made m.call.hash m.call.state (subst (λ t. IsStandingState t m.call.state) task stands.call.state)
+      (λ reply done. going reply (sym is ∙ done)))
 
   module _ (s : StoreState K V S) (f : F) (m : Machine) (now : IsUnderWay s f m) (query : IsQuery) (single : next_of map.store ≡ 0) where
     -- where no pairs are being moved, it is in the root table

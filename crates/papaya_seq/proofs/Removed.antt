@@ -20,7 +20,8 @@ module _ {K V S : Type 0} (eq : K → K → Bool) (matches : K → Bool) (said :
       ap entry_of same
 
   -- the pair that was removed is shown
-  pub removed_shown : (found : Option (Bor K × Bor V)) → IsRemoval eq matches said s.store (replies.Removed n) s'.store → KeepsRemoving s s' → IsShown s'.store found
+  pub removed_shown : (found : Option (Bor K × Bor V)) → IsRemoval eq matches said s.store (replies.Removed n) s'.store → KeepsRemoving s s'
+      → IsShown s'.store found
       → IsRemoved eq matches entry_of s (Ok (option_map deref_pair found)) s' × IsJudged eq matches said s (Ok (Ok (option_map deref_pair found))) s'
       × MatchOption found (HasNone eq matches s.store) (λ f. (p : _) × Holds eq matches s.store p × said p true × (p.key ≡ f.0.now) × (p.value ≡ f.1.now))
   removed_shown None (p, held, removes, agreed) keeps shown = let f : None ≡ Some p = sym shown ∙ keeps.0.pairs n p held.logged in absurd cc
@@ -30,25 +31,32 @@ module _ {K V S : Type 0} (eq : K → K → Bool) (matches : K → Bool) (said :
 
   -- the pair that stays is shown
   pub kept_shown : (f : Bor K × Bor V) → IsRemoval eq matches said s.store (replies.Kept n) s'.store → KeepsRemoving s s' → IsShown s'.store (Some f)
-      → IsJudged eq matches said s (Ok (Err (deref_pair f))) s' × ((p : _) × Holds eq matches s.store p × said p false × (p.key ≡ f.0.now) × (p.value ≡ f.1.now))
+      → IsJudged eq matches said s (Ok (Err (deref_pair f))) s'
+      × ((p : _) × Holds eq matches s.store p × said p false × (p.key ≡ f.0.now) × (p.value ≡ f.1.now))
   kept_shown f (p, held, same, denied) keeps shown =
       let is = entry_is p f (keeps.0.pairs n p held.logged) shown in
       ((p, is, held.held, denied, same, keeps), (p, held.held, denied, ap (λ (e : K × V). e.0) is, ap (λ (e : K × V). e.1) is))
 
   -- the same of a reply that is known to be this one
-  pub removed_by : (reply : _) (found : Option (Bor K × Bor V)) → reply ≡ replies.Removed n → IsRemoval eq matches said s.store reply s'.store → KeepsRemoving s s' → IsShown s'.store found
+  pub removed_by : (reply : _) (found : Option (Bor K × Bor V)) → reply ≡ replies.Removed n → IsRemoval eq matches said s.store reply s'.store
+      → KeepsRemoving s s' → IsShown s'.store found
       → IsRemoved eq matches entry_of s (Ok (option_map deref_pair found)) s' × IsJudged eq matches said s (Ok (Ok (option_map deref_pair found))) s'
       × MatchOption found (HasNone eq matches s.store) (λ f. (p : _) × Holds eq matches s.store p × said p true × (p.key ≡ f.0.now) × (p.value ≡ f.1.now))
   removed_by reply found is d keeps shown = removed_shown found (subst (λ r. IsRemoval eq matches said s.store r s'.store) is d) keeps shown
 
-  pub kept_by : (reply : _) (found : Option (Bor K × Bor V)) (f : Bor K × Bor V) → reply ≡ replies.Kept n → found ≡ Some f → IsRemoval eq matches said s.store reply s'.store → KeepsRemoving s s' → IsShown s'.store found
-      → IsJudged eq matches said s (Ok (Err (deref_pair f))) s' × ((p : _) × Holds eq matches s.store p × said p false × (p.key ≡ f.0.now) × (p.value ≡ f.1.now))
-  kept_by reply found f is one d keeps shown = kept_shown f (subst (λ r. IsRemoval eq matches said s.store r s'.store) is d) keeps (subst (λ o. IsShown s'.store o) one shown)
+  pub kept_by : (reply : _) (found : Option (Bor K × Bor V)) (f : Bor K × Bor V) → reply ≡ replies.Kept n → found ≡ Some f
+      → IsRemoval eq matches said s.store reply s'.store → KeepsRemoving s s' → IsShown s'.store found
+      → IsJudged eq matches said s (Ok (Err (deref_pair f))) s'
+      × ((p : _) × Holds eq matches s.store p × said p false × (p.key ≡ f.0.now) × (p.value ≡ f.1.now))
+  kept_by reply found f is one d keeps shown = kept_shown f (subst (λ r. IsRemoval eq matches said s.store r s'.store) is d) keeps
+      (subst (λ o. IsShown s'.store o) one shown)
 
 module _ {K V S : Type 0} (eq : K → K → Bool) (matches : K → Bool) (s s' : MapState K V S) (n : ℕ) where
   -- the same where nothing is known of a closure
-  pub removed_entry : (p : Stored K V) (found : Option (Bor K × Bor V)) → IsHeld eq matches n s.store p → Removes eq matches s.store p s'.store → KeepsRemoving s s' → IsShown eq matches (λ _ _. Unit {0}) s s' n s'.store found
-      → IsRemoved eq matches entry_of s (Ok (option_map deref_pair found)) s' × MatchOption found (HasNone eq matches s.store) (λ f. (p : _) × Holds eq matches s.store p × (p.key ≡ f.0.now) × (p.value ≡ f.1.now))
+  pub removed_entry : (p : Stored K V) (found : Option (Bor K × Bor V)) → IsHeld eq matches n s.store p → Removes eq matches s.store p s'.store
+      → KeepsRemoving s s' → IsShown eq matches (λ _ _. Unit {0}) s s' n s'.store found
+      → IsRemoved eq matches entry_of s (Ok (option_map deref_pair found)) s'
+      × MatchOption found (HasNone eq matches s.store) (λ f. (p : _) × Holds eq matches s.store p × (p.key ≡ f.0.now) × (p.value ≡ f.1.now))
   removed_entry p None held removes keeps shown = let f : None ≡ Some p = sym shown ∙ keeps.0.pairs n p held.logged in absurd cc
   removed_entry p (Some f) held removes keeps shown =
       let r = removed_shown eq matches (λ _ _. Unit {0}) s s' n (Some f) (p, held, removes, tt) keeps shown in
@@ -56,7 +64,8 @@ module _ {K V S : Type 0} (eq : K → K → Bool) (matches : K → Bool) (s s' :
 
 module _ {K V S : Type 0} (eq : K → K → Bool) (matches : K → Bool) (s s' : MapState K V S) where
   -- the value of the entry that was removed
-  pub removed_value : (result : Result (Option (Bor K × Bor V)) Refused) (found : Option (Bor K × Bor V)) (f : Bor K × Bor V) → result ≡ Ok found → found ≡ Some f → IsRemoved eq matches entry_of s (entry_answered result) s'
+  pub removed_value : (result : Result (Option (Bor K × Bor V)) Refused) (found : Option (Bor K × Bor V)) (f : Bor K × Bor V) → result ≡ Ok found
+      → found ≡ Some f → IsRemoved eq matches entry_of s (entry_answered result) s'
       → IsRemoved eq matches (λ p. p.value) s (Ok (Some f.1.now)) s' × ((p : Stored K V) × Holds eq matches s.store p × (p.value ≡ f.1.now))
   removed_value result found f was one h =
       let r = subst (λ o. IsRemoved eq matches entry_of s (entry_answered o) s') (was ∙ ap Ok one) h in

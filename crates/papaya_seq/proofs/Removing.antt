@@ -4,13 +4,20 @@ use denote.Ref.{Bor}
 use Rattle.std.specs.Fn.{Mut}
 use Rattle.std.specs.Prelude.{◌==◌}
 use Rattle.papaya_call.specs.declared.machine.State.{State}
-use Rattle.papaya_call.specs.declared.machine.State.TheVariants.{AtRoot, Making, Opening, Searching, Writing, Offering, Showing, Pairing, Putting, Deleting, Counting, Noting, Uncounting, Leaving, Growing, Ended}
+use Rattle.papaya_call.specs.declared.machine.State.TheVariants.{AtRoot, Making, Opening, Searching}
+use Rattle.papaya_call.specs.declared.machine.State.TheVariants.{Writing, Offering, Showing}
+use Rattle.papaya_call.specs.declared.machine.State.TheVariants.{Pairing, Putting, Deleting}
+use Rattle.papaya_call.specs.declared.machine.State.TheVariants.{Counting, Noting, Uncounting}
+use Rattle.papaya_call.specs.declared.machine.State.TheVariants.{Leaving, Growing, Ended}
 use Rattle.papaya_call.specs.Machine.{IsStandingState, asks as call_asks}
 use Rattle.papaya_call.specs.declared.made.Made.{Made}
 use Rattle.papaya_ask.specs.declared.ask.Answer.{Answer as Call_answer}
 use Rattle.papaya_ask.specs.declared.ask.Answer.TheVariants.{Yes}
 use Rattle.papaya_ask.specs.declared.ask.Ask.{Ask as Call_ask}
-use Rattle.papaya_ask.specs.declared.ask.Ask.TheVariants.{Load, Exchange, LoadHint, WriteHint, SameKey, ShowNone, ShowPair, SizeOf, MakeKey, MakeValue, MakePair, MakePairOf, MakeTable, AddToShard, Done as Ask_done}
+use Rattle.papaya_ask.specs.declared.ask.Ask.TheVariants.{Load, Exchange, LoadHint, WriteHint}
+use Rattle.papaya_ask.specs.declared.ask.Ask.TheVariants.{SameKey, ShowNone, ShowPair, SizeOf}
+use Rattle.papaya_ask.specs.declared.ask.Ask.TheVariants.{MakeKey, MakeValue, MakePair, MakePairOf}
+use Rattle.papaya_ask.specs.declared.ask.Ask.TheVariants.{MakeTable, AddToShard, Done as Ask_done}
 use Rattle.papaya_ask.specs.declared.call.Call.{Call}
 use Rattle.papaya_ask.specs.declared.call.Call.TheVariants.{RemoveIf as RemoveIf_call}
 use Rattle.papaya_ask.specs.declared.call.Reply.{Reply}
@@ -67,12 +74,14 @@ pub log_kept : {K V S : Type 0} (s s' : StoreState K V S) → IsLogOf s s' → (
 log_kept s s' log n = ap (λ pairs. stored_in pairs n (slice_get pairs n)) log.pairs
 
 -- a key that matches as k is equal compares as k does
-same_matches : {K V : Type 0} (eq : K → K → Bool) (matches : K → Bool) (k : K) → ((l : K) → matches l ≡ eq k l) → (o : Option (Stored K V)) → matches_in matches o ≡ same eq (Some k) o
+same_matches : {K V : Type 0} (eq : K → K → Bool) (matches : K → Bool) (k : K) → ((l : K) → matches l ≡ eq k l) → (o : Option (Stored K V))
+    → matches_in matches o ≡ same eq (Some k) o
 same_matches eq matches k alike None = refl
 same_matches eq matches k alike (Some p) = alike p.key
 
 -- what a removal asks for itself, where its machine stands: it makes nothing, and shows only a pair
-pub removal_asks : (made : Made) (hash : ℕ) (state : State) → IsStandingState RemoveIf state → ((reply : Reply) → call_asks made hash state ≡ Ask_done reply → ⊥) → IsRemovalAsk (call_asks made hash state)
+pub removal_asks : (made : Made) (hash : ℕ) (state : State) → IsStandingState RemoveIf state
+    → ((reply : Reply) → call_asks made hash state ≡ Ask_done reply → ⊥) → IsRemovalAsk (call_asks made hash state)
 removal_asks made hash AtRoot stands going = tt
 removal_asks made hash Making stands going = absurd stands
 removal_asks made hash (Opening t) stands going = absurd stands
@@ -117,16 +126,20 @@ removal_numbers made hash (Ended reply) stands asks = asks
 
 module _ {K V S F : Type 0} (g : Mut F (Bor K × (Bor V × Unit {0})) Bool) (eq : K → K → Bool) (hash : S → K → ℕ) (matches : K → Bool) where
   -- an ask of the call that was answered so, and one of a copy, in the words of a driver
-  pub answered_call : (m : Machine) (ask : Call_ask) → asks.Call ask ≡ ask_of m → (s : StoreState K V S) (f : F) (told : Call_answer) (y : StoreState K V S) (h : F) → IsRemovalAnswer g matches ask s f told y h
-      → (answer : Answer) (s' : StoreState K V S) (f' : F) → answer ≡ answers.Call told → s' ≡ y → f' ≡ h → IsAnswered eq hash g matches (ask_of m) s f answer s' f'
+  pub answered_call : (m : Machine) (ask : Call_ask) → asks.Call ask ≡ ask_of m
+      → (s : StoreState K V S) (f : F) (told : Call_answer) (y : StoreState K V S) (h : F) → IsRemovalAnswer g matches ask s f told y h
+      → (answer : Answer) (s' : StoreState K V S) (f' : F) → answer ≡ answers.Call told → s' ≡ y → f' ≡ h
+      → IsAnswered eq hash g matches (ask_of m) s f answer s' f'
   answered_call m ask asked s f told y h is answer s' f' e same alike =
       subst (λ a. IsAnswered eq hash g matches a s f answer s' f') asked (
         told,
         e,
-        subst (λ (z : StoreState K V S). IsRemovalAnswer g matches ask s f told z f') (sym same) (subst (λ (z : F). IsRemovalAnswer g matches ask s f told y z) (sym alike) is),
+        subst (λ (z : StoreState K V S). IsRemovalAnswer g matches ask s f told z f') (sym same)
+            (subst (λ (z : F). IsRemovalAnswer g matches ask s f told y z) (sym alike) is),
       )
 
-  pub answered_copy : (m : Machine) (ask : CopyAsk) → asks.Copy ask ≡ ask_of m → (s : StoreState K V S) (f : F) (told : Answer) (y : StoreState K V S) → PerformsCopy eq hash false ask s told y
+  pub answered_copy : (m : Machine) (ask : CopyAsk) → asks.Copy ask ≡ ask_of m → (s : StoreState K V S) (f : F) (told : Answer) (y : StoreState K V S)
+      → PerformsCopy eq hash false ask s told y
       → (answer : Answer) (s' : StoreState K V S) (f' : F) → answer ≡ told → s' ≡ y → f' ≡ f → IsAnswered eq hash g matches (ask_of m) s f answer s' f'
   answered_copy m ask asked s f told y is answer s' f' e same alike =
       subst (λ a. IsAnswered eq hash g matches a s f answer s' f') asked (
@@ -135,7 +148,8 @@ module _ {K V S F : Type 0} (g : Mut F (Bor K × (Bor V × Unit {0})) Bool) (eq 
       )
 
   -- a call that was answered has not replied
-  going_call : (ask : Call_ask) (s : StoreState K V S) (f : F) (answer : Call_answer) (s' : StoreState K V S) (f' : F) → IsRemovalAnswer g matches ask s f answer s' f' → reply_in (asks.Call ask) ≡ None
+  going_call : (ask : Call_ask) (s : StoreState K V S) (f : F) (answer : Call_answer) (s' : StoreState K V S) (f' : F)
+      → IsRemovalAnswer g matches ask s f answer s' f' → reply_in (asks.Call ask) ≡ None
   going_call (Load at) s f answer s' f' told = refl
   going_call (Exchange at old new) s f answer s' f' told = refl
   going_call (LoadHint t x) s f answer s' f' told = refl
@@ -152,7 +166,8 @@ module _ {K V S F : Type 0} (g : Mut F (Bor K × (Bor V × Unit {0})) Bool) (eq 
   going_call (MakeTable slots limit chunks) s f answer s' f' told = absurd told
   going_call (Ask_done reply) s f answer s' f' told = absurd told
 
-  pub answered_going : (ask : Ask) (s : StoreState K V S) (f : F) (answer : Answer) (s' : StoreState K V S) (f' : F) → IsAnswered eq hash g matches ask s f answer s' f' → reply_in ask ≡ None
+  pub answered_going : (ask : Ask) (s : StoreState K V S) (f : F) (answer : Answer) (s' : StoreState K V S) (f' : F)
+      → IsAnswered eq hash g matches ask s f answer s' f' → reply_in ask ≡ None
   answered_going (asks.Call ask) s f answer s' f' (told, is, done) = going_call ask s f told s' f' done
   answered_going (asks.Copy ask) s f answer s' f' done = refl
 
@@ -163,7 +178,8 @@ module _ {K V S F : Type 0} (g : Mut F (Bor K × (Bor V × Unit {0})) Bool) (eq 
       (λ _ done. let log = same_log (record s { words = after }) s' done.1 in record { pairs = log.pairs; hasher = log.hasher })
       (λ _ lost. same_log s s' lost.1)
 
-  log_call : (ask : Call_ask) (s : StoreState K V S) (f : F) (answer : Call_answer) (s' : StoreState K V S) (f' : F) → IsRemovalAnswer g matches ask s f answer s' f' → IsLogOf s s'
+  log_call : (ask : Call_ask) (s : StoreState K V S) (f : F) (answer : Call_answer) (s' : StoreState K V S) (f' : F)
+      → IsRemovalAnswer g matches ask s f answer s' f' → IsLogOf s s'
   log_call (Load at) s f answer s' f' (_, same, _) = same_log s s' same
   log_call (Exchange at old new) s f answer s' f' (made, _) = log_exchanged _ old _ answer s s' made
   log_call (LoadHint t x) s f answer s' f' (_, same, _) = same_log s s' same
@@ -201,17 +217,21 @@ module _ {K V S F : Type 0} (g : Mut F (Bor K × (Bor V × Unit {0})) Bool) (eq 
     hasher = ap (λ (y : StoreState K V S). y.hasher) is;
   }
 
-  pub answered_log : (ask : Ask) (s : StoreState K V S) (f : F) (answer : Answer) (s' : StoreState K V S) (f' : F) → IsAnswered eq hash g matches ask s f answer s' f' → IsLogOf s s'
+  pub answered_log : (ask : Ask) (s : StoreState K V S) (f : F) (answer : Answer) (s' : StoreState K V S) (f' : F)
+      → IsAnswered eq hash g matches ask s f answer s' f' → IsLogOf s s'
   answered_log (asks.Call ask) s f answer s' f' (told, is, done) = log_call ask s f told s' f' done
   answered_log (asks.Copy ask) s f answer s' f' (done, same) = log_copy ask s answer s' done
 
   -- and a core with the owned key answers so too
-  performed_call : (k : K) → ((l : K) → matches l ≡ eq k l) → (m : Machine) → m.call.task ≡ RemoveIf → (ask : Call_ask) (s : StoreState K V S) (f : F) (answer : Call_answer) (s' : StoreState K V S) (f' : F) → IsRemovalAnswer g matches ask s f answer s' f' → Performs eq whatever false ask s (removing m k) answer s' (removing m k)
+  performed_call : (k : K) → ((l : K) → matches l ≡ eq k l) → (m : Machine) → m.call.task ≡ RemoveIf
+      → (ask : Call_ask) (s : StoreState K V S) (f : F) (answer : Call_answer) (s' : StoreState K V S) (f' : F)
+      → IsRemovalAnswer g matches ask s f answer s' f' → Performs eq whatever false ask s (removing m k) answer s' (removing m k)
   performed_call k alike m is_removal (Load at) s f answer s' f' (e, stays, _) = (e, (stays, refl))
   performed_call k alike m is_removal (Exchange at old new) s f answer s' f' (done, _) = (done, refl)
   performed_call k alike m is_removal (LoadHint t x) s f answer s' f' (e, stays, _) = (e, (stays, refl))
   performed_call k alike m is_removal (SameKey n) s f answer s' f' (e, stays, _) = (e ∙ ap Yes (same_matches eq matches k alike (pair_of s n)), (stays, refl))
-  performed_call k alike m is_removal (ShowPair n) s f answer s' f' (shown, stays) = subst (λ task. ShowsPair task whatever n s (removing m k) answer s' (removing m k)) (sym is_removal) (shows (pair_of s n) refl shown)
+  performed_call k alike m is_removal (ShowPair n) s f answer s' f'
+      (shown, stays) = subst (λ task. ShowsPair task whatever n s (removing m k) answer s' (removing m k)) (sym is_removal) (shows (pair_of s n) refl shown)
     where
       shows : (o : Option (Stored K V)) → pair_of s n ≡ o → IsShown g o f answer f' → Judges whatever n s (removing m k) answer s' (removing m k)
       shows None is (e, _) = inl (inr is, (e, (stays, refl)))
@@ -227,6 +247,8 @@ module _ {K V S F : Type 0} (g : Mut F (Bor K × (Bor V × Unit {0})) Bool) (eq 
   performed_call k alike m is_removal (MakeTable slots limit chunks) s f answer s' f' told = absurd told
   performed_call k alike m is_removal (Ask_done reply) s f answer s' f' told = absurd told
 
-  pub performed : (k : K) → ((l : K) → matches l ≡ eq k l) → (m : Machine) → m.call.task ≡ RemoveIf → (ask : Ask) (s : StoreState K V S) (f : F) (answer : Answer) (s' : StoreState K V S) (f' : F) → IsAnswered eq hash g matches ask s f answer s' f' → PerformsAsk eq whatever hash false ask s (removing m k) answer s' (removing m k)
+  pub performed : (k : K) → ((l : K) → matches l ≡ eq k l) → (m : Machine) → m.call.task ≡ RemoveIf
+      → (ask : Ask) (s : StoreState K V S) (f : F) (answer : Answer) (s' : StoreState K V S) (f' : F)
+      → IsAnswered eq hash g matches ask s f answer s' f' → PerformsAsk eq whatever hash false ask s (removing m k) answer s' (removing m k)
   performed k alike m is_removal (asks.Call ask) s f answer s' f' (told, is, done) = (told, is, performed_call k alike m is_removal ask s f told s' f' done)
   performed k alike m is_removal (asks.Copy ask) s f answer s' f' (done, same) = (done, refl)

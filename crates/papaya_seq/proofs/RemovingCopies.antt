@@ -15,7 +15,8 @@ use Rattle.papaya_seq.proofs.Ending.{left_of}
 use Rattle.papaya_seq.proofs.RemovalWays.{HasMatch, HasNoMatch, IsQuery, IsUnderWay, under_way_fit, under_way_more, under_way_nears}
 use Rattle.papaya_seq.proofs.Removing.{answered_copy}
 
-module _ {K V S F : Type 0} (g : Mut F (Bor K × (Bor V × Unit {0})) Bool) (eq : K → K → Bool) (hash : S → K → ℕ) (matches : K → Bool) (hashed : ℕ) (map : MapState K V S) (agrees : F) (query : IsQuery g eq hash matches hashed map agrees) where
+module _ {K V S F : Type 0} (g : Mut F (Bor K × (Bor V × Unit {0})) Bool) (eq : K → K → Bool) (hash : S → K → ℕ) (matches : K → Bool) (hashed : ℕ)
+    (map : MapState K V S) (agrees : F) (query : IsQuery g eq hash matches hashed map agrees) where
   abbrev IsGoing : StoreState K V S → F → Machine → Type 0
   IsGoing s f m = IsUnderWay g eq hash matches hashed map agrees s f m
 
@@ -27,9 +28,11 @@ module _ {K V S F : Type 0} (g : Mut F (Bor K × (Bor V × Unit {0})) Bool) (eq 
       (now.way query)
 
   -- each answer leads it on, and brings it nearer to its end
-  pub removing_copies : (told : List Answer) (s : StoreState K V S) (f : F) (m : Machine) (s' : StoreState K V S) (m' : Machine) → Copies eq hash copy_of after told s m s' m' → IsStanding m → IsGoing s f m → IsGoing s' f m' × IsStanding m' × (left_of s' m' ≤ left_of s m)
+  pub removing_copies : (told : List Answer) (s : StoreState K V S) (f : F) (m : Machine) (s' : StoreState K V S) (m' : Machine)
+      → Copies eq hash copy_of after told s m s' m' → IsStanding m → IsGoing s f m → IsGoing s' f m' × IsStanding m' × (left_of s' m' ≤ left_of s m)
   removing_copies [] s f m s' m' (same, is) standing now =
-      subst (λ x. IsGoing x f m' × IsStanding m' × (left_of x m' ≤ left_of s m)) (sym same) (subst (λ (y : Machine). IsGoing s f y × IsStanding y × (left_of s y ≤ left_of s m)) (sym is) (now, standing, omega arith))
+      subst (λ x. IsGoing x f m' × IsStanding m' × (left_of x m' ≤ left_of s m)) (sym same)
+      (subst (λ (y : Machine). IsGoing s f y × IsStanding y × (left_of s y ≤ left_of s m)) (sym is) (now, standing, omega arith))
   removing_copies (answer ∷ rest) s f m s' m' (copy, asked, middle, performs, more) standing now =
       let is : ask_of m ≡ asks.Copy copy = copy_asked (ask_of m) copy asked in
       let answered = answered_copy g eq hash matches m copy (sym is) s f answer middle performs answer middle f refl refl refl in

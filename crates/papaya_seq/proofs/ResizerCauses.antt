@@ -1,5 +1,7 @@
 -- Why a call that resizes the map is refused, and where it leaves all words as they are.
-use Rattle.std.proofs.Common.{◌≡◌, inl, inr, ℕ, zero, suc, ◌+◌, ◌^◌, ◌==◌, ◌<◌, ◌≤◌, Bool, false, [], length, Option, None, Some, refl, sym, ◌∙◌, ap, subst, arith, eqb-true}
+use Rattle.std.proofs.Common.{◌≡◌, inl, inr, ℕ, zero, suc, ◌+◌, ◌^◌, ◌==◌, ◌<◌, ◌≤◌, Bool, false}
+use Rattle.std.proofs.Common.{[], length, Option, None, Some, refl, sym, ◌∙◌, ap, subst, arith}
+use Rattle.std.proofs.Common.{eqb-true}
 use Rattle.std.proofs.lemmas.Bool.{cond_both}
 use Rattle.papaya_words.specs.Counter.{count_of}
 use Rattle.papaya_words.specs.Table.{TableWords, length_after}
@@ -45,10 +47,12 @@ no_pairs eq store zero = refl
 no_pairs eq store (suc n) = refl
 
 rootless : {K V S : Type 0} (eq : K → K → Bool) (store : StoreState K V S) → store.words.root ≡ 0 → content eq store ≡ []
-rootless eq store none = ap (λ r. pairs_from eq store (length store.words.tables) (table_of store.words.tables r)) none ∙ no_pairs eq store (length store.words.tables)
+rootless eq store none = ap (λ r. pairs_from eq store (length store.words.tables) (table_of store.words.tables r)) none
+    ∙ no_pairs eq store (length store.words.tables)
 
 -- one that counts by the slots of a table asked for them
-sizing_asks : (stage : State) (behind copied : ℕ) (unfit : Bool) → HasLink stage (links.Sizing behind copied unfit) → asks_in stage ≡ Some (copies.SizeOf behind)
+sizing_asks : (stage : State) (behind copied : ℕ) (unfit : Bool) → HasLink stage (links.Sizing behind copied unfit)
+    → asks_in stage ≡ Some (copies.SizeOf behind)
 sizing_asks (stages.Linking link) behind copied unfit e = ap (λ y. Some (link_ask y)) e
 sizing_asks (stages.Copying from copying) behind copied unfit e = ap (λ y. Some y) (copying_asks copying (links.Sizing behind copied unfit) e)
 sizing_asks _ behind copied unfit e = absurd e
@@ -92,8 +96,12 @@ module _ {K V S : Type 0} (eq : K → K → Bool) (hash : S → K → ℕ) (s : 
     calm = λ is last. (refl, subst (IsCalm s.store.words.root) (sym at_root) tt);
   }
 
-  module _ (pairs : count_of s.store.count.sum ≡ length (content eq s.store)) (store : StoreState K V S) (z : Resizer) (ask : CopyAsk) (answer : Answer) (store' : StoreState K V S) (asked : ask_of z ≡ Some ask) (performs : PerformsCopy eq hash false ask store answer store')
-      (grown : HasMoreTables store.words.tables store'.words.tables) (cause : (refused : Refused) → reply_of (after z answer) ≡ Some (Reply_refused refused) → IsResizeCause z answer refused) (resize_is : z.resize ≡ resize) (initial_is : z.initial ≡ s.initial) (logs : store ≡ record s.store { words = store.words }) (now : IsCaused store z) where
+  module _ (pairs : count_of s.store.count.sum ≡ length (content eq s.store)) (store : StoreState K V S) (z : Resizer) (ask : CopyAsk)
+      (answer : Answer) (store' : StoreState K V S) (asked : ask_of z ≡ Some ask) (performs : PerformsCopy eq hash false ask store answer store')
+      (grown : HasMoreTables store.words.tables store'.words.tables)
+      (cause : (refused : Refused) → reply_of (after z answer) ≡ Some (Reply_refused refused) → IsResizeCause z answer refused)
+      (resize_is : z.resize ≡ resize) (initial_is : z.initial ≡ s.initial) (logs : store ≡ record s.store { words = store.words })
+      (now : IsCaused store z) where
     -- what is answered where it asks this
     performs_at : (other : CopyAsk) → ask_of z ≡ Some other → PerformsCopy eq hash false other store answer store'
     performs_at other e = subst (λ y. PerformsCopy eq hash false y store answer store') (same_item ask other (sym asked ∙ e)) performs
@@ -103,7 +111,8 @@ module _ {K V S : Type 0} (eq : K → K → Bool) (hash : S → K → ℕ) (s : 
     still_there behind slots (t, there, is) = let more = grown behind t there in (more.0, more.1, more.2 ∙ is)
 
     -- a table's size that was answered
-    told_size : (slots limit : ℕ) → answer ≡ answers.Call (Size slots limit) → (behind copied : ℕ) (unfit : Bool) → HasLink z.state (links.Sizing behind copied unfit) → HasSlots store' behind slots
+    told_size : (slots limit : ℕ) → answer ≡ answers.Call (Size slots limit) → (behind copied : ℕ) (unfit : Bool)
+        → HasLink z.state (links.Sizing behind copied unfit) → HasSlots store' behind slots
     told_size slots limit is behind copied unfit e =
         let h = performs_at (copies.SizeOf behind) (sizing_asks z.state behind copied unfit e) in
         let f : answers.Call (size_of (table_of store.words.tables behind)) ≡ answers.Call (Size slots limit) = sym h.0 ∙ is in
@@ -111,7 +120,8 @@ module _ {K V S : Type 0} (eq : K → K → Bool) (hash : S → K → ℕ) (s : 
         still_there behind slots (sized_as (table_of store.words.tables behind) slots limit told)
 
     next_sized : IsSizedStage (HasSlots store') (after z answer).state
-    next_sized = stage_sized (HasSlots store') z.resize z.mode z.initial z.number answer z.state told_size (stage_beside (HasSlots store) (HasSlots store') still_there z.state now.sized)
+    next_sized = stage_sized (HasSlots store') z.resize z.mode z.initial z.number answer z.state told_size
+        (stage_beside (HasSlots store) (HasSlots store') still_there z.state now.sized)
 
     -- the count is that of the map as the call began
     counted : count_of store.count.sum ≡ length (content eq s.store)
@@ -140,8 +150,10 @@ module _ {K V S : Type 0} (eq : K → K → Bool) (hash : S → K → ℕ) (s : 
           let (is, stays) = performs_at copies.Count because.asks in
           let f : answers.Count because.count ≡ answers.Count (count_of store.count.sum) = sym because.is ∙ is in
           let same : because.count ≡ count_of store.count.sum = cc f in
-          table_long s store store' refused because.capacity because.behind because.slots because.unfit (stage_has (HasSlots store) z.state now.sized because.behind because.slots because.copied because.unfit because.link)
-          (subst (λ n. 2 ^ 32 < length_after because.slots (count_of store.count.sum) n because.unfit) initial_is (subst (λ n. 2 ^ 32 < length_after because.slots n z.initial because.unfit) same because.long))
+          table_long s store store' refused because.capacity because.behind because.slots because.unfit
+          (stage_has (HasSlots store) z.state now.sized because.behind because.slots because.copied because.unfit because.link)
+          (subst (λ n. 2 ^ 32 < length_after because.slots (count_of store.count.sum) n because.unfit) initial_is
+          (subst (λ n. 2 ^ 32 < length_after because.slots n z.initial because.unfit) same because.long))
           stays
 
       -- no room is for so many pairs
@@ -150,7 +162,8 @@ module _ {K V S : Type 0} (eq : K → K → Bool) (hash : S → K → ℕ) (s : 
           let f : resizes.Reserve because.more ≡ resizes.Reserve more = sym because.resize ∙ resize_is ∙ is in
           let same : because.more ≡ more = cc f in
           elim because.counts [
-            | inl (none, zeroed) ↦ let le : because.count + because.more ≤ length (content eq s.store) + more = omega (arith, zeroed, same) in inr (because.capacity, inl (much_more _ _ le (much_is _ because.long)))
+            | inl (none, zeroed) ↦ let le : because.count + because.more ≤ length (content eq s.store) + more = omega (arith, zeroed, same) in
+                inr (because.capacity, inl (much_more _ _ le (much_is _ because.long)))
             | inr told ↦
                 let count = (counts eq hash false ask store answer store' performs because.count told).0 in
                 let all = counted in
@@ -177,40 +190,60 @@ module _ {K V S : Type 0} (eq : K → K → Bool) (hash : S → K → ℕ) (s : 
         subst (λ o. IsEarly (makes o)) (sym (subst (λ n. room_of n ≡ None) same none)) refl)
         (λ _. tt)
 
-    early_sized : (more root : ℕ) (o : Option TableWords) → IsEarly (after_in (resizes.Reserve more) z.mode z.initial z.number (answers.Call (size_of o)) (stages.Sizing root))
+    early_sized : (more root : ℕ) (o : Option TableWords)
+        → IsEarly (after_in (resizes.Reserve more) z.mode z.initial z.number (answers.Call (size_of o)) (stages.Sizing root))
     early_sized more root None = tt
     early_sized more root (Some table) = tt
 
-    early_stage : (more : ℕ) → room_of (length (content eq s.store) + more) ≡ None → (stage : State) → z.state ≡ stage → store ≡ s.store → IsEarly stage → (store' ≡ s.store) × IsEarly (after_in (resizes.Reserve more) z.mode z.initial z.number answer stage)
+    early_stage : (more : ℕ) → room_of (length (content eq s.store) + more) ≡ None → (stage : State) → z.state ≡ stage → store ≡ s.store
+        → IsEarly stage → (store' ≡ s.store) × IsEarly (after_in (resizes.Reserve more) z.mode z.initial z.number answer stage)
     early_stage more none stages.AtRoot at same h =
-        let (is, stays) = performs_at (copies.Load Root) (ap asks_in at) in
-        (stays ∙ same, subst (λ a. IsEarly (after_in (resizes.Reserve more) z.mode z.initial z.number a stages.AtRoot)) (sym is) (early_root more store.words.root (ap (λ (y : StoreState K V S). y.words.root) same) none))
+        let (is, stays) = performs_at (copies.Load Root) (ap asks_in at) in (
+          stays ∙ same,
+          subst (λ a. IsEarly (after_in (resizes.Reserve more) z.mode z.initial z.number a stages.AtRoot)) (sym is)
+              (early_root more store.words.root (ap (λ (y : StoreState K V S). y.words.root) same) none),
+        )
     early_stage more none (stages.Sizing root) at same h =
-        let (is, stays) = performs_at (copies.SizeOf root) (ap asks_in at) in
-        (stays ∙ same, subst (λ a. IsEarly (after_in (resizes.Reserve more) z.mode z.initial z.number a (stages.Sizing root))) (sym is) (early_sized more root (table_of store.words.tables root)))
+        let (is, stays) = performs_at (copies.SizeOf root) (ap asks_in at) in (
+          stays ∙ same,
+          subst (λ a. IsEarly (after_in (resizes.Reserve more) z.mode z.initial z.number a (stages.Sizing root))) (sym is)
+              (early_sized more root (table_of store.words.tables root)),
+        )
     early_stage more none (stages.Counting root len) at same h =
         let (is, stays) = performs_at copies.Count (ap asks_in at) in
-        let all = counted in
-        (stays ∙ same, subst (λ a. IsEarly (after_in (resizes.Reserve more) z.mode z.initial z.number a (stages.Counting root len))) (sym is) (subst (λ o. IsEarly (judges root len o)) (sym (ap (λ n. room_of (n + more)) all ∙ none)) refl))
+        let all = counted in (
+          stays ∙ same,
+          subst (λ a. IsEarly (after_in (resizes.Reserve more) z.mode z.initial z.number a (stages.Counting root len))) (sym is)
+              (subst (λ o. IsEarly (judges root len o)) (sym (ap (λ n. room_of (n + more)) all ∙ none)) refl),
+        )
     early_stage more none (stages.Refused refused) at same h = let f : None ≡ Some ask = sym (ap asks_in at) ∙ asked in absurd cc
     early_stage more none _ at same h = absurd h
 
-    next_early : (y : Resize) → z.resize ≡ y → IsPastLimit eq y s.store → (store ≡ s.store) × IsEarly z.state → (store' ≡ s.store) × IsEarly (after z answer).state
-    next_early (resizes.Reserve more) is late (same, h) = subst (λ y. (store' ≡ s.store) × IsEarly (after_in y z.mode z.initial z.number answer z.state)) (sym is) (early_stage more (much_none (length (content eq s.store) + more) late) z.state refl same h)
+    next_early : (y : Resize) → z.resize ≡ y → IsPastLimit eq y s.store → (store ≡ s.store) × IsEarly z.state → (store' ≡ s.store)
+        × IsEarly (after z answer).state
+    next_early (resizes.Reserve more) is late
+        (same, h) = subst (λ y. (store' ≡ s.store) × IsEarly (after_in y z.mode z.initial z.number answer z.state)) (sym is)
+        (early_stage more (much_none (length (content eq s.store) + more) late) z.state refl same h)
     next_early _ is late h = absurd late
 
     -- and where no pairs are being moved, the end of a resize does nothing
-    calm_stage : next_of s.store ≡ 0 → (stage : State) → z.state ≡ stage → store ≡ s.store → IsCalm s.store.words.root stage → (store' ≡ s.store) × IsCalm s.store.words.root (after_in resizes.CopyAll z.mode z.initial z.number answer stage)
+    calm_stage : next_of s.store ≡ 0 → (stage : State) → z.state ≡ stage → store ≡ s.store → IsCalm s.store.words.root stage → (store' ≡ s.store)
+        × IsCalm s.store.words.root (after_in resizes.CopyAll z.mode z.initial z.number answer stage)
     calm_stage last stages.AtRoot at same h =
         let (is, stays) = performs_at (copies.Load Root) (ap asks_in at) in (
           stays ∙ same,
           subst (λ a. IsCalm s.store.words.root (after_in resizes.CopyAll z.mode z.initial z.number a stages.AtRoot)) (sym is)
-              (cond_both (store.words.root == 0) stages.Done (stages.Looking store.words.root 0 None) (IsCalm s.store.words.root) (λ _. tt) (λ _. ap (λ (y : StoreState K V S). y.words.root) same)),
+              (cond_both (store.words.root == 0) stages.Done (stages.Looking store.words.root 0 None) (IsCalm s.store.words.root) (λ _. tt)
+              (λ _. ap (λ (y : StoreState K V S). y.words.root) same)),
         )
     calm_stage last (stages.Looking t len None) at same here =
         let (is, stays) = performs_at (copies.Load (Next t)) (ap asks_in at) in
-        let zeroed : word_at store.words (Next t) ≡ 0 = ap (λ n. word_at store.words (Next n)) here ∙ ap (λ (y : StoreState K V S). word_at y.words (Next s.store.words.root)) same ∙ last_next s.store last in
-        (stays ∙ same, subst (λ a. IsCalm s.store.words.root (after_in resizes.CopyAll z.mode z.initial z.number a (stages.Looking t len None))) (sym is) (subst (λ n. IsCalm s.store.words.root (at_next z.mode t len None n)) (sym zeroed) tt))
+        let zeroed : word_at store.words (Next t) ≡ 0 = ap (λ n. word_at store.words (Next n)) here
+        ∙ ap (λ (y : StoreState K V S). word_at y.words (Next s.store.words.root)) same ∙ last_next s.store last in (
+          stays ∙ same,
+          subst (λ a. IsCalm s.store.words.root (after_in resizes.CopyAll z.mode z.initial z.number a (stages.Looking t len None)))
+              (sym is) (subst (λ n. IsCalm s.store.words.root (at_next z.mode t len None n)) (sym zeroed) tt),
+        )
     calm_stage last (stages.Looking t len (Some room)) at same h = absurd h
     calm_stage last stages.Done at same h = let f : None ≡ Some ask = sym (ap asks_in at) ∙ asked in absurd cc
     calm_stage last _ at same h = absurd h
@@ -221,5 +254,6 @@ module _ {K V S : Type 0} (eq : K → K → Bool) (hash : S → K → ℕ) (s : 
       sized = next_sized;
       caused = next_caused;
       early = λ late. next_early resize resize_is late (now.early late);
-      calm = λ is last. subst (λ y. (store' ≡ s.store) × IsCalm s.store.words.root (after_in y z.mode z.initial z.number answer z.state)) (sym (resize_is ∙ is)) (calm_stage last z.state refl (now.calm is last).0 (now.calm is last).1);
+      calm = λ is last. subst (λ y. (store' ≡ s.store) × IsCalm s.store.words.root (after_in y z.mode z.initial z.number answer z.state))
+          (sym (resize_is ∙ is)) (calm_stage last z.state refl (now.calm is last).0 (now.calm is last).1);
     }

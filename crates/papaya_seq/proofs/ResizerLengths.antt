@@ -1,5 +1,7 @@
 -- How long the tables are that a call makes which resizes a map for one caller: none is shorter than the initial capacity.
-use Rattle.std.proofs.Common.{◌≡◌, inl, inr, ⊎_elim, ℕ, ◌+◌, ◌==◌, ◌<◌, ◌≤◌, ◌^◌, nat_le, Bool, false, List, [], ◌∷◌, max, Option, None, Some, option_map, refl, sym, ◌∙◌, ap, subst, arith}
+use Rattle.std.proofs.Common.{◌≡◌, inl, inr, ⊎_elim, ℕ, ◌+◌, ◌==◌, ◌<◌, ◌≤◌, ◌^◌, nat_le, Bool}
+use Rattle.std.proofs.Common.{false, List, [], ◌∷◌, max, Option, None, Some, option_map, refl, sym}
+use Rattle.std.proofs.Common.{◌∙◌, ap, subst, arith}
 use Rattle.std.proofs.lemmas.Bool.{cases_lt, cond_both, eqb-true, leb-false}
 use Rattle.std.proofs.lemmas.List.Elements.{All-append, All-cons, All-contains, All-nil, Contains-append_left}
 use Rattle.std.specs.List.{All, Contains}
@@ -26,7 +28,9 @@ use Rattle.papaya_chain.specs.declared.resizer.Room.{Room}
 use Rattle.papaya_chain.specs.declared.resizer.State.{State}
 use Rattle.papaya_chain.specs.declared.resizer.State.TheVariants as stages
 use Rattle.papaya_chain.specs.Machine as machine
-use Rattle.papaya_chain.specs.Resizer.{after, after_in, ask_of, asks_in, at_count, at_last, at_next, at_root, called, copied, copies as copies_root, counted, judges, linked, makes, over, told_root}
+use Rattle.papaya_chain.specs.Resizer.{after, after_in, ask_of, asks_in, at_count, at_last, at_next}
+use Rattle.papaya_chain.specs.Resizer.{at_root, called, copied, copies as copies_root, counted}
+use Rattle.papaya_chain.specs.Resizer.{judges, linked, makes, over, told_root}
 use Rattle.papaya_chain.specs.Room.{entries_of, room_of, room_of_len}
 use Rattle.papaya_call_law.specs.Copier.{link_in_copying}
 use Rattle.papaya_chain_law.proofs.CopyRefusals.{copying_asks}
@@ -61,7 +65,8 @@ module _ (initial : ℕ) where
 
   -- the room that is made has slots enough where the least table has
   room_enough : initial ≤ 8 → (pairs : ℕ) → IsRoomy (room_of pairs)
-  room_enough few pairs = cond_both (nat_le (entries_of pairs) (2 ^ 32)) (Some (room_of_len (max (entries_of pairs) 8))) None IsRoomy (λ _. omega (arith, few)) (λ _. tt)
+  room_enough few pairs = cond_both (nat_le (entries_of pairs) (2 ^ 32)) (Some (room_of_len (max (entries_of pairs) 8))) None IsRoomy
+      (λ _. omega (arith, few)) (λ _. tt)
 
   module _ (lengths : List ℕ) where
     -- what a resizer goes by
@@ -75,9 +80,12 @@ module _ (initial : ℕ) where
 
     -- a table that it asks for is long enough
     pub stage_good : (stage : State) (slots limit chunks : ℕ) → asks_in stage ≡ Some (copies.MakeTable slots limit chunks) → IsLongStage stage → initial ≤ slots
-    stage_good (stages.Making room) slots limit chunks e h = let same : room.len ≡ slots = (let f : copies.MakeTable room.len room.limit 0 ≡ copies.MakeTable slots limit chunks = cc e in cc f) in subst (λ n. initial ≤ n) same h
-    stage_good (stages.Linking made) slots limit chunks e h = link_good IsEnough lengths made slots limit chunks (let f : link_ask made ≡ copies.MakeTable slots limit chunks = cc e in f) h
-    stage_good (stages.Copying from goes) slots limit chunks e h = copy_good IsEnough lengths goes slots limit chunks (let f : copying_ask goes ≡ copies.MakeTable slots limit chunks = cc e in f) h
+    stage_good (stages.Making room) slots limit chunks e h = let same : room.len
+        ≡ slots = (let f : copies.MakeTable room.len room.limit 0 ≡ copies.MakeTable slots limit chunks = cc e in cc f) in subst (λ n. initial ≤ n) same h
+    stage_good (stages.Linking made) slots limit chunks e h = link_good IsEnough lengths made slots limit chunks
+        (let f : link_ask made ≡ copies.MakeTable slots limit chunks = cc e in f) h
+    stage_good (stages.Copying from goes) slots limit chunks e h = copy_good IsEnough lengths goes slots limit chunks
+        (let f : copying_ask goes ≡ copies.MakeTable slots limit chunks = cc e in f) h
     stage_good other slots limit chunks e h = absurd cc
 
     -- where it goes on while nothing is linked or copied
@@ -86,13 +94,15 @@ module _ (initial : ℕ) where
     makes_long (Some room) h = h
 
     root_long : (resize : Resize) (root : ℕ) → (root ≡ 0 → initial ≤ 8) → IsLongStage (at_root resize root)
-    root_long (resizes.Reserve more) root first = cond_both (root == 0) (makes (room_of more)) (stages.Sizing root) IsLongStage (λ e. makes_long (room_of more) (room_enough (first (eqb-true root 0 e)) more)) (λ _. tt)
+    root_long (resizes.Reserve more) root first = cond_both (root == 0) (makes (room_of more)) (stages.Sizing root) IsLongStage
+        (λ e. makes_long (room_of more) (room_enough (first (eqb-true root 0 e)) more)) (λ _. tt)
     root_long resizes.Chunk root first = cond_both (root == 0) stages.Done (stages.Looking root 0 None) IsLongStage (λ _. tt) (λ _. tt)
     root_long resizes.CopyAll root first = cond_both (root == 0) stages.Done (stages.Looking root 0 None) IsLongStage (λ _. tt) (λ _. tt)
 
     judges_long : (root len : ℕ) (room : Option Room) → initial ≤ len → IsLongStage (judges root len room)
     judges_long root len None h = tt
-    judges_long root len (Some room) h = cond_both (nat_le room.len len) stages.Done (stages.Looking root len (Some room)) IsLongStage (λ _. tt) (λ e. let more = leb-false room.len len e in omega (arith, more, h))
+    judges_long root len (Some room) h = cond_both (nat_le room.len len) stages.Done (stages.Looking root len (Some room)) IsLongStage (λ _. tt)
+        (λ e. let more = leb-false room.len len e in omega (arith, more, h))
 
     count_long : (resize : Resize) (root len count : ℕ) → initial ≤ len → IsLongStage (at_count resize root len count)
     count_long (resizes.Reserve more) root len count h = judges_long root len (room_of (count + more)) h
@@ -104,7 +114,8 @@ module _ (initial : ℕ) where
     last_long mode root len (Some room) h = h
 
     next_long : (mode : ResizeMode) (root len : ℕ) (room : Option Room) (next : ℕ) → IsRoomy room → IsLongStage (at_next mode root len room next)
-    next_long mode root len room next h = cond_both (next == 0) (at_last mode root len room) (copies_root root) IsLongStage (λ _. last_long mode root len room h) (λ _. tt)
+    next_long mode root len room next h = cond_both (next == 0) (at_last mode root len room) (copies_root root) IsLongStage
+        (λ _. last_long mode root len room h) (λ _. tt)
 
     module _ (resize : Resize) (mode : ResizeMode) (answer : Answer) (stage : State) where
       -- what is so of the answer: a root that it has not loaded is wanted to be none where the least table is long enough, and sizes and counts are those of the map
@@ -114,7 +125,8 @@ module _ (initial : ℕ) where
         pub sizes : (made : Link) → stage_link stage ≡ Some made → Sizes IsEnough lengths mode initial answer made
         pub counts : (made : Link) → stage_link stage ≡ Some made → Counts IsEnough lengths mode initial answer made
 
-    told_long : (resize : Resize) (mode : ResizeMode) (stage : State) (a : Call_answer) → IsToldSo resize mode (answers.Call a) stage → IsLongStage stage → IsLongStage (told_root resize mode stage a)
+    told_long : (resize : Resize) (mode : ResizeMode) (stage : State) (a : Call_answer) → IsToldSo resize mode (answers.Call a) stage
+        → IsLongStage stage → IsLongStage (told_root resize mode stage a)
     told_long resize mode stages.AtRoot (told.Word root) so h = root_long resize root (so.root root refl refl)
     told_long resize mode (stages.Making room) (told.Made table) so h = tt
     told_long resize mode (stages.Making room) (told.Refused refused) so h = tt
@@ -128,7 +140,8 @@ module _ (initial : ℕ) where
     counted_long resize (stages.Counting root len) count h = count_long resize root len count h
     counted_long resize stage count h = h
 
-    called_long : (resize : Resize) (mode : ResizeMode) (stage : State) (a : Answer) → IsToldSo resize mode a stage → IsLongStage stage → IsLongStage (called resize mode stage a)
+    called_long : (resize : Resize) (mode : ResizeMode) (stage : State) (a : Answer) → IsToldSo resize mode a stage → IsLongStage stage
+        → IsLongStage (called resize mode stage a)
     called_long resize mode stage (answers.Call a) so h = told_long resize mode stage a so h
     called_long resize mode stage (answers.Count count) so h = counted_long resize stage count h
     called_long resize mode stage (answers.Hash hash) so h = h
@@ -145,16 +158,23 @@ module _ (initial : ℕ) where
     over_long (resizes.Reserve more) = tt
 
     -- a copy led there
-    copied_long : (resize : Resize) (mode : ResizeMode) (from : ℕ) (answer : Answer) (o : Option Link) (end : Copied) → IsCopyLedFrom mode initial answer o end → ((made : Link) → o ≡ Some made → Sizes IsEnough lengths mode initial answer made) → ((made : Link) → o ≡ Some made → Counts IsEnough lengths mode initial answer made) → In (IsLongLink IsEnough lengths) o → IsLongStage (copied resize from end)
-    copied_long resize mode from answer o (copied_to.On copying) led sizes counts h = led_long IsEnough lengths mode initial answer o (link_in_copying copying) led sizes counts h
+    copied_long : (resize : Resize) (mode : ResizeMode) (from : ℕ) (answer : Answer) (o : Option Link) (end : Copied)
+        → IsCopyLedFrom mode initial answer o end → ((made : Link) → o ≡ Some made → Sizes IsEnough lengths mode initial answer made)
+        → ((made : Link) → o ≡ Some made → Counts IsEnough lengths mode initial answer made) → In (IsLongLink IsEnough lengths) o
+        → IsLongStage (copied resize from end)
+    copied_long resize mode from answer o (copied_to.On copying) led sizes counts h = led_long IsEnough lengths mode initial answer o
+        (link_in_copying copying) led sizes counts h
     copied_long resize mode from answer o (copied_to.Refused refused) led sizes counts h = tt
     copied_long resize mode from answer o (copied_to.Search table) led sizes counts h = over_long resize
     copied_long resize mode from answer o (copied_to.Root root) led sizes counts h = over_long resize
     copied_long resize mode from answer o copied_to.Chunk led sizes counts h = over_long resize
 
-    pub stage_long : (resize : Resize) (mode : ResizeMode) (number : ℕ) (answer : Answer) (stage : State) → IsToldSo resize mode answer stage → IsLongStage stage → IsLongStage (after_in resize mode initial number answer stage)
-    stage_long resize mode number answer (stages.Linking link) so h = linked_long (follows link) (machine.link_after link mode initial answer) (after_long IsEnough lengths mode initial link answer (so.sizes link refl) (so.counts link refl) h)
-    stage_long resize mode number answer (stages.Copying from goes) so h = copied_long resize mode from answer (link_in_copying goes) (machine.copying_after goes mode initial number answer) (copying_leads mode initial answer goes number) so.sizes so.counts h
+    pub stage_long : (resize : Resize) (mode : ResizeMode) (number : ℕ) (answer : Answer) (stage : State) → IsToldSo resize mode answer stage
+        → IsLongStage stage → IsLongStage (after_in resize mode initial number answer stage)
+    stage_long resize mode number answer (stages.Linking link) so h = linked_long (follows link) (machine.link_after link mode initial answer)
+        (after_long IsEnough lengths mode initial link answer (so.sizes link refl) (so.counts link refl) h)
+    stage_long resize mode number answer (stages.Copying from goes) so h = copied_long resize mode from answer (link_in_copying goes)
+        (machine.copying_after goes mode initial number answer) (copying_leads mode initial answer goes number) so.sizes so.counts h
     stage_long resize mode number answer stages.AtRoot so h = called_long resize mode stages.AtRoot answer so h
     stage_long resize mode number answer (stages.Making room) so h = called_long resize mode (stages.Making room) answer so h
     stage_long resize mode number answer (stages.Opening table) so h = called_long resize mode (stages.Opening table) answer so h
@@ -180,7 +200,13 @@ module _ {K V S : Type 0} (s : MapState K V S) where
 
   -- as it begins
   pub resize_long_begun : IsLongEnough s.initial s.store.words → (z : Resizer) → z.state ≡ stages.AtRoot → IsLongResize s.store z
-  resize_long_begun enough z at_root = record { enough = enough.tables; stage = subst (IsLongStage s.initial (lengths_of s.store.words)) (sym at_root) tt; rooted = λ some. some; first = enough.first }
+  resize_long_begun enough z at_root = record {
+    enough = enough.tables;
+    stage = subst (IsLongStage s.initial (lengths_of s.store.words)) (sym at_root)
+        tt;
+    rooted = λ some. some;
+    first = enough.first;
+  }
 
   -- where there is no root there was none
   no_root : (store : StoreState K V S) (z : Resizer) → IsLongResize store z → store.words.root ≡ 0 → s.initial ≤ LEAST_TABLE_LEN
@@ -193,7 +219,9 @@ module _ {K V S : Type 0} (s : MapState K V S) where
   pub resize_long_left : (store : StoreState K V S) (z : Resizer) → IsLongResize store z → IsLongEnough s.initial store.words
   resize_long_left store z long = record { tables = long.enough; first = no_root store z long }
 
-  module _ (eq : K → K → Bool) (hash : S → K → ℕ) (store : StoreState K V S) (z : Resizer) (ask : CopyAsk) (answer : Answer) (store' : StoreState K V S) (asked : ask_of z ≡ Some ask) (performs : PerformsCopy eq hash false ask store answer store') (initial_is : z.initial ≡ s.initial)
+  module _ (eq : K → K → Bool) (hash : S → K → ℕ) (store : StoreState K V S) (z : Resizer) (ask : CopyAsk) (answer : Answer)
+      (store' : StoreState K V S) (asked : ask_of z ≡ Some ask) (performs : PerformsCopy eq hash false ask store answer store')
+      (initial_is : z.initial ≡ s.initial)
       (stays : 0 < store.words.root → 0 < store'.words.root) (long : IsLongResize store z) where
     abbrev lengths : List ℕ
     lengths = lengths_of store.words
@@ -209,9 +237,11 @@ module _ {K V S : Type 0} (s : MapState K V S) where
     lengthened : IsLengthened (IsEnough s.initial) store store'
     lengthened = of_ask (copy_long eq false hash ask store answer store' performs)
       where
-        of_ask : IsLengthened (λ slots. (limit chunks : ℕ) × (ask ≡ copies.MakeTable slots limit chunks)) store store' → IsLengthened (IsEnough s.initial) store store'
+        of_ask : IsLengthened (λ slots. (limit chunks : ℕ) × (ask ≡ copies.MakeTable slots limit chunks)) store store'
+            → IsLengthened (IsEnough s.initial) store store'
         of_ask (inl same) = inl same
-        of_ask (inr (slots, (limit, chunks, is), more)) = inr (slots, stage_good s.initial lengths z.state slots limit chunks (asked ∙ ap (λ x. Some x) is) long.stage, more)
+        of_ask (inr (slots, (limit, chunks, is), more)) = inr
+            (slots, stage_good s.initial lengths z.state slots limit chunks (asked ∙ ap (λ x. Some x) is) long.stage, more)
 
     still_there : (len : ℕ) → Contains lengths len → Contains lengths' len
     still_there len there = ⊎_elim
@@ -222,13 +252,16 @@ module _ {K V S : Type 0} (s : MapState K V S) where
     all_enough : All (IsEnough s.initial) lengths'
     all_enough = ⊎_elim
         (λ same. subst (All (IsEnough s.initial)) (sym same) long.enough)
-        (λ grown. let (slots, enough, more) = grown in subst (All (IsEnough s.initial)) (sym more) (All-append (IsEnough s.initial) lengths (slots ∷ []) long.enough (All-cons (IsEnough s.initial) slots [] enough (All-nil _))))
+        (λ grown. let (slots, enough, more) = grown in
+        subst (All (IsEnough s.initial)) (sym more)
+        (All-append (IsEnough s.initial) lengths (slots ∷ []) long.enough (All-cons (IsEnough s.initial) slots [] enough (All-nil _))))
         lengthened
 
     -- what it goes by stays
     stage_beside : (stage : State) → IsLongStage s.initial lengths stage → IsLongStage s.initial lengths' stage
     stage_beside (stages.Linking link) h = long_beside (IsEnough s.initial) (IsEnough s.initial) lengths lengths' (λ n enough. enough) still_there (Some link) h
-    stage_beside (stages.Copying from goes) h = long_beside (IsEnough s.initial) (IsEnough s.initial) lengths lengths' (λ n enough. enough) still_there (link_in_copying goes) h
+    stage_beside (stages.Copying from goes) h = long_beside (IsEnough s.initial) (IsEnough s.initial) lengths lengths' (λ n enough. enough)
+        still_there (link_in_copying goes) h
     stage_beside other h = h
 
     -- a size that was answered is that of a table
@@ -248,15 +281,18 @@ module _ {K V S : Type 0} (s : MapState K V S) where
           let same : store.words.root ≡ root = cc f in
           no_root store z long (same ∙ none);
       size = λ slots limit is root at. All-contains (IsEnough s.initial) lengths slots long.enough (size_there root slots limit (ap asks_in at) is);
-      sizes = λ made e slots limit is behind copied unfit sizing. still_there slots (size_there behind slots limit (stage_asks z.state made e ∙ ap (λ x. Some (link_ask x)) sizing) is);
-      counts = λ made e count is behind before copied unfit counting there. next_enough s.initial before count unfit (All-contains (IsEnough s.initial) lengths' before all_enough there);
+      sizes = λ made e slots limit is behind copied unfit sizing.
+          still_there slots (size_there behind slots limit (stage_asks z.state made e ∙ ap (λ x. Some (link_ask x)) sizing) is);
+      counts = λ made e count is behind before copied unfit counting there.
+          next_enough s.initial before count unfit (All-contains (IsEnough s.initial) lengths' before all_enough there);
     }
 
     -- one more ask is answered
     pub resize_long_more : IsLongResize store' (after z answer)
     resize_long_more = record {
       enough = all_enough;
-      stage = subst (λ n. IsLongStage s.initial lengths' (after_in z.resize z.mode n z.number answer z.state)) (sym initial_is) (stage_long s.initial lengths' z.resize z.mode z.number answer z.state told_so (stage_beside z.state long.stage));
+      stage = subst (λ n. IsLongStage s.initial lengths' (after_in z.resize z.mode n z.number answer z.state)) (sym initial_is)
+          (stage_long s.initial lengths' z.resize z.mode z.number answer z.state told_so (stage_beside z.state long.stage));
       rooted = λ some. stays (long.rooted some);
       first = long.first;
     }

@@ -1,5 +1,7 @@
 -- A call of a map for one caller that resizes it, from its begin to its reply.
-use Rattle.std.proofs.Common.{◌≡◌, ◌⊎◌, inl, inr, ⊎_elim, ℕ, ◌+◌, ◌^◌, ◌<◌, ◌≤◌, Bool, true, false, FitsSigned, List, [], length, None, Some, refl, sym, ◌∙◌, ap, subst, arith}
+use Rattle.std.proofs.Common.{◌≡◌, ◌⊎◌, inl, inr, ⊎_elim, ℕ, ◌+◌, ◌^◌, ◌<◌, ◌≤◌, Bool, true, false}
+use Rattle.std.proofs.Common.{FitsSigned, List, [], length, None, Some, refl, sym, ◌∙◌, ap, subst}
+use Rattle.std.proofs.Common.{arith}
 use Rattle.std.proofs.lemmas.Bool.{cases_eq}
 use Rattle.std.specs.Cmp.{IsEquivalence}
 use Rattle.std.specs.Int.{w64}
@@ -39,13 +41,16 @@ use Rattle.papaya_seq.proofs.Alone.{map_answered, map_hasher, map_lawful, map_lo
 use Rattle.papaya_seq.proofs.Counting.{counted_sum}
 use Rattle.papaya_seq.proofs.Lawful.{core_root_there}
 use Rattle.papaya_seq.proofs.ResizerCauses.{IsCalm, IsCaused, IsCauseOf, IsEarly, caused_begun, caused_more}
-use Rattle.papaya_seq.proofs.ResizerSteps.{HasResizedTo, ResizeCall, asking_goes, call_for, resize_begun, resize_caused, resize_grown, resize_more, resize_nears, resize_over, resizer_left}
+use Rattle.papaya_seq.proofs.ResizerSteps.{HasResizedTo, ResizeCall, asking_goes, call_for}
+use Rattle.papaya_seq.proofs.ResizerSteps.{resize_begun, resize_caused, resize_grown, resize_more}
+use Rattle.papaya_seq.proofs.ResizerSteps.{resize_nears, resize_over, resizer_left}
 use Rattle.papaya_seq.proofs.Rooms.{room_is}
 use Rattle.papaya_seq.proofs.Turns.{IsOver}
 use Rattle.papaya_seq.proofs.Unmarked.{next_is}
 
 -- one that asks for nothing more is done or refused
-replied_in : (stage : State) → asks_in stage ≡ None → (reply_in stage ≡ Some Reply_done) ⊎ ((refused : Refused) × (reply_in stage ≡ Some (Reply_refused refused)))
+replied_in : (stage : State) → asks_in stage ≡ None → (reply_in stage ≡ Some Reply_done)
+    ⊎ ((refused : Refused) × (reply_in stage ≡ Some (Reply_refused refused)))
 replied_in stages.Done e = inl refl
 replied_in (stages.Refused refused) e = inr (refused, refl)
 replied_in _ e = absurd (cc e)
@@ -89,7 +94,9 @@ module _ {K V S : Type 0} (eq : K → K → Bool) (hash : S → K → ℕ) (s : 
     pub causes : IsCaused eq hash s resize store z
     pub standing : IsStandingResizer z
 
-module _ {K V S H : Type 0} (eq : K → K → Bool) (input : K → List (List ℕ)) (build : S → H) (write : H → List ℕ → H) (finish : H → ℕ) (classes : IsEquivalence eq) (respects : (x y : K) → eq x y ≡ true → input x ≡ input y) (s : MapState K V S) (resize : Resize) (lawful : IsLawfulMap eq (hash_of input build write finish s.store.hasher) s.store s.mode s.initial) where
+module _ {K V S H : Type 0} (eq : K → K → Bool) (input : K → List (List ℕ)) (build : S → H) (write : H → List ℕ → H) (finish : H → ℕ)
+    (classes : IsEquivalence eq) (respects : (x y : K) → eq x y ≡ true → input x ≡ input y) (s : MapState K V S) (resize : Resize)
+    (lawful : IsLawfulMap eq (hash_of input build write finish s.store.hasher) s.store s.mode s.initial) where
   abbrev hash : S → K → ℕ
   hash = hash_of input build write finish
 
@@ -97,7 +104,8 @@ module _ {K V S H : Type 0} (eq : K → K → Bool) (input : K → List (List �
   IsGoing store z = IsResizingTo eq hash s resize store z
 
   -- it begins
-  pub resizing_begun : (resize ≡ resizes.Chunk → ⊥) → (z : Resizer) (number : ℕ) → z ≡ begun resize s.mode.resize s.initial number → IsStandingResizer z → IsGoing s.store z
+  pub resizing_begun : (resize ≡ resizes.Chunk → ⊥) → (z : Resizer) (number : ℕ) → z ≡ begun resize s.mode.resize s.initial number
+      → IsStandingResizer z → IsGoing s.store z
   resizing_begun whole z number is standing =
       let call = call_for resize whole in
       subst (IsGoing s.store) (sym is) (record {
@@ -112,10 +120,12 @@ module _ {K V S H : Type 0} (eq : K → K → Bool) (input : K → List (List �
     pairs : count_of s.store.count.sum ≡ length (content eq s.store)
     pairs = ap count_of (counted_sum eq s.store lawful.counted fits)
 
-    module _ (store : StoreState K V S) (z : Resizer) (ask : CopyAsk) (answer : Answer) (store' : StoreState K V S) (asked : ask_of z ≡ Some ask) (performs : PerformsCopy eq hash false ask store answer store') (now : IsGoing store z) where
+    module _ (store : StoreState K V S) (z : Resizer) (ask : CopyAsk) (answer : Answer) (store' : StoreState K V S) (asked : ask_of z ≡ Some ask)
+        (performs : PerformsCopy eq hash false ask store answer store') (now : IsGoing store z) where
       -- the answer is within the limits
       pub resizing_fit : IsFit answer
-      resizing_fit = (performed_copy eq hash false ask store answer store' (unnumbered store.words.tables (now.came.lone (asking_goes z ask asked)).lawful.core.sizes) (resizer_fits z now.standing ask asked) performs).fit
+      resizing_fit = (performed_copy eq hash false ask store answer store'
+          (unnumbered store.words.tables (now.came.lone (asking_goes z ask asked)).lawful.core.sizes) (resizer_fits z now.standing ask asked) performs).fit
 
       -- less is left
       pub resizing_nears : resizer_left store' (after z answer) < resizer_left store z
@@ -155,18 +165,22 @@ module _ {K V S H : Type 0} (eq : K → K → Bool) (input : K → List (List �
         }
 
       -- the root's table is there, and has slots within the limits
-      root_table : IsLawfulMap eq (hash store.hasher) store s.mode s.initial → 0 < store.words.root → (t : TableWords) × (table_of store.words.tables store.words.root ≡ Some t) × (length t.slots ≤ 2 ^ 32)
+      root_table : IsLawfulMap eq (hash store.hasher) store s.mode s.initial → 0 < store.words.root → (t : TableWords)
+          × (table_of store.words.tables store.words.root ≡ Some t) × (length t.slots ≤ 2 ^ 32)
       root_table orderly some =
-          let (t, there) = core_root_there eq (hash store.hasher) [] s.mode store orderly.lawful (keys_lawful eq input build write finish classes respects store.hasher) (λ none. absurd (omega (arith, some, none))) in
+          let (t, there) = core_root_there eq (hash store.hasher) [] s.mode store orderly.lawful
+          (keys_lawful eq input build write finish classes respects store.hasher) (λ none. absurd (omega (arith, some, none))) in
           (t, there, (orderly.lawful.core.sizes store.words.root t there).most)
 
-      has_room : (more : ℕ) → IsLawfulMap eq (hash store.hasher) store s.mode s.initial → IsResized (resizes.Reserve more) store → HasRoomFor eq s.store more store
+      has_room : (more : ℕ) → IsLawfulMap eq (hash store.hasher) store s.mode s.initial → IsResized (resizes.Reserve more) store
+          → HasRoomFor eq s.store more store
       has_room more orderly (some, enough) =
           let (t, there, most) = root_table orderly some in
           let counted : count_of store.count.sum ≡ length (content eq s.store) = ap (λ (y : StoreState K V S). count_of y.count.sum) now.came.logs ∙ pairs in
           let slots : slots_of store ≡ length t.slots = ap slots_in there in
           let kept_slots : kept.slots_in (table_of store.words.tables store.words.root) ≡ length t.slots = ap kept.slots_in there in
-          let le : entries_of (length (content eq s.store) + more) ≤ slots_of store = subst (λ n. entries_of (n + more) ≤ slots_of store) counted (subst (λ n. entries_of (count_of store.count.sum + more) ≤ n) (kept_slots ∙ sym slots) enough) in
+          let le : entries_of (length (content eq s.store) + more) ≤ slots_of store = subst (λ n. entries_of (n + more) ≤ slots_of store) counted
+          (subst (λ n. entries_of (count_of store.count.sum + more) ≤ n) (kept_slots ∙ sym slots) enough) in
           room_is (length (content eq s.store) + more) (slots_of store) (subst (λ n. n ≤ 2 ^ 32) (sym slots) most) le
 
       -- the root has no next table, or there is no root
@@ -184,7 +198,8 @@ module _ {K V S H : Type 0} (eq : K → K → Bool) (input : K → List (List �
       resized_done told = by_resize resize (resized_lawful Reply_done told) (now.came.done told)
 
       -- a refusal has a cause
-      refusal : (y : Resize) → resize ≡ y → (refused : Refused) → reply_of z ≡ Some (Reply_refused refused) → IsCauseOf eq hash s resize y refused (record s { store = store }) → IsResizeRefusal eq y s refused (record s { store = store })
+      refusal : (y : Resize) → resize ≡ y → (refused : Refused) → reply_of z ≡ Some (Reply_refused refused)
+          → IsCauseOf eq hash s resize y refused (record s { store = store }) → IsResizeRefusal eq y s refused (record s { store = store })
       refusal (resizes.Reserve more) is refused told because = because
       refusal resizes.CopyAll is refused told because = (by_next (cases_eq (next_of s.store) 0), because)
         where
@@ -201,8 +216,10 @@ module _ {K V S H : Type 0} (eq : K → K → Bool) (input : K → List (List �
       resized_past late none = let early = now.causes.early late in (early_ends z.state none early.1, early.0)
 
       -- a call that resizes the map leaves it
-      same_by : (IsLeftBy now.call.call (map_in eq s.store) (map_in eq store) → Same (map_in eq s.store) (map_in eq store)) × (IsDoneBy now.call.call (map_in eq s.store) (map_in eq store) → Same (map_in eq s.store) (map_in eq store))
-      same_by = resized_same (λ k. 0) s.mode s.initial 0 now.call.call (begun resize s.mode.resize s.initial 0) (now.call.begins (λ k. 0) s.mode s.initial 0) (map_in eq s.store) (map_in eq store)
+      same_by : (IsLeftBy now.call.call (map_in eq s.store) (map_in eq store) → Same (map_in eq s.store) (map_in eq store))
+          × (IsDoneBy now.call.call (map_in eq s.store) (map_in eq store) → Same (map_in eq s.store) (map_in eq store))
+      same_by = resized_same (λ k. 0) s.mode s.initial 0 now.call.call (begun resize s.mode.resize s.initial 0)
+          (now.call.begins (λ k. 0) s.mode s.initial 0) (map_in eq s.store) (map_in eq store)
 
       -- no pair of the map changes
       pub resized_unchanged : ask_of z ≡ None → Unchanged eq s.store store

@@ -35,7 +35,8 @@ module _ (Sized : ℕ → ℕ → Type 0) where
   IsSizedStage _ = Unit {0}
 
   -- in other words
-  pub stage_has : (stage : State) → IsSizedStage stage → (behind slots copied : ℕ) (unfit : Bool) → HasLink stage (links.Counting behind unfit slots copied) → Sized behind slots
+  pub stage_has : (stage : State) → IsSizedStage stage → (behind slots copied : ℕ) (unfit : Bool)
+      → HasLink stage (links.Counting behind unfit slots copied) → Sized behind slots
   stage_has (stages.Linking link) h behind slots copied unfit e = subst (IsSizedLink Sized) e h
   stage_has (stages.Copying from copying) h behind slots copied unfit e = is_sized Sized (link_in_copying copying) h behind slots copied unfit e
   stage_has _ h behind slots copied unfit e = absurd e
@@ -54,10 +55,12 @@ module _ (Sized : ℕ → ℕ → Type 0) where
   last_sized mode root len (Some room) = tt
 
   next_sized : (mode : ResizeMode) (root len : ℕ) (room : Option Room) (next : ℕ) → IsSizedStage (at_next mode root len room next)
-  next_sized mode root len room next = cond_both (next == 0) (at_last mode root len room) (copies root) IsSizedStage (λ _. last_sized mode root len room) (λ _. tt)
+  next_sized mode root len room next = cond_both (next == 0) (at_last mode root len room) (copies root) IsSizedStage
+      (λ _. last_sized mode root len room) (λ _. tt)
 
   root_sized : (resize : Resize) (root : ℕ) → IsSizedStage (at_root resize root)
-  root_sized (resizes.Reserve more) root = cond_both (root == 0) (makes (room_of more)) (stages.Sizing root) IsSizedStage (λ _. makes_sized (room_of more)) (λ _. tt)
+  root_sized (resizes.Reserve more) root = cond_both (root == 0) (makes (room_of more)) (stages.Sizing root) IsSizedStage
+      (λ _. makes_sized (room_of more)) (λ _. tt)
   root_sized resizes.Chunk root = cond_both (root == 0) stages.Done (stages.Looking root 0 None) IsSizedStage (λ _. tt) (λ _. tt)
   root_sized resizes.CopyAll root = cond_both (root == 0) stages.Done (stages.Looking root 0 None) IsSizedStage (λ _. tt) (λ _. tt)
 
@@ -96,7 +99,8 @@ module _ (Sized : ℕ → ℕ → Type 0) where
   over_sized resizes.CopyAll = tt
   over_sized (resizes.Reserve more) = tt
 
-  copied_sized : (resize : Resize) (from : ℕ) (end : Copied) → Copied_holds (IsSizedLink Sized) (Told Sized) (New Sized) (stable Sized) end → IsSizedStage (copied resize from end)
+  copied_sized : (resize : Resize) (from : ℕ) (end : Copied) → Copied_holds (IsSizedLink Sized) (Told Sized) (New Sized) (stable Sized) end
+      → IsSizedStage (copied resize from end)
   copied_sized resize from (copied_to.On copying) h = h
   copied_sized resize from (copied_to.Refused refused) h = tt
   copied_sized resize from (copied_to.Search table) h = over_sized resize
@@ -104,7 +108,8 @@ module _ (Sized : ℕ → ℕ → Type 0) where
   copied_sized resize from copied_to.Chunk h = over_sized resize
 
   -- what is told of a link
-  told_in : (o : Option Link) (slots : ℕ) → ((behind copied : ℕ) (unfit : Bool) → o ≡ Some (links.Sizing behind copied unfit) → Sized behind slots) → Of (Told Sized) o slots
+  told_in : (o : Option Link) (slots : ℕ) → ((behind copied : ℕ) (unfit : Bool) → o ≡ Some (links.Sizing behind copied unfit) → Sized behind slots)
+      → Of (Told Sized) o slots
   told_in None slots told = tt
   told_in (Some made) slots told = λ behind copied unfit e. told behind copied unfit (ap (λ y. Some y) e)
 
@@ -113,13 +118,19 @@ module _ (Sized : ℕ → ℕ → Type 0) where
   new_in (Some made) n = tt
 
   -- where it counts by the slots of a table after an answer, it did before, or was told of them
-  pub stage_sized : (resize : Resize) (mode : ResizeMode) (initial number : ℕ) (a : Answer) (stage : State) → ((slots limit : ℕ) → a ≡ answers.Call (told.Size slots limit) → (behind copied : ℕ) (unfit : Bool) → HasLink stage (links.Sizing behind copied unfit) → Sized behind slots) → IsSizedStage stage → IsSizedStage (after_in resize mode initial number a stage)
+  pub stage_sized : (resize : Resize) (mode : ResizeMode) (initial number : ℕ) (a : Answer) (stage : State)
+      → ((slots limit : ℕ) → a ≡ answers.Call (told.Size slots limit) → (behind copied : ℕ) (unfit : Bool)
+      → HasLink stage (links.Sizing behind copied unfit) → Sized behind slots) → IsSizedStage stage → IsSizedStage (after_in resize mode initial number a stage)
   stage_sized resize mode initial number a (stages.Linking link) size h =
       linked_sized (follows link) (machine.link_after link mode initial a)
-      (link_after (IsSizedLink Sized) (Told Sized) (New Sized) (stable Sized) link mode initial a (λ slots limit e. told_in (Some link) slots (λ behind copied unfit is. size slots limit e behind copied unfit (let f : link ≡ links.Sizing behind copied unfit = cc is in f))) (λ n e. new_in (Some link) n) h)
+      (link_after (IsSizedLink Sized) (Told Sized) (New Sized) (stable Sized) link mode initial a
+      (λ slots limit e. told_in (Some link) slots
+      (λ behind copied unfit is. size slots limit e behind copied unfit (let f : link ≡ links.Sizing behind copied unfit = cc is in f)))
+      (λ n e. new_in (Some link) n) h)
   stage_sized resize mode initial number a (stages.Copying from copying) size h =
       copied_sized resize from (machine.copying_after copying mode initial number a)
-      (copying_after (IsSizedLink Sized) (Told Sized) (New Sized) (stable Sized) copying mode initial number a (λ slots limit e. told_in (link_in_copying copying) slots (size slots limit e)) (λ n e. new_in (link_in_copying copying) n) h)
+      (copying_after (IsSizedLink Sized) (Told Sized) (New Sized) (stable Sized) copying mode initial number a
+      (λ slots limit e. told_in (link_in_copying copying) slots (size slots limit e)) (λ n e. new_in (link_in_copying copying) n) h)
   stage_sized resize mode initial number a stages.AtRoot size h = called_sized resize mode stages.AtRoot a h
   stage_sized resize mode initial number a (stages.Making room) size h = called_sized resize mode (stages.Making room) a h
   stage_sized resize mode initial number a (stages.Opening table) size h = called_sized resize mode (stages.Opening table) a h
@@ -130,7 +141,8 @@ module _ (Sized : ℕ → ℕ → Type 0) where
   stage_sized resize mode initial number a (stages.Refused refused) size h = called_sized resize mode (stages.Refused refused) a h
 
 -- so it is where that is so of more numbers
-pub stage_beside : (Sized Sized' : ℕ → ℕ → Type 0) → ((n slots : ℕ) → Sized n slots → Sized' n slots) → (stage : State) → IsSizedStage Sized stage → IsSizedStage Sized' stage
+pub stage_beside : (Sized Sized' : ℕ → ℕ → Type 0) → ((n slots : ℕ) → Sized n slots → Sized' n slots) → (stage : State) → IsSizedStage Sized stage
+    → IsSizedStage Sized' stage
 stage_beside Sized Sized' more (stages.Linking link) h = sized_beside Sized Sized' more (Some link) h
 stage_beside Sized Sized' more (stages.Copying from copying) h = sized_beside Sized Sized' more (link_in_copying copying) h
 stage_beside Sized Sized' more other h = tt

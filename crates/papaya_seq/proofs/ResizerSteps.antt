@@ -1,5 +1,6 @@
 -- A call of a map for one caller that resizes it, as the steps of a core with one seat.
-use Rattle.std.proofs.Common.{◌≡◌, ℕ, suc, ◌^◌, ◌<◌, ◌≤◌, Bool, true, false, Option, None, Some, List, [], ◌∷◌, length, inl, inr, refl, sym, ◌∙◌, ap, subst, arith}
+use Rattle.std.proofs.Common.{◌≡◌, ℕ, suc, ◌^◌, ◌<◌, ◌≤◌, Bool, true, false, Option, None, Some}
+use Rattle.std.proofs.Common.{List, [], ◌∷◌, length, inl, inr, refl, sym, ◌∙◌, ap, subst, arith}
 use Rattle.std.specs.Cmp.{IsEquivalence}
 use Rattle.papaya_words.specs.declared.probe.Refused.{Refused}
 use Rattle.papaya_store.specs.declared.mode.Mode.{Mode}
@@ -64,7 +65,8 @@ use Rattle.papaya_seq.proofs.Turns.{IsOver, begins_so, last_entry, made_over, se
 pub record ResizeCall (K V : Type 0) (resize : Resize) : Type 0 where
   pub call : Call K V (Unit {0})
   pub no_key : key_of call ≡ None
-  pub begins : (hash : K → ℕ) (mode : Mode) (initial number : ℕ) → begun_work hash mode initial number call ≡ works.Resize (begun resize mode.resize initial number)
+  pub begins : (hash : K → ℕ) (mode : Mode) (initial number : ℕ)
+      → begun_work hash mode initial number call ≡ works.Resize (begun resize mode.resize initial number)
   pub at_root : begun_in resize ≡ stages.AtRoot
 
 pub call_for : {K V : Type 0} (resize : Resize) → (resize ≡ resizes.Chunk → ⊥) → ResizeCall K V resize
@@ -95,7 +97,8 @@ module _ {K V S : Type 0} (eq : K → K → Bool) (hash : S → K → ℕ) (s : 
     pub number : ℕ
     pub steps : ℕ
     pub history : History
-    pub runs : StepsRun eq whatever hash 1 0 steps (start eq hash s call.call number) (with_event 0 0 Begun []) (seated_work store (still_resizing z) s.mode s.initial) history
+    pub runs : StepsRun eq whatever hash 1 0 steps (start eq hash s call.call number) (with_event 0 0 Begun [])
+        (seated_work store (still_resizing z) s.mode s.initial) history
     pub replied : (reply : Reply) → reply_of z ≡ Some reply → (last : Entry) × (before : History) × (history ≡ last ∷ before) × (last.event ≡ Replied reply)
     -- until then it is alone, and what it has read stands there
     pub lone : reply_of z ≡ None → IsLoneResizer eq hash (seated_work {A = Unit {0}} store (Some (works.Resize z)) s.mode s.initial) z
@@ -110,7 +113,9 @@ module _ {K V S : Type 0} (eq : K → K → Bool) (hash : S → K → ℕ) (s : 
     -- no table is shorter than the initial capacity
     pub long : IsLongResize s store z
 
-module _ {K V S H : Type 0} (eq : K → K → Bool) (input : K → List (List ℕ)) (build : S → H) (write : H → List ℕ → H) (finish : H → ℕ) (classes : IsEquivalence eq) (respects : (x y : K) → eq x y ≡ true → input x ≡ input y) (s : MapState K V S) (resize : Resize) (call : ResizeCall K V resize) where
+module _ {K V S H : Type 0} (eq : K → K → Bool) (input : K → List (List ℕ)) (build : S → H) (write : H → List ℕ → H) (finish : H → ℕ)
+    (classes : IsEquivalence eq) (respects : (x y : K) → eq x y ≡ true → input x ≡ input y) (s : MapState K V S) (resize : Resize)
+    (call : ResizeCall K V resize) where
   -- the hash of a key
   abbrev hash : S → K → ℕ
   hash = hash_of input build write finish
@@ -132,10 +137,17 @@ module _ {K V S H : Type 0} (eq : K → K → Bool) (input : K → List (List �
       number = number;
       steps = 0;
       history = with_event 0 0 Begun [];
-      runs = (ap (λ o. seated_work s.store o s.mode s.initial) (ap (λ o. goes_on o (works.Resize (begun resize s.mode.resize s.initial number))) (begun_going number) ∙ ap (λ w. Some w) (sym (call.begins (hash s.store.hasher) s.mode s.initial number))), refl);
+      runs = (
+        ap (λ o. seated_work s.store o s.mode s.initial)
+            (ap (λ o. goes_on o (works.Resize (begun resize s.mode.resize s.initial number))) (begun_going number)
+            ∙ ap (λ w. Some w) (sym (call.begins (hash s.store.hasher) s.mode s.initial number))),
+        refl,
+      );
       replied = λ reply e. let f : None ≡ Some reply = sym (begun_going number) ∙ e in absurd cc;
-      lone = λ going. subst (λ w. IsLoneWork eq hash (seated_work {A = Unit {0}} s.store (Some w) s.mode s.initial) w) (call.begins (hash s.store.hasher) s.mode s.initial number)
-          (lone_begin eq hash (core_of s) (keys_lawful eq input build write finish classes respects s.store.hasher) call.call (start eq hash s call.call number) refl lawful.lawful (begins_so eq hash s call.call number hashed lawful.power));
+      lone = λ going. subst (λ w. IsLoneWork eq hash (seated_work {A = Unit {0}} s.store (Some w) s.mode s.initial) w)
+          (call.begins (hash s.store.hasher) s.mode s.initial number)
+          (lone_begin eq hash (core_of s) (keys_lawful eq input build write finish classes respects s.store.hasher) call.call
+          (start eq hash s call.call number) refl lawful.lawful (begins_so eq hash s call.call number hashed lawful.power));
       done = λ e. let f : None ≡ Some Reply_done = sym (begun_going number) ∙ e in absurd cc;
       resize_is = refl;
       initial_is = refl;
@@ -145,17 +157,20 @@ module _ {K V S H : Type 0} (eq : K → K → Bool) (input : K → List (List �
     }
 
     -- it has replied: it was made alone
-    pub resize_over : (store : StoreState K V S) (z : Resizer) (reply : Reply) → reply_of z ≡ Some reply → HasCome store z → IsOver eq hash s call.call store reply
+    pub resize_over : (store : StoreState K V S) (z : Resizer) (reply : Reply) → reply_of z ≡ Some reply → HasCome store z
+        → IsOver eq hash s call.call store reply
     resize_over store z reply told came =
         let ends = came.replied reply told in
         made_over eq hash s call.call came.number hashed lawful.power came.steps store came.history
-        (subst (λ (o : Option Reply). StepsRun eq whatever hash 1 0 came.steps (start eq hash s call.call came.number) (with_event 0 0 Begun []) (seated_work store (goes_on o (works.Resize z)) s.mode s.initial) came.history) told came.runs)
+        (subst (λ (o : Option Reply). StepsRun eq whatever hash 1 0 came.steps (start eq hash s call.call came.number) (with_event 0 0 Begun [])
+        (seated_work store (goes_on o (works.Resize z)) s.mode s.initial) came.history) told came.runs)
         reply ends.0 ends.1 ends.2 ends.3 (resize_long_left s store z came.long)
         (λ most limit.
         subst (λ n. n ≤ store.words.made) (sym (ap (λ (y : StoreState K V S). length y.pairs) came.logs))
         (subst (λ n. length s.store.pairs ≤ n) (sym came.taken) (lawful.numbered most limit)))
 
-    module _ (store : StoreState K V S) (z : Resizer) (ask : CopyAsk) (answer : Answer) (store' : StoreState K V S) (asked : ask_of z ≡ Some ask) (performs : PerformsCopy eq hash false ask store answer store') (came : HasCome store z) where
+    module _ (store : StoreState K V S) (z : Resizer) (ask : CopyAsk) (answer : Answer) (store' : StoreState K V S) (asked : ask_of z ≡ Some ask)
+        (performs : PerformsCopy eq hash false ask store answer store') (came : HasCome store z) where
       going : reply_of z ≡ None
       going = asking_goes z ask asked
 
@@ -186,7 +201,8 @@ module _ {K V S H : Type 0} (eq : K → K → Bool) (input : K → List (List �
       pub resize_grown : HasMoreTables store.words.tables store'.words.tables
       resize_grown =
           let (es, (call_traces, kept)) = lone.lawful.law in
-          (stage_left eq (hash store.hasher) keys_now hash false now es (call_traces 0) lone.lawful.core z refl kept.allowed kept.coded kept.made kept.hints (kept.resizers 0 z refl) z.state refl ask asked answer store' performs).grown
+          (stage_left eq (hash store.hasher) keys_now hash false now es (call_traces 0) lone.lawful.core z refl kept.allowed kept.coded kept.made
+          kept.hints (kept.resizers 0 z refl) z.state refl ask asked answer store' performs).grown
 
       -- it takes no number for a pair
       resize_taken : store'.words.made ≡ store.words.made
@@ -195,7 +211,8 @@ module _ {K V S H : Type 0} (eq : K → K → Bool) (input : K → List (List �
           let g = setting_of eq (low (hash store.hasher)) s.mode store.words.tables in
           let placed = tables_hashed eq (hash store.hasher) keys_now s.mode store.words.tables lone.lawful.core.sizes in
           copied_made store store' eq hash false ask answer
-          (λ old new is. resizer_names g (coding_of (low (hash store.hasher))) placed (run es first_state) (map_left g es) (keeping g placed.lawful es kept.allowed) z (call_traces 0).loaded (kept.resizers 0 z refl).relies (Exchange Made old new) (asked ∙ ap Some is))
+          (λ old new is. resizer_names g (coding_of (low (hash store.hasher))) placed (run es first_state) (map_left g es)
+          (keeping g placed.lawful es kept.allowed) z (call_traces 0).loaded (kept.resizers 0 z refl).relies (Exchange Made old new) (asked ∙ ap Some is))
           performs
 
       -- a refusal has a cause
@@ -203,8 +220,10 @@ module _ {K V S H : Type 0} (eq : K → K → Bool) (input : K → List (List �
       resize_caused refused e =
           let (es, (call_traces, kept)) = lone.lawful.law in
           let relies = kept.resizers 0 z refl in
-          let left = stage_left eq (hash store.hasher) keys_now hash false now es (call_traces 0) lone.lawful.core z refl kept.allowed kept.coded kept.made kept.hints relies z.state refl ask asked answer store' performs in
-          resizer_refused (setting_of eq (low (hash store.hasher)) s.mode store.words.tables) (coding_of (low (hash store.hasher))) (run es first_state) z (call_traces 0).loaded relies.relies answer left.made left.loaded' left.told refused e
+          let left = stage_left eq (hash store.hasher) keys_now hash false now es (call_traces 0) lone.lawful.core z refl kept.allowed kept.coded
+          kept.made kept.hints relies z.state refl ask asked answer store' performs in
+          resizer_refused (setting_of eq (low (hash store.hasher)) s.mode store.words.tables) (coding_of (low (hash store.hasher)))
+          (run es first_state) z (call_traces 0).loaded relies.relies answer left.made left.loaded' left.told refused e
 
       -- it is a step of the core
       made_step : Resizes eq hash false now 0 (seated_work store' (goes_on reply (works.Resize next)) s.mode s.initial) event reply
@@ -230,7 +249,8 @@ module _ {K V S H : Type 0} (eq : K → K → Bool) (input : K → List (List �
           let (es, (call_traces, kept)) = lone.lawful.law in
           let then : CoreState K V S (Unit {0}) = seated_work store' (goes_on reply (works.Resize next)) s.mode s.initial in
           let left = resize_left eq (hash store.hasher) keys_now false now 0 then event reply made_step refl es call_traces lone.lawful.core kept in
-          root_stays eq (hash store.hasher) keys_now s.mode store store' now.callers then.callers es left.made call_traces (told_call_traces call_traces 0 left.made left.loaded') kept
+          root_stays eq (hash store.hasher) keys_now s.mode store store' now.callers then.callers es left.made call_traces
+          (told_call_traces call_traces 0 left.made left.loaded') kept
           (resize-core eq hash false now 0 then event reply made_step lone.lawful.core)
           (resize_kept eq (hash store.hasher) keys_now false now 0 then event reply made_step refl es call_traces lone.lawful.core kept)
 
@@ -239,7 +259,8 @@ module _ {K V S H : Type 0} (eq : K → K → Bool) (input : K → List (List �
       stepped_to o e = subst (λ p. Resizes eq hash false now 0 (seated_work store' (goes_on p (works.Resize next)) s.mode s.initial) event p) e made_step
 
       nearer : reply ≡ None → IsNearerResized eq hash now z (seated_work store' (Some (works.Resize next)) s.mode s.initial)
-      nearer none = resizer_nears eq input build write finish classes respects false now (seated_work store' (Some (works.Resize next)) s.mode s.initial) event z lone (stepped_to None none)
+      nearer none = resizer_nears eq input build write finish classes respects false now
+          (seated_work store' (Some (works.Resize next)) s.mode s.initial) event z lone (stepped_to None none)
 
       -- the call that is alone after the step is this one
       nearer_is : (near : IsNearerResized eq hash now z (seated_work store' (Some (works.Resize next)) s.mode s.initial)) → near.later ≡ next
@@ -254,12 +275,18 @@ module _ {K V S H : Type 0} (eq : K → K → Bool) (input : K → List (List �
           by_reply : (o : Option Reply) → reply ≡ o → resizer_left store' (after z answer) < resizer_left store z
           by_reply None e =
               let near = nearer e in
-              let less : lone_resizer_measure (seated_work {A = Unit {0}} store' (Some (works.Resize next)) s.mode s.initial) next < lone_resizer_measure now z = subst (λ q. lone_resizer_measure (seated_work {A = Unit {0}} store' (Some (works.Resize next)) s.mode s.initial) q < lone_resizer_measure now z) (nearer_is near) near.less in
-              let near_is : resizer_left store' (after z answer) ≡ suc (lone_resizer_measure (seated_work {A = Unit {0}} store' (Some (works.Resize next)) s.mode s.initial) next) = ap (λ o. left_to o (lone_resizer_measure (seated_work {A = Unit {0}} store' (Some (works.Resize next)) s.mode s.initial) next)) e in
+              let less : lone_resizer_measure (seated_work {A = Unit {0}} store' (Some (works.Resize next)) s.mode s.initial) next <
+              lone_resizer_measure now z = subst (λ q.
+              lone_resizer_measure (seated_work {A = Unit {0}} store' (Some (works.Resize next)) s.mode s.initial) q < lone_resizer_measure now z)
+              (nearer_is near) near.less in
+              let near_is : resizer_left store' (after z answer) ≡ suc
+              (lone_resizer_measure (seated_work {A = Unit {0}} store' (Some (works.Resize next)) s.mode s.initial) next) = ap
+              (λ o. left_to o (lone_resizer_measure (seated_work {A = Unit {0}} store' (Some (works.Resize next)) s.mode s.initial) next)) e in
               let from = far in
               omega (arith, less, near_is, from)
           by_reply (Some told) e =
-              let near_is : resizer_left store' (after z answer) ≡ 0 = ap (λ o. left_to o (lone_resizer_measure (seated_work {A = Unit {0}} store' (Some (works.Resize next)) s.mode s.initial) next)) e in
+              let near_is : resizer_left store' (after z answer) ≡ 0 = ap
+              (λ o. left_to o (lone_resizer_measure (seated_work {A = Unit {0}} store' (Some (works.Resize next)) s.mode s.initial) next)) e in
               let from = far in
               omega (arith, near_is, from)
 
@@ -269,10 +296,19 @@ module _ {K V S H : Type 0} (eq : K → K → Bool) (input : K → List (List �
         number = came.number;
         steps = suc came.steps;
         history = with_step 1 0 event reply came.history;
-        runs = (now, came.history, subst (λ o. StepsRun eq whatever hash 1 0 came.steps (start eq hash s call.call came.number) (with_event 0 0 Begun []) (seated_work store o s.mode s.initial) came.history) under_way came.runs, inl (event, reply, inr (inl made_step), refl));
+        runs = (
+          now,
+          came.history,
+          subst (λ o. StepsRun eq whatever hash 1 0 came.steps (start eq hash s call.call came.number)
+              (with_event 0 0 Begun []) (seated_work store o s.mode s.initial) came.history) under_way came.runs,
+          inl (event, reply, inr (inl made_step), refl),
+        );
         replied = λ x e. last_entry event reply came.history x e;
-        lone = λ none. let near = nearer none in subst (IsLoneResizer eq hash (seated_work store' (Some (works.Resize next)) s.mode s.initial)) (nearer_is near) near.lone;
-        done = λ e. subst (λ y. IsResized y store') came.resize_is (resizer_done eq input build write finish classes respects false now (seated_work store' None s.mode s.initial) event z lone (stepped_to (Some Reply_done) e));
+        lone = λ none. let near = nearer none in
+            subst (IsLoneResizer eq hash (seated_work store' (Some (works.Resize next)) s.mode s.initial)) (nearer_is near) near.lone;
+        done = λ e. subst (λ y. IsResized y store') came.resize_is
+            (resizer_done eq input build write finish classes respects false now (seated_work store' None s.mode s.initial) event z lone
+            (stepped_to (Some Reply_done) e));
         resize_is = came.resize_is;
         initial_is = came.initial_is;
         taken = resize_taken ∙ came.taken;

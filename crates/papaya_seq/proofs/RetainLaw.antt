@@ -1,5 +1,8 @@
 -- The deletion of a pair of the root of a map that no call is under way in, while no pairs are being moved.
-use Rattle.std.proofs.Common.{◌≡◌, ◌⊎◌, inl, inr, ⊎_elim, ℕ, zero, suc, ◌<◌, ◌≤◌, ◌^◌, Bool, cond, pos, ◌+ℤ◌, List, [], ◌∷◌, ◌++◌, length, slice_index, slice_set, Option, Some, None, FitsSigned, append-nil, refl, sym, ◌∙◌, ap, subst, arith, lt-ltb}
+use Rattle.std.proofs.Common.{◌≡◌, ◌⊎◌, inl, inr, ⊎_elim, ℕ, zero, suc, ◌<◌, ◌≤◌, ◌^◌, Bool, cond}
+use Rattle.std.proofs.Common.{pos, ◌+ℤ◌, List, [], ◌∷◌, ◌++◌, length, slice_index, slice_set}
+use Rattle.std.proofs.Common.{Option, Some, None, FitsSigned, append-nil, refl, sym, ◌∙◌, ap, subst}
+use Rattle.std.proofs.Common.{arith, lt-ltb}
 use Rattle.std.specs.Prelude.{negsuc}
 use Rattle.std.specs.Int.{w64, int_wrap}
 use Rattle.std.specs.List.{All}
@@ -37,7 +40,9 @@ use Rattle.papaya_timeline.proofs.KeptAnswer.{Stands}
 use Rattle.papaya_timeline.proofs.KeptHints.{placed-hints}
 use Rattle.papaya_timeline.proofs.KeptOthers.{IsLeaving, leaves_kept}
 use Rattle.papaya_timeline.proofs.KeptSettings.{IsLawfulKeys, tables_hashed}
-use Rattle.papaya_timeline.proofs.KeptTables.{IsPlaced, cases_place, placed-grown, placed-here, placed-many, placed-other, table_low, written-here, written-other, written-root}
+use Rattle.papaya_timeline.proofs.KeptTables.{IsPlaced, cases_place, placed-grown, placed-here}
+use Rattle.papaya_timeline.proofs.KeptTables.{placed-many, placed-other, table_low, written-here}
+use Rattle.papaya_timeline.proofs.KeptTables.{written-other, written-root}
 use Rattle.papaya_seq.specs.Map.{IsLawfulMap, MapState, core_of, next_in, next_of, slots_in, slots_of}
 use Rattle.papaya_seq.specs.Retains.{slot_words}
 use Rattle.papaya_seq.proofs.Counting.{counted_sum}
@@ -58,14 +63,16 @@ module _ {K V S : Type 0} (s : StoreState K V S) (i : ℕ) where
   }
 
 -- where the root has no next table, its pairs are the map's
-pub last_content : {K V S : Type 0} (eq : K → K → Bool) (store : StoreState K V S) → next_of store ≡ 0 → content eq store ≡ pairs_of_slots store (slot_words (table_of store.words.tables store.words.root))
+pub last_content : {K V S : Type 0} (eq : K → K → Bool) (store : StoreState K V S) → next_of store ≡ 0
+    → content eq store ≡ pairs_of_slots store (slot_words (table_of store.words.tables store.words.root))
 last_content {K} {V} {S} eq store last = of_many (length store.words.tables) refl (table_of store.words.tables store.words.root) refl
   where
     none_behind : (n : ℕ) (t : ℕ) → t ≡ 0 → pairs_from eq store n (table_of store.words.tables t) ≡ []
     none_behind zero t e = refl
     none_behind (suc n) t e = ap (λ u. pairs_from eq store (suc n) (table_of store.words.tables u)) e
 
-    of_many : (n : ℕ) → length store.words.tables ≡ n → (o : Option TableWords) → table_of store.words.tables store.words.root ≡ o → pairs_from eq store n o ≡ pairs_of_slots store (slot_words o)
+    of_many : (n : ℕ) → length store.words.tables ≡ n → (o : Option TableWords) → table_of store.words.tables store.words.root ≡ o
+        → pairs_from eq store n o ≡ pairs_of_slots store (slot_words o)
     of_many zero many None there = refl
     of_many zero many (Some table) there =
         let low = table_low store.words.tables store.words.root table there in
@@ -78,7 +85,8 @@ last_content {K} {V} {S} eq store last = of_many (length store.words.tables) ref
         ap (joined eq (λ p. p.key) (pairs_of_slots store table.slots)) (none_behind n table.next next)
         ∙ append-nil (pairs_of_slots store table.slots)
 
-module _ {K V S : Type 0} (eq : K → K → Bool) (hash : K → ℕ) (s : MapState K V S) (lawful : IsLawfulMap eq hash s.store s.mode s.initial) (keys : IsLawfulKeys eq hash) (i : ℕ)
+module _ {K V S : Type 0} (eq : K → K → Bool) (hash : K → ℕ) (s : MapState K V S) (lawful : IsLawfulMap eq hash s.store s.mode s.initial)
+    (keys : IsLawfulKeys eq hash) (i : ℕ)
     (within : i < slots_of s.store) (live : kind_of (root_word s.store i) ≡ kinds.Live) where
   abbrev g : Setting K (Stored K V)
   g = setting_of eq (low hash) s.mode s.store.words.tables
@@ -117,7 +125,8 @@ module _ {K V S : Type 0} (eq : K → K → Bool) (hash : K → ℕ) (s : MapSta
   root_there : (table : TableWords) × (table_of s.store.words.tables root ≡ Some table)
   root_there = of_table (table_of s.store.words.tables root) refl within
     where
-      of_table : (o : Option TableWords) → table_of s.store.words.tables root ≡ o → i < slots_in o → (table : TableWords) × (table_of s.store.words.tables root ≡ Some table)
+      of_table : (o : Option TableWords) → table_of s.store.words.tables root ≡ o → i < slots_in o → (table : TableWords)
+          × (table_of s.store.words.tables root ≡ Some table)
       of_table None there low = absurd (omega (arith, low))
       of_table (Some table) there low = (table, there)
 
@@ -151,7 +160,9 @@ module _ {K V S : Type 0} (eq : K → K → Bool) (hash : K → ℕ) (s : MapSta
   live_logged = (p, ap (pair_of s.store) number_is ∙ kept.logged root i p (ap named lives.1))
 
   root_some : 0 < root
-  root_some = ⊎_elim (λ (some : 0 < root). some) (λ (least : root ≤ 0). let z : root ≡ 0 = omega (arith, least) in let clash : None ≡ Some table = ap (table_of s.store.words.tables) (sym z) ∙ there in absurd cc) (cases_lt 0 root)
+  root_some = ⊎_elim (λ (some : 0 < root). some)
+      (λ (least : root ≤ 0). let z : root ≡ 0 = omega (arith, least) in
+      let clash : None ≡ Some table = ap (table_of s.store.words.tables) (sym z) ∙ there in absurd cc) (cases_lt 0 root)
 
   root_is : now.root ≡ root
   root_is = kept.coded Root
@@ -160,7 +171,8 @@ module _ {K V S : Type 0} (eq : K → K → Bool) (hash : K → ℕ) (s : MapSta
   may : MayDelete g now root i p
   may = record {
     live = lives.1;
-    reached = subst (IsReached g now p.key) root_is (root_reached g now (map_left g es) (keeping g hashed.lawful es kept.allowed) p.key (subst (λ n. 0 < n) (sym root_is) root_some));
+    reached = subst (IsReached g now p.key) root_is
+        (root_reached g now (map_left g es) (keeping g hashed.lawful es kept.allowed) p.key (subst (λ n. 0 < n) (sym root_is) root_some));
   }
 
   abbrev made : List (Exchange (Stored K V))
@@ -175,7 +187,8 @@ module _ {K V S : Type 0} (eq : K → K → Bool) (hash : K → ℕ) (s : MapSta
   -- the words after it
   coded' : (at : At) → word_of g c (run (es ++ made) start) at ≡ word_at store'.words at
   coded' at = ap (λ z. word_of g c z at) ran ∙ elim (cases_place at (Slot root i)) [
-    | inl same ↦ ap (word_of g c (after now (Delete root i p))) same ∙ ap (code g c) (put_there now root i (Tombstone p) root i (refl, refl)).0 ∙ grave_is ∙ sym (placed-here s.store.words (Slot root i) grave placed) ∙ ap (word_at (put s.store.words (Slot root i) grave)) (sym same)
+    | inl same ↦ ap (word_of g c (after now (Delete root i p))) same ∙ ap (code g c) (put_there now root i (Tombstone p) root i (refl, refl)).0
+        ∙ grave_is ∙ sym (placed-here s.store.words (Slot root i) grave placed) ∙ ap (word_at (put s.store.words (Slot root i) grave)) (sym same)
     | inr differ ↦ others at differ ∙ kept.coded at ∙ sym (placed-other s.store.words (Slot root i) grave placed at differ)
   ]
     where
@@ -185,7 +198,8 @@ module _ {K V S : Type 0} (eq : K → K → Bool) (hash : K → ℕ) (s : MapSta
       others (Next t) differ = refl
       others (Aborted t) differ = refl
       others (Done t chunk) differ = refl
-      others (Slot t x) differ = ap (code g c) (put_elsewhere now root i (Tombstone p) t x (λ same. differ (ap (λ y. Slot y x) (sym same.0) ∙ ap (Slot root) (sym same.1))))
+      others (Slot t x) differ = ap (code g c)
+          (put_elsewhere now root i (Tombstone p) t x (λ same. differ (ap (λ y. Slot y x) (sym same.0) ∙ ap (Slot root) (sym same.1))))
 
   -- a pair that a slot names stood in one
   slots' : (t x : ℕ) (q : Stored K V) → named ((run (es ++ made) start).slot t x) ≡ Some q → Stands now q ⊎ ⊥
@@ -217,7 +231,11 @@ module _ {K V S : Type 0} (eq : K → K → Bool) (hash : K → ℕ) (s : MapSta
   }
 
   kept' : (call_traces' : ℕ → CallTrace K V) × IsKept {A = Unit {0}} eq hash s.mode store' [] (es ++ made) call_traces'
-  kept' = (_, leaves_kept eq hash keys (core_of s) 0 core' refl es call_traces lawful.lawful.core kept made nothing_loaded leaving None refl (λ r e. absurd cc) (λ z e. absurd cc) (λ v e. absurd cc) (λ r e. absurd cc))
+  kept' = (
+    _,
+    leaves_kept eq hash keys (core_of s) 0 core' refl es call_traces lawful.lawful.core kept made nothing_loaded leaving None refl
+        (λ r e. absurd cc) (λ z e. absurd cc) (λ v e. absurd cc) (λ r e. absurd cc),
+  )
 
   -- the root table after it
   written_is : written (Slot root i) table grave ≡ record table { slots = slice_set table.slots i grave }
@@ -246,14 +264,25 @@ module _ {K V S : Type 0} (eq : K → K → Bool) (hash : K → ℕ) (s : MapSta
   sizes' n t e = elim (cases_same n root) [
     | inl same ↦
         let written_table : record table { slots = slice_set table.slots i grave } ≡ t =
-        let both : Some (record table { slots = slice_set table.slots i grave }) ≡ Some t = sym there' ∙ ap (table_of store'.words.tables) (root_same ∙ sym same) ∙ e in cc in
-        subst (λ (y : TableWords). IsSize (length y.slots) y.limit) written_table (subst (λ n. IsSize n table.limit) (sym (set_long table.slots i grave)) (lawful.lawful.core.sizes root table there))
+        let both : Some (record table { slots = slice_set table.slots i grave }) ≡ Some t = sym there'
+        ∙ ap (table_of store'.words.tables) (root_same ∙ sym same) ∙ e in cc in
+        subst (λ (y : TableWords). IsSize (length y.slots) y.limit) written_table
+        (subst (λ n. IsSize n table.limit) (sym (set_long table.slots i grave)) (lawful.lawful.core.sizes root table there))
     | inr differ ↦ lawful.lawful.core.sizes n t (sym (written-other s.store.words (Slot root i) root grave table there n differ) ∙ e)
   ]
 
   lawful_core : IsLawfulCore {A = Unit {0}} eq hash store' [] s.mode
   lawful_core = record {
-    core = record { chunked = lawful.lawful.core.chunked; limit = lawful.lawful.core.limit; sizes = sizes'; standing = λ d q e. absurd cc; going = λ d q e. absurd cc; resizers = λ d z e. absurd cc; scanners = λ d v e. absurd cc };
+    core = record {
+      chunked = lawful.lawful.core.chunked;
+      limit = lawful.lawful.core.limit;
+      sizes = sizes';
+      standing = λ d q e.
+          absurd cc;
+      going = λ d q e. absurd cc;
+      resizers = λ d z e. absurd cc;
+      scanners = λ d v e. absurd cc;
+    };
     law = (es ++ made, kept');
   }
 
@@ -261,10 +290,13 @@ module _ {K V S : Type 0} (eq : K → K → Bool) (hash : K → ℕ) (s : MapSta
     -- there is one pair fewer
     fewer : length (content eq s.store) ≡ suc (length (content eq store'))
     fewer =
-        let old : content eq s.store ≡ pairs_of_slots s.store table.slots = last_content eq s.store last ∙ ap (λ o. pairs_of_slots s.store (slot_words o)) there in
-        let new : content eq store' ≡ pairs_of_slots s.store (slice_set table.slots i grave) = last_content eq store' (next_same ∙ last) ∙ ap (λ o. pairs_of_slots store' (slot_words o)) there' ∙ slots_same s.store store' (λ n. refl) (slice_set table.slots i grave) in
+        let old : content eq s.store ≡ pairs_of_slots s.store table.slots = last_content eq s.store last
+        ∙ ap (λ o. pairs_of_slots s.store (slot_words o)) there in
+        let new : content eq store' ≡ pairs_of_slots s.store (slice_set table.slots i grave) = last_content eq store' (next_same ∙ last)
+        ∙ ap (λ o. pairs_of_slots store' (slot_words o)) there' ∙ slots_same s.store store' (λ n. refl) (slice_set table.slots i grave) in
         let count = slots_count s.store table.slots i grave low_slot in
-        let one : length (pairs_of_word s.store (slice_index table.slots i)) ≡ 1 = ap (λ w. length (pairs_of_word s.store w)) (sym (ap (word_in (λ v. slice_index v.slots i)) there)) ∙ ap length (live_pairs s.store word live_logged.0 live live_logged.1) in
+        let one : length (pairs_of_word s.store (slice_index table.slots i)) ≡ 1 = ap (λ w. length (pairs_of_word s.store w))
+        (sym (ap (word_in (λ v. slice_index v.slots i)) there)) ∙ ap length (live_pairs s.store word live_logged.0 live live_logged.1) in
         let none : length (pairs_of_word s.store grave) ≡ 0 = ap length grave_bare in
         let old_long : length (content eq s.store) ≡ length (pairs_of_slots s.store table.slots) = ap length old in
         let new_long : length (content eq store') ≡ length (pairs_of_slots s.store (slice_set table.slots i grave)) = ap length new in
@@ -295,5 +327,6 @@ module _ {K V S : Type 0} (eq : K → K → Bool) (hash : K → ℕ) (s : MapSta
         tables = subst (All (λ len. s.initial ≤ len)) (sym (put_lengths s.store.words (Slot root i) grave)) lawful.long.tables;
         first = λ none. lawful.long.first (sym root_same ∙ none);
       };
-      numbered = λ most limit. subst (λ n. length s.store.pairs ≤ n) (sym (placed-other s.store.words (Slot root i) grave placed Made (λ e. absurd cc))) (lawful.numbered most limit);
+      numbered = λ most limit. subst (λ n. length s.store.pairs ≤ n)
+          (sym (placed-other s.store.words (Slot root i) grave placed Made (λ e. absurd cc))) (lawful.numbered most limit);
     }

@@ -1,5 +1,7 @@
 -- The pairs of a table's slots while they are scanned one after the other.
-use Rattle.std.proofs.Common.{◌≡◌, ℕ, zero, suc, ◌+◌, ◌<◌, Bool, true, false, cond, List, [], ◌∷◌, ◌++◌, length, take, drop, slice_index, slice_set, Some, append-nil, append_assoc, refl, sym, ◌∙◌, ap, subst, arith}
+use Rattle.std.proofs.Common.{◌≡◌, ℕ, zero, suc, ◌+◌, ◌<◌, Bool, true, false, cond, List, [], ◌∷◌}
+use Rattle.std.proofs.Common.{◌++◌, length, take, drop, slice_index, slice_set, Some, append-nil}
+use Rattle.std.proofs.Common.{append_assoc, refl, sym, ◌∙◌, ap, subst, arith}
 use Rattle.std.proofs.lemmas.List.{length-append}
 use denote.Ref.{Bor}
 use Rattle.std.specs.Fn.{Mut}
@@ -54,7 +56,8 @@ take_all (x ∷ xs) (suc n) e = ap (λ l. x ∷ l) (take_all xs n (omega (arith,
 
 module _ {K V S : Type 0} (store : StoreState K V S) where
   -- the pairs up to a slot, and its own
-  pub slots_more : (slots : List ℕ) (i : ℕ) → i < length slots → pairs_of_slots store (take (suc i) slots) ≡ pairs_of_slots store (take i slots) ++ pairs_of_word store (slice_index slots i)
+  pub slots_more : (slots : List ℕ) (i : ℕ) → i < length slots
+      → pairs_of_slots store (take (suc i) slots) ≡ pairs_of_slots store (take i slots) ++ pairs_of_word store (slice_index slots i)
   slots_more [] i within = absurd (omega (arith, within))
   slots_more (word ∷ words) zero within = append-nil (pairs_of_word store word)
   slots_more (word ∷ words) (suc i) within =
@@ -63,16 +66,21 @@ module _ {K V S : Type 0} (store : StoreState K V S) where
 
   -- how many there are after a slot's word was written
   pub slots_count : (slots : List ℕ) (i x : ℕ) → i < length slots
-      → length (pairs_of_slots store (slice_set slots i x)) + length (pairs_of_word store (slice_index slots i)) ≡ length (pairs_of_slots store slots) + length (pairs_of_word store x)
+      → length (pairs_of_slots store (slice_set slots i x)) + length (pairs_of_word store (slice_index slots i)) ≡ length (pairs_of_slots store slots)
+      + length (pairs_of_word store x)
   slots_count [] i x within = absurd (omega (arith, within))
   slots_count (word ∷ words) zero x within =
-      let new : length (pairs_of_word store x ++ pairs_of_slots store words) ≡ length (pairs_of_word store x) + length (pairs_of_slots store words) = length-append (pairs_of_word store x) (pairs_of_slots store words) in
-      let old : length (pairs_of_word store word ++ pairs_of_slots store words) ≡ length (pairs_of_word store word) + length (pairs_of_slots store words) = length-append (pairs_of_word store word) (pairs_of_slots store words) in
+      let new : length (pairs_of_word store x ++ pairs_of_slots store words) ≡ length (pairs_of_word store x) + length
+      (pairs_of_slots store words) = length-append (pairs_of_word store x) (pairs_of_slots store words) in
+      let old : length (pairs_of_word store word ++ pairs_of_slots store words) ≡ length (pairs_of_word store word) + length
+      (pairs_of_slots store words) = length-append (pairs_of_word store word) (pairs_of_slots store words) in
       omega (arith, new, old)
   slots_count (word ∷ words) (suc i) x within =
       let rest = slots_count words i x (omega (arith, within)) in
-      let new : length (pairs_of_word store word ++ pairs_of_slots store (slice_set words i x)) ≡ length (pairs_of_word store word) + length (pairs_of_slots store (slice_set words i x)) = length-append (pairs_of_word store word) (pairs_of_slots store (slice_set words i x)) in
-      let old : length (pairs_of_word store word ++ pairs_of_slots store words) ≡ length (pairs_of_word store word) + length (pairs_of_slots store words) = length-append (pairs_of_word store word) (pairs_of_slots store words) in
+      let new : length (pairs_of_word store word ++ pairs_of_slots store (slice_set words i x)) ≡ length (pairs_of_word store word) + length
+      (pairs_of_slots store (slice_set words i x)) = length-append (pairs_of_word store word) (pairs_of_slots store (slice_set words i x)) in
+      let old : length (pairs_of_word store word ++ pairs_of_slots store words) ≡ length (pairs_of_word store word) + length
+      (pairs_of_slots store words) = length-append (pairs_of_word store word) (pairs_of_slots store words) in
       omega (arith, rest, new, old)
 
   -- a word that is live has its pair
@@ -92,9 +100,11 @@ module _ {K V S : Type 0} (store : StoreState K V S) where
       of_kind kinds.Closed is = refl
 
 -- what the same log says of words
-pub slots_same : {K V S : Type 0} (store store' : StoreState K V S) → ((n : ℕ) → pair_of store' n ≡ pair_of store n) → (slots : List ℕ) → pairs_of_slots store' slots ≡ pairs_of_slots store slots
+pub slots_same : {K V S : Type 0} (store store' : StoreState K V S) → ((n : ℕ) → pair_of store' n ≡ pair_of store n) → (slots : List ℕ)
+    → pairs_of_slots store' slots ≡ pairs_of_slots store slots
 slots_same store store' same [] = refl
-slots_same {K} {V} {S} store store' same (word ∷ words) = ap (λ l. l ++ pairs_of_slots store' words) (of_kind (kind_of word)) ∙ ap (λ l. pairs_of_word store word ++ l) (slots_same store store' same words)
+slots_same {K} {V} {S} store store' same (word ∷ words) = ap (λ l. l ++ pairs_of_slots store' words) (of_kind (kind_of word))
+    ∙ ap (λ l. pairs_of_word store word ++ l) (slots_same store store' same words)
   where
     of_kind : (kind : Kind) → pairs_of_kind store' kind (number_of word) ≡ pairs_of_kind store kind (number_of word)
     of_kind kinds.Live = ap listed (same (number_of word))
@@ -105,8 +115,10 @@ slots_same {K} {V} {S} store store' same (word ∷ words) = ap (λ l. l ++ pairs
     of_kind kinds.Closed = refl
 
 -- what is retained of two lists, one after the other
-pub retains_more : {F K V : Type 0} (g : Mut F (Bor K × (Bor V × Unit {0})) Bool) (f f' f'' : F) (ps qs left more : List (Stored K V)) → Retains g f ps left f' → Retains g f' qs more f'' → Retains g f (ps ++ qs) (left ++ more) f''
-retains_more {F} {K} {V} g f f' f'' [] qs left more (none, same) next = subst (λ l. Retains g f qs (l ++ more) f'') (sym none) (subst (λ h. Retains g h qs more f'') same next)
+pub retains_more : {F K V : Type 0} (g : Mut F (Bor K × (Bor V × Unit {0})) Bool) (f f' f'' : F) (ps qs left more : List (Stored K V))
+    → Retains g f ps left f' → Retains g f' qs more f'' → Retains g f (ps ++ qs) (left ++ more) f''
+retains_more {F} {K} {V} g f f' f'' [] qs left more (none, same) next = subst (λ l. Retains g f qs (l ++ more) f'') (sym none)
+    (subst (λ h. Retains g h qs more f'') same next)
 retains_more {F} {K} {V} g f f' f'' (p ∷ ps) qs left more (agrees, later, rest, answers, retained, is) next = (
   agrees,
   later,

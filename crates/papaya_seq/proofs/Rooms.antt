@@ -52,7 +52,8 @@ much_none pairs (inr (entries, is, long)) = ⊎_elim
 pub room_is : (pairs slots : ℕ) → slots ≤ 2 ^ 32 → entries_of pairs ≤ slots → (entries : ℕ) × IsEntriesFor pairs entries × (entries ≤ slots)
 room_is pairs slots most le = ⊎_elim
     (λ (few : pairs * 8 < 2 ^ 64). (entries_of pairs, entries_next pairs few, le))
-    (λ (many : 2 ^ 64 ≤ pairs * 8). let f : None ≡ Some (room_of_len (max (entries_of pairs) 8)) = sym (too_many pairs many) ∙ has_room pairs (omega (arith, most, le)) in absurd cc)
+    (λ (many : 2 ^ 64 ≤ pairs * 8). let f : None ≡ Some (room_of_len (max (entries_of pairs) 8)) = sym (too_many pairs many)
+    ∙ has_room pairs (omega (arith, most, le)) in absurd cc)
     (cases_lt (pairs * 8) (2 ^ 64))
 
 -- a power of two past 2^32 is 2^33 or more

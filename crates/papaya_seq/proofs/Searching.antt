@@ -1,5 +1,7 @@
 -- The search of one table: each turn is one to three answers of the machine, and brings it nearer its end.
-use Rattle.std.proofs.Common.{◌≡◌, ℕ, ◌+◌, ◌*◌, ◌-◌, ◌<◌, ◌≤◌, nat_lt, ltb-true, if◌then◌else◌, Bool, true, false, List, [], ◌∷◌, ◌++◌, Option, refl, sym, ◌∙◌, ap, subst, arith}
+use Rattle.std.proofs.Common.{◌≡◌, ℕ, ◌+◌, ◌*◌, ◌-◌, ◌<◌, ◌≤◌, nat_lt, ltb-true, if◌then◌else◌}
+use Rattle.std.proofs.Common.{Bool, true, false, List, [], ◌∷◌, ◌++◌, Option, refl, sym, ◌∙◌, ap}
+use Rattle.std.proofs.Common.{subst, arith}
 use Rattle.std.proofs.lemmas.Bool.{cond_both, ne_eqb}
 use Rattle.papaya_words.specs.Word.{kind_of, may_hold, pair_of as number_of}
 use Rattle.papaya_words.specs.declared.word.Kind.{Kind}
@@ -37,7 +39,9 @@ left_seen _ = 0
 
 -- the next place is nearer the last one
 on_left : (at : Place) → at.probe.len ≤ at.limit → left_seen (go_on at) < 3 * (at.limit - at.probe.len) + 2
-on_left at within = cond_both (nat_lt at.probe.len at.limit) (On (Looking (next_place at))) (Over at.table) (λ s. left_seen s < 3 * (at.limit - at.probe.len) + 2) (λ more. let l : at.probe.len < at.limit = ltb-true at.probe.len at.limit more in omega (arith, within, l)) (λ _. omega (arith, within))
+on_left at within = cond_both (nat_lt at.probe.len at.limit) (On (Looking (next_place at))) (Over at.table)
+    (λ s. left_seen s < 3 * (at.limit - at.probe.len) + 2)
+    (λ more. let l : at.probe.len < at.limit = ltb-true at.probe.len at.limit more in omega (arith, within, l)) (λ _. omega (arith, within))
 
 -- a hint lowers what is left
 pub hinted_left : (at : Place) (hash hint : ℕ) → at.probe.len ≤ at.limit → left_seen (hinted at hash hint) < left_at at
@@ -63,7 +67,8 @@ match_left kinds.Tombstone at word = refl
 match_left kinds.Closed at word = refl
 
 -- and a comparison
-pub yes_left : (at : Place) (word : ℕ) (same : Bool) → at.probe.len ≤ at.limit → left_seen (at_yes (Comparing at word) same) < left_seen (On (Comparing at word))
+pub yes_left : (at : Place) (word : ℕ) (same : Bool) → at.probe.len ≤ at.limit
+    → left_seen (at_yes (Comparing at word) same) < left_seen (On (Comparing at word))
 yes_left at word true within = let none = match_left (kind_of word) at word in omega (arith, none, within)
 yes_left at word false within = on_left at within
 
@@ -79,7 +84,8 @@ on_turned at = cond_both (nat_lt at.probe.len at.limit) (On (Looking (next_place
 
 -- a hint that spares the word
 pub hinted_turned : (at : Place) (hash hint : ℕ) → ((place : Place) → hinted at hash hint ≡ On (Reading place) → ⊥) → IsTurned (hinted at hash hint)
-hinted_turned at hash hint = cond_both (may_hold hint hash) (On (Reading at)) (go_on at) (λ s. ((place : Place) → s ≡ On (Reading place) → ⊥) → IsTurned s) (λ _ none. absurd (none at refl)) (λ _ none. on_turned at)
+hinted_turned at hash hint = cond_both (may_hold hint hash) (On (Reading at)) (go_on at)
+    (λ s. ((place : Place) → s ≡ On (Reading place) → ⊥) → IsTurned s) (λ _ none. absurd (none at refl)) (λ _ none. on_turned at)
 
 -- a word whose pair's key is not to be compared
 abbrev Uncompared : Probed → Type 0
@@ -115,7 +121,8 @@ pub stands_hinted : (words : At → ℕ) (at : Place) (hash hint : ℕ) → Stan
 stands_hinted words at hash hint = cond_both (may_hold hint hash) (On (Reading at)) (go_on at) (StandsBy words) (λ _. tt) (λ _. stands_on words at)
 
 -- what a word tells stands by the word
-pub stands_look : (words : At → ℕ) (kind : Kind) (at : Place) (word : ℕ) → words (Slot at.table at.probe.i) ≡ word → kind_of word ≡ kind → StandsBy words (look_at kind at word)
+pub stands_look : (words : At → ℕ) (kind : Kind) (at : Place) (word : ℕ) → words (Slot at.table at.probe.i) ≡ word → kind_of word ≡ kind
+    → StandsBy words (look_at kind at word)
 stands_look words kinds.Empty at word is empty = ap kind_of is ∙ empty
 stands_look words kinds.Live at word is e = is
 stands_look words kinds.Marked at word is e = is
@@ -132,7 +139,8 @@ stands_match words kinds.Tombstone at word is = is
 stands_match words kinds.Closed at word is = is
 
 -- and so does a comparison
-pub stands_yes : (words : At → ℕ) (at : Place) (word : ℕ) (same : Bool) → words (Slot at.table at.probe.i) ≡ word → StandsBy words (at_yes (Comparing at word) same)
+pub stands_yes : (words : At → ℕ) (at : Place) (word : ℕ) (same : Bool) → words (Slot at.table at.probe.i) ≡ word
+    → StandsBy words (at_yes (Comparing at word) same)
 stands_yes words at word true is = stands_match words (kind_of word) at word is
 stands_yes words at word false is = stands_on words at
 
@@ -145,7 +153,8 @@ root_searched (Insert replace) fill root some = ap (λ (b : Bool). if b then Mak
 
 module _ {K V S : Type 0} (matches : K → Bool) (store : StoreState K V S) where
   -- from where a machine came it goes on
-  pub comes_on : (first rest : List Answer) (m m' m'' : Machine) → Comes matches store m first m' → Comes matches store m' rest m'' → Comes matches store m (first ++ rest) m''
+  pub comes_on : (first rest : List Answer) (m m' m'' : Machine) → Comes matches store m first m' → Comes matches store m' rest m''
+      → Comes matches store m (first ++ rest) m''
   comes_on [] rest m m' m'' is more = subst (λ (x : Machine). Comes matches store x rest m'') is more
   comes_on (answer ∷ first) rest m m' m'' (asked, told, came) more = (asked, told, comes_on first rest (after m answer) m' m'' came more)
 
@@ -155,11 +164,15 @@ module _ {K V S : Type 0} (matches : K → Bool) (store : StoreState K V S) wher
     sees_begun at m = ([], refl)
 
     -- what it sees from a place that it came to, it sees from the first one
-    pub sees_on : (at place : Place) (seen : Probed) → Sees matches store hash at (On (Looking place)) → Sees matches store hash place seen → Sees matches store hash at seen
+    pub sees_on : (at place : Place) (seen : Probed) → Sees matches store hash at (On (Looking place)) → Sees matches store hash place seen
+        → Sees matches store hash at seen
     sees_on at place seen before goes_on m =
         let came = before m in
-        let more = goes_on m in
-        (came.0 ++ more.0, comes_on came.0 more.0 (record m { hash = hash; state = Searching (Looking at) }) (record m { hash = hash; state = Searching (Looking place) }) (record m { hash = hash; state = goes m seen }) came.1 more.1)
+        let more = goes_on m in (
+          came.0 ++ more.0,
+          comes_on came.0 more.0 (record m { hash = hash; state = Searching (Looking at) })
+              (record m { hash = hash; state = Searching (Looking place) }) (record m { hash = hash; state = goes m seen }) came.1 more.1,
+        )
 
     module _ (at : Place) where
       -- the word that stands at the place
@@ -175,11 +188,13 @@ module _ {K V S : Type 0} (matches : K → Bool) (store : StoreState K V S) wher
       sees_hint m = (Word_read hint_there ∷ [], (tt, refl, refl))
 
       -- and the word after it
-      pub reads_on : (place : Place) (seen : Probed) → hinted at hash hint_there ≡ On (Reading place) → SeesFrom matches store hash (Searching (Reading place)) seen → Sees matches store hash at seen
+      pub reads_on : (place : Place) (seen : Probed) → hinted at hash hint_there ≡ On (Reading place)
+          → SeesFrom matches store hash (Searching (Reading place)) seen → Sees matches store hash at seen
       reads_on place seen reads goes_on m =
           let looks : Machine = record m { hash = hash; state = Searching (Looking at) } in
           let loads : Machine = record m { hash = hash; state = Searching (Reading place) } in
-          let came : Comes matches store looks (Word_read hint_there ∷ []) loads = subst (λ s. Comes matches store looks (Word_read hint_there ∷ []) (record m { hash = hash; state = goes m s })) reads (tt, refl, refl) in
+          let came : Comes matches store looks (Word_read hint_there ∷ [])
+          loads = subst (λ s. Comes matches store looks (Word_read hint_there ∷ []) (record m { hash = hash; state = goes m s })) reads (tt, refl, refl) in
           let more = goes_on m in
           (Word_read hint_there ∷ more.0, comes_on (Word_read hint_there ∷ []) more.0 looks loads (record m { hash = hash; state = goes m seen }) came more.1)
 
@@ -188,18 +203,27 @@ module _ {K V S : Type 0} (matches : K → Bool) (store : StoreState K V S) wher
       sees_word m = (Word_read word_there ∷ [], (tt, refl, refl))
 
       -- and the key of its pair was compared
-      pub sees_same : (place : Place) (word : ℕ) → look at word_there ≡ On (Comparing place word) → SeesFrom matches store hash (Searching (Reading at)) (at_yes (Comparing place word) (matches_in matches (pair_of store (number_of word))))
+      pub sees_same : (place : Place) (word : ℕ) → look at word_there ≡ On (Comparing place word)
+          → SeesFrom matches store hash (Searching (Reading at)) (at_yes (Comparing place word) (matches_in matches (pair_of store (number_of word))))
       sees_same place word compares m =
           let same : Bool = matches_in matches (pair_of store (number_of word)) in
           let looks : Machine = record m { hash = hash; state = Searching (Reading at) } in
           let asks : Machine = record m { hash = hash; state = Searching (Comparing place word) } in
           let led : Machine = record m { hash = hash; state = goes m (at_yes (Comparing place word) same) } in
-          let came : Comes matches store looks (Word_read word_there ∷ []) asks = subst (λ s. Comes matches store looks (Word_read word_there ∷ []) (record m { hash = hash; state = goes m s })) compares (tt, refl, refl) in
+          let came : Comes matches store looks (Word_read word_there ∷ [])
+          asks = subst (λ s. Comes matches store looks (Word_read word_there ∷ []) (record m { hash = hash; state = goes m s })) compares (tt, refl, refl) in
           (Word_read word_there ∷ Yes same ∷ [], comes_on (Word_read word_there ∷ []) (Yes same ∷ []) looks asks led came (tt, refl, refl))
 
       -- what was seen is a turn
-      pub turn_seen : (state : State) (turn : Turn) (seen : Probed) → seen_by turn ≡ seen → SeesFrom matches store hash state seen → IsProbed seen → StandsBy (λ w. word_at store.words w) seen → IsMatchedBy matches store hash seen → IsTurnFrom matches store hash state turn
-      turn_seen state turn seen is sees within stands matched = record { sees = subst (SeesFrom matches store hash state) (sym is) sees; within = subst IsProbed (sym is) within; stands = subst (StandsBy (λ w. word_at store.words w)) (sym is) stands; matched = subst (IsMatchedBy matches store hash) (sym is) matched }
+      pub turn_seen : (state : State) (turn : Turn) (seen : Probed) → seen_by turn ≡ seen → SeesFrom matches store hash state seen → IsProbed seen
+          → StandsBy (λ w. word_at store.words w) seen → IsMatchedBy matches store hash seen → IsTurnFrom matches store hash state turn
+      turn_seen state turn seen is sees within stands
+          matched = record {
+            sees = subst (SeesFrom matches store hash state) (sym is) sees;
+            within = subst IsProbed (sym is) within;
+            stands = subst (StandsBy (λ w. word_at store.words w)) (sym is) stands;
+            matched = subst (IsMatchedBy matches store hash) (sym is) matched;
+          }
 
       -- a hint or a word alone finds no pair
       matched_on : IsMatchedBy matches store hash (go_on at)
@@ -216,7 +240,8 @@ module _ {K V S : Type 0} (matches : K → Bool) (store : StoreState K V S) wher
       matched_look kinds.Tombstone word = matched_on
       matched_look kinds.Closed word = matched_on
 
-      matched_kind : (kind : Kind) (word : ℕ) → matches_in matches (pair_of store (number_of word)) ≡ true → IsMatchedBy matches store hash (match_at kind at word)
+      matched_kind : (kind : Kind) (word : ℕ) → matches_in matches (pair_of store (number_of word)) ≡ true
+          → IsMatchedBy matches store hash (match_at kind at word)
       matched_kind kinds.Empty word is = is
       matched_kind kinds.Live word is = is
       matched_kind kinds.Marked word is = is
@@ -225,23 +250,37 @@ module _ {K V S : Type 0} (matches : K → Bool) (store : StoreState K V S) wher
       matched_kind kinds.Closed word is = is
 
       -- a comparison finds one that matches
-      pub matched_yes : (word : ℕ) (same : Bool) → same ≡ matches_in matches (pair_of store (number_of word)) → IsMatchedBy matches store hash (at_yes (Comparing at word) same)
+      pub matched_yes : (word : ℕ) (same : Bool) → same ≡ matches_in matches (pair_of store (number_of word))
+          → IsMatchedBy matches store hash (at_yes (Comparing at word) same)
       matched_yes word true is = matched_kind (kind_of word) word (sym is)
       matched_yes word false is = matched_on
 
     -- a turn from where the turns before it led
-    pub turns_on : (at place : Place) (turn : Turn) → IsTurn matches store hash at (turns.Next place) → IsTurn matches store hash place turn → IsTurn matches store hash at turn
-    turns_on at place turn before next = record { sees = sees_on at place (seen_by turn) before.sees next.sees; within = next.within; stands = next.stands; matched = next.matched }
+    pub turns_on : (at place : Place) (turn : Turn) → IsTurn matches store hash at (turns.Next place) → IsTurn matches store hash place turn
+        → IsTurn matches store hash at turn
+    turns_on at place turn before next = record {
+      sees = sees_on at place (seen_by turn) before.sees next.sees;
+      within = next.within;
+      stands = next.stands;
+      matched = next.matched;
+    }
 
     -- a root that is there was loaded, and its size asked for
-    pub sees_root : (slots limit : ℕ) → size_of (table_of store.words.tables store.words.root) ≡ Size slots limit → (seen : Probed) → Sees matches store hash (first_place hash store.words.root slots limit) seen → SeesFrom matches store hash AtRoot seen
+    pub sees_root : (slots limit : ℕ) → size_of (table_of store.words.tables store.words.root) ≡ Size slots limit → (seen : Probed)
+        → Sees matches store hash (first_place hash store.words.root slots limit) seen → SeesFrom matches store hash AtRoot seen
     sees_root slots limit size seen sees m =
         let root : ℕ = store.words.root in
-        let some : root ≡ 0 → ⊥ = λ zero. let none : Ok_done ≡ Size slots limit = sym (ap (λ n. size_of (table_of store.words.tables n)) zero) ∙ size in absurd cc in
+        let some : root ≡ 0 → ⊥ = λ zero. let none : Ok_done ≡ Size slots limit = sym (ap (λ n. size_of (table_of store.words.tables n)) zero)
+        ∙ size in absurd cc in
         let begun : Machine = record m { hash = hash; state = AtRoot } in
         let sizes : Machine = record m { hash = hash; state = Searching (Sizing root) } in
         let looks : Machine = record m { hash = hash; state = Searching (Looking (first_place hash root slots limit)) } in
-        let as_loaded : Comes matches store begun (Word_read root ∷ []) sizes = (tt, refl, ap (λ (s : State). record m { hash = hash; state = s }) (sym (root_searched m.task m.remembered.fill root some))) in
+        let as_loaded : Comes matches store begun (Word_read root ∷ [])
+        sizes = (tt, refl, ap (λ (s : State). record m { hash = hash; state = s }) (sym (root_searched m.task m.remembered.fill root some))) in
         let sized : Comes matches store sizes (Size slots limit ∷ []) looks = (tt, sym size, refl) in
-        let more = sees m in
-        (Word_read root ∷ (Size slots limit ∷ more.0), comes_on (Word_read root ∷ []) (Size slots limit ∷ more.0) begun sizes (record m { hash = hash; state = goes m seen }) as_loaded (comes_on (Size slots limit ∷ []) more.0 sizes looks (record m { hash = hash; state = goes m seen }) sized more.1))
+        let more = sees m in (
+          Word_read root ∷ (Size slots limit ∷ more.0),
+          comes_on (Word_read root ∷ []) (Size slots limit ∷ more.0) begun sizes
+              (record m { hash = hash; state = goes m seen }) as_loaded
+              (comes_on (Size slots limit ∷ []) more.0 sizes looks (record m { hash = hash; state = goes m seen }) sized more.1),
+        )

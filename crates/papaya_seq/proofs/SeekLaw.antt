@@ -35,25 +35,31 @@ use Rattle.papaya_seq.proofs.CallLengths.{long_left}
 use Rattle.papaya_seq.proofs.SeekSteps.{turn_nears}
 
 -- what such a call replies
-ends_in : (made : Made) (hash : ℕ) (st : State) → Seeks st → (reply : Reply) → reply_in (asks.Call (calls.asks made hash st)) ≡ Some reply → (reply ≡ Absent) ⊎ ((refused : Refused) × (reply ≡ Reply_refused refused))
+ends_in : (made : Made) (hash : ℕ) (st : State) → Seeks st → (reply : Reply) → reply_in (asks.Call (calls.asks made hash st)) ≡ Some reply
+    → (reply ≡ Absent) ⊎ ((refused : Refused) × (reply ≡ Reply_refused refused))
 ends_in made hash AtRoot seeks reply e = let f : None ≡ Some reply = e in absurd cc
 ends_in made hash (Searching (Sizing t)) seeks reply e = let f : None ≡ Some reply = e in absurd cc
 ends_in made hash (Searching (Looking at)) seeks reply e = let f : None ≡ Some reply = e in absurd cc
 ends_in made hash (Searching (Reading at)) seeks reply e = let f : None ≡ Some reply = e in absurd cc
 ends_in made hash (Searching (Comparing at word)) seeks reply e = let f : None ≡ Some reply = e in absurd cc
 ends_in made hash (Leaving t) seeks reply e = let f : None ≡ Some reply = e in absurd cc
-ends_in made hash (Ended told) seeks reply e = let same : told ≡ reply = cc in subst (λ y. (y ≡ Absent) ⊎ ((refused : Refused) × (y ≡ Reply_refused refused))) same seeks
+ends_in made hash (Ended told) seeks reply e = let same : told ≡ reply = cc in
+    subst (λ y. (y ≡ Absent) ⊎ ((refused : Refused) × (y ≡ Reply_refused refused))) same seeks
 ends_in made hash st seeks reply e = absurd seeks
 
-module _ {K V S F : Type 0} (eq : K → K → Bool) (hash : S → K → ℕ) (g : Mut F (Bor K × (Bor V × Unit {0})) Bool) (matches : K → Bool) (s : MapState K V S) (h : ℕ) where
+module _ {K V S F : Type 0} (eq : K → K → Bool) (hash : S → K → ℕ) (g : Mut F (Bor K × (Bor V × Unit {0})) Bool) (matches : K → Bool)
+    (s : MapState K V S) (h : ℕ) where
   -- it replies that there is none, or is refused
-  pub seek_ends : (store : StoreState K V S) (m : Machine) → IsSeeking eq hash s h store m → (reply : Reply) → reply_in (ask_of m) ≡ Some reply → (reply ≡ Absent) ⊎ ((refused : Refused) × (reply ≡ Reply_refused refused))
+  pub seek_ends : (store : StoreState K V S) (m : Machine) → IsSeeking eq hash s h store m → (reply : Reply) → reply_in (ask_of m) ≡ Some reply
+      → (reply ≡ Absent) ⊎ ((refused : Refused) × (reply ≡ Reply_refused refused))
   seek_ends store m seeking reply e =
       let asking = (call_asks m _ (reply_asked (ask_of m) reply e)).1 in
       ends_in m.call.made m.call.hash m.call.state seeking.seeks reply (ap (λ y. reply_in (asks.Call y)) asking)
 
   module _ (keys : IsLawfulKeys eq (hash s.store.hasher)) (fits : h < 2 ^ 64) (none : MatchesNone s.store matches)
-      (store : StoreState K V S) (m : Machine) (f : F) (answer : Answer) (store' : StoreState K V S) (f' : F) (seeking : IsSeeking eq hash s h store m) (going : reply_in (ask_of m) ≡ None) (answered : IsAnswered eq hash g matches (ask_of m) store f answer store' f') where
+      (store : StoreState K V S) (m : Machine) (f : F) (answer : Answer) (store' : StoreState K V S) (f' : F)
+      (seeking : IsSeeking eq hash s h store m) (going : reply_in (ask_of m) ≡ None)
+      (answered : IsAnswered eq hash g matches (ask_of m) store f answer store' f') where
     -- no pair of the log matches still
     none_now : MatchesNone store matches
     none_now n p is = none n p (sym (ap (λ (y : StoreState K V S). pair_of y n) seeking.logs) ∙ is)
@@ -76,13 +82,16 @@ module _ {K V S F : Type 0} (eq : K → K → Bool) (hash : S → K → ℕ) (g 
     seek_nears = turn_nears eq hash s h keys fits store m answer store' seeking going turn.0
 
 -- its words keep to the law, as a core's that nobody calls
-pub seek_core : {K V S : Type 0} (eq : K → K → Bool) (hash : S → K → ℕ) (s : MapState K V S) (h : ℕ) (store : StoreState K V S) (m : Machine) → IsSeeking eq hash s h store m → IsLawfulCore {A = Unit {0}} eq (hash store.hasher) store [] s.mode
+pub seek_core : {K V S : Type 0} (eq : K → K → Bool) (hash : S → K → ℕ) (s : MapState K V S) (h : ℕ) (store : StoreState K V S) (m : Machine)
+    → IsSeeking eq hash s h store m → IsLawfulCore {A = Unit {0}} eq (hash store.hasher) store [] s.mode
 seek_core {K = K} {V = V} {S = S} eq hash s h store m seeking =
     subst (λ y. IsLawfulCore {A = Unit {0}} eq (hash y) store [] s.mode) (sym (ap (λ (y : StoreState K V S). y.hasher) seeking.logs))
     (record { core = seeking.core; law = (seeking.call_trace.begun ++ seeking.call_trace.since, ((λ d. seeking.call_trace), seeking.kept)) })
 
 -- and those of a map that is in order: it has as many pairs as before
-pub seek_lawful : {K V S : Type 0} (eq : K → K → Bool) (hash : S → K → ℕ) (s : MapState K V S) (h : ℕ) (keys : IsLawfulKeys eq (hash s.store.hasher)) (fits : h < 2 ^ 64) (lawful : IsLawfulMap eq (hash s.store.hasher) s.store s.mode s.initial) (store : StoreState K V S) (m : Machine) → IsSeeking eq hash s h store m → IsLawfulMap eq (hash store.hasher) store s.mode s.initial
+pub seek_lawful : {K V S : Type 0} (eq : K → K → Bool) (hash : S → K → ℕ) (s : MapState K V S) (h : ℕ) (keys : IsLawfulKeys eq (hash s.store.hasher))
+    (fits : h < 2 ^ 64) (lawful : IsLawfulMap eq (hash s.store.hasher) s.store s.mode s.initial) (store : StoreState K V S) (m : Machine)
+    → IsSeeking eq hash s h store m → IsLawfulMap eq (hash store.hasher) store s.mode s.initial
 seek_lawful {K = K} {V = V} {S = S} eq hash s h keys fits lawful store m seeking =
     let (es, (call_traces, kept)) = lawful.lawful.law in
     let first = own_hashed eq hash s h keys fits s.store lawful.lawful.core in

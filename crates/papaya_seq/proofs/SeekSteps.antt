@@ -1,5 +1,8 @@
 -- An answer to a removal that meets no pair leaves it in order, and brings it nearer its end.
-use Rattle.std.proofs.Common.{◌≡◌, ⊎_elim, inl, inr, ℕ, ◌^◌, ◌<◌, Bool, false, Option, None, Some, List, [], ◌++◌, append_assoc, refl, sym, ◌∙◌, ap, subst, ◌⊎◌, suc, ◌+◌, ◌-◌, ◌==◌, ◌≤◌, true, ◌∷◌, length, arith, eqb-true, length-append}
+use Rattle.std.proofs.Common.{◌≡◌, ⊎_elim, inl, inr, ℕ, ◌^◌, ◌<◌, Bool, false, Option, None, Some}
+use Rattle.std.proofs.Common.{List, [], ◌++◌, append_assoc, refl, sym, ◌∙◌, ap, subst, ◌⊎◌, suc}
+use Rattle.std.proofs.Common.{◌+◌, ◌-◌, ◌==◌, ◌≤◌, true, ◌∷◌, length, arith, eqb-true}
+use Rattle.std.proofs.Common.{length-append}
 use mathlib.Core.Path.{fun_ext}
 use Rattle.std.proofs.Math.Nat.{div-le_self}
 use Rattle.papaya_words.specs.Chunks.{chunk_len}
@@ -99,15 +102,21 @@ seeks_none (Ended reply) met = inl met
 seeks_none st met = absurd met
 
 -- a word that may change less often then spends an exchange
-write_spends : (w : Tables) (at : At) (new : ℕ) → IsPlaced w.tables at → IsChunkOf at → changes_at (length w.tables) at new < changes_at (length w.tables) at (word_at w at) → ((budget_in (put w at new)).tables ≡ (budget_in w).tables) × ((budget_in (put w at new)).exchanges < (budget_in w).exchanges)
-write_spends w at new placed chunk_is less = (ap (λ n. 2 ^ 32 - n) (placed-many w at new placed), let change = placed-changes w at new placed chunk_is in omega (arith, change, less))
+write_spends : (w : Tables) (at : At) (new : ℕ) → IsPlaced w.tables at → IsChunkOf at
+    → changes_at (length w.tables) at new < changes_at (length w.tables) at (word_at w at)
+    → ((budget_in (put w at new)).tables ≡ (budget_in w).tables) × ((budget_in (put w at new)).exchanges < (budget_in w).exchanges)
+write_spends w at new placed chunk_is less =
+    (ap (λ n. 2 ^ 32 - n) (placed-many w at new placed), let change = placed-changes w at new placed chunk_is in omega (arith, change, less))
 
 -- a table that is made is spent
-made_spends : (w : Tables) (n slots limit chunks : ℕ) → length w.tables < MAX_TABLES → (budget_in (record w { tables = w.tables ++ new_table n slots limit chunks ∷ [] })).tables < (budget_in w).tables
-made_spends w n slots limit chunks few = let more : length (w.tables ++ new_table n slots limit chunks ∷ []) ≡ length w.tables + 1 = length-append w.tables (new_table n slots limit chunks ∷ []) in omega (arith, more, few)
+made_spends : (w : Tables) (n slots limit chunks : ℕ) → length w.tables < MAX_TABLES
+    → (budget_in (record w { tables = w.tables ++ new_table n slots limit chunks ∷ [] })).tables < (budget_in w).tables
+made_spends w n slots limit chunks few = let more : length (w.tables ++ new_table n slots limit chunks ∷ []) ≡ length w.tables + 1 = length-append
+    w.tables (new_table n slots limit chunks ∷ []) in omega (arith, more, few)
 
 module _ {K V S : Type 0} (eq : K → K → Bool) (hash : S → K → ℕ) (s : MapState K V S) (h : ℕ) (keys : IsLawfulKeys eq (hash s.store.hasher)) (fits : h < 2 ^ 64)
-    (store : StoreState K V S) (m : Machine) (answer : Answer) (store' : StoreState K V S) (seeking : IsSeeking eq hash s h store m) (going : reply_in (ask_of m) ≡ None) (turn : IsTurn eq hash store (ask_of m) answer store') where
+    (store : StoreState K V S) (m : Machine) (answer : Answer) (store' : StoreState K V S) (seeking : IsSeeking eq hash s h store m)
+    (going : reply_in (ask_of m) ≡ None) (turn : IsTurn eq hash store (ask_of m) answer store') where
   -- what the answer leaves
   abbrev gq : Setting (Option K) (Stored K V)
   gq = turns.gq eq hash s h keys fits store m answer store' seeking going turn
@@ -146,25 +155,40 @@ module _ {K V S : Type 0} (eq : K → K → Bool) (hash : S → K → ℕ) (s : 
       all : AllSized store.words.tables
       all = unnumbered store.words.tables seeking.core.sizes
 
-      by_look : (ask : Call_ask) → ask_of m ≡ asks.Call ask → (told : Call_answer) → answer ≡ answers.Call told → Looks store ask told → store' ≡ store → IsKeptAsked answer store'
-      by_look (Load at) e told is looks same = performed_ask eq hash whatever false (asks.Call (Load at)) store r answer store' r all (subst IsFitAsk e (chain_ask_fits m seeking.standing)) (told, is, (looks, (same, refl)))
-      by_look (SizeOf t) e told is looks same = performed_ask eq hash whatever false (asks.Call (SizeOf t)) store r answer store' r all (subst IsFitAsk e (chain_ask_fits m seeking.standing)) (told, is, (looks, (same, refl)))
-      by_look (LoadHint t x) e told is looks same = performed_ask eq hash whatever false (asks.Call (LoadHint t x)) store r answer store' r all (subst IsFitAsk e (chain_ask_fits m seeking.standing)) (told, is, (looks, (same, refl)))
+      by_look : (ask : Call_ask) → ask_of m ≡ asks.Call ask → (told : Call_answer) → answer ≡ answers.Call told → Looks store ask told
+          → store' ≡ store → IsKeptAsked answer store'
+      by_look (Load at) e told is looks same = performed_ask eq hash whatever false (asks.Call (Load at)) store r answer store' r all
+          (subst IsFitAsk e (chain_ask_fits m seeking.standing)) (told, is, (looks, (same, refl)))
+      by_look (SizeOf t) e told is looks same = performed_ask eq hash whatever false (asks.Call (SizeOf t)) store r answer store' r all
+          (subst IsFitAsk e (chain_ask_fits m seeking.standing)) (told, is, (looks, (same, refl)))
+      by_look (LoadHint t x) e told is looks same = performed_ask eq hash whatever false (asks.Call (LoadHint t x)) store r answer store' r all
+          (subst IsFitAsk e (chain_ask_fits m seeking.standing)) (told, is, (looks, (same, refl)))
       by_look (SameKey n) e told is looks same = record { fit = subst IsFit (sym (is ∙ ap answers.Call looks)) tt; sized = numbered_back }
         where
           numbered_back : AllSized store'.words.tables
-          numbered_back = unnumbered store'.words.tables (λ n t there. seeking.core.sizes n t (ap (λ (y : StoreState K V S). table_of y.words.tables n) (sym same) ∙ there))
+          numbered_back = unnumbered store'.words.tables
+              (λ n t there. seeking.core.sizes n t (ap (λ (y : StoreState K V S). table_of y.words.tables n) (sym same) ∙ there))
       by_look ask e told is looks same = absurd looks
 
       by_ask : (ask : Ask) → ask_of m ≡ ask → IsTurn eq hash store ask answer store' → IsKeptAsked answer store'
       by_ask (asks.Call ask) e (told, is, looks, same) = by_look ask e told is looks same
-      by_ask (asks.Copy ask) e copied = performed_ask eq hash whatever false (asks.Copy ask) store r answer store' r all (subst IsFitAsk e (chain_ask_fits m seeking.standing)) (copied, refl)
+      by_ask (asks.Copy ask) e copied = performed_ask eq hash whatever false (asks.Copy ask) store r answer store' r all
+          (subst IsFitAsk e (chain_ask_fits m seeking.standing)) (copied, refl)
 
   pub seek_fit : IsFit answer
   seek_fit = fits_all.fit
 
   pub core' : IsCore {A = Unit {0}} store' [] s.mode
-  core' = record { chunked = seeking.core.chunked; limit = seeking.core.limit; sizes = numbered store'.words.tables fits_all.sized; standing = λ d q e. absurd cc; going = λ d q e. absurd cc; resizers = λ d z e. absurd cc; scanners = λ d v e. absurd cc }
+  core' = record {
+    chunked = seeking.core.chunked;
+    limit = seeking.core.limit;
+    sizes = numbered store'.words.tables fits_all.sized;
+    standing = λ d q
+        e. absurd cc;
+    going = λ d q e. absurd cc;
+    resizers = λ d z e. absurd cc;
+    scanners = λ d v e. absurd cc;
+  }
 
   pub standing' : IsStanding (after m answer)
   standing' = chain_stands m seeking.standing answer seek_fit
@@ -208,7 +232,8 @@ module _ {K V S : Type 0} (eq : K → K → Bool) (hash : S → K → ℕ) (s : 
 
   current' : IsCurrent (word_at store'.words) (after m answer)
   current' = subst (λ words. IsCurrent words (after m answer)) words'_are
-      (call_current gq cq (hashed) call_trace.begun call_trace.since (may) bounded None m call_trace.loaded seeking.relies has_words read answer left.made left.loaded left.told served)
+      (call_current gq cq (hashed) call_trace.begun call_trace.since (may) bounded None m call_trace.loaded seeking.relies has_words read answer
+      left.made left.loaded left.told served)
 
   seeker : IsSeeker m.call.task
   seeker = subst IsSeeker (sym seeking.task) tt
@@ -225,7 +250,8 @@ module _ {K V S : Type 0} (eq : K → K → Bool) (hash : S → K → ℕ) (s : 
       same_told : (a b : Call_answer) → answer ≡ answers.Call a → answer ≡ answers.Call b → a ≡ b
       same_told a b e f = let g : answers.Call a ≡ answers.Call b = sym e ∙ f in cc
 
-      unmatched : (ask : Call_ask) (told : Call_answer) → answer ≡ answers.Call told → IsTurn eq hash store (asks.Call ask) answer store' → IsTold gq cq None (run es start) (kind_of_ask m) (follows_of m) call_trace.loaded (asks.Call ask) answer left.made left.loaded → IsUnmatched ask told
+      unmatched : (ask : Call_ask) (told : Call_answer) → answer ≡ answers.Call told → IsTurn eq hash store (asks.Call ask) answer store'
+          → IsTold gq cq None (run es start) (kind_of_ask m) (follows_of m) call_trace.loaded (asks.Call ask) answer left.made left.loaded → IsUnmatched ask told
       unmatched (Load at) told is (a, a_is, looks, same) t = (_, same_told told a is a_is ∙ looks)
       unmatched (LoadHint i x) told is (a, a_is, looks, same) t = (_, same_told told a is a_is ∙ looks)
       unmatched (SameKey n) told is (a, a_is, looks, same) t = same_told told a is a_is ∙ looks
@@ -237,7 +263,8 @@ module _ {K V S : Type 0} (eq : K → K → Bool) (hash : S → K → ℕ) (s : 
     | inl waits ↦ subst (λ (y : Call_machine). Seeks y.state) (sym waits.call) seeking.seeks
     | inr (inl own) ↦ own_seeks own
     | inr (inr (inl enters)) ↦ subst (λ (y : Call_machine). Seeks y.state) (sym enters.call) tt
-    | inr (inr (inr (inl anew))) ↦ subst (λ (y : Call_machine). Seeks y.state) (sym anew.call) (seeks_none _ (machine_meets_none (record m.call { state = AtRoot }) seeker (Word_read anew.root) tt (anew.root, refl)))
+    | inr (inr (inr (inl anew))) ↦ subst (λ (y : Call_machine). Seeks y.state) (sym anew.call)
+        (seeks_none _ (machine_meets_none (record m.call { state = AtRoot }) seeker (Word_read anew.root) tt (anew.root, refl)))
     | inr (inr (inr (inr refused))) ↦ subst (λ (y : Call_machine). Seeks y.state) (sym refused.call) (inr (refused.refused, refl))
   ]
 
@@ -253,18 +280,25 @@ module _ {K V S : Type 0} (eq : K → K → Bool) (hash : S → K → ℕ) (s : 
   links' =
       is_made (IsMadeFor store') (link_in (after m answer).phase)
       (machine_made (IsMadeFor store') m answer
-      (λ n behind slots limit chunks aside is making. copy_made eq whatever hash false store r answer store' r m behind slots limit chunks making (performs_copy aside) n is)
-      (made_is (IsMadeFor store') (link_in m.phase) (λ behind t chunks linking. turns.still_made eq hash s h keys fits store m answer store' seeking going turn t chunks (seeking.links behind t chunks linking))))
+      (λ n behind slots limit chunks aside is making.
+      copy_made eq whatever hash false store r answer store' r m behind slots limit chunks making (performs_copy aside) n is)
+      (made_is (IsMadeFor store') (link_in m.phase)
+      (λ behind t chunks linking. turns.still_made eq hash s h keys fits store m answer store' seeking going turn t chunks
+      (seeking.links behind t chunks linking))))
 
   -- what the step did to the lengths of tables: a lookup leaves them
   stepped : IsCallStep eq hash store store' m answer
   stepped = record {
     own = λ calling. let (told, is, looks, same) = own_turn calling in inl (ap (λ (y : StoreState K V S). lengths_of y.words) same);
-    counted = λ calling. let (told, is, looks, same) = own_turn calling in (told, is, looks_count (calls.ask_of m.call) told looks (ap (λ (y : StoreState K V S). y.count) same));
+    counted = λ calling. let (told, is, looks, same) = own_turn calling in
+        (told, is, looks_count (calls.ask_of m.call) told looks (ap (λ (y : StoreState K V S). y.count) same));
     copy = λ ask e. subst (λ a. IsTurn eq hash store a answer store') e turn;
     first = λ calling making. absurd (subst Seeks making seeking.seeks);
-    stays = root_stays {A = Unit {0}} eq (hash s.store.hasher) keys s.mode store store' [] [] es left.made (λ d. call_trace) (λ d. turns.call_trace' eq hash s h keys fits store m answer store' seeking going turn) seeking.kept core'
-        (subst (λ l. IsKept {A = Unit {0}} eq (hash s.store.hasher) s.mode store' [] l (λ d. turns.call_trace' eq hash s h keys fits store m answer store' seeking going turn)) (sym (append_assoc call_trace.begun call_trace.since left.made)) (turns.kept' eq hash s h keys fits store m answer store' seeking going turn));
+    stays = root_stays {A = Unit {0}} eq (hash s.store.hasher) keys s.mode store store' [] [] es left.made (λ d. call_trace)
+        (λ d. turns.call_trace' eq hash s h keys fits store m answer store' seeking going turn) seeking.kept core'
+        (subst (λ l. IsKept {A = Unit {0}} eq (hash s.store.hasher) s.mode store' [] l
+        (λ d. turns.call_trace' eq hash s h keys fits store m answer store' seeking going turn))
+        (sym (append_assoc call_trace.begun call_trace.since left.made)) (turns.kept' eq hash s h keys fits store m answer store' seeking going turn));
   }
     where
       own_turn : m.phase ≡ Calling → IsTurn eq hash store (asks.Call (calls.ask_of m.call)) answer store'
@@ -284,7 +318,8 @@ module _ {K V S : Type 0} (eq : K → K → Bool) (hash : S → K → ℕ) (s : 
     core = core';
     kept = turns.kept' eq hash s h keys fits store m answer store' seeking going turn;
     relies = turns.relies' eq hash s h keys fits store m answer store' seeking going turn;
-    last = λ p l. ⊎_elim (λ old. left.logged p.number p (seeking.last p old)) (λ stood. turns.stood_logged eq hash s h keys fits store m answer store' seeking going turn p stood) (left.last p l);
+    last = λ p l. ⊎_elim (λ old. left.logged p.number p (seeking.last p old))
+        (λ stood. turns.stood_logged eq hash s h keys fits store m answer store' seeking going turn p stood) (left.last p l);
     carried = λ p l. ⊎_elim (λ old. left.logged p.number p (seeking.carried p old)) (λ told. left.logged p.number p (seeking.last p told)) (left.carried p l);
     made = λ p l. elim (left.new p l) [ inl old ↦ left.logged p.number p (seeking.made p old) | inr new ↦ new.2 ];
     links = links';
@@ -321,15 +356,20 @@ module _ {K V S : Type 0} (eq : K → K → Bool) (hash : S → K → ℕ) (s : 
   cut_low x = div-le_self x (chunk_len s.mode.resize)
 
   -- an exchange of its copy was made
-  copy_exchanges : (at : At) (old new : ℕ) → ask_of m ≡ asks.Copy (copies.Exchange at old new) → (word_at store.words at == old) ≡ true → ((budget_in (put store.words at new)).tables ≡ (budget_of store).tables) × ((budget_in (put store.words at new)).exchanges < (budget_of store).exchanges)
+  copy_exchanges : (at : At) (old new : ℕ) → ask_of m ≡ asks.Copy (copies.Exchange at old new) → (word_at store.words at == old) ≡ true
+      → ((budget_in (put store.words at new)).tables ≡ (budget_of store).tables) × ((budget_in (put store.words at new)).exchanges < (budget_of store).exchanges)
   copy_exchanges at old new e hit =
       let no_open = turns.no_open eq hash s h keys fits store m answer store' seeking going turn in
       let stands : word_of gq cq now at ≡ old = coded at ∙ eqb-true (word_at store.words at) old hit in
-      let x = asked_copy gq cq store r es call_trace (own_key store r) hashed None refl may seeking.relies coded seeking.kept.made no_open seeking.links refl (λ t. refl) (λ t. refl) at old new e stands in
-      let placed = placed_copy gq cq store r es call_trace (own_key store r) hashed None refl may seeking.relies coded seeking.kept.made no_open seeking.links refl (λ t. refl) (λ t. refl) at old new e in
-      write_spends store.words at new placed (copy_chunk gq cq now (length store.words.tables) sound slots_most cut_low on_low (kind_of_ask m) at new call_trace.loaded.kept x.0 x.1 x.2)
+      let x = asked_copy gq cq store r es call_trace (own_key store r) hashed None refl may seeking.relies coded seeking.kept.made no_open
+      seeking.links refl (λ t. refl) (λ t. refl) at old new e stands in
+      let placed = placed_copy gq cq store r es call_trace (own_key store r) hashed None refl may seeking.relies coded seeking.kept.made no_open
+      seeking.links refl (λ t. refl) (λ t. refl) at old new e in
+      write_spends store.words at new placed (copy_chunk gq cq now (length store.words.tables) sound slots_most cut_low on_low (kind_of_ask m) at new
+      call_trace.loaded.kept x.0 x.1 x.2)
       (subst (λ y. changes_at (length store.words.tables) at new < changes_at (length store.words.tables) at y) (coded at)
-      (copy_fewer gq cq now (length store.words.tables) sound slots_most cut_low on_low (kind_of_ask m) at new call_trace.loaded.kept x.0 x.1 x.2 (sym x.3.here)))
+      (copy_fewer gq cq now (length store.words.tables) sound slots_most cut_low on_low (kind_of_ask m) at new call_trace.loaded.kept x.0 x.1 x.2
+      (sym x.3.here)))
 
   same_words : store' ≡ store → budget_of store' ≡ budget_of store
   same_words same = ap (λ (y : StoreState K V S). budget_of y) same
@@ -337,32 +377,44 @@ module _ {K V S : Type 0} (eq : K → K → Bool) (hash : S → K → ℕ) (s : 
   noted_words : (t x hint : ℕ) → store' ≡ record store { words = note store.words t x hint } → budget_of store' ≡ budget_of store
   noted_words t x hint same = ap (λ (y : StoreState K V S). budget_of y) same ∙ noted-budget store.words t x hint
 
-  spends_exchange : (at : At) (old new : ℕ) → ask_of m ≡ asks.Copy (copies.Exchange at old new) → (told : Call_answer) → Exchanges (word_at store.words at) old (put store.words at new) told store store' → SpendsCopy (copies.Exchange at old new) (answers.Call told) (budget_of store) (budget_of store')
+  spends_exchange : (at : At) (old new : ℕ) → ask_of m ≡ asks.Copy (copies.Exchange at old new) → (told : Call_answer)
+      → Exchanges (word_at store.words at) old (put store.words at new) told store store'
+      → SpendsCopy (copies.Exchange at old new) (answers.Call told) (budget_of store) (budget_of store')
   spends_exchange at old new e told ex =
       matched (SpendsCopy (copies.Exchange at old new) (answers.Call told) (budget_of store) (budget_of store')) (word_at store.words at == old) _ _ ex
       (λ hit done. subst (λ y. SpendsCopy (copies.Exchange at old new) (answers.Call y) (budget_of store) (budget_of store')) (sym done.0)
-      (subst (λ (y : StoreState K V S). ((budget_of y).tables ≡ (budget_of store).tables) × ((budget_of y).exchanges < (budget_of store).exchanges)) (sym done.1) (copy_exchanges at old new e hit)))
+      (subst (λ (y : StoreState K V S). ((budget_of y).tables ≡ (budget_of store).tables) × ((budget_of y).exchanges < (budget_of store).exchanges))
+      (sym done.1) (copy_exchanges at old new e hit)))
       (λ miss lost. subst (λ y. SpendsCopy (copies.Exchange at old new) (answers.Call y) (budget_of store) (budget_of store')) (sym lost.0) (same_words lost.1))
 
   -- a table, made or refused
-  spends_table : (slots limit chunks : ℕ) (told : Call_answer) → (Refuses MAX_TABLES (length store.words.tables) told × (store' ≡ store)) ⊎ MakesTable told slots limit chunks store store' → SpendsCopy (copies.MakeTable slots limit chunks) (answers.Call told) (budget_of store) (budget_of store')
-  spends_table slots limit chunks told (inl (refuses, same)) = let no = refusal _ _ told refuses in subst (λ y. SpendsCopy (copies.MakeTable slots limit chunks) (answers.Call y) (budget_of store) (budget_of store')) (sym no.1) (same_words same)
+  spends_table : (slots limit chunks : ℕ) (told : Call_answer) → (Refuses MAX_TABLES (length store.words.tables) told × (store' ≡ store))
+      ⊎ MakesTable told slots limit chunks store store'
+      → SpendsCopy (copies.MakeTable slots limit chunks) (answers.Call told) (budget_of store) (budget_of store')
+  spends_table slots limit chunks told (inl (refuses, same)) = let no = refusal _ _ told refuses in
+      subst (λ y. SpendsCopy (copies.MakeTable slots limit chunks) (answers.Call y) (budget_of store) (budget_of store')) (sym no.1) (same_words same)
   spends_table slots limit chunks told (inr (is, few, grown)) =
       subst (λ y. SpendsCopy (copies.MakeTable slots limit chunks) (answers.Call y) (budget_of store) (budget_of store')) (sym is)
-      (subst (λ (y : StoreState K V S). (budget_of y).tables < (budget_of store).tables) (sym grown) (made_spends store.words (length store.words.tables + 1) slots limit chunks few))
+      (subst (λ (y : StoreState K V S). (budget_of y).tables < (budget_of store).tables) (sym grown)
+      (made_spends store.words (length store.words.tables + 1) slots limit chunks few))
 
-  spends_copy : (ask : CopyAsk) → ask_of m ≡ asks.Copy ask → PerformsCopy eq hash false ask store answer store' → SpendsCopy ask answer (budget_of store) (budget_of store')
+  spends_copy : (ask : CopyAsk) → ask_of m ≡ asks.Copy ask → PerformsCopy eq hash false ask store answer store'
+      → SpendsCopy ask answer (budget_of store) (budget_of store')
   spends_copy (copies.Load at) e (is, same) = same_words same
-  spends_copy (copies.Exchange at old new) e (told, is, ex) = subst (λ y. SpendsCopy (copies.Exchange at old new) y (budget_of store) (budget_of store')) (sym is) (spends_exchange at old new e told ex)
+  spends_copy (copies.Exchange at old new) e
+      (told, is, ex) = subst (λ y. SpendsCopy (copies.Exchange at old new) y (budget_of store) (budget_of store')) (sym is) (spends_exchange at old new e told ex)
   spends_copy (copies.LoadHint t x) e (is, same) = same_words same
   spends_copy (copies.WriteHint t x hint) e (is, same) = noted_words t x hint same
   spends_copy (copies.SizeOf n) e (is, same) = same_words same
   spends_copy (copies.HashOf n) e (is, fit, same) = same_words same
   spends_copy (copies.SamePair i n) e (is, same) = same_words same
   spends_copy copies.Count e (is, same) = same_words same
-  spends_copy (copies.MakeTable slots limit chunks) e (told, is, makes) = subst (λ y. SpendsCopy (copies.MakeTable slots limit chunks) y (budget_of store) (budget_of store')) (sym is) (spends_table slots limit chunks told makes)
+  spends_copy (copies.MakeTable slots limit chunks) e
+      (told, is, makes) = subst (λ y. SpendsCopy (copies.MakeTable slots limit chunks) y (budget_of store) (budget_of store')) (sym is)
+      (spends_table slots limit chunks told makes)
 
-  spends_look : (ask : Call_ask) (told : Call_answer) → Looks store ask told → store' ≡ store → SpendsCall (kind_of_ask m) ask told (budget_of store) (budget_of store')
+  spends_look : (ask : Call_ask) (told : Call_answer) → Looks store ask told → store' ≡ store
+      → SpendsCall (kind_of_ask m) ask told (budget_of store) (budget_of store')
   spends_look (Load at) told looks same = same_words same
   spends_look (LoadHint t x) told looks same = same_words same
   spends_look (SameKey n) told looks same = same_words same
@@ -373,18 +425,22 @@ module _ {K V S : Type 0} (eq : K → K → Bool) (hash : S → K → ℕ) (s : 
   spends = by_ask (ask_of m) refl turn
     where
       by_ask : (ask : Ask) → ask_of m ≡ ask → IsTurn eq hash store ask answer store' → Spends (kind_of_ask m) ask answer (budget_of store) (budget_of store')
-      by_ask (asks.Call ask) e (told, is, looks, same) = subst (λ y. Spends (kind_of_ask m) (asks.Call ask) y (budget_of store) (budget_of store')) (sym is) (spends_look ask told looks same)
+      by_ask (asks.Call ask) e (told, is, looks, same) = subst (λ y. Spends (kind_of_ask m) (asks.Call ask) y (budget_of store) (budget_of store'))
+          (sym is) (spends_look ask told looks same)
       by_ask (asks.Copy ask) e copied = spends_copy ask e copied
 
   few : (budget_of store').exchanges < 2 ^ 128
-  few = budget_bounded eq (hash s.store.hasher) keys s.mode store' [] (core') es' (λ d. turns.call_trace' eq hash s h keys fits store m answer store' seeking going turn) (turns.kept' eq hash s h keys fits store m answer store' seeking going turn)
+  few = budget_bounded eq (hash s.store.hasher) keys s.mode store' [] (core') es'
+      (λ d. turns.call_trace' eq hash s h keys fits store m answer store' seeking going turn)
+      (turns.kept' eq hash s h keys fits store m answer store' seeking going turn)
 
   -- the measure falls
   falls : measure (budget_of store') store'.words.root (after m answer) < measure (budget_of store) store.words.root m
   falls =
       subst (λ n. measure (budget_of store') n (after m answer) < measure (budget_of store) store.words.root m) (ap (λ f. f Root) (words'_are))
       (subst (λ n. measure (budget_of store') (run es' start).root (after m answer) < measure (budget_of store) n m) (ap (λ f. f Root) (words_are))
-      (call_nears gq cq hashed call_trace.begun call_trace.since may (bounded) None m call_trace.loaded seeking.relies has_words (read) answer left.made left.loaded left.told
+      (call_nears gq cq hashed call_trace.begun call_trace.since may (bounded) None m call_trace.loaded seeking.relies has_words (read) answer
+      left.made left.loaded left.told
       (served) (budget_of store) (budget_of store') spends few (standing')))
 
   pub turn_nears : left_of store' (after m answer) < left_of store m
@@ -394,5 +450,7 @@ module _ {K V S : Type 0} (eq : K → K → Bool) (hash : S → K → ℕ) (s : 
       far = ap (λ o. left_to o (measure (budget_of store) store.words.root m)) going
 
       by_reply : (o : Option Reply) → reply_in (ask_of (after m answer)) ≡ o → left_of store' (after m answer) < left_of store m
-      by_reply None e = let near = ap (λ o. left_to o (measure (budget_of store') store'.words.root (after m answer))) e in let less = falls in let from = far in omega (arith, less, near, from)
-      by_reply (Some told) e = let near = ap (λ o. left_to o (measure (budget_of store') store'.words.root (after m answer))) e in let from = far in omega (arith, near, from)
+      by_reply None e = let near = ap (λ o. left_to o (measure (budget_of store') store'.words.root (after m answer))) e in let less = falls in
+          let from = far in omega (arith, less, near, from)
+      by_reply (Some told) e = let near = ap (λ o. left_to o (measure (budget_of store') store'.words.root (after m answer))) e in let from = far in
+          omega (arith, near, from)

@@ -1,5 +1,7 @@
 -- One answer to a removal that meets no pair: what it leaves of the words, the logs and the map.
-use Rattle.std.proofs.Common.{◌≡◌, ◌⊎◌, inl, inr, ℕ, ◌%◌, ◌^◌, ◌<◌, ◌≤◌, ◌==◌, Bool, false, Option, None, Some, List, [], ◌∷◌, ◌++◌, append_assoc, append-nil, refl, sym, ◌∙◌, ap, subst}
+use Rattle.std.proofs.Common.{◌≡◌, ◌⊎◌, inl, inr, ℕ, ◌%◌, ◌^◌, ◌<◌, ◌≤◌, ◌==◌, Bool, false, Option}
+use Rattle.std.proofs.Common.{None, Some, List, [], ◌∷◌, ◌++◌, append_assoc, append-nil, refl, sym}
+use Rattle.std.proofs.Common.{◌∙◌, ap, subst}
 use denote.Ref.{Bor}
 use Rattle.std.specs.Fn.{Mut}
 use Rattle.papaya_ask.specs.declared.ask.At.{At}
@@ -77,7 +79,9 @@ use Rattle.papaya_seq.specs.Map.{MapState}
 use Rattle.papaya_seq.specs.Removes.{IsRemovalAnswer}
 use Rattle.papaya_seq.proofs.Lawful.{MatchesNone}
 use Rattle.papaya_seq.proofs.Numbered.{copied_made}
-use Rattle.papaya_seq.proofs.Seeking.{IsSeeking, Seeks, own_coding, own_hashed, own_hint, own_setting, sought_coding, sought_hashed, sought_hint, sought_setting, sought_word}
+use Rattle.papaya_seq.proofs.Seeking.{IsSeeking, Seeks, own_coding, own_hashed, own_hint}
+use Rattle.papaya_seq.proofs.Seeking.{own_setting, sought_coding, sought_hashed, sought_hint}
+use Rattle.papaya_seq.proofs.Seeking.{sought_setting, sought_word}
 
 -- what a search asks for
 abbrev pub IsLook : Call_ask → Type 0
@@ -121,7 +125,8 @@ module _ {K V S : Type 0} where
   words_only : (store store' : StoreState K V S) (w : _) → store' ≡ record store { words = w } → store' ≡ record store { words = store'.words }
   words_only store store' w e = e ∙ ap (λ (y : StoreState K V S). record store { words = y.words }) (sym e)
 
-  pub turn_words : (eq : K → K → Bool) (hash : S → K → ℕ) (store : StoreState K V S) (ask : Ask) (answer : Answer) (store' : StoreState K V S) → IsTurn eq hash store ask answer store' → store' ≡ record store { words = store'.words }
+  pub turn_words : (eq : K → K → Bool) (hash : S → K → ℕ) (store : StoreState K V S) (ask : Ask) (answer : Answer) (store' : StoreState K V S)
+      → IsTurn eq hash store ask answer store' → store' ≡ record store { words = store'.words }
   turn_words eq hash store (asks.Call ask) answer store' (told, is, looks, same) = words_only store store' store.words same
   turn_words eq hash store (asks.Copy (copies.Load at)) answer store' (is, same) = words_only store store' store.words same
   turn_words eq hash store (asks.Copy (copies.Exchange at old new)) answer store' (told, is, h) =
@@ -149,7 +154,9 @@ module _ {K V S F : Type 0} (eq : K → K → Bool) (hash : S → K → ℕ) (g 
   none_in store none n None is = refl
   none_in store none n (Some p) is = none n p is
 
-  looked : (store : StoreState K V S) → MatchesNone store matches → (ask : Call_ask) → IsLook ask → (f : F) (told : Call_answer) (store' : StoreState K V S) (f' : F) → IsRemovalAnswer g matches ask store f told store' f' → Looks store ask told × (store' ≡ store) × (f' ≡ f)
+  looked : (store : StoreState K V S) → MatchesNone store matches → (ask : Call_ask) → IsLook ask
+      → (f : F) (told : Call_answer) (store' : StoreState K V S) (f' : F) → IsRemovalAnswer g matches ask store f told store' f' → Looks store ask told
+      × (store' ≡ store) × (f' ≡ f)
   looked store none (Load at) look f told store' f' (e, stays, kept) = (e, stays, kept)
   looked store none (LoadHint t x) look f told store' f' (e, stays, kept) = (e, stays, kept)
   looked store none (SameKey n) look f told store' f' (e, stays, kept) = (e ∙ ap Yes (none_in store none n (pair_of store n) refl), stays, kept)
@@ -157,15 +164,19 @@ module _ {K V S F : Type 0} (eq : K → K → Bool) (hash : S → K → ℕ) (g 
   looked store none ask look f told store' f' h = absurd look
 
   -- so the closure is as it was
-  pub turned : (store : StoreState K V S) (m : Machine) → MatchesNone store matches → Seeks m.call.state → reply_in (ask_of m) ≡ None → (f : F) (answer : Answer) (store' : StoreState K V S) (f' : F) → IsAnswered (ask_of m) store f answer store' f' → IsTurn eq hash store (ask_of m) answer store' × (f' ≡ f)
+  pub turned : (store : StoreState K V S) (m : Machine) → MatchesNone store matches → Seeks m.call.state → reply_in (ask_of m) ≡ None
+      → (f : F) (answer : Answer) (store' : StoreState K V S) (f' : F) → IsAnswered (ask_of m) store f answer store' f'
+      → IsTurn eq hash store (ask_of m) answer store' × (f' ≡ f)
   turned store m none seeks going f answer store' f' h = by_ask (ask_of m) refl h
     where
       by_ask : (ask : Ask) → ask_of m ≡ ask → IsAnswered ask store f answer store' f' → IsTurn eq hash store ask answer store' × (f' ≡ f)
-      by_ask (asks.Call ask) e (told, is, answered) = let l = looked store none ask (asked_look m seeks going ask e) f told store' f' answered in ((told, is, l.0, l.1), l.2)
+      by_ask (asks.Call ask) e (told, is, answered) = let l = looked store none ask (asked_look m seeks going ask e) f told store' f' answered in
+          ((told, is, l.0, l.1), l.2)
       by_ask (asks.Copy ask) e (copied, kept) = (copied, kept)
 
 -- no exchange of a copy changes the map
-copy_still : {K P Q : Type 0} (g : Setting K P) (c : Coding Q P) (kind : Option StepKind) (at : At) (new : ℕ) (s : Words P) (kept : Option P) (e : Exchange P) → IsCopyAsked c kind at new s kept e → (m : K → Option P) (k : K) → map_after g m e k ≡ m k
+copy_still : {K P Q : Type 0} (g : Setting K P) (c : Coding Q P) (kind : Option StepKind) (at : At) (new : ℕ) (s : Words P) (kept : Option P)
+    (e : Exchange P) → IsCopyAsked c kind at new s kept e → (m : K → Option P) (k : K) → map_after g m e k ≡ m k
 copy_still g c (Some kinds.Link) (Next t) new s kept e is m k = ap (λ y. map_after g m y k) is
 copy_still g c (Some kinds.Mark) (Slot t x) new s kept e (p, live, is) m k = ap (λ y. map_after g m y k) is
 copy_still g c (Some kinds.Close) (Slot t x) new s kept e is m k = ap (λ y. map_after g m y k) is
@@ -177,7 +188,8 @@ copy_still g c (Some kinds.Abort) (Aborted n) new s kept e is m k = ap (λ y. ma
 copy_still g c _ _ new s kept e is m k = absurd is
 
 module _ {K V S : Type 0} (eq : K → K → Bool) (hash : S → K → ℕ) (s : MapState K V S) (h : ℕ) (keys : IsLawfulKeys eq (hash s.store.hasher)) (fits : h < 2 ^ 64)
-    (store : StoreState K V S) (m : Machine) (answer : Answer) (store' : StoreState K V S) (seeking : IsSeeking eq hash s h store m) (going : reply_in (ask_of m) ≡ None) (turn : IsTurn eq hash store (ask_of m) answer store') where
+    (store : StoreState K V S) (m : Machine) (answer : Answer) (store' : StoreState K V S) (seeking : IsSeeking eq hash s h store m)
+    (going : reply_in (ask_of m) ≡ None) (turn : IsTurn eq hash store (ask_of m) answer store') where
   -- the settings and the coding, before the answer
   abbrev pub g : Setting K (Stored K V)
   g = own_setting eq hash s h store.words.tables
@@ -241,12 +253,19 @@ module _ {K V S : Type 0} (eq : K → K → Bool) (hash : S → K → ℕ) (s : 
   Leaves ask a = IsLeft gq cq store r es call_trace (own_key store r) None ask a store' r
 
   -- a look leaves the words
-  answered_quietly : (ask : Call_ask) → ask_of m ≡ asks.Call ask → (told : Call_answer) (loaded : Call_loaded (Stored K V)) → store' ≡ store → IsCallTold gq cq None (run es start) (kind_of_ask m) call_trace.loaded.call ask told [] loaded
-      → IsLook ask → ((p : Stored K V) → loaded.last ≡ Some p → (call_trace.loaded.call.last ≡ Some p) ⊎ Stands (run es start) p) → loaded.made ≡ call_trace.loaded.call.made → Leaves (asks.Call ask) (answers.Call told)
+  answered_quietly : (ask : Call_ask) → ask_of m ≡ asks.Call ask → (told : Call_answer) (loaded : Call_loaded (Stored K V)) → store' ≡ store
+      → IsCallTold gq cq None (run es start) (kind_of_ask m) call_trace.loaded.call ask told [] loaded
+      → IsLook ask → ((p : Stored K V) → loaded.last ≡ Some p → (call_trace.loaded.call.last ≡ Some p) ⊎ Stands (run es start) p)
+      → loaded.made ≡ call_trace.loaded.call.made → Leaves (asks.Call ask) (answers.Call told)
   answered_quietly ask e told loaded same tells look stood made =
-      quiet gq cq store r es call_trace (own_key store r) hashed None seeking.relies coded seeking.kept.made refl (asks.Call ask) e (answers.Call told) store' r (record call_trace.loaded { call = loaded }) store.count same refl
-      (own_told gq cq store r es call_trace (own_key store r) hashed None seeking.relies coded seeking.kept.made ask told [] loaded tells) (unmoved ask look) stood (λ p l. inl l) made
-      (λ t is which. elim which [ inl (slots, limit, chunks, f) ↦ (let asked : ask ≡ MakeTable slots limit chunks = cc in subst IsLook asked look) | inr (slots, limit, chunks, f) ↦ absurd cc ])
+      quiet gq cq store r es call_trace (own_key store r) hashed None seeking.relies coded seeking.kept.made refl (asks.Call ask) e
+      (answers.Call told) store' r (record call_trace.loaded { call = loaded }) store.count same refl
+      (own_told gq cq store r es call_trace (own_key store r) hashed None seeking.relies coded seeking.kept.made ask told [] loaded tells)
+      (unmoved ask look) stood (λ p l. inl l) made
+      (λ t is which. elim which [
+        | inl (slots, limit, chunks, f) ↦ (let asked : ask ≡ MakeTable slots limit chunks = cc in subst IsLook asked look)
+        | inr (slots, limit, chunks, f) ↦ absurd cc
+      ])
     where
       unmoved : (ask : Call_ask) → IsLook ask → change_after (kind_of_ask m) ask told (change_in m.call.state) ≡ change_in m.call.state
       unmoved (Load at) look = refl
@@ -255,18 +274,26 @@ module _ {K V S : Type 0} (eq : K → K → Bool) (hash : S → K → ℕ) (s : 
       unmoved (SizeOf t) look = refl
       unmoved other look = absurd look
 
-  answered_look : (ask : Call_ask) → ask_of m ≡ asks.Call ask → (told : Call_answer) → Looks store ask told → store' ≡ store → Leaves (asks.Call ask) (answers.Call told)
+  answered_look : (ask : Call_ask) → ask_of m ≡ asks.Call ask → (told : Call_answer) → Looks store ask told → store' ≡ store
+      → Leaves (asks.Call ask) (answers.Call told)
   answered_look (Load at) e told is same =
       answered_quietly (Load at) e told (told_of (run es start) at call_trace.loaded.call) same (is ∙ ap Word_read (sym (coded at)), refl, refl) tt
       (told_last gq cq store r es call_trace (own_key store r) at) (told_made gq cq store r es call_trace (own_key store r) at)
-  answered_look (LoadHint t x) e told is same = answered_quietly (LoadHint t x) e told call_trace.loaded.call same ((hint_at store.words t x, hints t x, is), (refl, refl)) tt (λ p l. inl l) refl
-  answered_look (SameKey n) e told is same = answered_quietly (SameKey n) e told call_trace.loaded.call same ((λ p l number. is), (refl, refl)) tt (λ p l. inl l) refl
+  answered_look (LoadHint t x) e told is same = answered_quietly (LoadHint t x) e told call_trace.loaded.call same
+      ((hint_at store.words t x, hints t x, is), (refl, refl)) tt (λ p l. inl l) refl
+  answered_look (SameKey n) e told is same = answered_quietly (SameKey n) e told call_trace.loaded.call same ((λ p l number. is), (refl, refl)) tt
+      (λ p l. inl l) refl
   answered_look (SizeOf n) e told is same =
       let call = m.call in
-      let on : IsOn (run es start).first (run es start).next n = subst (IsNamed gq cq hashed call_trace.begun call_trace.since may None) (call_asks m (SizeOf n) e).1 (ask_named gq cq hashed call_trace.begun call_trace.since may None call_trace.loaded.call call.task call.hash call.made call.state seeking.relies.call.stage) in
-      let words = on_there gq cq store r es call_trace (own_key store r) hashed None refl may seeking.relies coded seeking.kept.made no_open seeking.links refl (λ t. refl) (λ t. refl) n on in
-      answered_quietly (SizeOf n) e told call_trace.loaded.call same
-      ((words.0.limit, sym (ap places_in words.1), is ∙ ap size_of words.1 ∙ ap (λ y. Size y words.0.limit) (sym (ap slots_in words.1))), (refl, refl)) tt (λ p l. inl l) refl
+      let on : IsOn (run es start).first (run es start).next n = subst (IsNamed gq cq hashed call_trace.begun call_trace.since may None)
+      (call_asks m (SizeOf n) e).1 (ask_named gq cq hashed call_trace.begun call_trace.since may None call_trace.loaded.call call.task call.hash
+      call.made call.state seeking.relies.call.stage) in
+      let words = on_there gq cq store r es call_trace (own_key store r) hashed None refl may seeking.relies coded seeking.kept.made no_open
+      seeking.links refl (λ t. refl) (λ t. refl) n on in
+      answered_quietly (SizeOf n) e told call_trace.loaded.call same (
+        (words.0.limit, sym (ap places_in words.1), is ∙ ap size_of words.1 ∙ ap (λ y. Size y words.0.limit) (sym (ap slots_in words.1))),
+        (refl, refl),
+      ) tt (λ p l. inl l) refl
   answered_look ask e told is same = absurd is
 
   -- what the answer leaves
@@ -276,7 +303,8 @@ module _ {K V S : Type 0} (eq : K → K → Bool) (hash : S → K → ℕ) (s : 
       by_ask : (ask : Ask) → ask_of m ≡ ask → IsTurn eq hash store ask answer store' → Leaves ask answer
       by_ask (asks.Call ask) e (told, is, looks, same) = subst (Leaves (asks.Call ask)) (sym is) (answered_look ask e told looks same)
       by_ask (asks.Copy ask) e copied =
-          answered_copy eq hash gq cq store r es call_trace (own_key store r) hashed None refl may seeking.relies coded seeking.kept.made hints seeking.last seeking.carried no_open seeking.links refl suits false ask e answer store' r copied refl
+          answered_copy eq hash gq cq store r es call_trace (own_key store r) hashed None refl may seeking.relies coded seeking.kept.made hints
+          seeking.last seeking.carried no_open seeking.links refl suits false ask e answer store' r copied refl
 
   -- the exchanges after it
   abbrev pub since' : List (Exchange (Stored K V))
@@ -297,7 +325,8 @@ module _ {K V S : Type 0} (eq : K → K → Bool) (hash : S → K → ℕ) (s : 
 
   -- they were allowed, and the machine relies on them
   pub learnt : AllAllowed gq start es' × Relies gq cq call_trace.begun since' None (after m answer) left.loaded
-  learnt = all_learns gq cq hashed call_trace.begun call_trace.since may None m call_trace.loaded seeking.relies answer (λ _. has_words) left.made left.loaded left.told
+  learnt = all_learns gq cq hashed call_trace.begun call_trace.since may None m call_trace.loaded seeking.relies answer (λ _. has_words) left.made
+      left.loaded left.told
 
   all_own : AllAllowed g start es'
   all_own = all_alike gq g (alike_back g gq (key_alike g (λ k. false) h)) es' start learnt.0
@@ -307,10 +336,12 @@ module _ {K V S : Type 0} (eq : K → K → Bool) (hash : S → K → ℕ) (s : 
   On = IsOn (run es' start).first (run es' start).next
 
   agrees : Agrees On g g'
-  agrees = grown_agrees eq (hash s.store.hasher) s.mode s.mode store.words.tables store'.words.tables refl left.grown On (λ t on. left.there t on.0 (subst (λ l. Comes (run l start) t) (sym assoc) (on_comes (run es' start) t on)))
+  agrees = grown_agrees eq (hash s.store.hasher) s.mode s.mode store.words.tables store'.words.tables refl left.grown On
+      (λ t on. left.there t on.0 (subst (λ l. Comes (run l start) t) (sym assoc) (on_comes (run es' start) t on)))
 
   pub relies' : Relies gq' cq call_trace.begun since' None (after m answer) left.loaded
-  relies' = relies_carries gq gq' cq hashed call_trace.begun since' learnt.0 (key_agrees On g g' agrees (λ k. false) h) None (after m answer) left.loaded learnt.1
+  relies' = relies_carries gq gq' cq hashed call_trace.begun since' learnt.0 (key_agrees On g g' agrees (λ k. false) h) None (after m answer)
+      left.loaded learnt.1
 
   pub still_there : (t : ℕ) → IsMade store t → IsMade store' t
   still_there t w = let grown = left.grown t w.0 w.1 in (grown.0, grown.1)
@@ -326,7 +357,8 @@ module _ {K V S : Type 0} (eq : K → K → Bool) (hash : S → K → ℕ) (s : 
   hint_later t x n is =
       let split : run es' start ≡ run left.made (run es start) = ap (λ l. run l start) (sym assoc) ∙ run-append es left.made start in
       let allowed : AllAllowed g (run es start) left.made = allowed_rest g es left.made start (subst (AllAllowed g start) (sym assoc) all_own) in
-      let later : IsLater g (run es start) (run es' start) = subst (IsLater g (run es start)) (sym split) (later_run g own_law.lawful left.made (run es start) allowed) in
+      let later : IsLater g (run es start) (run es' start) = subst (IsLater g (run es start)) (sym split)
+      (later_run g own_law.lawful left.made (run es start) allowed) in
       hint_agrees g g' c (λ p. refl) ((run es' start).slot t x) n (hint_lasts g c own_law.coding (run es start) (run es' start) later t x n is)
 
   hints_later : (t x : ℕ) → IsHint g' c (run es' start) t x (hint_at store'.words t x)
@@ -339,10 +371,12 @@ module _ {K V S : Type 0} (eq : K → K → Bool) (hash : S → K → ℕ) (s : 
   pub kept' : IsKept {A = Unit {0}} eq (hash s.store.hasher) s.mode store' [] es' (λ d. call_trace')
   kept' = record {
     allowed = all_carries g own_law.lawful g' es' start (λ k. None) (start_keeps g own_law.lawful) all_own agrees;
-    coded = λ at. ap (λ l. word_of g c (run l start) at) (sym assoc) ∙ sym (sought_word eq hash s h store.words.tables (run (es ++ left.made) start) at) ∙ left.coded at;
+    coded = λ at. ap (λ l. word_of g c (run l start) at) (sym assoc)
+        ∙ sym (sought_word eq hash s h store.words.tables (run (es ++ left.made) start) at) ∙ left.coded at;
     hints = hints_later;
     made = λ t some comes. still_there t (left.there t some (subst (λ l. Comes (run l start) t) (sym assoc) comes));
-    logged = λ t x p names. elim (left.slots t x p (subst (λ l. named ((run l start).slot t x) ≡ Some p) (sym assoc) names)) [ inl stood ↦ stood_logged p stood | inr mine ↦ left.logged p.number p (seeking.made p mine) ];
+    logged = λ t x p names. elim (left.slots t x p (subst (λ l. named ((run l start).slot t x) ≡ Some p) (sym assoc) names))
+        [ inl stood ↦ stood_logged p stood | inr mine ↦ left.logged p.number p (seeking.made p mine) ];
     few = left.few seeking.kept.few;
     tables_few = left.tables_few seeking.kept.tables_few;
     calls = λ d q e. absurd cc;
@@ -359,7 +393,8 @@ module _ {K V S : Type 0} (eq : K → K → Bool) (hash : S → K → ℕ) (s : 
       by_ask (asks.Call ask) e (told, is, looks, same) = ap (λ (y : StoreState K V S). y.words.made) same
       by_ask (asks.Copy ask) e copied =
           copied_made store store' eq hash false ask answer
-          (λ old new is. copies_there gq cq hashed call_trace.begun call_trace.since may None m call_trace.loaded seeking.relies (copies.Exchange Made_word old new) (e ∙ ap asks.Copy is)) copied
+          (λ old new is. copies_there gq cq hashed call_trace.begun call_trace.since may None m call_trace.loaded seeking.relies
+          (copies.Exchange Made_word old new) (e ∙ ap asks.Copy is)) copied
 
   -- a refusal has a cause
   pub turn_caused : (refused : Refused) → reply_in (ask_of (after m answer)) ≡ Some (Reply_refused refused) → IsCause m answer refused
@@ -369,27 +404,36 @@ module _ {K V S : Type 0} (eq : K → K → Bool) (hash : S → K → ℕ) (s : 
       (λ reply done. let f : Some reply ≡ None = sym (ap reply_in done) ∙ going in absurd cc) (reply_asked (ask_of (after m answer)) (Reply_refused refused) e)
 
   -- no exchange of the answer changes the map
-  unmoved_map : (made : List (Exchange (Stored K V))) → left.made ≡ made → (made ≡ []) ⊎ ((kind : Option StepKind) × (at : At) × (new : ℕ) × (by : Exchange (Stored K V)) × IsCopyAsked cq kind at new (run es start) call_trace.loaded.kept by × (made ≡ by ∷ [])) → (k : K) → map_left g es' k ≡ map_left g es k
-  unmoved_map made is (inl none) k = ap (λ l. map_left g (call_trace.begun ++ (call_trace.since ++ l)) k) (is ∙ none) ∙ ap (λ l. map_left g (call_trace.begun ++ l) k) (append-nil call_trace.since)
+  unmoved_map : (made : List (Exchange (Stored K V))) → left.made ≡ made → (made ≡ [])
+      ⊎ ((kind : Option StepKind) × (at : At) × (new : ℕ) × (by : Exchange (Stored K V))
+      × IsCopyAsked cq kind at new (run es start) call_trace.loaded.kept by × (made ≡ by ∷ [])) → (k : K) → map_left g es' k ≡ map_left g es k
+  unmoved_map made is (inl none) k = ap (λ l. map_left g (call_trace.begun ++ (call_trace.since ++ l)) k) (is ∙ none)
+      ∙ ap (λ l. map_left g (call_trace.begun ++ l) k) (append-nil call_trace.since)
   unmoved_map made is (inr (kind, at, new, by, asked, one)) k =
       ap (λ l. map_left g l k) (sym assoc)
       ∙ ap (λ f. f k) (map_of-append g es left.made (λ j. None))
       ∙ ap (λ l. map_of g (map_left g es) l k) (is ∙ one)
       ∙ copy_still g cq kind at new (run es start) call_trace.loaded.kept by asked (map_left g es) k
 
-  no_exchange : (ask : Ask) → ask_of m ≡ ask → IsTurn eq hash store ask answer store' → (left.made ≡ []) ⊎ ((kind : Option StepKind) × (at : At) × (new : ℕ) × (by : Exchange (Stored K V)) × IsCopyAsked cq kind at new (run es start) call_trace.loaded.kept by × (left.made ≡ by ∷ []))
-  no_exchange (asks.Call ask) e looks = inl (look_made ask (asked_look m seeking.seeks going ask e) (subst (λ y. IsTold gq cq None (run es start) (kind_of_ask m) (follows_of m) call_trace.loaded y answer left.made left.loaded) e left.told))
+  no_exchange : (ask : Ask) → ask_of m ≡ ask → IsTurn eq hash store ask answer store' → (left.made ≡ [])
+      ⊎ ((kind : Option StepKind) × (at : At) × (new : ℕ) × (by : Exchange (Stored K V))
+      × IsCopyAsked cq kind at new (run es start) call_trace.loaded.kept by × (left.made ≡ by ∷ []))
+  no_exchange (asks.Call ask) e looks = inl
+      (look_made ask (asked_look m seeking.seeks going ask e)
+      (subst (λ y. IsTold gq cq None (run es start) (kind_of_ask m) (follows_of m) call_trace.loaded y answer left.made left.loaded) e left.told))
     where
-      look_made : (ask : Call_ask) → IsLook ask → IsTold gq cq None (run es start) (kind_of_ask m) (follows_of m) call_trace.loaded (asks.Call ask) answer left.made left.loaded → left.made ≡ []
+      look_made : (ask : Call_ask) → IsLook ask
+          → IsTold gq cq None (run es start) (kind_of_ask m) (follows_of m) call_trace.loaded (asks.Call ask) answer left.made left.loaded → left.made ≡ []
       look_made (Load at) look told = told.tells.1
       look_made (LoadHint t x) look told = told.tells.1.0
       look_made (SameKey n) look told = told.tells.1.0
       look_made (SizeOf n) look told = told.tells.1.0
       look_made other look told = absurd look
-  no_exchange (asks.Copy ask) e copied = elim (copy_told gq cq (run es start) (kind_of_ask m) (follows_of m) call_trace.loaded ask answer left.made left.loaded (subst (λ y. IsTold gq cq None (run es start) (kind_of_ask m) (follows_of m) call_trace.loaded y answer left.made left.loaded) e left.told)) [
-    | inl none ↦ inl none
-    | inr one ↦ inr (kind_of_ask m, one.at, one.new, one.by, one.asked, one.made)
-  ]
+  no_exchange (asks.Copy ask) e copied = elim (copy_told gq cq (run es start) (kind_of_ask m) (follows_of m) call_trace.loaded ask answer left.made
+      left.loaded (subst (λ y. IsTold gq cq None (run es start) (kind_of_ask m) (follows_of m) call_trace.loaded y answer left.made left.loaded) e left.told)) [
+        | inl none ↦ inl none
+        | inr one ↦ inr (kind_of_ask m, one.at, one.new, one.by, one.asked, one.made)
+      ]
 
   -- so the map is as it was
   pub map_stays : (core' : IsCore {A = Unit {0}} store' [] s.mode) (k : K) → map_in eq store' k ≡ map_in eq store k

@@ -92,7 +92,8 @@ module _ {K V S : Type 0} (eq : K → K → Bool) (hash : S → K → ℕ) (s : 
     pub long : IsLong s store m
 
   -- a word has the number that it had
-  pub sought_word : (tables : List TableWords) (z : Words (Stored K V)) (at : At) → word_of (sought_setting tables) sought_coding z at ≡ word_of (own_setting tables) own_coding z at
+  pub sought_word : (tables : List TableWords) (z : Words (Stored K V)) (at : At)
+      → word_of (sought_setting tables) sought_coding z at ≡ word_of (own_setting tables) own_coding z at
   sought_word tables z Root = refl
   sought_word tables z Made = refl
   sought_word tables z (Next t) = refl
@@ -101,7 +102,8 @@ module _ {K V S : Type 0} (eq : K → K → Bool) (hash : S → K → ℕ) (s : 
   sought_word tables z (Slot t x) = key_code (own_setting tables) (λ k. false) h own_coding (z.slot t x)
 
   -- and a slot the hints that it had
-  pub sought_hint : (tables : List TableWords) (w : Word (Stored K V)) (n : ℕ) → IsHintOf (own_setting tables) own_coding w n → IsHintOf (sought_setting tables) sought_coding w n
+  pub sought_hint : (tables : List TableWords) (w : Word (Stored K V)) (n : ℕ) → IsHintOf (own_setting tables) own_coding w n
+      → IsHintOf (sought_setting tables) sought_coding w n
   sought_hint tables Empty n h = h
   sought_hint tables Closed n h = h
   sought_hint tables (Live p) n h = h
@@ -109,7 +111,8 @@ module _ {K V S : Type 0} (eq : K → K → Bool) (hash : S → K → ℕ) (s : 
   sought_hint tables (Copied p) n h = h
   sought_hint tables (Tombstone p) n h = h
 
-  pub own_hint : (tables : List TableWords) (w : Word (Stored K V)) (n : ℕ) → IsHintOf (sought_setting tables) sought_coding w n → IsHintOf (own_setting tables) own_coding w n
+  pub own_hint : (tables : List TableWords) (w : Word (Stored K V)) (n : ℕ) → IsHintOf (sought_setting tables) sought_coding w n
+      → IsHintOf (own_setting tables) own_coding w n
   own_hint tables Empty n h = h
   own_hint tables Closed n h = h
   own_hint tables (Live p) n h = h
@@ -130,7 +133,8 @@ module _ {K V S : Type 0} (eq : K → K → Bool) (hash : S → K → ℕ) (s : 
         key_lawful g (λ k. false) h own_coding (own_hashed store core) form (λ t. sized_slot (table_of store.words.tables t) (λ w e. core.sizes t w e))
 
     -- a removal that begins
-    pub seek_begin : (number : ℕ) → IsLawfulMap eq (hash s.store.hasher) s.store s.mode s.initial → IsSeeking s.store (started RemoveIf h s.mode.resize s.initial number s.mode.limit)
+    pub seek_begin : (number : ℕ) → IsLawfulMap eq (hash s.store.hasher) s.store s.mode s.initial
+        → IsSeeking s.store (started RemoveIf h s.mode.resize s.initial number s.mode.limit)
     seek_begin number lawful =
         let (es, (call_traces, kept)) = lawful.lawful.law in
         let call_trace : CallTrace K V = record { begun = es; since = []; loaded = nothing_loaded; scan = scans.nothing_loaded } in
@@ -140,10 +144,37 @@ module _ {K V S : Type 0} (eq : K → K → Bool) (hash : S → K → ℕ) (s : 
           call_trace = call_trace;
           core = core;
           kept = subst (λ l. IsKept {A = Unit {0}} eq (hash s.store.hasher) s.mode s.store [] l (λ d. call_trace)) same_es
-              (record { allowed = kept.allowed; coded = kept.coded; hints = kept.hints; made = kept.made; logged = kept.logged; few = kept.few; tables_few = kept.tables_few; calls = λ d r e. absurd cc; resizers = λ d z e. absurd cc; scanners = λ d v e. absurd cc; apart = λ d e r q x. absurd cc });
+              (record {
+                allowed = kept.allowed;
+                coded = kept.coded;
+                hints = kept.hints;
+                made = kept.made;
+                logged = kept.logged;
+                few = kept.few;
+                tables_few = kept.tables_few;
+                calls = λ d r e. absurd cc;
+                resizers = λ d z e. absurd cc;
+                scanners = λ d v e.
+                    absurd cc;
+                apart = λ d e r q x. absurd cc;
+              });
           relies = record {
             cut = λ x. refl;
-            call = record { hash = refl; mode = mode_of s.mode.resize; made = record { keys = λ q l. absurd l; limit = refl; number_is = wanted_relies (sought_setting s.store.words.tables) sought_coding es [] None s.mode.limit; own_is = tt; of_is = tt; fill_is = tt; choice_is = tt }; stage = tt };
+            call = record {
+              hash = refl;
+              mode = mode_of s.mode.resize;
+              made = record {
+                keys = λ q l. absurd l;
+                limit = refl;
+                number_is = wanted_relies (sought_setting s.store.words.tables) sought_coding es
+                    [] None s.mode.limit;
+                own_is = tt;
+                of_is = tt;
+                fill_is = tt;
+                choice_is = tt;
+              };
+              stage = tt;
+            };
             phase = tt;
           };
           last = λ p l. absurd cc;

@@ -3,12 +3,19 @@ use Rattle.std.proofs.Common.{◌≡◌, ℕ, ◌==◌, Bool, Option, None, Some
 use Rattle.std.proofs.lemmas.Bool.{cond_both}
 use Rattle.papaya_words.specs.Word.{pair_of}
 use Rattle.papaya_ask.specs.declared.ask.Answer.{Answer}
-use Rattle.papaya_ask.specs.declared.ask.Answer.TheVariants.{Word as Word_read, Exchanged, Found as Found_instead, Yes, Op, Size, Made as Made_number, Ok as Ok_done, Refused as Was_refused}
+use Rattle.papaya_ask.specs.declared.ask.Answer.TheVariants.{Word as Word_read, Exchanged}
+use Rattle.papaya_ask.specs.declared.ask.Answer.TheVariants.{Found as Found_instead, Yes, Op, Size}
+use Rattle.papaya_ask.specs.declared.ask.Answer.TheVariants.{Made as Made_number, Ok as Ok_done}
+use Rattle.papaya_ask.specs.declared.ask.Answer.TheVariants.{Refused as Was_refused}
 use Rattle.papaya_ask.specs.declared.call.Reply.TheVariants.{Replaced}
 use Rattle.papaya_ask.specs.declared.call.Task.TheVariants.{Insert}
 use Rattle.papaya_call.specs.declared.machine.Machine.{Machine}
 use Rattle.papaya_call.specs.declared.machine.State.{State}
-use Rattle.papaya_call.specs.declared.machine.State.TheVariants.{AtRoot, Making, Opening, Searching, Writing, Offering, Showing, Pairing, Putting, Deleting, Counting, Noting, Uncounting, Leaving, Growing, Ended}
+use Rattle.papaya_call.specs.declared.machine.State.TheVariants.{AtRoot, Making, Opening, Searching}
+use Rattle.papaya_call.specs.declared.machine.State.TheVariants.{Writing, Offering, Showing}
+use Rattle.papaya_call.specs.declared.machine.State.TheVariants.{Pairing, Putting, Deleting}
+use Rattle.papaya_call.specs.declared.machine.State.TheVariants.{Counting, Noting, Uncounting}
+use Rattle.papaya_call.specs.declared.machine.State.TheVariants.{Leaving, Growing, Ended}
 use Rattle.papaya_call.specs.declared.made.Grown.{Grown}
 use Rattle.papaya_call.specs.declared.made.Grown.TheVariants.{On, Pair}
 use Rattle.papaya_call.specs.declared.made.Made.{Made}
@@ -94,7 +101,8 @@ module _ (m : Machine) where
   }
 
   others : (state : State) → IsUnmade m.made → ((n : ℕ) → IsUnmade (made_in m.made n state)) → (answer : Answer) → Serves state answer
-  others state h logged answer = unmade_served (after (at_state state) answer).made (after (at_state state) answer).state (made_after (at_state state) (λ _ made. IsUnmade made) (unmade_holds state h) logged answer)
+  others state h logged answer = unmade_served (after (at_state state) answer).made (after (at_state state) answer).state
+      (made_after (at_state state) (λ _ made. IsUnmade made) (unmade_holds state h) logged answer)
 
   -- what it has made after an answer, where it writes
   abbrev written_made : Write → Option ℕ → Answer → Made
@@ -121,15 +129,22 @@ module _ (m : Machine) where
     logged_served n (On made) still unmade = λ none. still unmade
     logged_served n (Pair made) still unmade = λ none. let f : Some n ≡ None = sym (placed_serves made write n) ∙ none in absurd cc
 
-    by_served : (served : Option ℕ) → serves m.made write ≡ served → (answer : Answer) → ((n word : ℕ) → serves m.made write ≡ Some n → answer ≡ Found_instead word → ⊥) → IsServed (written_made write served answer) (write_then m served m.made write answer)
-    by_served None none (Word_read word) unbeaten = unmade_served (write_made None m.made word) (write_then m None m.made write (Word_read word)) (like_unmade m.made (write_made None m.made word) (told_like m.made m.made.number word) (h none))
-    by_served None none (Found_instead word) unbeaten = unmade_served (write_made None m.made word) (write_then m None m.made write (Found_instead word)) (like_unmade m.made (write_made None m.made word) (told_like m.made m.made.number word) (h none))
-    by_served None none Exchanged unbeaten = unmade_served (taken m.made) (Writing write) (like_unmade m.made (taken m.made) (taken_like m.made m.made.number) (h none))
-    by_served None none (Made_number n) unbeaten = logged_served n (grown m.made write.old) (like_unmade m.made (made_to_pair (grown m.made write.old)) (grown_like m.made m.made.number write.old)) (h none)
+    by_served : (served : Option ℕ) → serves m.made write ≡ served → (answer : Answer)
+        → ((n word : ℕ) → serves m.made write ≡ Some n → answer ≡ Found_instead word → ⊥)
+        → IsServed (written_made write served answer) (write_then m served m.made write answer)
+    by_served None none (Word_read word) unbeaten = unmade_served (write_made None m.made word) (write_then m None m.made write (Word_read word))
+        (like_unmade m.made (write_made None m.made word) (told_like m.made m.made.number word) (h none))
+    by_served None none (Found_instead word) unbeaten = unmade_served (write_made None m.made word)
+        (write_then m None m.made write (Found_instead word)) (like_unmade m.made (write_made None m.made word) (told_like m.made m.made.number word) (h none))
+    by_served None none Exchanged unbeaten = unmade_served (taken m.made) (Writing write)
+        (like_unmade m.made (taken m.made) (taken_like m.made m.made.number) (h none))
+    by_served None none (Made_number n) unbeaten = logged_served n (grown m.made write.old)
+        (like_unmade m.made (made_to_pair (grown m.made write.old)) (grown_like m.made m.made.number write.old)) (h none)
     by_served None none (Was_refused refused) unbeaten = tt
     by_served (Some n) some (Word_read word) unbeaten = h
     by_served (Some n) some (Found_instead word) unbeaten = absurd (unbeaten n word some refl)
-    by_served (Some n) some Exchanged unbeaten = cond_both (write.old == 0) (Counting (claimed_by write n)) (Ended (Replaced (pair_of write.old) n)) (IsServed m.made) (λ _. tt) (λ _. tt)
+    by_served (Some n) some Exchanged unbeaten = cond_both (write.old == 0) (Counting (claimed_by write n)) (Ended (Replaced (pair_of write.old) n))
+        (IsServed m.made) (λ _. tt) (λ _. tt)
     by_served (Some n) some (Made_number i) unbeaten = h
     by_served (Some n) some (Was_refused refused) unbeaten = h
     by_served served is (Yes same) unbeaten = h
@@ -137,15 +152,20 @@ module _ (m : Machine) where
     by_served served is (Size slots limit) unbeaten = h
     by_served served is Ok_done unbeaten = h
 
-  writes : (write : Write) (answer : Answer) → ((n word : ℕ) → serves m.made write ≡ Some n → answer ≡ Found_instead word → ⊥) → IsServed m.made (Writing write) → Serves (Writing write) answer
+  writes : (write : Write) (answer : Answer) → ((n word : ℕ) → serves m.made write ≡ Some n → answer ≡ Found_instead word → ⊥)
+      → IsServed m.made (Writing write) → Serves (Writing write) answer
   writes write answer unbeaten h =
       subst (λ made. IsServed made (after (at_state (Writing write)) answer).state) (sym (written_is write answer))
-      (subst (IsServed (written_made write (serves m.made write) answer)) (sym (write_then_is m m.made write answer)) (by_served write h (serves m.made write) refl answer unbeaten))
+      (subst (IsServed (written_made write (serves m.made write) answer)) (sym (write_then_is m m.made write answer))
+      (by_served write h (serves m.made write) refl answer unbeaten))
 
   -- so it stays with each answer
-  served_in : (state : State) (answer : Answer) → ((write : Write) (n word : ℕ) → state ≡ Writing write → serves m.made write ≡ Some n → answer ≡ Found_instead word → ⊥) → IsServed m.made state → Serves state answer
+  served_in : (state : State) (answer : Answer)
+      → ((write : Write) (n word : ℕ) → state ≡ Writing write → serves m.made write ≡ Some n → answer ≡ Found_instead word → ⊥) → IsServed m.made state
+      → Serves state answer
   served_in (Writing write) answer unbeaten h = writes write answer (λ n word. unbeaten write n word refl) h
-  served_in (Pairing purpose) answer unbeaten h = others (Pairing purpose) h (λ n. like_unmade m.made (made_to_pair (grown m.made (in_place_of purpose))) (grown_like m.made m.made.number (in_place_of purpose)) h) answer
+  served_in (Pairing purpose) answer unbeaten h = others (Pairing purpose) h
+      (λ n. like_unmade m.made (made_to_pair (grown m.made (in_place_of purpose))) (grown_like m.made m.made.number (in_place_of purpose)) h) answer
   served_in AtRoot answer unbeaten h = others AtRoot h (λ n. h) answer
   served_in Making answer unbeaten h = others Making h (λ n. h) answer
   served_in (Opening t) answer unbeaten h = others (Opening t) h (λ n. h) answer
@@ -185,5 +205,6 @@ module _ (m : Machine) where
   served_in (Ended reply) Ok_done unbeaten h = tt
   served_in (Ended reply) (Was_refused refused) unbeaten h = tt
 
-  pub served_after : (answer : Answer) → ((write : Write) (n word : ℕ) → m.state ≡ Writing write → serves m.made write ≡ Some n → answer ≡ Found_instead word → ⊥) → IsServed m.made m.state → IsServed (after m answer).made (after m answer).state
+  pub served_after : (answer : Answer) → ((write : Write) (n word : ℕ) → m.state ≡ Writing write → serves m.made write ≡ Some n
+      → answer ≡ Found_instead word → ⊥) → IsServed m.made m.state → IsServed (after m answer).made (after m answer).state
   served_after = served_in m.state

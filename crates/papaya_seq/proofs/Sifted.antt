@@ -43,7 +43,8 @@ module _ {K V A : Type 0} (eq : K → K → Bool) (classes : IsEquivalence eq) (
   kept : (p : Stored K V) (shown left : List (Stored K V)) (j : K) → Within shown left j → Within (p ∷ shown) (p ∷ left) j
   kept p shown left j rest =
       ⊎_elim
-      (λ (same : eq j p.key ≡ true). inl (cond-true (eq j p.key) (Some p) (lookup eq (λ (q : Stored K V). q.key) left j) same ∙ sym (cond-true (eq j p.key) (Some p) (lookup eq (λ (q : Stored K V). q.key) shown j) same)))
+      (λ (same : eq j p.key ≡ true). inl (cond-true (eq j p.key) (Some p) (lookup eq (λ (q : Stored K V). q.key) left j) same
+      ∙ sym (cond-true (eq j p.key) (Some p) (lookup eq (λ (q : Stored K V). q.key) shown j) same)))
       (λ (other : eq j p.key ≡ false).
       let after = cond-false (eq j p.key) (Some p) (lookup eq (λ (q : Stored K V). q.key) left j) other in
       let before = cond-false (eq j p.key) (Some p) (lookup eq (λ (q : Stored K V). q.key) shown j) other in
@@ -51,16 +52,19 @@ module _ {K V A : Type 0} (eq : K → K → Bool) (classes : IsEquivalence eq) (
       (cases_Bool (eq j p.key))
 
   -- a pair that does not
-  dropped : (p : Stored K V) (shown left : List (Stored K V)) (j : K) → lookup eq (λ q. q.key) shown p.key ≡ None → ((k : K) → Within shown left k) → Within (p ∷ shown) left j
+  dropped : (p : Stored K V) (shown left : List (Stored K V)) (j : K) → lookup eq (λ q. q.key) shown p.key ≡ None → ((k : K) → Within shown left k)
+      → Within (p ∷ shown) left j
   dropped p shown left j alone rest =
       ⊎_elim
-      (λ (same : eq j p.key ≡ true). inr (lookup_alike eq classes (λ (q : Stored K V). q.key) left j p.key same ∙ ⊎_elim (λ is. is ∙ alone) (λ none. none) (rest p.key)))
+      (λ (same : eq j p.key ≡ true). inr (lookup_alike eq classes (λ (q : Stored K V). q.key) left j p.key same ∙
+      ⊎_elim (λ is. is ∙ alone) (λ none. none) (rest p.key)))
       (λ (other : eq j p.key ≡ false).
       let before = cond-false (eq j p.key) (Some p) (lookup eq (λ (q : Stored K V). q.key) shown j) other in
       ⊎_elim (λ is. inl (is ∙ sym before)) (λ none. inr none) (rest j))
       (cases_Bool (eq j p.key))
 
-  pub sifted_within : (a : A) (shown left : List (Stored K V)) (a' : A) → Sifts says a shown left a' → AreApart eq (λ p. p.key) shown → (j : K) → Within shown left j
+  pub sifted_within : (a : A) (shown left : List (Stored K V)) (a' : A) → Sifts says a shown left a' → AreApart eq (λ p. p.key) shown → (j : K)
+      → Within shown left j
   sifted_within a [] left a' (none, is) apart j = inl (ap (λ l. lookup eq (λ (q : Stored K V). q.key) l j) none)
   sifted_within a (p ∷ ps) left a' (true, later, rest, said, sifts, is) (alone, apart) j =
       subst (λ l. Within (p ∷ ps) l j) (sym is) (kept p ps rest j (sifted_within later ps rest a' sifts apart j))
@@ -72,20 +76,25 @@ module _ {K V A : Type 0} (eq : K → K → Bool) (classes : IsEquivalence eq) (
   sifted_left a s s' x j = ⊎_elim (λ is. inl (is ∙ x.pairs j)) (λ none. inr none) (sifted_within a x.shown (content eq s') x.later x.sifts x.once j)
 
 -- a closure that asks these answers retains what they say
-module _ {F K V A : Type 0} (g : Mut F (Bor K × (Bor V × Unit {0})) Bool) (says : Says K V A) (answers_of : F → A) (asks : (f f' : F) (key : Bor K) (value : Bor V) (agrees : Bool) → Called g f (key, (value, tt)) agrees f' → says.yes (answers_of f) key.now value.now agrees (answers_of f')) where
+module _ {F K V A : Type 0} (g : Mut F (Bor K × (Bor V × Unit {0})) Bool) (says : Says K V A) (answers_of : F → A)
+    (asks : (f f' : F) (key : Bor K) (value : Bor V) (agrees : Bool) → Called g f (key, (value, tt)) agrees f'
+    → says.yes (answers_of f) key.now value.now agrees (answers_of f')) where
   pub sifts : (f : F) (shown left : List (Stored K V)) (f' : F) → Retains g f shown left f' → Sifts says (answers_of f) shown left (answers_of f')
   sifts f [] left f' (none, same) = (none, ap answers_of same)
   sifts f (p ∷ ps) left f' (agrees, later, rest, said, retains, is) = (
     agrees,
     answers_of later,
     rest,
-    subst (λ v. says.yes (answers_of f) p.key v agrees (answers_of later)) said.value_is (subst (λ k. says.yes (answers_of f) k said.value.now agrees (answers_of later)) said.key_is (asks f later said.key said.value agrees said.called)),
+    subst (λ v. says.yes (answers_of f) p.key v agrees (answers_of later)) said.value_is
+        (subst (λ k. says.yes (answers_of f) k said.value.now agrees (answers_of later)) said.key_is (asks f later said.key said.value agrees said.called)),
     sifts later ps rest f' retains,
     is,
   )
 
 -- where a closure agrees to no pair, none is left
-pub retains_none : {F K V : Type 0} (g : Mut F (Bor K × (Bor V × Unit {0})) Bool) → ((f f' : F) (key : Bor K) (value : Bor V) (agrees : Bool) → Called g f (key, (value, tt)) agrees f' → agrees ≡ false) → (f : F) (shown left : List (Stored K V)) (f' : F) → Retains g f shown left f' → left ≡ []
+pub retains_none : {F K V : Type 0} (g : Mut F (Bor K × (Bor V × Unit {0})) Bool)
+    → ((f f' : F) (key : Bor K) (value : Bor V) (agrees : Bool) → Called g f (key, (value, tt)) agrees f' → agrees ≡ false)
+    → (f : F) (shown left : List (Stored K V)) (f' : F) → Retains g f shown left f' → left ≡ []
 retains_none g never f [] left f' (none, same) = none
 retains_none {F} {K} {V} g never f (p ∷ ps) left f' (agrees, later, rest, said, retains, is) =
     is ∙ ap (λ b. cond b (p ∷ rest) rest) (never f later said.key said.value agrees said.called) ∙ retains_none g never later ps rest f' retains

@@ -41,13 +41,15 @@ module _ (Sized : ℕ → ℕ → Type 0) where
   New made n = Unit {0}
 
   -- in other words
-  pub is_sized : (o : Option Link) → In IsSizedLink o → (behind slots copied : ℕ) (unfit : Bool) → o ≡ Some (links.Counting behind unfit slots copied) → Sized behind slots
+  pub is_sized : (o : Option Link) → In IsSizedLink o → (behind slots copied : ℕ) (unfit : Bool) → o ≡ Some (links.Counting behind unfit slots copied)
+      → Sized behind slots
   is_sized o h behind slots copied unfit e = subst (In IsSizedLink) e h
 
   -- the making of a table
   link_size : (made : Link) (slots : ℕ) → Told made slots → IsSizedLink made → IsSizedLink (link.at_size made slots)
   link_size (links.Sizing behind copied unfit) slots told h =
-      cond_both (copied == behind) (links.Counting behind unfit slots slots) (links.Measuring behind copied unfit slots) IsSizedLink (λ _. told behind copied unfit refl) (λ _. told behind copied unfit refl)
+      cond_both (copied == behind) (links.Counting behind unfit slots slots) (links.Measuring behind copied unfit slots) IsSizedLink
+      (λ _. told behind copied unfit refl) (λ _. told behind copied unfit refl)
   link_size (links.Measuring behind copied unfit before) slots told h = h
   link_size other slots told h = h
 
@@ -56,10 +58,12 @@ module _ (Sized : ℕ → ℕ → Type 0) where
   link_made other n h = h
 
   counted : (behind before : ℕ) (unfit : Bool) (chunks asked : ℕ) → Linked_in IsSizedLink (link.counted behind before unfit chunks asked)
-  counted behind before unfit chunks asked = cond_both (nat_le asked (2 ^ 32)) (linked.On (link.making behind before unfit chunks asked)) (linked.Refused Capacity) (Linked_in IsSizedLink) (λ _. tt) (λ _. tt)
+  counted behind before unfit chunks asked = cond_both (nat_le asked (2 ^ 32)) (linked.On (link.making behind before unfit chunks asked))
+      (linked.Refused Capacity) (Linked_in IsSizedLink) (λ _. tt) (λ _. tt)
 
   link_count : (made : Link) (mode : ResizeMode) (count initial : ℕ) → IsSizedLink made → Linked_in IsSizedLink (link.at_count made mode count initial)
-  link_count (links.Counting behind unfit slots copied) mode count initial h = counted behind slots unfit (chunk_count copied (chunk_len mode)) (length_after slots count initial unfit)
+  link_count (links.Counting behind unfit slots copied) mode count initial h = counted behind slots unfit (chunk_count copied (chunk_len mode))
+      (length_after slots count initial unfit)
   link_count other mode count initial h = h
 
   link_refused : (made : Link) (refused : Refused) → IsSizedLink made → Linked_in IsSizedLink (link.at_refused made refused)
@@ -86,10 +90,15 @@ module _ (Sized : ℕ → ℕ → Type 0) where
   }
 
   -- where the machine counts by the slots of a table after an answer, it did before, or was told of them
-  pub machine_sized : (m : Machine) (answer : Answer) → ((slots limit : ℕ) → answer ≡ answers.Call (Size slots limit) → (behind copied : ℕ) (unfit : Bool) → link_in m.phase ≡ Some (links.Sizing behind copied unfit) → Sized behind slots) → In IsSizedLink (link_in m.phase) → In IsSizedLink (link_in (machine.after m answer).phase)
-  machine_sized m answer told h = machine_holds IsSizedLink Told New stable m answer (λ slots limit is. told_in (link_in m.phase) slots (told slots limit is)) (λ n aside is. new_in (link_in m.phase) n) h
+  pub machine_sized : (m : Machine) (answer : Answer)
+      → ((slots limit : ℕ) → answer ≡ answers.Call (Size slots limit) → (behind copied : ℕ) (unfit : Bool)
+      → link_in m.phase ≡ Some (links.Sizing behind copied unfit) → Sized behind slots) → In IsSizedLink (link_in m.phase)
+      → In IsSizedLink (link_in (machine.after m answer).phase)
+  machine_sized m answer told h = machine_holds IsSizedLink Told New stable m answer
+      (λ slots limit is. told_in (link_in m.phase) slots (told slots limit is)) (λ n aside is. new_in (link_in m.phase) n) h
     where
-      told_in : (o : Option Link) (slots : ℕ) → ((behind copied : ℕ) (unfit : Bool) → o ≡ Some (links.Sizing behind copied unfit) → Sized behind slots) → Of Told o slots
+      told_in : (o : Option Link) (slots : ℕ) →
+          ((behind copied : ℕ) (unfit : Bool) → o ≡ Some (links.Sizing behind copied unfit) → Sized behind slots) → Of Told o slots
       told_in None slots told = tt
       told_in (Some made) slots told = λ behind copied unfit e. told behind copied unfit (ap (λ y. Some y) e)
 
@@ -98,7 +107,8 @@ module _ (Sized : ℕ → ℕ → Type 0) where
       new_in (Some made) n = tt
 
 -- so it is where that is so of more numbers
-pub sized_beside : (Sized Sized' : ℕ → ℕ → Type 0) → ((n slots : ℕ) → Sized n slots → Sized' n slots) → (o : Option Link) → In (IsSizedLink Sized) o → In (IsSizedLink Sized') o
+pub sized_beside : (Sized Sized' : ℕ → ℕ → Type 0) → ((n slots : ℕ) → Sized n slots → Sized' n slots) → (o : Option Link) → In (IsSizedLink Sized) o
+    → In (IsSizedLink Sized') o
 sized_beside Sized Sized' more None h = tt
 sized_beside Sized Sized' more (Some (links.Measuring behind copied unfit slots)) h = more behind slots h
 sized_beside Sized Sized' more (Some (links.Counting behind unfit slots copied)) h = more behind slots h

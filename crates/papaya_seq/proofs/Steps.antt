@@ -71,8 +71,10 @@ module _ {K V S : Type 0} (eq : K → K → Bool) (hash : S → K → ℕ) (s : 
     pub number : ℕ
     pub steps : ℕ
     pub history : History
-    pub runs : StepsRun eq whatever hash 1 0 steps (start eq hash s call.call number) (with_event 0 0 Begun []) (seated store (still r) s.mode s.initial) history
-    pub replied : (reply : Reply) → reply_in (ask_of r.machine) ≡ Some reply → (last : Entry) × (before : History) × (history ≡ last ∷ before) × (last.event ≡ Replied reply)
+    pub runs : StepsRun eq whatever hash 1 0 steps (start eq hash s call.call number) (with_event 0 0 Begun [])
+        (seated store (still r) s.mode s.initial) history
+    pub replied : (reply : Reply) → reply_in (ask_of r.machine) ≡ Some reply → (last : Entry) × (before : History) × (history ≡ last ∷ before)
+        × (last.event ≡ Replied reply)
     pub lawful : IsLawfulCore eq (hash s.store.hasher) store (record { caller = 0; work = as_work (still r) } ∷ []) s.mode
     -- until then it is alone, and what it has read stands there
     pub lone : reply_in (ask_of r.machine) ≡ None → IsLone eq hash (seated store (Some r) s.mode s.initial) r
@@ -89,15 +91,18 @@ module _ {K V S : Type 0} (eq : K → K → Bool) (hash : S → K → ℕ) (s : 
 
   -- so from a map that is in order
   abbrev pub IsMade : StoreState K V S → Running K V (Unit {0}) → Type 0
-  IsMade store r = IsLawfulKeys eq (hash s.store.hasher) → IsLawfulMap eq (hash s.store.hasher) s.store s.mode s.initial → hash s.store.hasher call.key < 2 ^ 64 → HasCome store r
+  IsMade store r = IsLawfulKeys eq (hash s.store.hasher) → IsLawfulMap eq (hash s.store.hasher) s.store s.mode s.initial
+      → hash s.store.hasher call.key < 2 ^ 64 → HasCome store r
 
   -- a call that begins, with any number
   pub made_none : (number : ℕ) → IsMade s.store (first_of (hash s.store.hasher) s.mode s.initial number call)
   made_none number keys lawful fits =
       let first = first_of (hash s.store.hasher) s.mode s.initial number call in
       let lone : IsLone eq hash (seated s.store (Some first) s.mode s.initial) first =
-      subst (λ w. IsLoneWork eq hash (seated_work {A = Unit {0}} s.store (Some w) s.mode s.initial) w) (call.begins (hash s.store.hasher) s.mode s.initial number)
-      (lone_begin eq hash (core_of s) keys call.call (start eq hash s call.call number) refl lawful.lawful (begins_so eq hash s call.call number (key_fits (hash s.store.hasher) call fits) lawful.power)) in
+      subst (λ w. IsLoneWork eq hash (seated_work {A = Unit {0}} s.store (Some w) s.mode s.initial) w)
+      (call.begins (hash s.store.hasher) s.mode s.initial number)
+      (lone_begin eq hash (core_of s) keys call.call (start eq hash s call.call number) refl lawful.lawful
+      (begins_so eq hash s call.call number (key_fits (hash s.store.hasher) call fits) lawful.power)) in
       record {
         number = number;
         steps = 0;
@@ -115,7 +120,9 @@ module _ {K V S : Type 0} (eq : K → K → Bool) (hash : S → K → ℕ) (s : 
         long = long_begun s lawful.long first.machine refl refl;
       }
 
-  module _ (store : StoreState K V S) (r : Running K V (Unit {0})) (answer : Answer) (store' : StoreState K V S) (later : Running K V (Unit {0})) (going : reply_in (ask_of r.machine) ≡ None) (performs : PerformsAsk eq whatever hash false (ask_of r.machine) store r answer store' later) (same : later.machine ≡ r.machine) (keys : IsLawfulKeys eq (hash s.store.hasher)) (came : HasCome store r) where
+  module _ (store : StoreState K V S) (r : Running K V (Unit {0})) (answer : Answer) (store' : StoreState K V S) (later : Running K V (Unit {0}))
+      (going : reply_in (ask_of r.machine) ≡ None) (performs : PerformsAsk eq whatever hash false (ask_of r.machine) store r answer store' later)
+      (same : later.machine ≡ r.machine) (keys : IsLawfulKeys eq (hash s.store.hasher)) (came : HasCome store r) where
     -- the core with the call under way
     abbrev now : CoreState K V S (Unit {0})
     now = seated store (Some r) s.mode s.initial
@@ -140,12 +147,14 @@ module _ {K V S : Type 0} (eq : K → K → Bool) (hash : S → K → ℕ) (s : 
     pub made_caused : (refused : Refused) → reply ≡ Some (Reply_refused refused) → IsCause r.machine answer refused
     made_caused refused e =
         let (es, (call_traces, kept)) = now_lawful.law in
-        let left = kept_steps.left eq (hash s.store.hasher) keys whatever hash false now 0 (seated store' (Some r) s.mode s.initial) r answer later refl performs (ap hash came.hasher) refl es call_traces now_lawful.core kept in
+        let left = kept_steps.left eq (hash s.store.hasher) keys whatever hash false now 0 (seated store' (Some r) s.mode s.initial) r answer later
+        refl performs (ap hash came.hasher) refl es call_traces now_lawful.core kept in
         let call_kept = kept.calls 0 r refl in
         let g = setting_of eq (low (hash s.store.hasher)) s.mode store.words.tables in
         let c = coding_of (low (hash s.store.hasher)) in
         chain_refused g c call_kept.key (run es first_state) r.machine answer refused (call_traces 0).loaded left.made left.loaded left.told
-        (in_order g c (call_traces 0).begun (call_traces 0).since call_kept.key r.machine (call_traces 0).loaded (run es first_state) answer left.made left.loaded call_kept.relies left.told)
+        (in_order g c (call_traces 0).begun (call_traces 0).since call_kept.key r.machine (call_traces 0).loaded (run es first_state) answer left.made
+        left.loaded call_kept.relies left.told)
         (now_lawful.core.going 0 r refl) (reply_asked (ask_of (after r.machine answer)) (Reply_refused refused) e)
 
     -- it is a step of the core
@@ -166,8 +175,11 @@ module _ {K V S : Type 0} (eq : K → K → Bool) (hash : S → K → ℕ) (s : 
     }
 
     -- what it leaves of the law
-    step : IsStep eq (hash s.store.hasher) keys false now 0 (seated store' (goes_on reply next) s.mode s.initial) event reply made_step now_lawful.law.0 now_lawful.law.1.0
-    step = let (es, (call_traces, kept)) = now_lawful.law in kept_step eq (hash s.store.hasher) keys false now 0 (seated store' (goes_on reply next) s.mode s.initial) event reply made_step (ap hash came.hasher) es call_traces now_lawful.core kept
+    step : IsStep eq (hash s.store.hasher) keys false now 0 (seated store' (goes_on reply next) s.mode s.initial) event reply made_step
+        now_lawful.law.0 now_lawful.law.1.0
+    step = let (es, (call_traces, kept)) = now_lawful.law in
+        kept_step eq (hash s.store.hasher) keys false now 0 (seated store' (goes_on reply next) s.mode s.initial) event reply made_step
+        (ap hash came.hasher) es call_traces now_lawful.core kept
 
     -- the answer is one to what was asked
     pub made_ordered : IsInOrder r.machine answer r.machine.phase
@@ -175,7 +187,8 @@ module _ {K V S : Type 0} (eq : K → K → Bool) (hash : S → K → ℕ) (s : 
     made_ordered =
         let (es, (call_traces, kept)) = now_lawful.law in
         let call_kept = step.call in
-        in_order (setting_of eq (low (hash s.store.hasher)) s.mode store.words.tables) (coding_of (low (hash s.store.hasher))) (call_traces 0).begun (call_traces 0).since call_kept.key r.machine (call_traces 0).loaded (run es first_state) answer step.made step.loaded call_kept.relies step.told
+        in_order (setting_of eq (low (hash s.store.hasher)) s.mode store.words.tables) (coding_of (low (hash s.store.hasher))) (call_traces 0).begun
+        (call_traces 0).since call_kept.key r.machine (call_traces 0).loaded (run es first_state) answer step.made step.loaded call_kept.relies step.told
 
     -- the call steps for itself, or was set aside
     pub made_goes : Goes r.machine answer
@@ -192,14 +205,16 @@ module _ {K V S : Type 0} (eq : K → K → Bool) (hash : S → K → ℕ) (s : 
         let call_kept = kept.calls 0 r refl in
         let g = setting_of eq (low (hash s.store.hasher)) s.mode store.words.tables in
         copies_there g (coding_of (low (hash s.store.hasher))) (tables_hashed eq (hash s.store.hasher) keys s.mode store.words.tables now_lawful.core.sizes)
-        (call_traces 0).begun (call_traces 0).since (subst (AllAllowed g first_state) (sym call_kept.split) kept.allowed) call_kept.key r.machine (call_traces 0).loaded call_kept.relies (Exchange Made old new) e
+        (call_traces 0).begun (call_traces 0).since (subst (AllAllowed g first_state) (sym call_kept.split) kept.allowed) call_kept.key r.machine
+        (call_traces 0).loaded call_kept.relies (Exchange Made old new) e
 
     -- what it does to the arena of pairs, and to how many numbers were taken
     pub made_logs : IsLogStep store store' (ask_of r.machine) answer
     made_logs = log_step eq whatever hash false r.machine store store' r later (came.lone going).current.number takes_none answer performs
 
     -- what it stands on it stood on, or its closure says so with this answer
-    pub made_says : (said : Said) → StandsOn (after r.machine answer).call said → StandsOn r.machine.call said ⊎ ((own : IsOwnStep r.machine answer) × IsSaidBy r.machine.call own.told said)
+    pub made_says : (said : Said) → StandsOn (after r.machine answer).call said → StandsOn r.machine.call said
+        ⊎ ((own : IsOwnStep r.machine answer) × IsSaidBy r.machine.call own.told said)
     made_says said stands = chain_said r.machine answer made_ordered (now_lawful.core.standing 0 r refl).call came.shows said stands
 
     -- it comes nearer its end
@@ -207,14 +222,16 @@ module _ {K V S : Type 0} (eq : K → K → Bool) (hash : S → K → ℕ) (s : 
     lone_step_to o e none =
         let advances : Advances eq whatever hash false now 0 (seated store' (Some next) s.mode s.initial) event None =
         subst (λ p. Advances eq whatever hash false now 0 (seated store' (goes_on p next) s.mode s.initial) event p) (e ∙ none) made_step in
-        lone_step eq hash now (subst (λ h. IsLawfulKeys eq (hash h)) (sym came.hasher) keys) whatever false r (seated store' (Some next) s.mode s.initial) event (came.lone going) advances
+        lone_step eq hash now (subst (λ h. IsLawfulKeys eq (hash h)) (sym came.hasher) keys) whatever false r
+        (seated store' (Some next) s.mode s.initial) event (came.lone going) advances
 
     -- the call that is alone after the step is this one
     nearer_is : (nearer : IsNearer eq hash now r (seated store' (Some next) s.mode s.initial)) → nearer.later ≡ next
     nearer_is nearer = same_item nearer.later next (sym (ap (λ (l : List (Seat K V (Unit {0}))). running l 0) nearer.lone.callers))
 
     next_lone : reply ≡ None → IsLone eq hash (seated store' (Some next) s.mode s.initial) next
-    next_lone none = let nearer = lone_step_to reply refl none in subst (IsLone eq hash (seated store' (Some next) s.mode s.initial)) (nearer_is nearer) nearer.lone
+    next_lone none = let nearer = lone_step_to reply refl none in
+        subst (IsLone eq hash (seated store' (Some next) s.mode s.initial)) (nearer_is nearer) nearer.lone
 
     -- how far it was, and is
     far_is : left_of store r.machine ≡ suc (lone_measure now r)
@@ -226,12 +243,16 @@ module _ {K V S : Type 0} (eq : K → K → Bool) (hash : S → K → ℕ) (s : 
         by_reply : (o : Option Reply) → reply ≡ o → left_of store' (after r.machine answer) < left_of store r.machine
         by_reply None e =
             let nearer = lone_step_to reply refl e in
-            let less : lone_measure (seated store' (Some next) s.mode s.initial) next < lone_measure now r = subst (λ (q : Running K V (Unit {0})). lone_measure (seated store' (Some next) s.mode s.initial) q < lone_measure now r) (nearer_is nearer) nearer.less in
-            let near_is : left_of store' (after r.machine answer) ≡ suc (lone_measure (seated store' (Some next) s.mode s.initial) next) = ap (λ o. left_to o (lone_measure (seated store' (Some next) s.mode s.initial) next)) e in
+            let less : lone_measure (seated store' (Some next) s.mode s.initial) next < lone_measure now
+            r = subst (λ (q : Running K V (Unit {0})). lone_measure (seated store' (Some next) s.mode s.initial) q < lone_measure now r)
+            (nearer_is nearer) nearer.less in
+            let near_is : left_of store' (after r.machine answer) ≡ suc (lone_measure (seated store' (Some next) s.mode s.initial) next) = ap
+            (λ o. left_to o (lone_measure (seated store' (Some next) s.mode s.initial) next)) e in
             let far = far_is in
             omega (arith, less, near_is, far)
         by_reply (Some told) e =
-            let near_is : left_of store' (after r.machine answer) ≡ 0 = ap (λ o. left_to o (lone_measure (seated store' (Some next) s.mode s.initial) next)) e in
+            let near_is : left_of store' (after r.machine answer) ≡ 0 = ap
+            (λ o. left_to o (lone_measure (seated store' (Some next) s.mode s.initial) next)) e in
             let far = far_is in
             omega (arith, near_is, far)
 
@@ -246,7 +267,13 @@ module _ {K V S : Type 0} (eq : K → K → Bool) (hash : S → K → ℕ) (s : 
           number = came.number;
           steps = suc came.steps;
           history = with_step 1 0 event reply came.history;
-          runs = (now, came.history, subst (λ o. StepsRun eq whatever hash 1 0 came.steps (start eq hash s call.call came.number) (with_event 0 0 Begun []) (seated store o s.mode s.initial) came.history) under_way came.runs, inl (event, reply, inl made_step, refl));
+          runs = (
+            now,
+            came.history,
+            subst (λ o. StepsRun eq whatever hash 1 0 came.steps (start eq hash s call.call came.number)
+                (with_event 0 0 Begun []) (seated store o s.mode s.initial) came.history) under_way came.runs,
+            inl (event, reply, inl made_step, refl),
+          );
           replied = λ x e. last_entry event reply came.history x e;
           lawful = record { core = core; law = (es ++ step.made, (told_call_traces call_traces 0 step.made step.loaded, step.kept)) };
           lone = next_lone;
@@ -255,37 +282,56 @@ module _ {K V S : Type 0} (eq : K → K → Bool) (hash : S → K → ℕ) (s : 
           hash_is = told.1 ∙ came.hash_is;
           shows = chain_shows r.machine answer made_ordered came.shows;
           hasher = performs-hasher eq whatever hash false (ask_of r.machine) store r answer store' later performs ∙ came.hasher;
-          numbered = numbered_more eq whatever hash false r.machine store store' r later (came.lone going).current.number takes_none answer performs s.mode.limit limit_is came.numbered;
+          numbered = numbered_more eq whatever hash false r.machine store store' r later (came.lone going).current.number takes_none answer performs
+              s.mode.limit limit_is came.numbered;
           long = long_more s eq hash store store' r.machine answer going
               (performed_so eq hash store store' r.machine answer r later refl performs (came.lone going).current
-              (root_stays eq (hash s.store.hasher) keys s.mode store store' now.callers (seated store' (goes_on reply next) s.mode s.initial).callers es step.made call_traces (told_call_traces call_traces 0 step.made step.loaded) kept core step.kept)) came.long;
+              (root_stays eq (hash s.store.hasher) keys s.mode store store' now.callers (seated store' (goes_on reply next) s.mode s.initial).callers
+              es step.made call_traces (told_call_traces call_traces 0 step.made step.loaded) kept core step.kept)) came.long;
         }
 
   -- one more ask is answered
-  pub made_more : (store : StoreState K V S) (r : Running K V (Unit {0})) (answer : Answer) (store' : StoreState K V S) (later : Running K V (Unit {0})) → reply_in (ask_of r.machine) ≡ None → PerformsAsk eq whatever hash false (ask_of r.machine) store r answer store' later → later.machine ≡ r.machine → IsMade store r → IsMade store' (stepped later r.machine answer)
-  made_more store r answer store' later going performs same made keys lawful fits = came_more store r answer store' later going performs same keys (made keys lawful fits)
+  pub made_more : (store : StoreState K V S) (r : Running K V (Unit {0})) (answer : Answer) (store' : StoreState K V S)
+      (later : Running K V (Unit {0})) → reply_in (ask_of r.machine) ≡ None
+      → PerformsAsk eq whatever hash false (ask_of r.machine) store r answer store' later → later.machine ≡ r.machine → IsMade store r
+      → IsMade store' (stepped later r.machine answer)
+  made_more store r answer store' later going performs same made keys lawful fits = came_more store r answer store' later going performs same keys
+      (made keys lawful fits)
 
   -- and the call comes nearer its end
-  pub made_nears : (store : StoreState K V S) (r : Running K V (Unit {0})) (answer : Answer) (store' : StoreState K V S) (later : Running K V (Unit {0})) → reply_in (ask_of r.machine) ≡ None → PerformsAsk eq whatever hash false (ask_of r.machine) store r answer store' later → later.machine ≡ r.machine → IsMade store r
-      → IsLawfulKeys eq (hash s.store.hasher) → IsLawfulMap eq (hash s.store.hasher) s.store s.mode s.initial → hash s.store.hasher call.key < 2 ^ 64 → left_of store' (after r.machine answer) < left_of store r.machine
-  made_nears store r answer store' later going performs same made keys lawful fits = came_nears store r answer store' later going performs same keys (made keys lawful fits)
+  pub made_nears : (store : StoreState K V S) (r : Running K V (Unit {0})) (answer : Answer) (store' : StoreState K V S)
+      (later : Running K V (Unit {0})) → reply_in (ask_of r.machine) ≡ None
+      → PerformsAsk eq whatever hash false (ask_of r.machine) store r answer store' later → later.machine ≡ r.machine → IsMade store r
+      → IsLawfulKeys eq (hash s.store.hasher) → IsLawfulMap eq (hash s.store.hasher) s.store s.mode s.initial → hash s.store.hasher call.key < 2 ^ 64
+      → left_of store' (after r.machine answer) < left_of store r.machine
+  made_nears store r answer store' later going performs same made keys lawful fits = came_nears store r answer store' later going performs same keys
+      (made keys lawful fits)
 
   -- a call under way that has changed nothing has left the map as it was
-  pub made_unchanged : IsLawfulKeys eq (hash s.store.hasher) → IsLawfulMap eq (hash s.store.hasher) s.store s.mode s.initial → hash s.store.hasher call.key < 2 ^ 64 → (store : StoreState K V S) (r : Running K V (Unit {0})) → reply_in (ask_of r.machine) ≡ None → change_in r.machine.call.state ≡ None → HasCome store r → Unchanged eq s.store store × KeepsPairs s.store store
+  pub made_unchanged : IsLawfulKeys eq (hash s.store.hasher) → IsLawfulMap eq (hash s.store.hasher) s.store s.mode s.initial
+      → hash s.store.hasher call.key < 2 ^ 64 → (store : StoreState K V S) (r : Running K V (Unit {0})) → reply_in (ask_of r.machine) ≡ None
+      → change_in r.machine.call.state ≡ None → HasCome store r → Unchanged eq s.store store × KeepsPairs s.store store
   made_unchanged keys lawful fits store r going none came =
       let left : IsLeft eq hash (core_of s) (seated store (still r) s.mode s.initial) r =
-      call_left eq hash (core_of s) keys whatever (seated store (still r) s.mode s.initial) came.history r (ap (λ o. call_in (as_work (goes_on o r))) going) call.call came.steps lawful.lawful refl (turns_made eq hash s call.call came.number (key_fits (hash s.store.hasher) call fits) lawful.power came.steps (seated store (still r) s.mode s.initial) came.history came.runs) none in
+      call_left eq hash (core_of s) keys whatever (seated store (still r) s.mode s.initial) came.history r
+      (ap (λ o. call_in (as_work (goes_on o r))) going) call.call came.steps lawful.lawful refl
+      (turns_made eq hash s call.call came.number (key_fits (hash s.store.hasher) call fits) lawful.power came.steps
+      (seated store (still r) s.mode s.initial) came.history came.runs) none in
       (left.map, left.keeps)
 
   -- the tables that a call on a key has made
-  pub made_tables : IsLawfulKeys eq (hash s.store.hasher) → IsLawfulMap eq (hash s.store.hasher) s.store s.mode s.initial → hash s.store.hasher call.key < 2 ^ 64 → (store : StoreState K V S) (r : Running K V (Unit {0})) → IsMade store r → Grows s (record s { store = store })
+  pub made_tables : IsLawfulKeys eq (hash s.store.hasher) → IsLawfulMap eq (hash s.store.hasher) s.store s.mode s.initial
+      → hash s.store.hasher call.key < 2 ^ 64 → (store : StoreState K V S) (r : Running K V (Unit {0})) → IsMade store r → Grows s (record s { store = store })
   made_tables keys lawful fits store r made = (made keys lawful fits).long.made
 
   -- a call that has replied was made alone
-  pub made_alone : IsLawfulKeys eq (hash s.store.hasher) → IsLawfulMap eq (hash s.store.hasher) s.store s.mode s.initial → hash s.store.hasher call.key < 2 ^ 64 → (store : StoreState K V S) (r : Running K V (Unit {0})) (reply : Reply) → reply_in (ask_of r.machine) ≡ Some reply → IsMade store r → IsOver eq hash s call.call store reply
+  pub made_alone : IsLawfulKeys eq (hash s.store.hasher) → IsLawfulMap eq (hash s.store.hasher) s.store s.mode s.initial
+      → hash s.store.hasher call.key < 2 ^ 64 → (store : StoreState K V S) (r : Running K V (Unit {0})) (reply : Reply)
+      → reply_in (ask_of r.machine) ≡ Some reply → IsMade store r → IsOver eq hash s call.call store reply
   made_alone keys lawful fits store r reply told made =
       let came = made keys lawful fits in
       let ends = came.replied reply told in
       made_over eq hash s call.call came.number (key_fits (hash s.store.hasher) call fits) lawful.power came.steps store came.history
-      (subst (λ (o : Option Reply). StepsRun eq whatever hash 1 0 came.steps (start eq hash s call.call came.number) (with_event 0 0 Begun []) (seated store (goes_on o r) s.mode s.initial) came.history) told came.runs)
+      (subst (λ (o : Option Reply). StepsRun eq whatever hash 1 0 came.steps (start eq hash s call.call came.number) (with_event 0 0 Begun [])
+      (seated store (goes_on o r) s.mode s.initial) came.history) told came.runs)
       reply ends.0 ends.1 ends.2 ends.3 (long_left s store r.machine came.long) (λ most e. (came.numbered most e).0)

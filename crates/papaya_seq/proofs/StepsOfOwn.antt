@@ -28,8 +28,10 @@ pub leaves_none : (left : Option ℕ) → left ≡ None → (t : ℕ) → left �
 leaves_none left none t some = let f : None ≡ Some t = sym none ∙ some in cc
 
 -- what a call asks for itself is answered
-pub own_performs : {K V S A : Type 0} (eq : K → K → Bool) (says : Says K V A) (hash : S → K → ℕ) (store : StoreState K V S) (r : Running K V A) (answer : Answer) (store' : StoreState K V S) (later : Running K V A) (told : Call_answer)
-    → r.machine.phase ≡ Calling → answer ≡ answers.Call told → PerformsAsk eq says hash false (ask_of r.machine) store r answer store' later → Performs eq says false (call_ask r.machine.call) store r told store' later
+pub own_performs : {K V S A : Type 0} (eq : K → K → Bool) (says : Says K V A) (hash : S → K → ℕ) (store : StoreState K V S) (r : Running K V A)
+    (answer : Answer) (store' : StoreState K V S) (later : Running K V A) (told : Call_answer)
+    → r.machine.phase ≡ Calling → answer ≡ answers.Call told → PerformsAsk eq says hash false (ask_of r.machine) store r answer store' later
+    → Performs eq says false (call_ask r.machine.call) store r told store' later
 own_performs eq says hash store r answer store' later told calling is performs =
     let (other, also, own) = subst (λ phase. PerformsAsk eq says hash false (asks_in r.machine.call phase) store r answer store' later) calling performs in
     let same : other ≡ told = cc (also, is) in

@@ -1,5 +1,8 @@
 -- What an answered ask leaves of the lengths of tables: one that is made has the slots that were asked for, and each other one stays as long as it was.
-use Rattle.std.proofs.Common.{◌≡◌, ◌⊎◌, inl, inr, ℕ, zero, suc, ◌+◌, ◌-◌, ◌==◌, ◌<◌, ◌≤◌, nat_lt, Bool, true, false, cond, List, [], ◌∷◌, ◌++◌, length, length-set, map, max, replicate, slice_get, slice_set, Option, None, Some, refl, sym, ◌∙◌, ap, subst, arith}
+use Rattle.std.proofs.Common.{◌≡◌, ◌⊎◌, inl, inr, ℕ, zero, suc, ◌+◌, ◌-◌, ◌==◌, ◌<◌, ◌≤◌, nat_lt}
+use Rattle.std.proofs.Common.{Bool, true, false, cond, List, [], ◌∷◌, ◌++◌, length, length-set, map}
+use Rattle.std.proofs.Common.{max, replicate, slice_get, slice_set, Option, None, Some, refl, sym}
+use Rattle.std.proofs.Common.{◌∙◌, ap, subst, arith}
 use Rattle.std.proofs.lemmas.List.{length-replicate, map-append}
 use Rattle.std.proofs.lemmas.List.Elements.{All-cons, All-nil}
 use Rattle.std.specs.List.{All}
@@ -10,7 +13,10 @@ use Rattle.papaya_ask.specs.declared.ask.Answer.{Answer as Call_answer}
 use Rattle.papaya_ask.specs.declared.ask.At.{At}
 use Rattle.papaya_ask.specs.declared.ask.At.TheVariants.{Root, Next, Aborted, Done, Slot, Made}
 use Rattle.papaya_ask.specs.declared.ask.Ask.{Ask as Call_ask}
-use Rattle.papaya_ask.specs.declared.ask.Ask.TheVariants.{Load, Exchange, LoadHint, WriteHint, SameKey, ShowNone, ShowPair, SizeOf, MakeKey, MakeValue, MakePair, MakePairOf, MakeTable, AddToShard, Done as Ask_done}
+use Rattle.papaya_ask.specs.declared.ask.Ask.TheVariants.{Load, Exchange, LoadHint, WriteHint}
+use Rattle.papaya_ask.specs.declared.ask.Ask.TheVariants.{SameKey, ShowNone, ShowPair, SizeOf}
+use Rattle.papaya_ask.specs.declared.ask.Ask.TheVariants.{MakeKey, MakeValue, MakePair, MakePairOf}
+use Rattle.papaya_ask.specs.declared.ask.Ask.TheVariants.{MakeTable, AddToShard, Done as Ask_done}
 use Rattle.papaya_ask.specs.declared.ask.Answer.TheVariants.{Ok as Ok_done}
 use Rattle.papaya_ask.specs.declared.copy_ask.CopyAsk.{CopyAsk}
 use Rattle.papaya_ask.specs.declared.copy_ask.CopyAsk.TheVariants as copies
@@ -38,15 +44,19 @@ written_long Root t word = refl
 written_long Made t word = refl
 written_long (Next n) t word = refl
 written_long (Aborted n) t word = refl
-written_long (Done n chunk) t word = elim (nat_lt chunk (length t.done)) as (λ b. long (cond b (record t { done = slice_set t.done chunk word }) t) ≡ long t) [ true ↦ refl | false ↦ refl ]
-written_long (Slot n i) t word = elim (nat_lt i (length t.slots)) as (λ b. long (cond b (record t { slots = slice_set t.slots i word }) t) ≡ long t) [ true ↦ length-set t.slots i word | false ↦ refl ]
+written_long (Done n chunk) t word = elim (nat_lt chunk (length t.done))
+    as (λ b. long (cond b (record t { done = slice_set t.done chunk word }) t) ≡ long t) [ true ↦ refl | false ↦ refl ]
+written_long (Slot n i) t word = elim (nat_lt i (length t.slots)) as (λ b. long (cond b (record t { slots = slice_set t.slots i word }) t) ≡ long t)
+    [ true ↦ length-set t.slots i word | false ↦ refl ]
 
-set_lengths : (tables : List TableWords) (k : ℕ) (t u : TableWords) → slice_get tables k ≡ Some t → long u ≡ long t → map long (slice_set tables k u) ≡ map long tables
+set_lengths : (tables : List TableWords) (k : ℕ) (t u : TableWords) → slice_get tables k ≡ Some t → long u ≡ long t
+    → map long (slice_set tables k u) ≡ map long tables
 set_lengths [] k t u e same = refl
 set_lengths (x ∷ xs) zero t u e same = let is : x ≡ t = cc e in ap (λ n. n ∷ map long xs) (same ∙ ap long (sym is))
 set_lengths (x ∷ xs) (suc k) t u e same = ap (λ l. long x ∷ l) (set_lengths xs k t u e same)
 
-put_in_lengths : (at : At) (o : Option TableWords) (tables : List TableWords) (k word : ℕ) → o ≡ slice_get tables k → map long (put_in at o tables k word) ≡ map long tables
+put_in_lengths : (at : At) (o : Option TableWords) (tables : List TableWords) (k word : ℕ) → o ≡ slice_get tables k
+    → map long (put_in at o tables k word) ≡ map long tables
 put_in_lengths at None tables k word is = refl
 put_in_lengths at (Some t) tables k word is = set_lengths tables k t (written at t word) (sym is) (written_long at t word)
 
@@ -92,11 +102,17 @@ module _ {K V S : Type 0} (Asked : ℕ → Type 0) (s s' : StoreState K V S) whe
   made_long : (slots limit chunks : ℕ) (told : Call_answer) → Asked slots → MakesTable told slots limit chunks s s' → IsLengthened
   made_long slots limit chunks told asked (is, few, more) =
       let n : ℕ = length s.words.tables + 1 in
-      inr (slots, asked, ap (λ (y : StoreState K V S). lengths_of y.words) more ∙ map-append long s.words.tables (new_table n slots limit chunks ∷ []) ∙ ap (λ m. lengths_of s.words ++ m ∷ []) (length-replicate slots 0))
+      inr (
+        slots,
+        asked,
+        ap (λ (y : StoreState K V S). lengths_of y.words) more ∙ map-append long s.words.tables (new_table n slots limit chunks ∷ [])
+            ∙ ap (λ m. lengths_of s.words ++ m ∷ []) (length-replicate slots 0),
+      )
 
 module _ {K V S : Type 0} (eq : K → K → Bool) (refuse : Bool) where
   -- an ask of a copy
-  pub copy_long : (hash : S → K → ℕ) (ask : CopyAsk) (s : StoreState K V S) (a : Answer) (s' : StoreState K V S) → PerformsCopy eq hash refuse ask s a s' → IsLengthened (λ slots. (limit chunks : ℕ) × (ask ≡ copies.MakeTable slots limit chunks)) s s'
+  pub copy_long : (hash : S → K → ℕ) (ask : CopyAsk) (s : StoreState K V S) (a : Answer) (s' : StoreState K V S)
+      → PerformsCopy eq hash refuse ask s a s' → IsLengthened (λ slots. (limit chunks : ℕ) × (ask ≡ copies.MakeTable slots limit chunks)) s s'
   copy_long hash (copies.Load at) s a s' (is, same) = as_long _ s s' same
   copy_long hash (copies.Exchange at old new) s a s' (told, is, h) = exchanged_long _ s s' at (word_at s.words at) old new told h
   copy_long hash (copies.LoadHint t x) s a s' (is, same) = as_long _ s s' same
@@ -106,14 +122,17 @@ module _ {K V S : Type 0} (eq : K → K → Bool) (refuse : Bool) where
   copy_long hash (copies.SamePair m n) s a s' (is, same) = as_long _ s s' same
   copy_long hash copies.Count s a s' (is, same) = as_long _ s s' same
   copy_long hash (copies.MakeTable slots limit chunks) s a s' (told, is, h) =
-      matched (IsLengthened (λ n. (l c : ℕ) × (copies.MakeTable slots limit chunks ≡ copies.MakeTable n l c)) s s') refuse _ _ h (λ _ none. as_long _ s s' none.1)
+      matched (IsLengthened (λ n. (l c : ℕ) × (copies.MakeTable slots limit chunks ≡ copies.MakeTable n l c)) s s') refuse _ _ h
+      (λ _ none. as_long _ s s' none.1)
       (λ _ makes. elim makes [ inl refused ↦ as_long _ s s' refused.1 | inr made ↦ made_long _ s s' slots limit chunks told (limit, chunks, refl) made ])
 
   -- it counts nothing
-  pub copy_counts : (hash : S → K → ℕ) (ask : CopyAsk) (s : StoreState K V S) (a : Answer) (s' : StoreState K V S) → PerformsCopy eq hash refuse ask s a s' → s'.count ≡ s.count
+  pub copy_counts : (hash : S → K → ℕ) (ask : CopyAsk) (s : StoreState K V S) (a : Answer) (s' : StoreState K V S)
+      → PerformsCopy eq hash refuse ask s a s' → s'.count ≡ s.count
   copy_counts hash (copies.Load at) s a s' (is, same) = ap (λ (y : StoreState K V S). y.count) same
   copy_counts hash (copies.Exchange at old new) s a s' (told, is, h) =
-      matched (s'.count ≡ s.count) (word_at s.words at == old) _ _ h (λ _ done. ap (λ (y : StoreState K V S). y.count) done.1) (λ _ lost. ap (λ (y : StoreState K V S). y.count) lost.1)
+      matched (s'.count ≡ s.count) (word_at s.words at == old) _ _ h (λ _ done. ap (λ (y : StoreState K V S). y.count) done.1)
+      (λ _ lost. ap (λ (y : StoreState K V S). y.count) lost.1)
   copy_counts hash (copies.LoadHint t x) s a s' (is, same) = ap (λ (y : StoreState K V S). y.count) same
   copy_counts hash (copies.WriteHint t x hint) s a s' (is, same) = ap (λ (y : StoreState K V S). y.count) same
   copy_counts hash (copies.SizeOf n) s a s' (is, same) = ap (λ (y : StoreState K V S). y.count) same
@@ -122,7 +141,11 @@ module _ {K V S : Type 0} (eq : K → K → Bool) (refuse : Bool) where
   copy_counts hash copies.Count s a s' (is, same) = ap (λ (y : StoreState K V S). y.count) same
   copy_counts hash (copies.MakeTable slots limit chunks) s a s' (told, is, h) =
       matched (s'.count ≡ s.count) refuse _ _ h (λ _ none. ap (λ (y : StoreState K V S). y.count) none.1)
-      (λ _ makes. elim makes [ inl refused ↦ ap (λ (y : StoreState K V S). y.count) refused.1 | inr (e, few, made) ↦ ap (λ (y : StoreState K V S). y.count) made ])
+      (λ _ makes. elim makes [
+        | inl refused ↦ ap (λ (y : StoreState K V S). y.count) refused.1
+        | inr (e, few, made) ↦ ap
+            (λ (y : StoreState K V S). y.count) made
+      ])
 
 -- an ask of a call counts where it adds to the count; that and a hint are answered `Ok`
 abbrev pub IsCountedBy : {K V S : Type 0} → Call_ask → StoreState K V S → Call_answer → StoreState K V S → Type 0
@@ -131,13 +154,16 @@ IsCountedBy (WriteHint t x hint) s a s' = (a ≡ Ok_done) × (s'.count ≡ s.cou
 IsCountedBy ask s a s' = s'.count ≡ s.count
 
 -- what is logged leaves the words and the count
-pub logged_same : {K V S A : Type 0} (s : StoreState K V S) (r : Running K V A) (a : Call_answer) (s' : StoreState K V S) (r' : Running K V A) → LogsOrNot s r a s' r' → (s'.words ≡ s.words) × (s'.count ≡ s.count)
+pub logged_same : {K V S A : Type 0} (s : StoreState K V S) (r : Running K V A) (a : Call_answer) (s' : StoreState K V S) (r' : Running K V A)
+    → LogsOrNot s r a s' r' → (s'.words ≡ s.words) × (s'.count ≡ s.count)
 logged_same {K} {V} {S} s r a s' r' (inl (none, stays)) = (ap (λ (y : StoreState K V S). y.words) stays.0, ap (λ (y : StoreState K V S). y.count) stays.0)
-logged_same {K} {V} {S} s r a s' r' (inr (key, left, (value, has, made, few, more, moved))) = (ap (λ (y : StoreState K V S). y.words) more, ap (λ (y : StoreState K V S). y.count) more)
+logged_same {K} {V} {S} s r a s' r' (inr (key, left, (value, has, made, few, more, moved))) =
+    (ap (λ (y : StoreState K V S). y.words) more, ap (λ (y : StoreState K V S). y.count) more)
 
 module _ {K V S A : Type 0} (eq : K → K → Bool) (says : Says K V A) (refuse : Bool) where
   -- an ask of a call for itself
-  pub own_long : (ask : Call_ask) (s : StoreState K V S) (r : Running K V A) (a : Call_answer) (s' : StoreState K V S) (r' : Running K V A) → Performs eq says refuse ask s r a s' r' → IsLengthened (λ slots. (limit chunks : ℕ) × (ask ≡ MakeTable slots limit chunks)) s s'
+  pub own_long : (ask : Call_ask) (s : StoreState K V S) (r : Running K V A) (a : Call_answer) (s' : StoreState K V S) (r' : Running K V A)
+      → Performs eq says refuse ask s r a s' r' → IsLengthened (λ slots. (limit chunks : ℕ) × (ask ≡ MakeTable slots limit chunks)) s s'
   own_long (Load at) s r a s' r' (e, stays) = as_long _ s s' stays.0
   own_long (Exchange at old new) s r a s' r' (h, moved) = exchanged_long _ s s' at (word_at s.words at) old new a h
   own_long (LoadHint t x) s r a s' r' (e, stays) = as_long _ s s' stays.0
@@ -156,10 +182,12 @@ module _ {K V S A : Type 0} (eq : K → K → Bool) (says : Says K V A) (refuse 
   own_long (AddToShard by) s r a s' r' (e, (number, same), moved) = inl (ap (λ (y : StoreState K V S). lengths_of y.words) same)
   own_long (Ask_done reply) s r a s' r' (e, stays) = as_long _ s s' stays.0
 
-  pub own_counts : (ask : Call_ask) (s : StoreState K V S) (r : Running K V A) (a : Call_answer) (s' : StoreState K V S) (r' : Running K V A) → Performs eq says refuse ask s r a s' r' → IsCountedBy ask s a s'
+  pub own_counts : (ask : Call_ask) (s : StoreState K V S) (r : Running K V A) (a : Call_answer) (s' : StoreState K V S) (r' : Running K V A)
+      → Performs eq says refuse ask s r a s' r' → IsCountedBy ask s a s'
   own_counts (Load at) s r a s' r' (e, stays) = ap (λ (y : StoreState K V S). y.count) stays.0
   own_counts (Exchange at old new) s r a s' r' (h, moved) =
-      matched (s'.count ≡ s.count) (word_at s.words at == old) _ _ h (λ _ done. ap (λ (y : StoreState K V S). y.count) done.1) (λ _ lost. ap (λ (y : StoreState K V S). y.count) lost.1)
+      matched (s'.count ≡ s.count) (word_at s.words at == old) _ _ h (λ _ done. ap (λ (y : StoreState K V S). y.count) done.1)
+      (λ _ lost. ap (λ (y : StoreState K V S). y.count) lost.1)
   own_counts (LoadHint t x) s r a s' r' (e, stays) = ap (λ (y : StoreState K V S). y.count) stays.0
   own_counts (WriteHint t x hint) s r a s' r' (e, same, moved) = (e, ap (λ (y : StoreState K V S). y.count) same)
   own_counts (SameKey n) s r a s' r' (e, stays) = ap (λ (y : StoreState K V S). y.count) stays.0
@@ -172,7 +200,11 @@ module _ {K V S A : Type 0} (eq : K → K → Bool) (says : Says K V A) (refuse 
   own_counts (MakePairOf n) s r a s' r' h = (logged_same s r a s' r' (of_logs s r a s' r' refuse n h)).1
   own_counts (MakeTable slots limit chunks) s r a s' r' h =
       matched (s'.count ≡ s.count) refuse _ _ h (λ _ none. ap (λ (y : StoreState K V S). y.count) none.1.0)
-      (λ _ makes. elim makes.0 [ inl refused ↦ ap (λ (y : StoreState K V S). y.count) refused.1 | inr (e, few, made) ↦ ap (λ (y : StoreState K V S). y.count) made ])
+      (λ _ makes. elim makes.0 [
+        | inl refused ↦ ap (λ (y : StoreState K V S). y.count) refused.1
+        | inr (e, few, made) ↦ ap
+            (λ (y : StoreState K V S). y.count) made
+      ])
   own_counts (AddToShard by) s r a s' r' (e, (number, same), moved) = e
   own_counts (Ask_done reply) s r a s' r' (e, stays) = ap (λ (y : StoreState K V S). y.count) stays.0
 
@@ -186,6 +218,7 @@ new_long (suc n) initial words entries (limit, size, is) =
     let slots : List ℕ = replicate (max initial 8) 0 in
     let long_is : length slots ≡ max initial 8 = length-replicate (max initial 8) 0 in
     record {
-      tables = subst (λ (w : Tables). All (λ len. initial ≤ len) (lengths_of w)) (sym is) (All-cons (λ len. initial ≤ len) (length slots) [] (omega (arith, long_is)) (All-nil (λ len. initial ≤ len)));
+      tables = subst (λ (w : Tables). All (λ len. initial ≤ len) (lengths_of w)) (sym is)
+          (All-cons (λ len. initial ≤ len) (length slots) [] (omega (arith, long_is)) (All-nil (λ len. initial ≤ len)));
       first = λ none. let root : words.root ≡ 1 = ap (λ (w : Tables). w.root) is in absurd (omega (arith, root, none));
     }

@@ -44,7 +44,8 @@ module _ (May : ℕ → Type 0) where
   module _ (t : ℕ) where
     -- a search goes on in its table
     go_on_in : (at : Place) → at.table ≡ t → IsSeenIn t (go_on at)
-    go_on_in at here = cond_both (nat_lt at.probe.len at.limit) (seen.On (Looking (next_place at))) (seen.Over at.table) (IsSeenIn t) (λ _. (here, tt)) (λ _. here)
+    go_on_in at here = cond_both (nat_lt at.probe.len at.limit) (seen.On (Looking (next_place at))) (seen.Over at.table) (IsSeenIn t)
+        (λ _. (here, tt)) (λ _. here)
 
     pub hinted_in : (at : Place) (hash hint : ℕ) → at.table ≡ t → IsSeenIn t (hinted at hash hint)
     hinted_in at hash hint here = cond_both (may_hold hint hash) (seen.On (Reading at)) (go_on at) (IsSeenIn t) (λ _. (here, tt)) (λ _. go_on_in at here)

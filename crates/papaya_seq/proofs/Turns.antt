@@ -23,7 +23,8 @@ abbrev pub seated_work : {K V S A : Type 0} → StoreState K V S → Option (Wor
 seated_work store work mode initial = record { store = store; callers = record { caller = 0; work = work } ∷ []; mode = mode; initial = initial }
 
 -- the last of a step's entries is its reply
-pub last_entry : (event : Event) (o : Option Reply) (before : History) (reply : Reply) → o ≡ Some reply → (last : Entry) × (rest : History) × (with_step 1 0 event o before ≡ last ∷ rest) × (last.event ≡ Replied reply)
+pub last_entry : (event : Event) (o : Option Reply) (before : History) (reply : Reply) → o ≡ Some reply → (last : Entry) × (rest : History)
+    × (with_step 1 0 event o before ≡ last ∷ rest) × (last.event ≡ Replied reply)
 last_entry event None before reply e = let f : None ≡ Some reply = e in absurd cc
 last_entry event (Some told) before reply e =
     let same : told ≡ reply = cc in
@@ -43,7 +44,9 @@ module _ {K V S : Type 0} (eq : K → K → Bool) (hash : S → K → ℕ) (s : 
   begins_so number fits power = record { number = number; store = refl; callers = refl; mode = refl; initial = refl; fits = fits; power = power }
 
   -- the turns of a run that made so many steps
-  pub turns_made : (number : ℕ) → IsHashed → IsPowerOfTwo s.initial → (steps : ℕ) (s' : CoreState K V S (Unit {0})) (history : History) → StepsRun eq whatever hash 1 0 steps (start number) (with_event 0 0 Begun []) s' history → TurnsRun eq whatever hash (Begin 0 call ∷ Finish 0 steps ∷ []) 2 (core_of s) s' history
+  pub turns_made : (number : ℕ) → IsHashed → IsPowerOfTwo s.initial → (steps : ℕ) (s' : CoreState K V S (Unit {0})) (history : History)
+      → StepsRun eq whatever hash 1 0 steps (start number) (with_event 0 0 Begun []) s' history
+      → TurnsRun eq whatever hash (Begin 0 call ∷ Finish 0 steps ∷ []) 2 (core_of s) s' history
   turns_made number fits power steps s' history runs = (
     Finish 0 steps,
     start number,
@@ -63,8 +66,10 @@ module _ {K V S : Type 0} (eq : K → K → Bool) (hash : S → K → ℕ) (s : 
     pub long : IsLongEnough s.initial store.words
     pub numbered : HasNumbers store
 
-  pub made_over : (number : ℕ) → IsHashed → IsPowerOfTwo s.initial → (steps : ℕ) (store : StoreState K V S) (history : History) → StepsRun eq whatever hash 1 0 steps (start number) (with_event 0 0 Begun []) (seated_work store None s.mode s.initial) history
-      → (reply : Reply) (last : Entry) (before : History) → history ≡ last ∷ before → last.event ≡ Replied reply → IsLongEnough s.initial store.words → HasNumbers store → IsOver store reply
+  pub made_over : (number : ℕ) → IsHashed → IsPowerOfTwo s.initial → (steps : ℕ) (store : StoreState K V S) (history : History)
+      → StepsRun eq whatever hash 1 0 steps (start number) (with_event 0 0 Begun []) (seated_work store None s.mode s.initial) history
+      → (reply : Reply) (last : Entry) (before : History) → history ≡ last ∷ before → last.event ≡ Replied reply → IsLongEnough s.initial store.words
+      → HasNumbers store → IsOver store reply
   made_over number fits power steps store history runs reply last before ends replied long numbered = record {
     long = long;
     numbered = numbered;
@@ -73,7 +78,9 @@ module _ {K V S : Type 0} (eq : K → K → Bool) (hash : S → K → ℕ) (s : 
       steps = steps;
       last = last;
       before = before;
-      runs = turns_made number fits power steps (seated_work store None s.mode s.initial) (last ∷ before) (subst (λ (h : History). StepsRun eq whatever hash 1 0 steps (start number) (with_event 0 0 Begun []) (seated_work store None s.mode s.initial) h) ends runs);
+      runs = turns_made number fits power steps (seated_work store None s.mode s.initial) (last ∷ before)
+          (subst (λ (h : History). StepsRun eq whatever hash 1 0 steps (start number) (with_event 0 0 Begun [])
+          (seated_work store None s.mode s.initial) h) ends runs);
       replied = replied;
     };
   }

@@ -30,14 +30,17 @@ pub last_next : {K V S : Type 0} (store : StoreState K V S) → next_of store �
 last_next store last = next_is store.words.tables store.words.root ∙ last
 
 -- no pair is marked in a table without a next one
-pub unmarked : {K V S A : Type 0} (eq : K → K → Bool) (hash : K → ℕ) (callers : List (Seat K V A)) (mode : Mode) (store : StoreState K V S) → IsLawfulKeys eq hash → IsLawfulCore eq hash store callers mode
+pub unmarked : {K V S A : Type 0} (eq : K → K → Bool) (hash : K → ℕ) (callers : List (Seat K V A)) (mode : Mode) (store : StoreState K V S)
+    → IsLawfulKeys eq hash → IsLawfulCore eq hash store callers mode
     → (t : ℕ) → word_at store.words (Next t) ≡ 0 → (i : ℕ) → kind_of (word_at store.words (Slot t i)) ≡ kinds.Marked → ⊥
 unmarked {K} {V} {S} {A} eq hash callers mode store keys lawful t last i marked =
     let (es, (call_traces, kept)) = lawful.law in
     let setting = setting_of {V = V} eq (low hash) mode store.words.tables in
     let now = run es start in
-    let of_kind : IsOfKind (kind_of (word_at store.words (Slot t i))) (now.slot t i) = subst (λ n. IsOfKind (kind_of n) (now.slot t i)) (kept.coded (Slot t i)) (word_of_kind setting (coding_of {V = V} (low hash)) (now.slot t i)) in
+    let of_kind : IsOfKind (kind_of (word_at store.words (Slot t i))) (now.slot t i) = subst (λ n. IsOfKind (kind_of n) (now.slot t i))
+    (kept.coded (Slot t i)) (word_of_kind setting (coding_of {V = V} (low hash)) (now.slot t i)) in
     let word : IsOfKind kinds.Marked (now.slot t i) = subst (λ k. IsOfKind k (now.slot t i)) marked of_kind in
-    let further : 0 < now.next t = (sound setting (tables_hashed {V = V} eq hash keys mode store.words.tables lawful.core.sizes).lawful es kept.allowed).further t i (ap shut word.1) in
+    let further : 0 < now.next t = (sound setting (tables_hashed {V = V} eq hash keys mode store.words.tables lawful.core.sizes).lawful es
+    kept.allowed).further t i (ap shut word.1) in
     let none : now.next t ≡ 0 = kept.coded (Next t) ∙ last in
     absurd (omega (arith, further, none))

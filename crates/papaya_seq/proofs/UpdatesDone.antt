@@ -1,5 +1,6 @@
 -- What the calls answer that are computes, by what their closures answer.
-use Rattle.std.proofs.Common.{◌≡◌, ⊎_elim, inl, inr, ℕ, Bool, Option, Some, None, Result, Ok, Err, IfOk, IsSome, MatchOption, option_map, refl, sym, ◌∙◌, ap, subst}
+use Rattle.std.proofs.Common.{◌≡◌, ⊎_elim, inl, inr, ℕ, Bool, Option, Some, None, Result, Ok, Err}
+use Rattle.std.proofs.Common.{IfOk, IsSome, MatchOption, option_map, refl, sym, ◌∙◌, ap, subst}
 use denote.Ref.{Bor}
 use Rattle.std.specs.Cmp.{IsEquivalence}
 use Rattle.papaya_words.specs.declared.probe.Refused.{Refused}
@@ -49,10 +50,12 @@ module _ {K V T : Type 0} (post : Option (Bor K × Bor V) → Operation V T → 
 
   -- a closure that computes neither aborts nor removes
   computing_no_abort : (computes : V → V → Type 0) (p : Stored K V) (t : T) → Says post (Some p) (Abort t) → ComputesOf computes → ⊥
-  computing_no_abort computes p t says law = said_some post (λ _. ⊥) p (Abort t) says (λ q said. let i = law q (Abort t) said in let f : Abort t ≡ Insert i.0 = i.2 in absurd cc)
+  computing_no_abort computes p t says law = said_some post (λ _. ⊥) p (Abort t) says
+      (λ q said. let i = law q (Abort t) said in let f : Abort t ≡ Insert i.0 = i.2 in absurd cc)
 
   computing_no_remove : (computes : V → V → Type 0) (p : Stored K V) → Says post (Some p) Remove → ComputesOf computes → ⊥
-  computing_no_remove computes p says law = said_some post (λ _. ⊥) p Remove says (λ q said. let i = law q Remove said in let f : Remove ≡ Insert i.0 = i.2 in absurd cc)
+  computing_no_remove computes p says law = said_some post (λ _. ⊥) p Remove says
+      (λ q said. let i = law q Remove said in let f : Remove ≡ Insert i.0 = i.2 in absurd cc)
 
   making_no_abort : (makes : V → Type 0) (t : T) → Says post None (Abort t) → MakesOfNone makes → ⊥
   making_no_abort makes t says law = let i = law (Abort t) (said_none post (Abort t) says) in let f : Abort t ≡ Insert i.0 = i.2 in absurd cc
@@ -92,15 +95,20 @@ tried_there eq k s s' m w f shown =
     let is : f.pair.value ≡ w = sym (shown f.pair f.logged) in
     ((record { pair = f.pair; there = f.there; value = is; unchanged = f.same }, f.keeps), (f.pair, f.there, is))
 
-module _ {K V S T : Type 0} {post : Option (Bor K × Bor V) → Operation V T → Type 0} (eq : K → K → Bool) (law : IsEquivalence eq) (k : K) (s s' : MapState K V S) (result : Result (Computed ℕ T) Refused) where
+module _ {K V S T : Type 0} {post : Option (Bor K × Bor V) → Operation V T → Type 0} (eq : K → K → Bool) (law : IsEquivalence eq) (k : K)
+    (s s' : MapState K V S) (result : Result (Computed ℕ T) Refused) where
   -- a pair that was stored, new or in the place of one, is in the log
   pub inserted_logged : (n : ℕ) → result ≡ Ok (Inserted n) → ComputesBy eq k (λ p. p.number) (Says post) s result s' → IsSome (pair_of s'.store n)
-  inserted_logged n is c = let f = facts_of post eq law k s s' result (Ok (Inserted n)) is c in subst (λ (o : Option (Stored K V)). IsSome o) (sym f.logged) refl
+  inserted_logged n is c = let f = facts_of post eq law k s s' result (Ok (Inserted n)) is c in
+      subst (λ (o : Option (Stored K V)). IsSome o) (sym f.logged) refl
 
-  pub updated_logged : (m n : ℕ) → result ≡ Ok (Updated m n) → ComputesBy eq k (λ p. p.number) (Says post) s result s' → IsSome (pair_of s'.store m) × IsSome (pair_of s'.store n)
+  pub updated_logged : (m n : ℕ) → result ≡ Ok (Updated m n) → ComputesBy eq k (λ p. p.number) (Says post) s result s' → IsSome (pair_of s'.store m)
+      × IsSome (pair_of s'.store n)
   updated_logged m n is c =
-      let f = facts_of post eq law k s s' result (Ok (Updated m n)) is c in
-      (subst (λ (o : Option (Stored K V)). IsSome o) (sym (f.2.stores.keeps.0.pairs m f.0 f.1.logged)) refl, subst (λ (o : Option (Stored K V)). IsSome o) (sym f.2.logged) refl)
+      let f = facts_of post eq law k s s' result (Ok (Updated m n)) is c in (
+        subst (λ (o : Option (Stored K V)). IsSome o) (sym (f.2.stores.keeps.0.pairs m f.0 f.1.logged)) refl,
+        subst (λ (o : Option (Stored K V)). IsSome o) (sym f.2.logged) refl,
+      )
 
   -- so is one that was removed
   pub removed_logged : (m : ℕ) → result ≡ Ok (Removed m) → ComputesBy eq k (λ p. p.number) (Says post) s result s' → IsSome (pair_of s'.store m)
@@ -109,7 +117,8 @@ module _ {K V S T : Type 0} {post : Option (Bor K × Bor V) → Operation V T �
       subst (λ (o : Option (Stored K V)). IsSome o) (sym (f.3.0.pairs m f.0 f.1.logged)) refl
 
   -- a value that was computed took the place of the key's
-  pub update_stored : (computes : V → V → Type 0) (m n : ℕ) (w : V) → result ≡ Ok (Updated m n) → ComputesBy eq k (λ p. p.number) (Says post) s result s' → IsShownOf s' n w → ComputesOf post computes
+  pub update_stored : (computes : V → V → Type 0) (m n : ℕ) (w : V) → result ≡ Ok (Updated m n)
+      → ComputesBy eq k (λ p. p.number) (Says post) s result s' → IsShownOf s' n w → ComputesOf post computes
       → IsUpdated eq k computes s (Ok (Some w)) s' × ((p : Stored K V) × (map_in eq s.store k ≡ Some p) × computes p.value w)
   update_stored computes m n w is c shown computing =
       let f = facts_of post eq law k s s' result (Ok (Updated m n)) is c in
@@ -118,7 +127,8 @@ module _ {K V S T : Type 0} {post : Option (Bor K × Bor V) → Operation V T �
       ((f.0.value, computed, stores.inserts, stores.keeps), (f.0, stores.before, computed))
 
   -- an update that aborted found no pair
-  pub update_absent : (computes : V → V → Type 0) (t : T) → result ≡ Ok (Aborted t) → ComputesBy eq k (λ p. p.number) (Says post) s result s' → ComputesOf post computes → IsUpdated eq k computes s (Ok None) s'
+  pub update_absent : (computes : V → V → Type 0) (t : T) → result ≡ Ok (Aborted t) → ComputesBy eq k (λ p. p.number) (Says post) s result s'
+      → ComputesOf post computes → IsUpdated eq k computes s (Ok None) s'
   update_absent computes t is c computing = let f = facts_of post eq law k s s' result (Ok (Aborted t)) is c in go f.0 f.1
     where
       go : (held : Option (Stored K V)) → Leaves post eq law k s s' held (Abort t) → IsUpdated eq k computes s (Ok None) s'
@@ -126,7 +136,8 @@ module _ {K V S T : Type 0} {post : Option (Bor K × Bor V) → Operation V T �
       go (Some p) l = absurd (computing_no_abort post computes p t l.says computing)
 
   -- a refused update found one
-  pub update_refused : (computes : V → V → Type 0) (t : T) (refused : Refused) → result ≡ Err refused → ComputesBy eq k (λ p. p.number) (Says post) s result s' → ComputesOf post computes → AbortsOfNone post t
+  pub update_refused : (computes : V → V → Type 0) (t : T) (refused : Refused) → result ≡ Err refused
+      → ComputesBy eq k (λ p. p.number) (Says post) s result s' → ComputesOf post computes → AbortsOfNone post t
       → IsUpdated eq k computes s (Err refused) s' × IsStoreRefusal s refused
   update_refused computes t refused is c computing aborting =
       ⊎_elim
@@ -134,32 +145,42 @@ module _ {K V S T : Type 0} {post : Option (Bor K × Bor V) → Operation V T �
       (λ (f : IsFirst post eq law k s s' refused). ((inr f.0, f.1), store_refusal s s' refused f.1.0))
       (facts_of post eq law k s s' result (Err refused) is c)
     where
-      go : (held : Option (Stored K V)) (o : Operation V T) → Leaves post eq law k s s' held o → Refuses post eq law k s s' held o refused → IsUpdated eq k computes s (Err refused) s' × IsStoreRefusal s refused
-      go (Some p) (Insert v) l r = let cause = write_cause s s' (Some p) refused r in ((inl (p, l.before), (cause, l.same, l.keeps)), store_refusal s s' refused cause)
+      go : (held : Option (Stored K V)) (o : Operation V T) → Leaves post eq law k s s' held o → Refuses post eq law k s s' held o refused
+          → IsUpdated eq k computes s (Err refused) s' × IsStoreRefusal s refused
+      go (Some p) (Insert v) l r = let cause = write_cause s s' (Some p) refused r in
+          ((inl (p, l.before), (cause, l.same, l.keeps)), store_refusal s s' refused cause)
       go (Some p) Remove l r = absurd (computing_no_remove post computes p l.says computing)
       go None (Insert v) l r = absurd (none_no_insert post t v l.says aborting)
       go None Remove l r = absurd (none_no_remove post t l.says aborting)
       go held (Abort u) l r = absurd r
 
   -- the value of an absent key is the one that the closure made
-  pub upsert_inserted : (computes : V → V → Type 0) (makes : V → Type 0) (n : ℕ) (w : V) → result ≡ Ok (Inserted n) → ComputesBy eq k (λ p. p.number) (Says post) s result s' → IsShownOf s' n w → MakesOfNone post makes
+  pub upsert_inserted : (computes : V → V → Type 0) (makes : V → Type 0) (n : ℕ) (w : V) → result ≡ Ok (Inserted n)
+      → ComputesBy eq k (λ p. p.number) (Says post) s result s' → IsShownOf s' n w → MakesOfNone post makes
       → IsUpdatedOrInserted eq k computes makes s (Ok w) s' × MatchOption (map_in eq s.store k) (makes w) (λ p. computes p.value w)
   upsert_inserted computes makes n w is c shown making =
       let f = facts_of post eq law k s s' result (Ok (Inserted n)) is c in
       let stores = value_stored post eq law k s s' None n w f shown in
-      let made = made_of post makes w stores.says making in
-      ((inr (made, stores.inserts), stores.keeps), subst (λ (o : Option (Stored K V)). MatchOption o (makes w) (λ p. computes p.value w)) (sym stores.before) made)
+      let made = made_of post makes w stores.says making in (
+        (inr (made, stores.inserts), stores.keeps),
+        subst (λ (o : Option (Stored K V)). MatchOption o (makes w) (λ p. computes p.value w))
+            (sym stores.before) made,
+      )
 
   -- and of one that has a value, the one that it computed
-  pub upsert_updated : (computes : V → V → Type 0) (makes : V → Type 0) (m n : ℕ) (w : V) → result ≡ Ok (Updated m n) → ComputesBy eq k (λ p. p.number) (Says post) s result s' → IsShownOf s' n w → ComputesOf post computes
+  pub upsert_updated : (computes : V → V → Type 0) (makes : V → Type 0) (m n : ℕ) (w : V) → result ≡ Ok (Updated m n)
+      → ComputesBy eq k (λ p. p.number) (Says post) s result s' → IsShownOf s' n w → ComputesOf post computes
       → IsUpdatedOrInserted eq k computes makes s (Ok w) s' × MatchOption (map_in eq s.store k) (makes w) (λ p. computes p.value w)
   upsert_updated computes makes m n w is c shown computing =
       let f = facts_of post eq law k s s' result (Ok (Updated m n)) is c in
       let stores = value_stored post eq law k s s' (Some f.0) n w f.2 shown in
-      let computed = computed_of post computes f.0 w stores.says computing in
-      ((inl (f.0.value, computed, stores.inserts), stores.keeps), subst (λ (o : Option (Stored K V)). MatchOption o (makes w) (λ p. computes p.value w)) (sym stores.before) computed)
+      let computed = computed_of post computes f.0 w stores.says computing in (
+        (inl (f.0.value, computed, stores.inserts), stores.keeps),
+        subst (λ (o : Option (Stored K V)). MatchOption o (makes w) (λ p. computes p.value w)) (sym stores.before) computed,
+      )
 
-  pub upsert_refused : (computes : V → V → Type 0) (makes : V → Type 0) (refused : Refused) → result ≡ Err refused → ComputesBy eq k (λ p. p.number) (Says post) s result s' → ComputesOf post computes → MakesOfNone post makes
+  pub upsert_refused : (computes : V → V → Type 0) (makes : V → Type 0) (refused : Refused) → result ≡ Err refused
+      → ComputesBy eq k (λ p. p.number) (Says post) s result s' → ComputesOf post computes → MakesOfNone post makes
       → IsUpdatedOrInserted eq k computes makes s (Err refused) s' × IsStoreRefusal s refused
   upsert_refused computes makes refused is c computing making =
       ⊎_elim
@@ -167,14 +188,16 @@ module _ {K V S T : Type 0} {post : Option (Bor K × Bor V) → Operation V T �
       (λ (f : IsFirst post eq law k s s' refused). (f.1, store_refusal s s' refused f.1.0))
       (facts_of post eq law k s s' result (Err refused) is c)
     where
-      go : (held : Option (Stored K V)) (o : Operation V T) → Leaves post eq law k s s' held o → Refuses post eq law k s s' held o refused → IsComputeRefusal eq s refused s' × IsStoreRefusal s refused
+      go : (held : Option (Stored K V)) (o : Operation V T) → Leaves post eq law k s s' held o → Refuses post eq law k s s' held o refused
+          → IsComputeRefusal eq s refused s' × IsStoreRefusal s refused
       go held (Insert v) l r = let cause = write_cause s s' held refused r in ((cause, l.same, l.keeps), store_refusal s s' refused cause)
       go (Some p) Remove l r = absurd (computing_no_remove post computes p l.says computing)
       go None Remove l r = absurd (making_no_remove post makes l.says making)
       go held (Abort u) l r = absurd r
 
   -- a value was made and stored where the key was absent
-  pub tried_stored : (makes : V → Type 0) (n : ℕ) (w : V) → result ≡ Ok (Inserted n) → ComputesBy eq k (λ p. p.number) (Says post) s result s' → IsShownOf s' n w → MakesOfNone post makes
+  pub tried_stored : (makes : V → Type 0) (n : ℕ) (w : V) → result ≡ Ok (Inserted n) → ComputesBy eq k (λ p. p.number) (Says post) s result s'
+      → IsShownOf s' n w → MakesOfNone post makes
       → IsTriedWith eq k makes s (Ok (Ok w)) s' × (makes w × (map_in eq s.store k ≡ None))
   tried_stored makes n w is c shown making =
       let f = facts_of post eq law k s s' result (Ok (Inserted n)) is c in
@@ -183,7 +206,9 @@ module _ {K V S T : Type 0} {post : Option (Bor K × Bor V) → Operation V T �
       ((made, stores.inserts, stores.keeps), (made, stores.before))
 
   -- a call that aborted found the key's pair
-  pub tried_found : (makes : V → Type 0) (t : T) (m : ℕ) (number : Option ℕ) → result ≡ Ok (Aborted t) → number ≡ Some m → IfOk result (λ _. number ≡ option_map (λ p. p.number) (map_in eq s.store k)) → ComputesBy eq k (λ p. p.number) (Says post) s result s' → MakesOfNone post makes → IsFoundBy eq k s s' m
+  pub tried_found : (makes : V → Type 0) (t : T) (m : ℕ) (number : Option ℕ) → result ≡ Ok (Aborted t) → number ≡ Some m
+      → IfOk result (λ _. number ≡ option_map (λ p. p.number) (map_in eq s.store k)) → ComputesBy eq k (λ p. p.number) (Says post) s result s'
+      → MakesOfNone post makes → IsFoundBy eq k s s' m
   tried_found makes t m number is some shown c making = let f = facts_of post eq law k s s' result (Ok (Aborted t)) is c in go f.0 f.1
     where
       names : number ≡ option_map (λ p. p.number) (map_in eq s.store k)
@@ -195,9 +220,16 @@ module _ {K V S T : Type 0} {post : Option (Bor K × Bor V) → Operation V T �
           let both : Some m ≡ Some p.number = sym some ∙ names ∙ ap (option_map (λ (y : Stored K V). y.number)) l.before in
           let same : p.number ≡ m = cc both in
           let logged : pair_of s.store p.number ≡ Some p = logged_there eq law s.store k p.number p l.before refl in
-          record { pair = p; there = l.before; logged = subst (λ (j : ℕ). pair_of s'.store j ≡ Some p) same (l.keeps.0.pairs p.number p logged); same = l.same; keeps = l.keeps }
+          record {
+            pair = p;
+            there = l.before;
+            logged = subst (λ (j : ℕ). pair_of s'.store j ≡ Some p) same (l.keeps.0.pairs p.number p logged);
+            same = l.same;
+            keeps = l.keeps;
+          }
 
-  pub tried_refused : (makes : V → Type 0) (t : T) (refused : Refused) → result ≡ Err refused → ComputesBy eq k (λ p. p.number) (Says post) s result s' → AbortsOfSome post t → MakesOfNone post makes
+  pub tried_refused : (makes : V → Type 0) (t : T) (refused : Refused) → result ≡ Err refused
+      → ComputesBy eq k (λ p. p.number) (Says post) s result s' → AbortsOfSome post t → MakesOfNone post makes
       → IsTriedWith eq k makes s (Err refused) s' × IsStoreRefusal s refused
   tried_refused makes t refused is c aborting making =
       ⊎_elim
@@ -205,7 +237,8 @@ module _ {K V S T : Type 0} {post : Option (Bor K × Bor V) → Operation V T �
       (λ (f : IsFirst post eq law k s s' refused). ((inr f.0, f.1), store_refusal s s' refused f.1.0))
       (facts_of post eq law k s s' result (Err refused) is c)
     where
-      go : (held : Option (Stored K V)) (o : Operation V T) → Leaves post eq law k s s' held o → Refuses post eq law k s s' held o refused → IsTriedWith eq k makes s (Err refused) s' × IsStoreRefusal s refused
+      go : (held : Option (Stored K V)) (o : Operation V T) → Leaves post eq law k s s' held o → Refuses post eq law k s s' held o refused
+          → IsTriedWith eq k makes s (Err refused) s' × IsStoreRefusal s refused
       go None (Insert v) l r = let cause = write_cause s s' None refused r in ((inl l.before, (cause, l.same, l.keeps)), store_refusal s s' refused cause)
       go (Some p) (Insert v) l r = absurd (some_no_insert post t p v l.says aborting)
       go (Some p) Remove l r = absurd (some_no_remove post t p l.says aborting)

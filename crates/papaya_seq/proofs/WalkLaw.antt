@@ -1,5 +1,7 @@
 -- What the law says to a walk of a map that no call is under way in: where a pair stands in two tables, and which tables come.
-use Rattle.std.proofs.Common.{◌≡◌, ◌⊎◌, inl, inr, ℕ, zero, suc, ◌+◌, ◌<◌, ◌≤◌, Bool, true, false, List, [], ◌∷◌, ◌++◌, length, Option, Some, None, is_some, refl, sym, ◌∙◌, ap, subst, arith}
+use Rattle.std.proofs.Common.{◌≡◌, ◌⊎◌, inl, inr, ℕ, zero, suc, ◌+◌, ◌<◌, ◌≤◌, Bool, true, false}
+use Rattle.std.proofs.Common.{List, [], ◌∷◌, ◌++◌, length, Option, Some, None, is_some, refl, sym}
+use Rattle.std.proofs.Common.{◌∙◌, ap, subst, arith}
 use Rattle.std.proofs.lemmas.Bool.{cases_lt}
 use Rattle.papaya_words.specs.Probe.{place}
 use Rattle.papaya_words.specs.Table.{TableWords}
@@ -46,7 +48,8 @@ adds_none : {A : Type 0} (ps zs : List A) → ps ++ zs ≡ ps → zs ≡ []
 adds_none [] zs e = e
 adds_none (p ∷ ps) zs e = let behind : ps ++ zs ≡ ps = cc e in adds_none ps zs behind
 
-module _ {K V S A : Type 0} (eq : K → K → Bool) (hash : K → ℕ) (callers : List (Seat K V A)) (mode : Mode) (store : StoreState K V S) (lawful : IsLawfulCore eq hash store callers mode) (keys : IsLawfulKeys eq hash) where
+module _ {K V S A : Type 0} (eq : K → K → Bool) (hash : K → ℕ) (callers : List (Seat K V A)) (mode : Mode) (store : StoreState K V S)
+    (lawful : IsLawfulCore eq hash store callers mode) (keys : IsLawfulKeys eq hash) where
   abbrev g : Setting K (Stored K V)
   g = setting_of eq (low hash) mode store.words.tables
 
@@ -89,12 +92,14 @@ module _ {K V S A : Type 0} (eq : K → K → Bool) (hash : K → ℕ) (callers 
       ]
 
   -- a table that comes is one of those that there are
-  pub after_low : (n : ℕ) (table : TableWords) → table_of store.words.tables (table_after store n store.words.root) ≡ Some table → (n < table_after store n store.words.root) × (n < length store.words.tables)
+  pub after_low : (n : ℕ) (table : TableWords) → table_of store.words.tables (table_after store n store.words.root) ≡ Some table
+      → (n < table_after store n store.words.root) × (n < length store.words.tables)
   after_low n table there =
       let most = table_low store.words.tables (table_after store n store.words.root) table there in
       elim (cases_lt 0 (table_after store n store.words.root)) [
         | inl some ↦ let (first, far) = after_far n store.words.root some in (omega (arith, first, far), omega (arith, first, far, most))
-        | inr least ↦ let none : None ≡ Some table = ap (table_of store.words.tables) (let z : 0 ≡ table_after store n store.words.root = omega (arith, least) in z) ∙ there in absurd cc
+        | inr least ↦ let none : None ≡ Some table = ap (table_of store.words.tables)
+            (let z : 0 ≡ table_after store n store.words.root = omega (arith, least) in z) ∙ there in absurd cc
       ]
 
   -- it is on the chain
@@ -102,12 +107,14 @@ module _ {K V S A : Type 0} (eq : K → K → Bool) (hash : K → ℕ) (callers 
   after_on n some =
       let (first, far) = after_far n store.words.root some in
       let root_is : now.root ≡ store.words.root = kept.coded Root in
-      let root_on : IsOn now.first now.next now.root = elim sound.root [ inl none ↦ let z = none.0 in absurd (omega (arith, z, root_is, first)) | inr on ↦ on ] in
+      let root_on : IsOn now.first now.next now.root = elim sound.root
+      [ inl none ↦ let z = none.0 in absurd (omega (arith, z, root_is, first)) | inr on ↦ on ] in
       let is : walk now.next n now.root ≡ table_after store n store.words.root = ap (walk now.next n) root_is ∙ sym (walk_is n store.words.root) in
       subst (IsOn now.first now.next) is (walk_on now.next sound.rises now.first now.root n root_on (subst (λ y. 0 < y) (sym is) some))
 
   -- a word that has a pair names one of the log
-  pub pair_logged : (t x n : ℕ) → (kind_of (word_at store.words (Slot t x)) ≡ kinds.Live) ⊎ (kind_of (word_at store.words (Slot t x)) ≡ kinds.Marked) → number_of (word_at store.words (Slot t x)) ≡ n
+  pub pair_logged : (t x n : ℕ) → (kind_of (word_at store.words (Slot t x)) ≡ kinds.Live) ⊎ (kind_of (word_at store.words (Slot t x)) ≡ kinds.Marked)
+      → number_of (word_at store.words (Slot t x)) ≡ n
       → (p : Stored K V) × Holds (now.slot t x) p × (pair_of store n ≡ Some p)
   pair_logged t x n kind names = elim kind [
     | inl live ↦ let (p, e) = subst (λ kd. IsOfKind kd w) (ap kind_of is ∙ live) (word_of_kind g c w) in (p, inl e, of_pair p (ap named e))
@@ -128,15 +135,18 @@ module _ {K V S A : Type 0} (eq : K → K → Bool) (hash : K → ℕ) (callers 
   pairs_are t table there = ap (pairs_in_table store) there ∙ table_content eq hash mode store hashed callers es lawful.law.1.0 kept t table there
 
   -- a table with a word that says that a pair is being copied has that pair
-  pub some_marked : (t : ℕ) (p : Stored K V) → pair_of store p.number ≡ Some p → HasMark store t p.number → is_some (lookup eq (λ q. q.key) (pairs_at store t) p.key) ≡ true
+  pub some_marked : (t : ℕ) (p : Stored K V) → pair_of store p.number ≡ Some p → HasMark store t p.number
+      → is_some (lookup eq (λ q. q.key) (pairs_at store t) p.key) ≡ true
   some_marked t p logged mark = of_table (table_of store.words.tables t) refl
     where
-      found : (table : TableWords) → table_of store.words.tables t ≡ Some table → (v : Option (Stored K V)) → lookup eq (λ q. q.key) (pairs_at store t) p.key ≡ v → is_some v ≡ true
+      found : (table : TableWords) → table_of store.words.tables t ≡ Some table → (v : Option (Stored K V))
+          → lookup eq (λ q. q.key) (pairs_at store t) p.key ≡ v → is_some v ≡ true
       found table there None e =
           let (q, holds, is) = pair_logged t mark.slot p.number (inr mark.marked) mark.names in
           let same : p ≡ q = let both : Some p ≡ Some q = sym logged ∙ is in cc in
           let within : mark.slot < g.size t = subst (λ n. mark.slot < n) (ap slots_in there ∙ sym (ap kept_words.slots_in there)) mark.within in
-          let other : eq p.key q.key ≡ false = table_none g (now.slot t) (g.size t) p.key (ap (λ ps. lookup eq (λ r. r.key) ps p.key) (sym (pairs_are t table there)) ∙ e) mark.slot within q holds in
+          let other : eq p.key q.key ≡ false = table_none g (now.slot t) (g.size t) p.key
+          (ap (λ ps. lookup eq (λ r. r.key) ps p.key) (sym (pairs_are t table there)) ∙ e) mark.slot within q holds in
           let itself : eq p.key p.key ≡ true = hashed.lawful.itself p.key in
           let clash : eq p.key p.key ≡ false = ap (λ (r : Stored K V). eq p.key r.key) same ∙ other in
           absurd cc
@@ -146,7 +156,8 @@ module _ {K V S A : Type 0} (eq : K → K → Bool) (hash : K → ℕ) (callers 
       of_table None none = let within = subst (λ n. mark.slot < n) (ap slots_in none) mark.within in absurd (omega (arith, within))
       of_table (Some table) there = found table there (lookup eq (λ q. q.key) (pairs_at store t) p.key) refl
 
-  module _ (inc : is_blocking mode.resize ≡ false) (t u x h : ℕ) (p : Stored K V) (h_is : h ≡ low hash p.key) (on : IsOn now.first now.next t) (before : t < u) (holds : Holds (now.slot u x) p) (none : HasNoMark store h t p.number) where
+  module _ (inc : is_blocking mode.resize ≡ false) (t u x h : ℕ) (p : Stored K V) (h_is : h ≡ low hash p.key) (on : IsOn now.first now.next t)
+      (before : t < u) (holds : Holds (now.slot u x) p) (none : HasNoMark store h t p.number) where
     class : IsIncrementalClass (IsOn now.first now.next) g.places (g.place p.key) (look g now p.key) (map_left g es p.key)
     class = (incremental_state g now (map_left g es) keeps inc).class p.key
 
@@ -154,15 +165,20 @@ module _ {K V S A : Type 0} (eq : K → K → Bool) (hash : K → ℕ) (callers 
     no_copy : (table : TableWords) → table_of store.words.tables t ≡ Some table → (at : ℕ) → at < g.places t → look g now p.key t at ≡ Leaving p → ⊥
     no_copy table there at within leaving =
         elim (cases_lt filled.at unmarked.stop) [
-          | inl sooner ↦ unmarked.none filled.at sooner (ap kind_of (word_is filled.at marked) ∙ code_kind g c (Marked p)) (ap number_of (word_is filled.at marked) ∙ named_so)
+          | inl sooner ↦ unmarked.none filled.at sooner (ap kind_of (word_is filled.at marked) ∙ code_kind g c (Marked p))
+              (ap number_of (word_is filled.at marked) ∙ named_so)
           | inr later ↦
               elim unmarked.ends [
-                | inl over ↦ let most : filled.at < table.limit + 1 = subst (λ o. filled.at < places_in o) there filled.within in omega (arith, later, over, most)
+                | inl over ↦ let most : filled.at < table.limit + 1 = subst (λ o. filled.at < places_in o) there filled.within in
+                    omega (arith, later, over, most)
                 | inr empty ↦
-                    let bare : now.slot t (g.place p.key t unmarked.stop) ≡ Empty = subst (λ kd. IsOfKind kd (now.slot t (g.place p.key t unmarked.stop))) (ap kind_of (sym (there_is unmarked.stop)) ∙ empty) (word_of_kind g c (now.slot t (g.place p.key t unmarked.stop))) in
+                    let bare : now.slot t (g.place p.key t unmarked.stop)
+                    ≡ Empty = subst (λ kd. IsOfKind kd (now.slot t (g.place p.key t unmarked.stop)))
+                    (ap kind_of (sym (there_is unmarked.stop)) ∙ empty) (word_of_kind g c (now.slot t (g.place p.key t unmarked.stop))) in
                     elim (cases_lt unmarked.stop filled.at) [
                       | inl sooner ↦ filled.before unmarked.stop sooner (ap (view g p.key) bare)
-                      | inr same ↦ let e : unmarked.stop ≡ filled.at = omega (arith, later, same) in let clash : Empty ≡ Marked p = sym bare ∙ ap (λ j. now.slot t (g.place p.key t j)) e ∙ marked in absurd cc
+                      | inr same ↦ let e : unmarked.stop ≡ filled.at = omega (arith, later, same) in
+                          let clash : Empty ≡ Marked p = sym bare ∙ ap (λ j. now.slot t (g.place p.key t j)) e ∙ marked in absurd cc
                     ]
               ]
         ]
@@ -202,7 +218,8 @@ module _ {K V S A : Type 0} (eq : K → K → Bool) (hash : K → ℕ) (callers 
         seen : (look g now p.key u stands.0 ≡ Here p) ⊎ (look g now p.key u stands.0 ≡ Leaving p)
         seen = stands.3
 
-        copied : (table : TableWords) → table_of store.words.tables t ≡ Some table → IsCopy (IsOn now.first now.next) g.places (look g now p.key) t u (look g now p.key u stands.0) → ⊥
+        copied : (table : TableWords) → table_of store.words.tables t ≡ Some table
+            → IsCopy (IsOn now.first now.next) g.places (look g now p.key) t u (look g now p.key u stands.0) → ⊥
         copied table there copy = elim seen [
           | inl here ↦
               let same : copy.pair ≡ p = let both : Here copy.pair ≡ Here p = sym copy.copy ∙ here in cc in
@@ -210,33 +227,45 @@ module _ {K V S A : Type 0} (eq : K → K → Bool) (hash : K → ℕ) (callers 
           | inr leaving ↦ let clash : Here copy.pair ≡ Leaving p = sym copy.copy ∙ leaving in absurd cc
         ]
 
-        found : (table : TableWords) → table_of store.words.tables t ≡ Some table → (v : Option (Stored K V)) → lookup eq (λ q. q.key) (pairs_at store t) p.key ≡ v → lookup eq (λ q. q.key) (pairs_at store t) p.key ≡ None
+        found : (table : TableWords) → table_of store.words.tables t ≡ Some table → (v : Option (Stored K V))
+            → lookup eq (λ q. q.key) (pairs_at store t) p.key ≡ v → lookup eq (λ q. q.key) (pairs_at store t) p.key ≡ None
         found table there None e = e
         found table there (Some q) e =
-            let (y, within, held, same) = table_found g (now.slot t) (g.size t) p.key q (ap (λ ps. lookup eq (λ r. r.key) ps p.key) (sym (pairs_are t table there)) ∙ e) in
+            let (y, within, held, same) = table_found g (now.slot t) (g.size t) p.key q
+            (ap (λ ps. lookup eq (λ r. r.key) ps p.key) (sym (pairs_are t table there)) ∙ e) in
             let at = at_place g hashed.lawful now (map_left g es) keeps t y q held p.key same in
-            let own_there : own (look g now p.key u stands.0) ≡ true = active-own (look g now p.key u stands.0) (held-active (look g now p.key u stands.0) (held_of (look g now p.key u stands.0) p seen)) in
+            let own_there : own (look g now p.key u stands.0) ≡ true = active-own (look g now p.key u stands.0)
+            (held-active (look g now p.key u stands.0) (held_of (look g now p.key u stands.0) p seen)) in
             absurd (elim (class.order t u stands.0 on before stands.1 own_there) [
-              | inl passed ↦ passed_not_held (IsOn now.first now.next) g.places (g.place p.key) (look g now p.key) class.base t at.0 passed at.1 (held_of (look g now p.key t at.0) q at.3)
+              | inl passed ↦ passed_not_held (IsOn now.first now.next) g.places (g.place p.key) (look g now p.key) class.base t at.0 passed at.1
+                  (held_of (look g now p.key t at.0) q at.3)
               | inr copy ↦ copied table there copy
             ])
 
   -- with blocking, nothing is left behind the root
-  pub blocking_end : mode.resize ≡ Blocking → (slot : ℕ) → slots_in (table_of store.words.tables store.words.root) ≤ slot → left_from eq store zero slot (length store.words.tables) store.words.root ≡ []
+  pub blocking_end : mode.resize ≡ Blocking → (slot : ℕ) → slots_in (table_of store.words.tables store.words.root) ≤ slot
+      → left_from eq store zero slot (length store.words.tables) store.words.root ≡ []
   blocking_end blocks slot past = of_many (length store.words.tables) refl
     where
       alone : content eq store ≡ pairs_in (now.slot now.root) (g.size now.root)
       alone = kept_content eq hash mode store hashed callers es lawful.law.1.0 kept
-          ∙ chain_alone g hashed.lawful now (map_left g es) keeps (λ inc. let b : is_blocking mode.resize ≡ true = ap is_blocking blocks in absurd cc) (length store.words.tables) (chain_ends eq hash mode store hashed callers es lawful.law.1.0 kept)
+          ∙ chain_alone g hashed.lawful now (map_left g es) keeps (λ inc. let b : is_blocking mode.resize ≡ true = ap is_blocking blocks in absurd cc)
+          (length store.words.tables) (chain_ends eq hash mode store hashed callers es lawful.law.1.0 kept)
 
-      of_table : (n : ℕ) → length store.words.tables ≡ suc n → (o : Option TableWords) → table_of store.words.tables store.words.root ≡ o → rest_of eq store slot n o ≡ []
+      of_table : (n : ℕ) → length store.words.tables ≡ suc n → (o : Option TableWords) → table_of store.words.tables store.words.root ≡ o
+          → rest_of eq store slot n o ≡ []
       of_table n many None there = refl
       of_table n many (Some table) there =
           let root_is : now.root ≡ store.words.root = kept.coded Root in
-          let all : content eq store ≡ pairs_from eq store (suc n) (Some table) = ap (λ m. pairs_from eq store m (table_of store.words.tables store.words.root)) many ∙ ap (pairs_from eq store (suc n)) there in
-          let own_pairs : pairs_in (now.slot now.root) (g.size now.root) ≡ pairs_of_slots store table.slots = ap (λ r. pairs_in (now.slot r) (g.size r)) root_is ∙ sym (pairs_are store.words.root table there) ∙ ap (pairs_in_table store) there in
-          ap (λ l. l ++ missing_in eq (λ p. p.key) (pairs_of_slots store table.slots) (pairs_from eq store n (table_of store.words.tables table.next))) (slots_past store table.slots slot (subst (λ o. slots_in o ≤ slot) there past))
-          ∙ adds_none (pairs_of_slots store table.slots) (missing_in eq (λ p. p.key) (pairs_of_slots store table.slots) (pairs_from eq store n (table_of store.words.tables table.next))) (sym all ∙ alone ∙ own_pairs)
+          let all : content eq store ≡ pairs_from eq store (suc n) (Some table) = ap
+          (λ m. pairs_from eq store m (table_of store.words.tables store.words.root)) many ∙ ap (pairs_from eq store (suc n)) there in
+          let own_pairs : pairs_in (now.slot now.root) (g.size now.root) ≡ pairs_of_slots store table.slots = ap
+          (λ r. pairs_in (now.slot r) (g.size r)) root_is ∙ sym (pairs_are store.words.root table there) ∙ ap (pairs_in_table store) there in
+          ap (λ l. l ++ missing_in eq (λ p. p.key) (pairs_of_slots store table.slots)
+          (pairs_from eq store n (table_of store.words.tables table.next))) (slots_past store table.slots slot (subst (λ o. slots_in o ≤ slot) there past))
+          ∙ adds_none (pairs_of_slots store table.slots)
+          (missing_in eq (λ p. p.key) (pairs_of_slots store table.slots) (pairs_from eq store n (table_of store.words.tables table.next)))
+          (sym all ∙ alone ∙ own_pairs)
 
       of_many : (n : ℕ) → length store.words.tables ≡ n → left_from eq store zero slot n store.words.root ≡ []
       of_many zero many = refl

@@ -11,7 +11,8 @@ module _ {A B : Type 0} (view : A → B) where
   came_of s (x ∷ xs) t (j, first, rest) = first ∙ ap (λ (l : List B). view x ∷ l) (came_of j xs t rest)
 
   -- it was the whole list where nothing comes any more
-  pub came_all : (s : List B) (xs : List A) (t u : List B) → Yields (YieldsFirstBy view (λ (l : List B). l)) s xs t → YieldsFirstBy view (λ (l : List B). l) t None u → s ≡ map view xs
+  pub came_all : (s : List B) (xs : List A) (t u : List B) → Yields (YieldsFirstBy view (λ (l : List B). l)) s xs t
+      → YieldsFirstBy view (λ (l : List B). l) t None u → s ≡ map view xs
   came_all s xs t u came none = came_of s xs t came ∙ ap (λ (l : List B). map view xs ++ l) none.0 ∙ none_left (map view xs)
     where
       none_left : (l : List B) → l ++ [] ≡ l
@@ -19,7 +20,8 @@ module _ {A B : Type 0} (view : A → B) where
       none_left (b ∷ bs) = ap (λ (l : List B). b ∷ l) (none_left bs)
 
   -- what comes next is of the list
-  pub comes_next : (s : List B) (xs : List A) (t : List B) (x : A) (u : List B) → Yields (YieldsFirstBy view (λ (l : List B). l)) s xs t → YieldsFirstBy view (λ (l : List B). l) t (Some x) u → s ≡ map view xs ++ view x ∷ u
+  pub comes_next : (s : List B) (xs : List A) (t : List B) (x : A) (u : List B) → Yields (YieldsFirstBy view (λ (l : List B). l)) s xs t
+      → YieldsFirstBy view (λ (l : List B). l) t (Some x) u → s ≡ map view xs ++ view x ∷ u
   comes_next s xs t x u came next = came_of s xs t came ∙ ap (λ (l : List B). map view xs ++ l) next
 
   pub map_push : (xs : List A) (x : A) → map view (xs ++ x ∷ []) ≡ map view xs ++ view x ∷ []

@@ -61,10 +61,10 @@ IsSaid eq says (RemoveIf k a) s reply s' = IsJudged says a reply s.store
 IsSaid eq says (Compute k a) s reply s' = IsOperated says a s (map_in eq s.store k) s' reply
 IsSaid eq says _ s reply s' = Unit {0}
 
--- A lookup is never refused, an insertion for a cause, and a compute for a cause, or where its closure
--- would remove what isn't there. Room is refused for a cause, and the end of a resize for one while
--- pairs are being moved: so is a removal then, and so are a clear and a retain, which end it first. A
--- walk is refused where there is no memory for its list.
+-- A lookup is never refused, an insertion for a cause, and a compute for a cause, or where its
+-- closure would remove what isn't there. Room is refused for a cause, and the end of a resize for
+-- one while pairs are being moved: so is a removal then, and so are a clear and a retain, which end
+-- it first. A walk is refused where there is no memory for its list.
 abbrev pub MayRefuse : {K V S A : Type 0} → (K → K → Bool) → MapState K V S → Call K V A
     → words.Refused → MapState K V S → Type 0
 MayRefuse eq s (Get k) refused s' = ⊥

@@ -115,8 +115,8 @@ module _ {K V S : Type 0} (eq : K → K → Bool) (clones_key : K → K → Type
         ⊎ ((roomy : MapState K V S) × (content eq roomy.store ≡ []) × HasFreeParts s roomy
         × IsCopyCut eq clones_key clones_value s.store roomy refused left)
 
-  -- Why a map is not rebuilt: for want of memory, as it has more shards than a new one may have, or
-  -- so.
+  -- Why a map is not rebuilt: for want of memory, as it has more shards than a new one may have,
+  -- or so.
   abbrev pub IsRebuildRefusal : MapState K V S → Refused → Type 0
   IsRebuildRefusal s refused = (refused ≡ Memory)
       ⊎ ((refused ≡ Capacity) × (MAX_SHARDS < s.store.count.shards)) ⊎ IsRebuildCut s refused

@@ -30,7 +30,8 @@ use Rattle.papaya_seq.specs.Writes.{IsWritten, deleting}
 use Rattle.papaya_seq.specs.declared.search.Turn.{Turn}
 use Rattle.papaya_seq.specs.declared.search.Turn.TheVariants as turns
 
--- what a call is told of its closure's answer, the value that it has of it, and what it is ended with
+-- what a call is told of its closure's answer, the value that it has of it, and what it is
+-- ended with
 abbrev pub told_by : {V T : Type 0} → Operation V T → OpKind
 told_by (Insert v) = kinds.Insert
 told_by Remove = kinds.Remove
@@ -56,8 +57,8 @@ abbrev pub IsLogged : {K V S : Type 0} → StoreState K V S → Option (Stored K
 IsLogged s None = Unit {0}
 IsLogged s (Some p) = pair_of s p.number ≡ Some p
 
--- What was done at one place of which a closure answered so: the pair of this word was shown to it, or
--- that there is none.
+-- What was done at one place of which a closure answered so: the pair of this word was shown to it,
+-- or that there is none.
 abbrev pub IsOperated : {K V S T : Type 0} → StoreState K V S → (hashed : ℕ) → Write → K
     → Operation V T → Result (Computed ℕ T) Refused → StoreState K V S → Type 0
 IsOperated {V = V} s hashed at key (Insert v) result s' = (reply : Reply) × (left : Option V)

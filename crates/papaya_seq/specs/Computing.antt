@@ -1,5 +1,5 @@
--- How a compute goes: what is kept of its closure's answer, and what is answered of its machine's
--- reply.
+-- How a compute goes: what is kept of its closure's answer, and what is answered of its
+-- machine's reply.
 use Rattle.std.specs.Prelude.{◌≡◌, ℕ, Option, Some, Result, Ok, Err}
 use Rattle.papaya_words.specs.declared.probe.Refused.{Refused}
 use Rattle.papaya_call.specs.declared.answers.Operation.{Operation}

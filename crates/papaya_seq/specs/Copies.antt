@@ -57,8 +57,8 @@ settled_as None = settled_to.Settled
 settled_as (Some settle) = settled_to.On settle
 
 module _ {K V S : Type 0} (eq : K → K → Bool) (hash : S → K → ℕ) where
-  -- A machine that asks so, and whom answers lead on so, comes to another one when the store answers
-  -- each of its asks.
+  -- A machine that asks so, and whom answers lead on so, comes to another one when the store
+  -- answers each of its asks.
   abbrev pub Copies : {M : Type 0} → (M → Option CopyAsk) → (M → Answer → M) → List Answer
       → StoreState K V S → M → StoreState K V S → M → Type 0
   Copies asks leads_on [] s m s' m' = (s' ≡ s) × (m' ≡ m)

@@ -37,8 +37,8 @@ kept None p = p
 kept (Some there) p = (there.0, p.1)
 
 module _ {K V : Type 0} (eq : K → K → Bool) where
-  -- the class of the pair's key has its value, by the key that it had, or else by this one, and each
-  -- other class has what it had
+  -- the class of the pair's key has its value, by the key that it had, or else by this one, and
+  -- each other class has what it had
   abbrev pub put : Entries K V → K × V → Entries K V
   put m p k = cond (eq k p.0) (Some (kept (m p.0) p)) (m k)
 

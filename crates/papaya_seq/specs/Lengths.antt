@@ -10,8 +10,8 @@ use Rattle.papaya_store.specs.Tables.{Tables}
 abbrev pub lengths_of : Tables → List ℕ
 lengths_of words = map (λ t. length t.slots) words.tables
 
--- No table is shorter than the initial capacity. Where there is no root yet, the shortest one that may
--- be made is not.
+-- No table is shorter than the initial capacity. Where there is no root yet, the shortest one that
+-- may be made is not.
 pub record IsLongEnough (initial : ℕ) (words : Tables) : Type 0 where
   pub tables : All (λ len. initial ≤ len) (lengths_of words)
   pub first : words.root ≡ 0 → initial ≤ LEAST_TABLE_LEN
@@ -22,8 +22,8 @@ abbrev pub IsNextLength : (initial count len next : ℕ) → Type 0
 IsNextLength initial count len next = (unfit : Bool)
     × (next ≡ max (length_after len count initial unfit) LEAST_TABLE_LEN)
 
--- A call on a key makes a table of this length beside others: the first one, where there was no root,
--- or one that follows another.
+-- A call on a key makes a table of this length beside others: the first one, where there was no
+-- root, or one that follows another.
 abbrev pub IsMadeBeside : (initial count root : ℕ) → List ℕ → (len : ℕ) → Type 0
 IsMadeBeside initial count root lengths len = ((root ≡ 0) × (len ≡ FIRST_TABLE_LEN))
     ⊎ ((before : ℕ) × Contains lengths before × IsNextLength initial count before len)
@@ -34,8 +34,8 @@ pub record MakesTables (initial count : ℕ) (words words' : Tables) : Type 0 wh
   pub more : lengths_of words' ≡ lengths_of words ++ made
   pub each : All (IsMadeBeside initial count words.root (lengths_of words')) made
 
--- A first table that is made for so many pairs has the initial capacity of slots. None is made for no
--- pairs, where the least table has as many.
+-- A first table that is made for so many pairs has the initial capacity of slots. None is made for
+-- no pairs, where the least table has as many.
 abbrev pub IsAskedFor : (initial pairs : ℕ) → Type 0
 IsAskedFor initial pairs = ((pairs ≡ 0) × (initial ≤ LEAST_TABLE_LEN))
     ⊎ ((pairs ≤ initial) × ((entries : ℕ) → IsEntriesFor pairs entries → entries ≡ initial))

@@ -6,7 +6,10 @@ use Rattle.papaya_words.specs.declared.probe.Refused as words
 use Rattle.papaya_ask.specs.declared.ask.Answer.{Answer}
 use Rattle.papaya_ask.specs.declared.ask.Answer.TheVariants.{Word as Word_read, Yes, Ok as Ok_done}
 use Rattle.papaya_ask.specs.declared.ask.Ask.{Ask}
-use Rattle.papaya_ask.specs.declared.ask.Ask.TheVariants.{Load, Exchange, LoadHint, WriteHint, SameKey, ShowNone, ShowPair, SizeOf, MakeKey, MakeValue, MakePair, MakePairOf, MakeTable, AddToShard, Done as Ask_done}
+use Rattle.papaya_ask.specs.declared.ask.Ask.TheVariants.{Load, Exchange, LoadHint, WriteHint}
+use Rattle.papaya_ask.specs.declared.ask.Ask.TheVariants.{SameKey, ShowNone, ShowPair, SizeOf}
+use Rattle.papaya_ask.specs.declared.ask.Ask.TheVariants.{MakeKey, MakeValue, MakePair, MakePairOf}
+use Rattle.papaya_ask.specs.declared.ask.Ask.TheVariants.{MakeTable, AddToShard, Done as Ask_done}
 use Rattle.papaya_ask.specs.declared.call.Reply.{Reply}
 use Rattle.papaya_ask.specs.declared.call.Reply.TheVariants.{Absent, Removed, Kept, Refused}
 use Rattle.papaya_store.specs.Performs.{Exchanges, size_of}
@@ -97,9 +100,9 @@ IsRemoved eq matches shows s (Err refused) s' = IsCopyCause s refused s'
 
 module _ {K V S : Type 0} (eq : K → K → Bool) (matches : K → Bool)
     (said : Stored K V → Bool → Type 0) where
-  -- What a removal answers whose closure judges: the entry that it agreed to and that went, or that
-  -- there is none, or the entry that stays, or a refusal. `said` is what the closure answered of a
-  -- pair.
+  -- What a removal answers whose closure judges: the entry that it agreed to and that went, or
+  -- that there is none, or the entry that stays, or a refusal. `said` is what the closure answered
+  -- of a pair.
   abbrev pub IsJudged : MapState K V S → Result (Result (Option (K × V)) (K × V)) words.Refused
       → MapState K V S → Type 0
   IsJudged s (Ok (Ok None)) s' = HasNone eq matches s.store × Unchanged eq s.store s'.store

@@ -26,8 +26,8 @@ module _ {K V S : Type 0} (eq : K → K → Bool) where
   IsReserveCause s more refused s' = (refused ≡ Memory)
       ⊎ ((refused ≡ Capacity) × (IsTooMuch (pairs_with s.store more) ⊎ HasNoTable s'))
 
--- The end of a resize is refused only while pairs are being moved: for want of memory, or as there is
--- no next table.
+-- The end of a resize is refused only while pairs are being moved: for want of memory, or as there
+-- is no next table.
 abbrev pub IsCopyCause : {K V S : Type 0} → MapState K V S → Refused → MapState K V S → Type 0
 IsCopyCause s refused s' = IsResizing s
     × ((refused ≡ Memory) ⊎ ((refused ≡ Capacity) × HasNoTable s'))

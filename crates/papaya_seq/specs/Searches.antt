@@ -47,8 +47,8 @@ abbrev pub left_to : Turn → ℕ
 left_to (turns.Next at) = left_at at
 left_to _ = 0
 
--- Where nothing was seen, the word at the place is of an empty slot, and where a pair was found, or is
--- to be compared, it names the pair.
+-- Where nothing was seen, the word at the place is of an empty slot, and where a pair was found, or
+-- is to be compared, it names the pair.
 abbrev pub StandsBy : (At → ℕ) → Probed → Type 0
 StandsBy words (Empty at) = kind_of (words (Slot at.table at.probe.i)) ≡ Is_empty
 StandsBy words (Here at word) = words (Slot at.table at.probe.i) ≡ word

@@ -68,8 +68,8 @@ module _ {K V S : Type 0} (eq : K → K → Bool) (store : StoreState K V S) whe
       ++ missing_in eq (λ p. p.key) (pairs_of_slots store t.slots)
       (pairs_from eq store n (table_of store.words.tables t.next))
 
-  -- The same where so many tables were passed, from table t on, over n tables: none is left of whose
-  -- key a passed one has a pair.
+  -- The same where so many tables were passed, from table t on, over n tables: none is left of
+  -- whose key a passed one has a pair.
   abbrev pub left_from : (passed slot n t : ℕ) → List (Stored K V)
   left_from zero slot zero t = []
   left_from zero slot (suc n) t = rest_of slot n (table_of store.words.tables t)

@@ -1,5 +1,5 @@
--- What is done at one place of a table: a pair is stored there, or the one that stands there is taken
--- out.
+-- What is done at one place of a table: a pair is stored there, or the one that stands there is
+-- taken out.
 use Rattle.std.specs.Prelude.{◌≡◌, ◌≢◌, ◌<◌, ℕ, pos, negsuc, [], ◌∷◌, ◌++◌, length, slice_get, Option, Some, None}
 use Rattle.papaya_words.specs.Counter.{added}
 use Rattle.papaya_words.specs.Word.{hint_of, live_word, pair_of as number_of}
@@ -52,8 +52,8 @@ module _ {K V S : Type 0} (s : StoreState K V S) where
     pub few : length s.pairs < MAX_LOG_LEN
     pub left_is : left ≡ None
 
-  -- What was done with a key and a value for a place, where a pair was wanted: it has the key where the
-  -- place was empty, and else that of the pair that stood there; or the log refused it.
+  -- What was done with a key and a value for a place, where a pair was wanted: it has the key where
+  -- the place was empty, and else that of the pair that stood there; or the log refused it.
   abbrev pub IsWritten : (hashed : ℕ) → Write → K → V → Reply → Option V → StoreState K V S → Type 0
   IsWritten hashed write key value (Inserted n) left s' = (write.old ≡ 0) × IsStored n left
       × (s' ≡ claiming hashed write.place (Own key value))

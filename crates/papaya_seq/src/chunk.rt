@@ -1,5 +1,5 @@
-//! The copy of a chunk's slots by a loop. The machine stands in the proof, and goes on by itself at a
-//! slot that is not as most are.
+//! The copy of a chunk's slots by a loop. The machine stands in the proof, and goes on by itself at
+//! a slot that is not as most are.
 ghost use Rattle.std.specs.Prelude.{◌≡◌, ℕ};
 ghost use Rattle.papaya_ask.specs.Search.{IsWithin};
 ghost use Rattle.papaya_ask.specs.declared.ask.At.TheVariants as words;

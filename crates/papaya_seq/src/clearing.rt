@@ -9,8 +9,8 @@ use papaya_words::probe::Refused;
 use std::hash::{BuildHasher, Hash};
 
 impl<K: Hash + Eq + Drop, V: Drop, S: BuildHasher> HashMap<K, V, S> {
-    /// Removes all pairs: `clear` of 0.2.5. The root keeps its slots, and the log what it has: no number
-    /// of a pair is used again.
+    /// Removes all pairs: `clear` of 0.2.5. The root keeps its slots, and the log what it has: no
+    /// number of a pair is used again.
     ///
     /// The resize that is under way is ended first. Refused as [`HashMap::copy_all`]; no pair was
     /// removed then.

@@ -17,8 +17,8 @@ use papaya_words::probe::{Refused, ResizeMode};
 use std::alloc::Global;
 use std::hash::{BuildHasher, Hash};
 
-/// For how many pairs a first table is made that has as many slots as the initial capacity. For none,
-/// where the least table has.
+/// For how many pairs a first table is made that has as many slots as the initial capacity. For
+/// none, where the least table has.
 #[tactic(auto, using(crate::proofs::Rebuilt::asks_for))]
 fn pairs_for(initial: usize) -> usize
     requires { IsPowerOfTwo initial }
@@ -138,10 +138,11 @@ impl<K: Hash + Eq + Clone + Drop, V: Clone + Drop, S: BuildHasher + Clone + Drop
         }
     }
 
-    /// Builds the map anew from clones of its pairs, and gives back the memory of those that were
-    /// replaced or removed. Pairs are numbered anew. Mode, limit, initial capacity and number of
-    /// shards stay, and there is room for the pairs. So many numbers are taken then as there are
-    /// pairs, and no limit refuses it. 0.2.5 frees pairs while the map is used, and has no such call.
+    /// Builds the map anew from clones of its pairs, and gives back the memory of those that
+    /// were replaced or removed. Pairs are numbered anew. Mode, limit, initial capacity and
+    /// number of shards stay, and there is room for the pairs. So many numbers are taken then as
+    /// there are pairs, and no limit refuses it. 0.2.5 frees pairs while the map is used, and
+    /// has no such call.
     ///
     /// A clone of a key has to be equal to it. While the new map is filled both need memory. It is
     /// refused as [`HashMap::try_clone`] is, and then the map is as it was.

@@ -15,8 +15,8 @@ use std::hash::{BuildHasher, BuildHasherDefault, FoldHasher, Hash};
 
 impl<K: Hash + Eq + Drop, V: Drop, S: BuildHasher> HashMap<K, V, S> {
     /// Stores a pair, and answers whether its key was absent. It is [`HashMap::insert`] without the
-    /// value that goes, so it borrows nothing, and its clause says what the map is after it, and how
-    /// long the tables are that it made. Refused as that is.
+    /// value that goes, so it borrows nothing, and its clause says what the map is after it, and
+    /// how long the tables are that it made. Refused as that is.
     pub fn put(&mut self, key: K, value: V) -> Result<bool, Refused>
         ensures puts { IsPut K.eq key value self.old result self.new }
         ensures logs { LogsOne self.old.store self.new.store }

@@ -45,12 +45,12 @@ impl<K: Hash + Eq + Drop, V: Drop, S: BuildHasher> HashMap<K, V, S> {
     /// nothing is changed. Its references last for that one call of it.
     ///
     /// Refused as [`HashMap::insert`], and with `Refused::RemoveNothing` where the closure would
-    /// remove and there is no pair. While pairs are being moved it may be refused before the closure
-    /// is called.
+    /// remove and there is no pair. While pairs are being moved it may be refused before the
+    /// closure is called.
     ///
     /// It is [`HashMap::compute_into`], which says what the map is after it: take that where a
-    /// proof needs it. No clause says it here, since the answer may own a `T`: the map that the clause
-    /// names is what a run of the call leaves.
+    /// proof needs it. No clause says it here, since the answer may own a `T`: the map that the
+    /// clause names is what a run of the call leaves.
     pub fn compute<T: Drop, F: FnMut(Option<(&K, &V)>) -> Operation<V, T>>(
         &mut self,
         key: K,
@@ -122,8 +122,8 @@ impl<K: Hash + Eq + Drop, V: Drop, S: BuildHasher> HashMap<K, V, S> {
     /// Puts what the closure computes of the key's value in its place, and answers the new value:
     /// `update` of 0.2.5. `Ok(None)` where the key is absent.
     ///
-    /// Refused as [`HashMap::insert`], and only where the key is in the map, or while pairs are being
-    /// moved.
+    /// Refused as [`HashMap::insert`], and only where the key is in the map, or while pairs are
+    /// being moved.
     pub fn update<F: Fn(&V) -> V>(&mut self, key: K, f: F) -> Result<Option<&V>, Refused>
         requires { F.IsAlwaysCallable f }
         ensures* updates { sem 𝓛 (ends_so K.row V.row S.row S.Hasher.row K.Hash S.BuildHasher
@@ -220,8 +220,8 @@ impl<K: Hash + Eq + Drop, V: Drop, S: BuildHasher> HashMap<K, V, S> {
     /// `Ok` has the new value, and `Err` the one that the key has. The closure is called only where
     /// the key is absent.
     ///
-    /// Refused as [`HashMap::insert`], and only where the key is absent, or while pairs are being
-    /// moved.
+    /// Refused as [`HashMap::insert`], and only where the key is absent, or while pairs are
+    /// being moved.
     pub fn try_insert_with<F: FnOnce() -> V>(
         &mut self,
         key: K,
@@ -260,8 +260,8 @@ impl<K: Hash + Eq + Drop, V: Drop, S: BuildHasher> HashMap<K, V, S> {
     /// The value of a key, which the closure makes where the key is absent: `get_or_insert_with` of
     /// 0.2.5. The closure is called only there.
     ///
-    /// Refused as [`HashMap::insert`], and only where the key is absent, or while pairs are being
-    /// moved.
+    /// Refused as [`HashMap::insert`], and only where the key is absent, or while pairs are
+    /// being moved.
     pub fn get_or_insert_with<F: FnOnce() -> V>(&mut self, key: K, f: F) -> Result<&V, Refused>
         requires { map_in K.eq self.old.store key ≡ None → F.pre f }
         ensures* stores { sem 𝓛 (ends_so K.row V.row S.row S.Hasher.row K.Hash S.BuildHasher

@@ -1,5 +1,5 @@
-//! Computes: at once where that will do, and else by their machine, answered by the store and by one
-//! call of a closure.
+//! Computes: at once where that will do, and else by their machine, answered by the store and by
+//! one call of a closure.
 ghost use Rattle.std.specs.Prelude.{◌≡◌, ◌≢◌, ℕ, IfOk, IfErr, IsSome, Some, None, length, option_map};
 ghost use Rattle.papaya_words.specs.Word.{kind_of, pair_of as number_of};
 ghost use Rattle.papaya_words.specs.declared.word.Kind.TheVariants.{Live};
@@ -102,8 +102,8 @@ fn computed<T: Drop>(reply: Reply, aborted: Option<T>) -> Result<Computed<u64, T
     }
 }
 
-/// Does what the closure of a compute answered, at the place where it was shown the pair of this word,
-/// or that there is none.
+/// Does what the closure of a compute answered, at the place where it was shown the pair of this
+/// word, or that there is none.
 #[inline(always)]
 fn operate<K: Hash + Eq + Drop, V: Drop, S: BuildHasher, T: Drop>(
     store: &mut Store<K, V, S>,
@@ -133,8 +133,8 @@ fn operate<K: Hash + Eq + Drop, V: Drop, S: BuildHasher, T: Drop>(
     }
 }
 
-/// Makes a compute at once, or gives key and closure back: where there is no root, where the root has
-/// no place for the key, and where the key's pair is being moved.
+/// Makes a compute at once, or gives key and closure back: where there is no root, where the root
+/// has no place for the key, and where the key's pair is being moved.
 #[inline(always)]
 fn compute_fast<
     K: Hash + Eq + Drop,

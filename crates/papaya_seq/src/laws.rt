@@ -28,8 +28,8 @@ pub fn changes_are_found<K: Hash + Eq, V, S>()
 
 /// A map of clones is equal to its original, where clones of values are equal to them.
 ///
-/// So after [`crate::seq::HashMap::reclaim`] the map is what [`crate::seq::HashMap::eq`] calls equal
-/// to what it was, and so is what [`crate::seq::HashMap::try_clone`] makes.
+/// So after [`crate::seq::HashMap::reclaim`] the map is what [`crate::seq::HashMap::eq`] calls
+/// equal to what it was, and so is what [`crate::seq::HashMap::try_clone`] makes.
 pub fn clones_are_equal<K: Hash + Eq + Clone, V: Clone + PartialEq, S>()
     ensures { (s s' : StoreState K V S) → ((v w : V) → V.is_clone v w → V.eq v w ≡ true)
         → IsCloned K.eq K.is_clone V.is_clone s s' → AreEqual K.eq V.eq s s' }

@@ -147,8 +147,8 @@ fn remove_fast<K: Hash + Eq, V, S: BuildHasher, Q: Equivalent<K>, F: FnMut(&K, &
 }
 
 impl<K: Hash + Eq + Drop, V: Drop, S: BuildHasher> HashMap<K, V, S> {
-    /// Removes a key's pair if the closure agrees: what the machine replies. Most removals end where
-    /// the root's search does, and run no machine.
+    /// Removes a key's pair if the closure agrees: what the machine replies. Most removals end
+    /// where the root's search does, and run no machine.
     #[inline]
     pub(crate) fn remove_by<Q: Equivalent<K>, F: FnMut(&K, &V) -> bool>(
         &mut self,

@@ -12,8 +12,8 @@ use papaya_words::word::{Kind, Word};
 use std::hash::{BuildHasher, Hash};
 
 impl<K: Hash + Eq + Drop, V: Drop, S: BuildHasher> HashMap<K, V, S> {
-    /// Shows the pair in a slot of the root to the closure, and deletes it if the closure does not
-    /// agree.
+    /// Shows the pair in a slot of the root to the closure, and deletes it if the closure does
+    /// not agree.
     fn retain_at<F: FnMut(&K, &V) -> bool>(&mut self, table: u64, slot: usize, agrees: &mut F)
         requires callable { F.IsAlwaysCallable agrees.old }
         requires root { table ≡ self.old.store.words.root }

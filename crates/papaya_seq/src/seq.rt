@@ -74,9 +74,9 @@ fn resized(done: Result<(), Refused>) -> Reply
 
 /// A hash map for one caller: the machines of the shared map, on plain words.
 ///
-/// It ports `papaya::HashMap` for where a `&mut` will do: no guard, no atomic, and what is answered
-/// borrows the map. Contracts see its words and logs, and by `map_in` the finite map that they
-/// mean.
+/// It ports `papaya::HashMap` for where a `&mut` will do: no guard, no atomic, and what is
+/// answered borrows the map. Contracts see its words and logs, and by `map_in` the finite map that
+/// they mean.
 ///
 /// Pairs that were replaced or removed stay in the log until [`HashMap::reclaim`], or until the map
 /// is dropped.
@@ -103,10 +103,10 @@ impl<K: Hash + Eq, V, S: BuildHasher> Model for HashMap<K, V, S> {
 
 impl<K: Hash + Eq + Drop, V: Drop, S: BuildHasher + Drop> HashMap<K, V, S> {
     /// A map of all its parts. `capacity` is for how many pairs its first table is made at once;
-    /// with 0 the first change makes one. `shards` is rounded up to a power of two. With a `limit` the
-    /// map logs so many pairs at most: a call that needs one more is refused `Refused::Limit`. One
-    /// that took a number for its pair, and was then refused the memory for it, has used the number
-    /// up.
+    /// with 0 the first change makes one. `shards` is rounded up to a power of two. With a `limit`
+    /// the map logs so many pairs at most: a call that needs one more is refused `Refused::Limit`.
+    /// One that took a number for its pair, and was then refused the memory for it, has used the
+    /// number up.
     ///
     /// `Refused::ZeroChunk` for chunks of no slots. `Refused::Capacity` for more shards than
     /// [`papaya_words::limits::MAX_SHARDS`], and for a table past
@@ -204,8 +204,8 @@ impl<K: Hash + Eq + Drop, V: Drop> HashMap<K, V, BuildHasherDefault<FoldHasher>>
 impl<K: Hash + Eq, V, S: BuildHasher> HashMap<K, V, S> {
     /// How many pairs the map has.
     ///
-    /// The contract also says of any map that it has logged no more pairs than its limit says, where
-    /// it has one.
+    /// The contract also says of any map that it has logged no more pairs than its limit says,
+    /// where it has one.
     pub fn len(&self) -> usize
         ensures count { result ≡ length (content K.eq self.now.store) }
         ensures apart { AreApart K.eq (λ p. p.key) (content K.eq self.now.store) }
@@ -243,8 +243,8 @@ impl<K: Hash + Eq, V, S: BuildHasher> HashMap<K, V, S> {
         self.store.root().map_or(0, |table| table.next()) != 0
     }
 
-    /// The key and the value of a pair, by its number in the log, also of one that was replaced or
-    /// removed.
+    /// The key and the value of a pair, by its number in the log, also of one that was replaced
+    /// or removed.
     pub fn pair(&self, n: u64) -> Option<(&K, &V)>
         ensures { MatchOption result (pair_of self.now.store n ≡ None)
             (λ p. pair_of self.now.store n ≡ Some (record
@@ -345,14 +345,15 @@ impl<K: Hash + Eq + Drop, V: Drop, S: BuildHasher> HashMap<K, V, S> {
     /// Stores a pair, and answers the value that its key had: `insert` of 0.2.5. Where the key was
     /// in the map, the key that is stored stays, and the new one is dropped.
     ///
-    /// A table whose places are filled is followed by a further one, and while pairs are being moved
-    /// to it, each call that may change the map moves a chunk of them, or with `Blocking` all.
+    /// A table whose places are filled is followed by a further one, and while pairs are being
+    /// moved to it, each call that may change the map moves a chunk of them, or with
+    /// `Blocking` all.
     ///
     /// `Refused::Memory` where a growth was refused. `Refused::Capacity` where the arena of pairs
     /// is full, and where a next table is needed, and there are as many as there may be or it would
     /// have more than [`papaya_words::limits::MAX_TABLE_LEN`] slots. `Refused::Limit` where the map
-    /// has a limit, and as many numbers were taken for pairs. The map is as it was then, and what was
-    /// handed in is dropped, at once or with the map.
+    /// has a limit, and as many numbers were taken for pairs. The map is as it was then, and what
+    /// was handed in is dropped, at once or with the map.
     pub fn insert(&mut self, key: K, value: V) -> Result<Option<&V>, Refused>
         ensures* inserts { sem 𝓛 (ends_so K.row V.row S.row S.Hasher.row K.Hash S.BuildHasher
             S.Hasher.Hasher self.entry (IsInserted K.eq key value self.old (old_answered result))) }
@@ -457,8 +458,8 @@ impl<K: Hash + Eq + Drop, V: Drop, S: BuildHasher> HashMap<K, V, S> {
 
     /// The value of a key, which is stored where the key is absent: `get_or_insert` of 0.2.5.
     ///
-    /// Refused as [`HashMap::insert`], and only where the key is absent, or while pairs are being
-    /// moved.
+    /// Refused as [`HashMap::insert`], and only where the key is absent, or while pairs are
+    /// being moved.
     pub fn get_or_insert(&mut self, key: K, value: V) -> Result<&V, Refused>
         ensures* inserts { sem 𝓛 (ends_so K.row V.row S.row S.Hasher.row K.Hash S.BuildHasher
             S.Hasher.Hasher self.entry (HasValue K.eq key value self.old
@@ -472,9 +473,9 @@ impl<K: Hash + Eq + Drop, V: Drop, S: BuildHasher> HashMap<K, V, S> {
         Ok(self.logged(pair))
     }
 
-    /// Removes a key's pair, and answers its value: `remove` of 0.2.5. While no pairs are being moved
-    /// to a next table ([`HashMap::resizing`]), it takes no memory and is not refused. Else it
-    /// may be, as [`HashMap::insert`] is for want of a next table.
+    /// Removes a key's pair, and answers its value: `remove` of 0.2.5. While no pairs are being
+    /// moved to a next table ([`HashMap::resizing`]), it takes no memory and is not refused. Else
+    /// it may be, as [`HashMap::insert`] is for want of a next table.
     pub fn remove<Q: Equivalent<K>>(&mut self, key: &Q) -> Result<Option<&V>, Refused>
         ensures* removes { sem 𝓛 (ends_so K.row V.row S.row S.Hasher.row K.Hash S.BuildHasher
             S.Hasher.Hasher self.entry (IsRemoved K.eq (Q.matches key.now) (λ p. p.value) self.old

@@ -19,8 +19,8 @@ use papaya_words::word::{Kind, Word, h1};
 use std::hash::{BuildHasher, Hash};
 use std::marker::Model;
 
-/// Does a word of the table say that the pair is being copied? It would stand at a place of this
-/// hash.
+/// Does a word of the table say that the pair is being copied? It would stand at a place of
+/// this hash.
 fn marks<K: Hash + Eq, V, S: BuildHasher>(
     store: &Store<K, V, S>,
     table: u64,
@@ -47,8 +47,8 @@ fn marks<K: Hash + Eq, V, S: BuildHasher>(
 }
 
 impl<K: Hash + Eq, V, S: BuildHasher> HashMap<K, V, S> {
-    /// Has one of so many tables, from the root on, the pair of this word, which stands in the table
-    /// after them? Then the pair was being copied when a call was refused.
+    /// Has one of so many tables, from the root on, the pair of this word, which stands in the
+    /// table after them? Then the pair was being copied when a call was refused.
     #[cold]
     #[inline(never)]
     fn is_copy(&self, pair: u64, at: Stand) -> bool

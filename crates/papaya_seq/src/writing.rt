@@ -1,5 +1,5 @@
-//! A pair that is logged and written at one place, and an insertion whose search ends where most do:
-//! its pair is written at once. The machine stands in the proof.
+//! A pair that is logged and written at one place, and an insertion whose search ends where most
+//! do: its pair is written at once. The machine stands in the proof.
 ghost use Rattle.std.specs.Prelude.{◌≡◌, ◌≢◌, ℕ, IfOk, IfErr, IsSome, length, Some};
 ghost use Rattle.papaya_words.specs.Word.{pair_of as number_of};
 ghost use Rattle.papaya_ask.specs.Search.{IsSize};
@@ -26,8 +26,8 @@ use papaya_words::word::{Kind, Word, hint};
 use std::alloc::Global;
 use std::hash::{BuildHasher, Hash};
 
-/// Logs a pair, and writes it where its search ended, in place of the word that stands there. It has
-/// the key of the pair that this word names, or else the key that was handed in.
+/// Logs a pair, and writes it where its search ended, in place of the word that stands there. It
+/// has the key of the pair that this word names, or else the key that was handed in.
 #[inline(always)]
 pub(crate) fn write<K: Hash + Eq + Drop, V: Drop, S: BuildHasher>(
     store: &mut Store<K, V, S>,
@@ -69,8 +69,8 @@ pub(crate) fn write<K: Hash + Eq + Drop, V: Drop, S: BuildHasher>(
     (Reply::Replaced { old, new: pair }, None)
 }
 
-/// Inserts a pair at once, or gives it back, with where its machine goes on: where there is no root,
-/// where the root has no place for its key, and where its key's pair is being moved.
+/// Inserts a pair at once, or gives it back, with where its machine goes on: where there is no
+/// root, where the root has no place for its key, and where its key's pair is being moved.
 #[inline(always)]
 pub(crate) fn insert_fast<K: Hash + Eq + Drop, V: Drop, S: BuildHasher>(
     store: &mut Store<K, V, S>,

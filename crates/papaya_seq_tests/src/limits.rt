@@ -14,7 +14,8 @@ fn limited(alloc: Global, pairs: u64) -> Result<Usual, Refused> {
     HashMap::with_parts(alloc, ResizeMode::default(), 0, 1, hasher, Some(pairs))
 }
 
-/// Three pairs are logged, of which one replaces another. No further one is, and what is there stays.
+/// Three pairs are logged, of which one replaces another. No further one is, and what is
+/// there stays.
 fn logs_three(rt: &impl Abort, map: &mut Usual) {
     inserts(rt, map, 1, 10, Ok(None));
     inserts(rt, map, 2, 20, Ok(None));

@@ -1,5 +1,5 @@
-// Room that is made ahead, and resizes that are ended. Where the tests run with a failing allocation,
-// as by `rt try --test --fail-alloc N`, a call here meets it.
+// Room that is made ahead, and resizes that are ended. Where the tests run with a failing
+// allocation, as by `rt try --test --fail-alloc N`, a call here meets it.
 use crate::expect::{is, is_at};
 use crate::growth::{fills, has_below, looks_so, made};
 use crate::numbers::{Numbers, Usual, finds, has, inserts};

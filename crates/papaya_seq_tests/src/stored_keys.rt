@@ -1,5 +1,5 @@
-// The key that is stored stays where its value is replaced. The keys here are equal where their numbers
-// are, so that a label tells which of them is stored.
+// The key that is stored stays where its value is replaced. The keys here are equal where their
+// numbers are, so that a label tells which of them is stored.
 ghost use Rattle.std.specs.Prelude.{◌≡◌, ◌==◌};
 ghost use Rattle.std.proofs.Common.{ap};
 ghost use Rattle.std.specs.Cmp.{nat_eq_equiv, on_equiv, partial_equiv_from_equiv, unsigned_Decides};

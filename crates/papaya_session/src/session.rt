@@ -29,13 +29,13 @@ use std::marker::Model;
 use std::sync::Wait;
 
 /// One thread's way to a map: the map, pinned, and a pass of it. Contracts see what of the map is
-/// fixed, the history that was seen, and the changes that were made by this session, oldest first. They
-/// see how many slots each table has that was seen to come; where the last change was refused for want
-/// of room, the number that a full log gave or the sum of the map's count; and how many numbers were
-/// taken for pairs, where the map has a limit on them.
+/// fixed, the history that was seen, and the changes that were made by this session, oldest first.
+/// They see how many slots each table has that was seen to come; where the last change was refused
+/// for want of room, the number that a full log gave or the sum of the map's count; and how many
+/// numbers were taken for pairs, where the map has a limit on them.
 ///
-/// Each call stands in the history after all that the session had seen before, and afterwards
-/// the session has seen the call's own moment. So a thread reads its own writes: what it reads is the
+/// Each call stands in the history after all that the session had seen before, and afterwards the
+/// session has seen the call's own moment. So a thread reads its own writes: what it reads is the
 /// map's after them.
 #[derive(Drop)]
 pub struct Session<'a, K: Hash + Eq, V, S: BuildHasher = BuildHasherDefault<FoldHasher>> {
@@ -62,8 +62,8 @@ impl<'a, K: Hash + Eq, V, S: BuildHasher> Model for Session<'a, K, V, S> {
 }
 
 impl<'a, K: Hash + Eq, V, S: BuildHasher> Session<'a, K, V, S> {
-    /// A session of this map, in the place of `pin` of 0.2.5. It has seen no change yet: each history of
-    /// a map begins as that of the empty one. It writes no word of the map.
+    /// A session of this map, in the place of `pin` of 0.2.5. It has seen no change yet: each
+    /// history of a map begins as that of the empty one. It writes no word of the map.
     pub fn new(map: &'a HashMap<K, V, S>) -> Session<'a, K, V, S>
         ensures map { result.map ≡ map.now }
         ensures new { result.history ≡ [] }
@@ -77,8 +77,9 @@ impl<'a, K: Hash + Eq, V, S: BuildHasher> Session<'a, K, V, S> {
         }
     }
 
-    /// Does nothing. Its contract says that the history which was seen is legal: each change takes out what
-    /// the map has there, and puts in a pair of its class, with the key of the pair that it replaces.
+    /// Does nothing. Its contract says that the history which was seen is legal: each change takes
+    /// out what the map has there, and puts in a pair of its class, with the key of the pair that
+    /// it replaces.
     pub fn legal(&self)
         ensures { IsLegalHistory K.eq key_of self.now.history }
     {
@@ -88,8 +89,8 @@ impl<'a, K: Hash + Eq, V, S: BuildHasher> Session<'a, K, V, S> {
         } = self.pass.tell(());
     }
 
-    /// Tells each of two sessions what the other has seen. Afterwards both have seen one history, which
-    /// begins with what each had seen. Nothing is done when the program runs, and the call is
+    /// Tells each of two sessions what the other has seen. Afterwards both have seen one history,
+    /// which begins with what each had seen. Nothing is done when the program runs, and the call is
     /// never refused. A premise is left: that both are of one map, which no type says.
     pub fn meet(&mut self, other: &mut Session<'_, K, V, S>)
         requires { other.old.map.book ≡ self.old.map.book }
@@ -105,10 +106,10 @@ impl<'a, K: Hash + Eq, V, S: BuildHasher> Session<'a, K, V, S> {
         self.map.meet(&mut self.pass, &mut other.pass)
     }
 
-    /// Tells the session what a walk has seen. Afterwards the session has seen a history that begins
-    /// with what each had seen, so its calls stand after all that the walk gave. Nothing is done when the
-    /// program runs, and the call is never refused. As at [`Session::meet`] a premise is left: that
-    /// the walk is of the session's map.
+    /// Tells the session what a walk has seen. Afterwards the session has seen a history that
+    /// begins with what each had seen, so its calls stand after all that the walk gave. Nothing is
+    /// done when the program runs, and the call is never refused. As at [`Session::meet`] a premise
+    /// is left: that the walk is of the session's map.
     pub fn learn_walk(&mut self, walk: &Iter<'_, K, V, S>)
         requires { walk.now.book ≡ self.old.map.book }
         ensures map { self.new.map ≡ self.old.map }
@@ -121,8 +122,8 @@ impl<'a, K: Hash + Eq, V, S: BuildHasher> Session<'a, K, V, S> {
         self.map.learn_walk(walk, &mut self.pass)
     }
 
-    /// The value of a key: `get` of 0.2.5. It loads words and nothing else: it waits for nobody, and
-    /// takes no lock and no memory.
+    /// The value of a key: `get` of 0.2.5. It loads words and nothing else: it waits for nobody,
+    /// and takes no lock and no memory.
     #[inline(always)]
     pub fn get<Q: Equivalent<K>>(&mut self, key: &Q) -> Option<&'a V>
         ensures map { self.new.map ≡ self.old.map }
@@ -135,8 +136,8 @@ impl<'a, K: Hash + Eq, V, S: BuildHasher> Session<'a, K, V, S> {
         self.map.get_as(key, &mut self.pass)
     }
 
-    /// The stored key and the value of a key: `get_key_value` of 0.2.5. As [`Session::get`], it waits
-    /// for nobody, and takes no lock and no memory.
+    /// The stored key and the value of a key: `get_key_value` of 0.2.5. As [`Session::get`], it
+    /// waits for nobody, and takes no lock and no memory.
     #[inline]
     pub fn get_key_value<Q: Equivalent<K>>(&mut self, key: &Q) -> Option<(&'a K, &'a V)>
         ensures map { self.new.map ≡ self.old.map }
@@ -187,8 +188,8 @@ impl<'a, K: Hash + Eq, V, S: BuildHasher> Session<'a, K, V, S> {
     /// `Err(pair)` where the closure answered false for it. The closure may be asked again, where
     /// another thread was first to replace or remove the pair that it was shown.
     ///
-    /// A removal makes nothing for itself. But where it helps to copy the table it may be refused as
-    /// [`Session::insert`] is, and then it changes nothing.
+    /// A removal makes nothing for itself. But where it helps to copy the table it may be refused
+    /// as [`Session::insert`] is, and then it changes nothing.
     pub fn remove_if<R: Wait, Q: Equivalent<K>, F: FnMut(&K, &V) -> bool>(
         &mut self,
         rt: &R,
@@ -209,9 +210,9 @@ impl<'a, K: Hash + Eq, V, S: BuildHasher> Session<'a, K, V, S> {
             .remove_if_as(rt, key, should_remove, &mut self.pass)
     }
 
-    /// Removes the pairs for which the closure, which is shown each, answers false: `retain` of 0.2.5.
-    /// The closure is shown a key's pair again where another thread replaced it meanwhile, or where all
-    /// is copied. A pair that is stored meanwhile may be shown or not.
+    /// Removes the pairs for which the closure, which is shown each, answers false: `retain` of
+    /// 0.2.5. The closure is shown a key's pair again where another thread replaced it meanwhile,
+    /// or where all is copied. A pair that is stored meanwhile may be shown or not.
     ///
     /// Refused where it ends a copy that another call began: `Refused::Memory` where a growth was
     /// refused, and `Refused::Capacity` where there is no room. What was removed stays so.
@@ -250,11 +251,11 @@ impl<'a, K: Hash + Eq, V, S: BuildHasher> Session<'a, K, V, S> {
     }
 
     /// The pairs of the map, one by one: `iter` of 0.2.5. The session is free for other calls while
-    /// the walk goes on, and learns by [`Session::learn_walk`] what the walk has seen. A pair that is stored
-    /// or removed meanwhile may be given or not.
+    /// the walk goes on, and learns by [`Session::learn_walk`] what the walk has seen. A pair that
+    /// is stored or removed meanwhile may be given or not.
     ///
-    /// With `Blocking` it takes the root as it is. Else it copies first what is left to copy, and may be
-    /// refused as [`Session::retain`] is.
+    /// With `Blocking` it takes the root as it is. Else it copies first what is left to copy, and
+    /// may be refused as [`Session::retain`] is.
     pub fn iter<R: Wait>(&mut self, rt: &R) -> Result<Iter<'a, K, V, S>, Refused>
         ensures map { self.new.map ≡ self.old.map }
         ensures seen { IsPrefix self.old.history self.new.history }
@@ -271,8 +272,9 @@ impl<'a, K: Hash + Eq, V, S: BuildHasher> Session<'a, K, V, S> {
     }
 
     /// Makes room for so many pairs more than the map counts: `reserve` of 0.2.5. `Refused::Memory`
-    /// where a growth was refused, and `Refused::Capacity` where the log of tables is full, or a table
-    /// would be longer than [`papaya_words::limits::MAX_TABLE_LEN`]. Refused or not, no pair is changed.
+    /// where a growth was refused, and `Refused::Capacity` where the log of tables is full, or a
+    /// table would be longer than [`papaya_words::limits::MAX_TABLE_LEN`]. Refused or not, no pair
+    /// is changed.
     pub fn reserve<R: Wait>(&mut self, rt: &R, additional: usize) -> Result<(), Refused>
         ensures map { self.new.map ≡ self.old.map }
         ensures seen { IsPrefix self.old.history self.new.history }
@@ -307,9 +309,9 @@ impl<'a, K: Hash + Eq + Drop, V: Drop, S: BuildHasher> Session<'a, K, V, S> {
         self.map.insert_as(rt, key, value, &mut self.pass)
     }
 
-    /// Stores a pair where the key has none, and answers its value: `try_insert` of 0.2.5. Where the key has
-    /// a value, that stays, and what was handed in is given back, or it lies in the log. Refused as
-    /// [`Session::insert`].
+    /// Stores a pair where the key has none, and answers its value: `try_insert` of 0.2.5. Where
+    /// the key has a value, that stays, and what was handed in is given back, or it lies in the
+    /// log. Refused as [`Session::insert`].
     pub fn try_insert<R: Wait>(
         &mut self,
         rt: &R,
@@ -328,8 +330,8 @@ impl<'a, K: Hash + Eq + Drop, V: Drop, S: BuildHasher> Session<'a, K, V, S> {
         self.map.try_insert_as(rt, key, value, &mut self.pass)
     }
 
-    /// The same with a closure that makes the value where it is to be stored, and with the value that is
-    /// there for an answer: `try_insert_with` of 0.2.5. The closure is called once at most.
+    /// The same with a closure that makes the value where it is to be stored, and with the value
+    /// that is there for an answer: `try_insert_with` of 0.2.5. The closure is called once at most.
     pub fn try_insert_with<R: Wait, F: FnOnce() -> V + Drop>(
         &mut self,
         rt: &R,
@@ -350,8 +352,8 @@ impl<'a, K: Hash + Eq + Drop, V: Drop, S: BuildHasher> Session<'a, K, V, S> {
         self.map.try_insert_with_as(rt, key, f, &mut self.pass)
     }
 
-    /// The value of a key, which is stored where the key has none: `get_or_insert` of 0.2.5. Refused as
-    /// [`Session::insert`].
+    /// The value of a key, which is stored where the key has none: `get_or_insert` of 0.2.5.
+    /// Refused as [`Session::insert`].
     pub fn get_or_insert<R: Wait>(&mut self, rt: &R, key: K, value: V) -> Result<&'a V, Refused>
         ensures map { self.new.map ≡ self.old.map }
         ensures seen { IsPrefix self.old.history self.new.history }
@@ -365,8 +367,8 @@ impl<'a, K: Hash + Eq + Drop, V: Drop, S: BuildHasher> Session<'a, K, V, S> {
         self.map.get_or_insert_as(rt, key, value, &mut self.pass)
     }
 
-    /// The same with a closure that makes the value where it is to be stored: `get_or_insert_with` of
-    /// 0.2.5. The closure is called once at most.
+    /// The same with a closure that makes the value where it is to be stored: `get_or_insert_with`
+    /// of 0.2.5. The closure is called once at most.
     pub fn get_or_insert_with<R: Wait, F: FnOnce() -> V + Drop>(
         &mut self,
         rt: &R,
@@ -386,9 +388,9 @@ impl<'a, K: Hash + Eq + Drop, V: Drop, S: BuildHasher> Session<'a, K, V, S> {
         self.map.get_or_insert_with_as(rt, key, f, &mut self.pass)
     }
 
-    /// Puts what the closure makes of the key's value in its place, and answers it: `update` of 0.2.5.
-    /// `Ok(None)` where the key has none. The closure may be called again, where another thread was first
-    /// to replace the value that it was shown. Refused as [`Session::insert`].
+    /// Puts what the closure makes of the key's value in its place, and answers it: `update` of
+    /// 0.2.5. `Ok(None)` where the key has none. The closure may be called again, where another
+    /// thread was first to replace the value that it was shown. Refused as [`Session::insert`].
     pub fn update<R: Wait, F: Fn(&V) -> V>(
         &mut self,
         rt: &R,
@@ -432,8 +434,8 @@ impl<'a, K: Hash + Eq + Drop, V: Drop, S: BuildHasher> Session<'a, K, V, S> {
             .update_or_insert_as(rt, key, update, value, &mut self.pass)
     }
 
-    /// The same with a closure that makes the value where the key has none: `update_or_insert_with` of
-    /// 0.2.5. That closure is called once at most.
+    /// The same with a closure that makes the value where the key has none: `update_or_insert_with`
+    /// of 0.2.5. That closure is called once at most.
     pub fn update_or_insert_with<R: Wait, U: Fn(&V) -> V, F: FnOnce() -> V + Drop>(
         &mut self,
         rt: &R,
@@ -457,16 +459,16 @@ impl<'a, K: Hash + Eq + Drop, V: Drop, S: BuildHasher> Session<'a, K, V, S> {
             .update_or_insert_with_as(rt, key, update, f, &mut self.pass)
     }
 
-    /// What the closure makes of the key's pair, or of its absence: `compute` of 0.2.5. It is lent the pair,
-    /// if there is one, and answers what is stored, that the pair is removed, or that nothing is
-    /// changed. Nothing that it answers may borrow of the pair, as in 0.2.5 it may.
+    /// What the closure makes of the key's pair, or of its absence: `compute` of 0.2.5. It is lent
+    /// the pair, if there is one, and answers what is stored, that the pair is removed, or that
+    /// nothing is changed. Nothing that it answers may borrow of the pair, as in 0.2.5 it may.
     ///
-    /// The closure may be asked again, where another thread was first to replace or remove the pair that
-    /// it was shown: what it answered of one pair is done to that pair alone. That there is none it is
-    /// shown once at most, since its insertion is remembered.
+    /// The closure may be asked again, where another thread was first to replace or remove the pair
+    /// that it was shown: what it answered of one pair is done to that pair alone. That there is
+    /// none it is shown once at most, since its insertion is remembered.
     ///
-    /// Refused as [`Session::insert`], and with `Refused::RemoveNothing` where the closure would remove and
-    /// there is no pair.
+    /// Refused as [`Session::insert`], and with `Refused::RemoveNothing` where the closure would
+    /// remove and there is no pair.
     pub fn compute<R: Wait, T: Drop, F: FnMut(Option<(&K, &V)>) -> Operation<V, T>>(
         &mut self,
         rt: &R,

@@ -59,7 +59,8 @@ fn scans<R: Wait + Abort>(rt: &R, session: &mut NumbersSession<'_>) {
     is(rt, walked(rt, session), Ok((0, 0)));
 }
 
-/// Key 5 has the value 50, which no further value takes the place of; key 6 has a value of a closure.
+/// Key 5 has the value 50, which no further value takes the place of; key 6 has a value of
+/// a closure.
 fn stores_where_absent<R: Wait + Abort>(rt: &R, session: &mut NumbersSession<'_>) {
     let occupied = OccupiedError {
         current: &50,
@@ -132,7 +133,8 @@ fn each_compute_of_a_session(rt: HostRuntime) -> Result<(), Fail> {
     Ok(())
 }
 
-/// Stores 100 values at a key of the thread's own. Did it read each back, and replace it by the next?
+/// Stores 100 values at a key of the thread's own. Did it read each back, and replace it by
+/// the next?
 fn reads_own_writes<R: Wait>(rt: &R, map: &Numbers, key: u64) -> bool {
     let mut session = Session::new(map);
     for value in 0..100u64 {

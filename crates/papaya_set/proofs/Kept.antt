@@ -12,9 +12,11 @@ use Rattle.papaya_set.specs.Sets.{AreKept}
 
 -- the closure of a map, `w`, asks the closure of keys, `f`, that it holds
 module _ {F W K : Type 0} (g : Mut F (Bor K × Unit {0}) Bool) (h : Mut W (Bor K × (Bor (Unit {0}) × Unit {0})) Bool) (of : W → F)
-    (asks : (w w' : W) (key : Bor K) (value : Bor (Unit {0})) (agrees : Bool) → Called h w (key, (value, tt)) agrees w' → Called g (of w) (key, tt) agrees (of w')) where
+    (asks : (w w' : W) (key : Bor K) (value : Bor (Unit {0})) (agrees : Bool) → Called h w (key, (value, tt)) agrees w'
+    → Called g (of w) (key, tt) agrees (of w')) where
   -- it may be called wherever that one may be
-  pub callable : ((w : W) (key : Bor K) (value : Bor (Unit {0})) → always_mut g (of w) → h.pre w (key, (value, tt))) → (w : W) → always_mut g (of w) → always_mut h w
+  pub callable : ((w : W) (key : Bor K) (value : Bor (Unit {0})) → always_mut g (of w) → h.pre w (key, (value, tt))) → (w : W) → always_mut g (of w)
+      → always_mut h w
   callable may =
       mut_by h (λ v. always_mut g (of v)) (λ v a always. may v a.0 a.1.0 always)
       (λ v a agrees v' always called. mut_next g (of v) (a.0, tt) agrees (of v') (of v') (asks v v' a.0 a.1.0 agrees called) refl always)
@@ -23,7 +25,8 @@ module _ {F W K : Type 0} (g : Mut F (Bor K × Unit {0}) Bool) (h : Mut W (Bor K
   abbrev Asked : F → Stored K (Unit {0}) → Bool → F → Type 0
   Asked f p agrees f' = CalledAt g f p.key agrees f'
 
-  chosen : (agrees : Bool) (p : Stored K (Unit {0})) (ps rest : List (Stored K (Unit {0}))) (bs : List Bool) → rest ≡ items_where_true bs ps → cond agrees (p ∷ rest) rest ≡ items_where_true (agrees ∷ bs) (p ∷ ps)
+  chosen : (agrees : Bool) (p : Stored K (Unit {0})) (ps rest : List (Stored K (Unit {0}))) (bs : List Bool) → rest ≡ items_where_true bs ps
+      → cond agrees (p ∷ rest) rest ≡ items_where_true (agrees ∷ bs) (p ∷ ps)
   chosen true p ps rest bs is = ap (λ l. p ∷ l) is
   chosen false p ps rest bs is = is
 
@@ -47,6 +50,7 @@ module _ {F W K : Type 0} (g : Mut F (Bor K × Unit {0}) Bool) (h : Mut W (Bor K
     order = r.order;
   }
 
-  pub kept_ok : {S T E : Type 0} (eq : K → K → Bool) (w : W) (s s' : StoreState K (Unit {0}) S) (done : Result T E) → OnOk done (IsRetained h eq w s s') → OnOk done (AreKept g eq (of w) s s')
+  pub kept_ok : {S T E : Type 0} (eq : K → K → Bool) (w : W) (s s' : StoreState K (Unit {0}) S) (done : Result T E)
+      → OnOk done (IsRetained h eq w s s') → OnOk done (AreKept g eq (of w) s s')
   kept_ok eq w s s' (Ok t) r = kept eq w s s' r
   kept_ok eq w s s' (Err e) r = tt

@@ -11,13 +11,17 @@ use Rattle.papaya_set.specs.Shared.{JudgesKey}
 
 -- the closure of a map, `w`, asks the closure of keys that it holds
 module _ {F W K : Type 0} (g : Mut F (Bor K × Unit {0}) Bool) (h : Mut W (Bor K × (Bor (Unit {0}) × Unit {0})) Bool) (of : W → F)
-    (asks : (w w' : W) (key : Bor K) (value : Bor (Unit {0})) (agrees : Bool) → Called h w (key, (value, tt)) agrees w' → Called g (of w) (key, tt) agrees (of w')) where
+    (asks : (w w' : W) (key : Bor K) (value : Bor (Unit {0})) (agrees : Bool) → Called h w (key, (value, tt)) agrees w'
+    → Called g (of w) (key, tt) agrees (of w')) where
   -- what the one answered, the other did
-  said_of : (first : W) (said : List (Stored K (Unit {0}) × Bool)) (left : W) → HasSaid (Judges h) first said left → HasSaid (JudgesKey g) (of first) said (of left)
+  said_of : (first : W) (said : List (Stored K (Unit {0}) × Bool)) (left : W) → HasSaid (Judges h) first said left
+      → HasSaid (JudgesKey g) (of first) said (of left)
   said_of first [] left is = ap of is
-  said_of first (last ∷ before) left (w, earlier, (key, value, are, called)) = (of w, said_of first before w earlier, (key, are.0, asks w left key value last.1 called))
+  said_of first (last ∷ before) left (w, earlier, (key, value, are, called)) =
+      (of w, said_of first before w earlier, (key, are.0, asks w left key value last.1 called))
 
-  kept : {A : Type 0} (eq : K → K → Bool) (old new made made' : List (Change K (Stored K (Unit {0})))) (first : W) (result : Result A Refused) → HasKept eq old new made made' (Judges h) first result → HasKept eq old new made made' (JudgesKey g) (of first) result
+  kept : {A : Type 0} (eq : K → K → Bool) (old new made made' : List (Change K (Stored K (Unit {0})))) (first : W) (result : Result A Refused)
+      → HasKept eq old new made made' (Judges h) first result → HasKept eq old new made made' (JudgesKey g) (of first) result
   kept eq old new made made' first result k = record {
     left = of k.left;
     said = k.said;
@@ -32,6 +36,8 @@ module _ {F W K : Type 0} (g : Mut F (Bor K × Unit {0}) Bool) (h : Mut W (Bor K
   }
 
   -- by a pass that had made no change
-  pub kept_since : {A : Type 0} (eq : K → K → Bool) (old new made made' : List (Change K (Stored K (Unit {0})))) (first : W) (result : Result A Refused) → made ≡ [] → HasKept eq old new made made' (Judges h) first result
+  pub kept_since : {A : Type 0} (eq : K → K → Bool) (old new made made' : List (Change K (Stored K (Unit {0})))) (first : W)
+      (result : Result A Refused) → made ≡ [] → HasKept eq old new made made' (Judges h) first result
       → (made'' : List (Change K (Stored K (Unit {0})))) × HasKept eq old new [] made'' (JudgesKey g) (of first) result
-  kept_since eq old new made made' first result none k = (made', subst (λ z. HasKept eq old new z made' (JudgesKey g) (of first) result) none (kept eq old new made made' first result k))
+  kept_since eq old new made made' first result none
+      k = (made', subst (λ z. HasKept eq old new z made' (JudgesKey g) (of first) result) none (kept eq old new made made' first result k))

@@ -17,10 +17,13 @@ module _ {K S : Type 0} (eq : K → K → Bool) (matches : K → Bool) (s s' : M
   taken None done = done
   taken (Some v) done = (done.0, done.2, done.3)
 
-  pub taken_ok : (r : Result (Option (Bor (Unit {0}))) Refused) (o : Option (Bor (Unit {0}))) → r ≡ Ok o → IsRemoved eq matches (λ p. p.value) s (old_answered r) s' → (was : Bool) → was ≡ is_some o → IsTaken eq matches s (Ok was) s'
+  pub taken_ok : (r : Result (Option (Bor (Unit {0}))) Refused) (o : Option (Bor (Unit {0}))) → r ≡ Ok o
+      → IsRemoved eq matches (λ p. p.value) s (old_answered r) s' → (was : Bool) → was ≡ is_some o → IsTaken eq matches s (Ok was) s'
   taken_ok r o was_ok done was is =
-      let here : IsRemoved eq matches (λ p. p.value) s (Ok (option_map (λ (v : Bor (Unit {0})). v.now) o)) s' = subst (λ (z : Result (Option (Bor (Unit {0}))) Refused). IsRemoved eq matches (λ p. p.value) s (old_answered z) s') was_ok done in
+      let here : IsRemoved eq matches (λ p. p.value) s (Ok (option_map (λ (v : Bor (Unit {0})). v.now) o))
+      s' = subst (λ (z : Result (Option (Bor (Unit {0}))) Refused). IsRemoved eq matches (λ p. p.value) s (old_answered z) s') was_ok done in
       subst (λ (b : Bool). IsTaken eq matches s (Ok b) s') (is_some_shown o ∙ sym is) (taken (option_map (λ (v : Bor (Unit {0})). v.now) o) here)
 
-  pub taken_err : (r : Result (Option (Bor (Unit {0}))) Refused) (e : Refused) → r ≡ Err e → IsRemoved eq matches (λ p. p.value) s (old_answered r) s' → IsTaken eq matches s (Err e) s'
+  pub taken_err : (r : Result (Option (Bor (Unit {0}))) Refused) (e : Refused) → r ≡ Err e → IsRemoved eq matches (λ p. p.value) s (old_answered r) s'
+      → IsTaken eq matches s (Err e) s'
   taken_err r e was done = subst (λ (z : Result (Option (Bor (Unit {0}))) Refused). IsRemoved eq matches (λ p. p.value) s (old_answered z) s') was done

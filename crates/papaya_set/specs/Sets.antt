@@ -25,8 +25,8 @@ entry_of_key k = (k, tt)
 abbrev pub entry_of_ref : {K : Type 0} → Bor K → K × Unit {0}
 entry_of_ref k = (k.now, tt)
 
--- What a removal answers: whether there was a key that matches, or a refusal, which has the cause of
--- a resize that could not be ended.
+-- What a removal answers: whether there was a key that matches, or a refusal, which has the cause
+-- of a resize that could not be ended.
 abbrev pub IsTaken : {K S : Type 0} → (K → K → Bool) → (K → Bool) → MapState K (Unit {0}) S
     → Result Bool Refused → MapState K (Unit {0}) S → Type 0
 IsTaken {K = K} eq matches s (Ok true) s' = (p : Stored K (Unit {0}))

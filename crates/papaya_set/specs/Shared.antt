@@ -1,4 +1,5 @@
--- What calls on the set that threads share answer, by a history of the map of its keys to unit values.
+-- What calls on the set that threads share answer, by a history of the map of its keys to
+-- unit values.
 use Rattle.std.specs.Prelude.{◌≡◌, [], Bool, List, Option, Ok, is_none, is_some, option_map}
 use Rattle.std.specs.Borrow.{Bor}
 use Rattle.std.specs.Fn.{Called, Mut}

@@ -50,9 +50,9 @@ impl<K, S> Model for HashSetBuilder<K, S> {
 }
 
 impl<K: Hash + Eq> HashSet<K, BuildHasherDefault<FoldHasher>> {
-    /// A builder of a set for no keys, which resizes as [`ResizeMode::default`] says, counts its keys
-    /// over [`DEFAULT_SHARDS`] shards, has no limit on the keys that it logs, and has a collector of
-    /// number 0: `builder` of 0.2.5.
+    /// A builder of a set for no keys, which resizes as [`ResizeMode::default`] says, counts its
+    /// keys over [`DEFAULT_SHARDS`] shards, has no limit on the keys that it logs, and has a
+    /// collector of number 0: `builder` of 0.2.5.
     pub fn builder() -> HashSetBuilder<K, BuildHasherDefault<FoldHasher>>
         ensures collector { result.collector ≡ 0 }
         ensures capacity { result.capacity ≡ 0 }
@@ -165,8 +165,8 @@ impl<K, S> HashSetBuilder<K, S> {
         HashSetBuilder { mode, ..self }
     }
 
-    /// Asks for so many shards of the count, which are rounded up to a power of two. 0.2.5 takes their
-    /// number from the machine's processors.
+    /// Asks for so many shards of the count, which are rounded up to a power of two. 0.2.5 takes
+    /// their number from the machine's processors.
     pub fn shards(self, shards: usize) -> HashSetBuilder<K, S>
         ensures { result ≡ record {
           hasher = self.hasher;
@@ -246,8 +246,8 @@ impl<K: Hash + Eq + Drop, S: BuildHasher + Drop> HashSetBuilder<K, S> {
         Ok(HashSet { map })
     }
 
-    /// A set of the same parts for one caller, which has no need of a collector; 0.2.5 has none such.
-    /// Refused as [`seq::HashSet::with_parts`].
+    /// A set of the same parts for one caller, which has no need of a collector; 0.2.5 has none
+    /// such. Refused as [`seq::HashSet::with_parts`].
     pub fn build_seq(self, alloc: Global) -> Result<seq::HashSet<K, S>, Refused>
         ensures ok { IfOk result (λ set. IsAllowed self.mode self.capacity self.shards
             × IsNewLimited {A = Unit {0}} self.mode self.capacity self.shards self.hasher self.limit

@@ -13,9 +13,9 @@ use std::alloc::Global;
 use std::hash::{BuildHasher, BuildHasherDefault, FoldHasher, Hash};
 
 impl<K: Hash + Eq + Drop, S: BuildHasher> HashSet<K, S> {
-    /// Stores keys in the order in which they come: what the trait `Extend` does in 0.2.5. Of two
-    /// equal keys the earlier one stays. No room is made ahead, so for no keys nothing is done at
-    /// all.
+    /// Stores keys in the order in which they come: what the trait `Extend` does in 0.2.5. Of
+    /// two equal keys the earlier one stays. No room is made ahead, so for no keys nothing is
+    /// done at all.
     ///
     /// Refused as [`HashSet::insert`] is for a key. The keys before it are in the set then, and
     /// those after it were not asked for.

@@ -57,8 +57,8 @@ impl<K: Hash + Eq + Clone + Drop, S: BuildHasher + Clone + Drop> seq::HashSet<K,
 }
 
 impl<K: Hash + Eq, S: BuildHasher> HashSet<K, S> {
-    /// Have both sets the same keys? It is what `PartialEq` answers in 0.2.5. Where others change one
-    /// of the sets meanwhile, it may say either. Refused as
+    /// Have both sets the same keys? It is what `PartialEq` answers in 0.2.5. Where others change
+    /// one of the sets meanwhile, it may say either. Refused as
     /// [`HashSetRef::iter`](crate::set::HashSetRef::iter) is.
     pub fn eq<R: Wait>(&self, rt: &R, other: &HashSet<K, S>) -> Result<bool, Refused>
         ensures { IfErr result IsMemoryOrCapacity }
@@ -69,8 +69,8 @@ impl<K: Hash + Eq, S: BuildHasher> HashSet<K, S> {
 
 impl<K: Hash + Eq + Clone + Drop, S: BuildHasher + Clone + Drop> HashSet<K, S> {
     /// A set of clones of this one's keys: what the trait `Clone` makes in 0.2.5. It is made and
-    /// refused as a map of clones by [`papaya_map::map::HashMap::try_clone`]. A key that is stored or
-    /// removed meanwhile may be copied or not.
+    /// refused as a map of clones by [`papaya_map::map::HashMap::try_clone`]. A key that is stored
+    /// or removed meanwhile may be copied or not.
     pub fn try_clone<R: Wait>(&self, rt: &R, alloc: Global) -> Result<HashSet<K, S>, Refused>
         ensures made { IfOk result (λ set. (keys : ℕ)
             × IsFor (ResizeMode.Incremental DEFAULT_CHUNK) keys DEFAULT_SHARDS None set) }
@@ -83,9 +83,9 @@ impl<K: Hash + Eq + Clone + Drop, S: BuildHasher + Clone + Drop> HashSet<K, S> {
         }
     }
 
-    /// Makes the set anew of clones of its keys, and gives back the memory of all that it had before,
-    /// as [`papaya_map::map::HashMap::reclaim`] does for a map. A pass or a session of before is of no
-    /// use after it. Refused, the set is as it was, and they go on.
+    /// Makes the set anew of clones of its keys, and gives back the memory of all that it had
+    /// before, as [`papaya_map::map::HashMap::reclaim`] does for a map. A pass or a session of
+    /// before is of no use after it. Refused, the set is as it was, and they go on.
     pub fn reclaim<R: Wait>(&mut self, rt: &R) -> Result<(), Refused>
         ensures ok { IfOk result (λ _. HasSettingsOf self.old self.new) }
         ensures hasher { IfOk result (λ _. S.is_clone self.old.begun.hasher

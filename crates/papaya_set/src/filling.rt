@@ -13,11 +13,12 @@ use std::hash::{BuildHasher, BuildHasherDefault, FoldHasher, Hash};
 use std::sync::Wait;
 
 impl<K: Hash + Eq + Drop, S: BuildHasher> HashSet<K, S> {
-    /// Stores keys in the order in which they come: what the trait `Extend` does in 0.2.5. Of two
-    /// equal keys the earlier one stays. No room is made ahead, so for no keys nothing is done at all.
+    /// Stores keys in the order in which they come: what the trait `Extend` does in 0.2.5. Of
+    /// two equal keys the earlier one stays. No room is made ahead, so for no keys nothing is
+    /// done at all.
     ///
-    /// Refused as [`HashSetRef::insert`](crate::set::HashSetRef::insert) is for a key. The keys before
-    /// it are in the set then, and those after it were not asked for.
+    /// Refused as [`HashSetRef::insert`](crate::set::HashSetRef::insert) is for a key. The keys
+    /// before it are in the set then, and those after it were not asked for.
     pub fn extend<R: Wait, U: IntoIterator<Item = K>>(&self, rt: &R, iter: U) -> Result<(), Refused>
     where
         U::IntoIter: Drop,
@@ -86,9 +87,9 @@ impl<K: Hash + Eq + Drop, S: BuildHasher + Default + Drop> HashSet<K, S> {
 }
 
 impl<K: Hash + Eq + Drop> HashSet<K, BuildHasherDefault<FoldHasher>> {
-    /// A set of the keys of an array: what `From<[K; N]>` makes in 0.2.5. Of two equal keys it has
-    /// the earlier one. `Refused::Memory` where the array had no room in memory; else refused as
-    /// [`HashSet::extend`].
+    /// A set of the keys of an array: what `From<[K; N]>` makes in 0.2.5. Of two equal keys it
+    /// has the earlier one. `Refused::Memory` where the array had no room in memory; else refused
+    /// as [`HashSet::extend`].
     pub fn from_array<R: Wait, const N: usize>(
         rt: &R,
         alloc: Global,

@@ -1,7 +1,7 @@
-//! The calls of a set that is not pinned, which take a guard. Each looks whether the guard is of the
-//! set's collector, and is then the call of that name of [`HashSetRef`](crate::set::HashSetRef), but
-//! that what it says begins with what had been seen when the set was made. With another guard it is
-//! refused, and changes nothing.
+//! The calls of a set that is not pinned, which take a guard. Each looks whether the guard is of
+//! the set's collector, and is then the call of that name of
+//! [`HashSetRef`](crate::set::HashSetRef), but that what it says begins with what had been seen
+//! when the set was made. With another guard it is refused, and changes nothing.
 ghost use Rattle.std.specs.Prelude.{◌≡◌, [], true, Ok, Err, IfErr, IfOk, is_ok};
 ghost use Rattle.std.specs.Borrow.{sem};
 ghost use denote.Struct.Field.{unit-field};
@@ -183,8 +183,8 @@ impl<K: Hash + Eq, S: BuildHasher> HashSet<K, S> {
         }
     }
 
-    /// Removes a key, and answers whether it was there: `remove` of 0.2.5. Refused for a wrong guard,
-    /// and as [`HashSetRef::remove`](crate::set::HashSetRef::remove).
+    /// Removes a key, and answers whether it was there: `remove` of 0.2.5. Refused for a wrong
+    /// guard, and as [`HashSetRef::remove`](crate::set::HashSetRef::remove).
     pub fn remove<R: Wait, Q: Equivalent<K>, G: Guard>(
         &self,
         rt: &R,
@@ -206,8 +206,8 @@ impl<K: Hash + Eq, S: BuildHasher> HashSet<K, S> {
         answer
     }
 
-    /// Makes room for so many keys more than the set counts: `reserve` of 0.2.5. Refused for a wrong
-    /// guard, and as [`HashSetRef::reserve`](crate::set::HashSetRef::reserve).
+    /// Makes room for so many keys more than the set counts: `reserve` of 0.2.5. Refused for a
+    /// wrong guard, and as [`HashSetRef::reserve`](crate::set::HashSetRef::reserve).
     pub fn reserve<R: Wait, G: Guard>(
         &self,
         rt: &R,
@@ -247,8 +247,8 @@ impl<K: Hash + Eq, S: BuildHasher> HashSet<K, S> {
         pass.tell(answer)
     }
 
-    /// Removes the keys that the set has: `clear` of 0.2.5. Refused for a wrong guard, and as
-    /// [`HashSetRef::clear`](crate::set::HashSetRef::clear).
+    /// Removes the keys that the set has: `clear` of 0.2.5. Refused for a wrong guard, and
+    /// as [`HashSetRef::clear`](crate::set::HashSetRef::clear).
     pub fn clear<R: Wait, G: Guard>(&self, rt: &R, guard: &G) -> Result<(), Refused>
         ensures* own { sem 𝓛 (of_its_history (EventOf K.row unit-field.row S.row).coded.code
             (rule_of ⟦<Law<K, (), S> as Rule<Event<K, (), S>, Named<K, ()>>>⟧) (unpinned self.now)
@@ -293,8 +293,9 @@ impl<K: Hash + Eq, S: BuildHasher> HashSet<K, S> {
         pass.tell(answer)
     }
 
-    /// Removes the keys for which the closure, which is shown each, answers false: `retain` of 0.2.5.
-    /// Refused for a wrong guard, and as [`HashSetRef::retain`](crate::set::HashSetRef::retain).
+    /// Removes the keys for which the closure, which is shown each, answers false: `retain` of
+    /// 0.2.5. Refused for a wrong guard, and as
+    /// [`HashSetRef::retain`](crate::set::HashSetRef::retain).
     pub fn retain<R: Wait, F: FnMut(&K) -> bool, G: Guard>(
         &self,
         rt: &R,
@@ -318,8 +319,8 @@ impl<K: Hash + Eq, S: BuildHasher> HashSet<K, S> {
         answer
     }
 
-    /// The keys of the set, one by one: `iter` of 0.2.5. Refused for a wrong guard, and as
-    /// [`HashSetRef::iter`](crate::set::HashSetRef::iter).
+    /// The keys of the set, one by one: `iter` of 0.2.5. Refused for a wrong guard, and
+    /// as [`HashSetRef::iter`](crate::set::HashSetRef::iter).
     pub fn iter<'g, R: Wait, G: Guard>(
         &'g self,
         rt: &R,
@@ -364,9 +365,9 @@ impl<K: Hash + Eq + Drop, S: BuildHasher> HashSet<K, S> {
         }
     }
 
-    /// Stores a key, and answers whether it was absent: `insert` of 0.2.5. As its text says, an equal
-    /// key that is stored stays. Refused for a wrong guard, and as
-    /// [`HashSetRef::insert`](crate::set::HashSetRef::insert).
+    /// Stores a key, and answers whether it was absent: `insert` of 0.2.5. As its
+    /// text says, an equal key that is stored stays. Refused for a wrong guard, and
+    /// as [`HashSetRef::insert`](crate::set::HashSetRef::insert).
     pub fn insert<R: Wait, G: Guard>(&self, rt: &R, key: K, guard: &G) -> Result<bool, Refused>
         ensures* own { sem 𝓛 (of_its_history (EventOf K.row unit-field.row S.row).coded.code
             (rule_of ⟦<Law<K, (), S> as Rule<Event<K, (), S>, Named<K, ()>>>⟧) (unpinned self.now)

@@ -1,6 +1,6 @@
-//! The calls of a set that is pinned. Each makes a pass for itself, which has seen what had been seen
-//! when the set was pinned, and what it says is so of that very set's own history since. For calls
-//! whose histories go on from one to the next take [`HashSet::map`] and its calls by a pass.
+//! The calls of a set that is pinned. Each makes a pass for itself, which has seen what had been
+//! seen when the set was pinned, and what it says is so of that very set's own history since. For
+//! calls whose histories go on from one to the next take [`HashSet::map`] and its calls by a pass.
 ghost use Rattle.std.specs.Prelude.{◌≡◌, [], IfErr, IfOk};
 ghost use Rattle.std.specs.Borrow.{sem};
 ghost use denote.Struct.Field.{unit-field};
@@ -58,8 +58,8 @@ impl<'a, K: Hash + Eq, S: BuildHasher> HashSetRef<'a, K, S> {
         pass.tell(answer)
     }
 
-    /// Is the key in the set? `contains` of 0.2.5. It waits for nobody, and takes no lock and no
-    /// memory.
+    /// Is the key in the set? `contains` of 0.2.5. It waits for nobody, and takes no lock and
+    /// no memory.
     #[inline]
     pub fn contains<Q: Equivalent<K>>(&self, key: &Q) -> bool
         ensures* own { sem 𝓛 (of_its_history (EventOf K.row unit-field.row S.row).coded.code
@@ -123,8 +123,8 @@ impl<'a, K: Hash + Eq, S: BuildHasher> HashSetRef<'a, K, S> {
 
     /// Removes a key, and answers whether it was there: `remove` of 0.2.5.
     ///
-    /// A removal makes nothing for itself. But where it helps to copy the table it may be refused as
-    /// [`HashSetRef::insert`] is, and then it changes nothing.
+    /// A removal makes nothing for itself. But where it helps to copy the table it may be refused
+    /// as [`HashSetRef::insert`] is, and then it changes nothing.
     pub fn remove<R: Wait, Q: Equivalent<K>>(&self, rt: &R, key: &Q) -> Result<bool, Refused>
         ensures* own { sem 𝓛 (of_its_history (EventOf K.row unit-field.row S.row).coded.code
             (rule_of ⟦<Law<K, (), S> as Rule<Event<K, (), S>, Named<K, ()>>>⟧) self.now K.eq
@@ -136,8 +136,8 @@ impl<'a, K: Hash + Eq, S: BuildHasher> HashSetRef<'a, K, S> {
         answer
     }
 
-    /// Makes room for so many keys more than the set counts: `reserve` of 0.2.5. No key of the set
-    /// changes.
+    /// Makes room for so many keys more than the set counts: `reserve` of 0.2.5. No key of the
+    /// set changes.
     ///
     /// `Refused::Memory` where a growth was refused, and `Refused::Capacity` where there is no room
     /// for such a table. 0.2.5 panics or aborts there.
@@ -162,8 +162,8 @@ impl<'a, K: Hash + Eq, S: BuildHasher> HashSetRef<'a, K, S> {
         pass.tell(answer)
     }
 
-    /// Removes the keys that the set has: `clear` of 0.2.5. A key that is stored meanwhile may stay.
-    /// Refused as [`HashSetRef::retain`] is.
+    /// Removes the keys that the set has: `clear` of 0.2.5. A key that is stored meanwhile may
+    /// stay. Refused as [`HashSetRef::retain`] is.
     pub fn clear<R: Wait>(&self, rt: &R) -> Result<(), Refused>
         ensures* own { sem 𝓛 (of_its_history (EventOf K.row unit-field.row S.row).coded.code
             (rule_of ⟦<Law<K, (), S> as Rule<Event<K, (), S>, Named<K, ()>>>⟧) self.now K.eq
@@ -194,13 +194,13 @@ impl<'a, K: Hash + Eq, S: BuildHasher> HashSetRef<'a, K, S> {
         pass.tell(answer)
     }
 
-    /// Removes the keys for which the closure, which is shown each, answers false: `retain` of 0.2.5.
-    /// The closure is shown a key again where another call replaced it meanwhile, or where all is
-    /// copied.
+    /// Removes the keys for which the closure, which is shown each, answers false: `retain` of
+    /// 0.2.5. The closure is shown a key again where another call replaced it meanwhile, or where
+    /// all is copied.
     ///
-    /// Where it meets a copier's work it copies what is left to copy, and may be refused a table then:
-    /// `Refused::Memory` where a growth was refused, and `Refused::Capacity` where there is no room.
-    /// What was removed stays so.
+    /// Where it meets a copier's work it copies what is left to copy, and may be refused a table
+    /// then: `Refused::Memory` where a growth was refused, and `Refused::Capacity` where there is
+    /// no room. What was removed stays so.
     pub fn retain<R: Wait, F: FnMut(&K) -> bool>(&self, rt: &R, stays: F) -> Result<(), Refused>
         requires { F.IsAlwaysCallable stays }
         ensures* own { sem 𝓛 (of_its_history (EventOf K.row unit-field.row S.row).coded.code
@@ -218,8 +218,8 @@ impl<'a, K: Hash + Eq, S: BuildHasher> HashSetRef<'a, K, S> {
     /// The keys of the set, one by one: `iter` of 0.2.5. A key that is stored or removed meanwhile
     /// may be given or not.
     ///
-    /// With `Blocking` it takes the root as it is. Else it copies first what is left to copy, and may
-    /// be refused as [`HashSetRef::retain`] is.
+    /// With `Blocking` it takes the root as it is. Else it copies first what is left to copy, and
+    /// may be refused as [`HashSetRef::retain`] is.
     pub fn iter<R: Wait>(&self, rt: &R) -> Result<Iter<'a, K, S>, Refused>
         ensures began { IfOk result (λ keys. keys.began ≡ []) }
         ensures refused { IfErr result IsMemoryOrCapacity }
@@ -246,8 +246,9 @@ impl<'a, K: Hash + Eq + Drop, S: BuildHasher> HashSetRef<'a, K, S> {
         }
     }
 
-    /// Stores a key, and answers whether it was absent: `insert` of 0.2.5. As its text says, an equal
-    /// key that is stored stays. Of threads that store equal keys at once just one is answered true.
+    /// Stores a key, and answers whether it was absent: `insert` of 0.2.5. As its text says, an
+    /// equal key that is stored stays. Of threads that store equal keys at once just one is
+    /// answered true.
     ///
     /// `Refused::Memory` where a growth was refused. `Refused::Capacity` where a log is full, or a
     /// next table would be too long. `Refused::Limit` where the set has a limit on keys, and as

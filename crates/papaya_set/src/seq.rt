@@ -169,8 +169,8 @@ impl<K: Hash + Eq, S: BuildHasher> HashSet<K, S> {
         self.map.contains_key(key)
     }
 
-    /// The stored key that is equal to this one: `get` of 0.2.5. It takes no memory and is never
-    /// refused.
+    /// The stored key that is equal to this one: `get` of 0.2.5. It takes no memory and is
+    /// never refused.
     pub fn get<Q: Equivalent<K>>(&self, key: &Q) -> Option<&K>
         ensures map { (k : _) → Q.matches key.now k ≡ true
             → option_map (λ stored. stored.now) result ≡ key_in K.eq self.now.store k }
@@ -194,8 +194,8 @@ impl<K: Hash + Eq, S: BuildHasher> HashSet<K, S> {
 }
 
 impl<K: Hash + Eq + Drop, S: BuildHasher> HashSet<K, S> {
-    /// Stores a key, and answers whether it was absent: `insert` of 0.2.5. As its text says, an equal
-    /// key that is stored stays.
+    /// Stores a key, and answers whether it was absent: `insert` of 0.2.5. As its text says, an
+    /// equal key that is stored stays.
     ///
     /// Refused as [`HashMap::insert`]. The set is as it was then, and the key is dropped, at once
     /// or with the set.

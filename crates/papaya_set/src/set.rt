@@ -29,9 +29,9 @@ impl<K: Hash + Eq, S: BuildHasher> Model for HashSet<K, S> {
     ghost view = { λ s. s.map };
 }
 
-/// A set, as calls take it: `HashSetRef` of 0.2.5, but for the guard, which it needs none of. What it
-/// answers stays for as long as the set does. Contracts see what they see of the set, and what had
-/// been seen of its history when it was pinned.
+/// A set, as calls take it: `HashSetRef` of 0.2.5, but for the guard, which it needs none of. What
+/// it answers stays for as long as the set does. Contracts see what they see of the set, and what
+/// had been seen of its history when it was pinned.
 #[derive(Drop)]
 pub struct HashSetRef<'a, K: Hash + Eq, S: BuildHasher> {
     pub(crate) set: &'a HashSet<K, S>,
@@ -178,8 +178,8 @@ impl<K: Hash + Eq, S: BuildHasher> HashSet<K, S> {
         }
     }
 
-    /// The same as [`HashSet::pin`]: `pin_owned` of 0.2.5, whose reference may go to another thread.
-    /// Here each may, as it holds no guard.
+    /// The same as [`HashSet::pin`]: `pin_owned` of 0.2.5, whose reference may go to another
+    /// thread. Here each may, as it holds no guard.
     pub fn pin_owned(&self) -> HashSetRef<'_, K, S>
         ensures { result.map ≡ self.now }
     {

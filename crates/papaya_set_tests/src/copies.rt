@@ -8,8 +8,8 @@ use std::process::Abort;
 use std::sync::Wait;
 use std::test::Fail;
 
-/// A copy of a set for one caller has its keys, and is as before where it takes a further one, loses
-/// it and is made anew.
+/// A copy of a set for one caller has its keys, and is as before where it takes a further one,
+/// loses it and is made anew.
 fn copies_alone(rt: &impl Abort, alloc: Global, end: u64) -> Result<(), Fail> {
     let set: HashSet<u64> = HashSet::from_iter(alloc, 0..end)?;
     let mut copy = set.try_clone(alloc)?;

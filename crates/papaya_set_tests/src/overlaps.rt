@@ -45,8 +45,8 @@ fn label(set: &Keys) -> Option<char> {
     }
 }
 
-/// Retains by a closure that waits at the gate, and agrees from so many calls on: was it open in
-/// time?
+/// Retains by a closure that waits at the gate, and agrees from so many calls on: was it open
+/// in time?
 fn retains<R: Wait>(rt: &R, set: &Keys, from: u64, gate: &Gate) -> Result<bool, Refused> {
     let pinned = set.pin();
     let mut calls = 0u64;

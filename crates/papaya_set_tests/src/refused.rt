@@ -27,8 +27,8 @@ fn has_below(set: &Keys, end: u64) -> bool {
     set.len() as u64 == end
 }
 
-/// Inserts a new key, and again where it was refused for want of memory: was the set as it should
-/// be?
+/// Inserts a new key, and again where it was refused for want of memory: was the set as it
+/// should be?
 fn insert_again(set: &mut Keys, key: u64) -> Result<bool, Refused> {
     match set.insert(key) {
         Err(Refused::Memory) => {

@@ -1,4 +1,5 @@
-// Each call of the set that threads share, once and with ample memory: what it answers by one caller.
+// Each call of the set that threads share, once and with ample memory: what it answers by
+// one caller.
 use crate::expect::is;
 use crate::labels::{Keys, Labelled, Pinned, any, key};
 use papaya_keys::guard::Collector;

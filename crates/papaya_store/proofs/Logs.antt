@@ -36,7 +36,8 @@ module _ {K V : Type 0} where
   value_with (Logged n) (Logged m) = refl
 
   -- the two parts of a pair that is stored
-  stored_parts : (n : ℕ) (key : Option K) (value : Option V) (p : Stored K V) → stored_at n key value ≡ Some p → (key ≡ Some p.key) × (value ≡ Some p.value) × (p.number ≡ n)
+  stored_parts : (n : ℕ) (key : Option K) (value : Option V) (p : Stored K V) → stored_at n key value ≡ Some p → (key ≡ Some p.key)
+      × (value ≡ Some p.value) × (p.number ≡ n)
   stored_parts n (Some k) (Some v) p h =
       let is : record { number = n; key = k; value = v } ≡ p = cc in
       (ap (λ (q : Stored K V). Some q.key) is, ap (λ (q : Stored K V). Some q.value) is, ap (λ (q : Stored K V). q.number) (sym is))
@@ -95,7 +96,8 @@ module _ {K V S : Type 0} (s : StoreState K V S) where
           record { entry = entry; there = e; key = parts.0; value = parts.1; number = parts.2 }
 
   -- and of one whose entry and parts are known
-  pub entry_stored : (n : ℕ) (entry : Pair K V) (k : K) (v : V) → slice_get s.pairs n ≡ Some entry → key_in s.pairs (key_part entry) ≡ Some k → value_in s.pairs (value_part entry) ≡ Some v → pair_of s n ≡ Some (record { number = n; key = k; value = v })
+  pub entry_stored : (n : ℕ) (entry : Pair K V) (k : K) (v : V) → slice_get s.pairs n ≡ Some entry → key_in s.pairs (key_part entry) ≡ Some k
+      → value_in s.pairs (value_part entry) ≡ Some v → pair_of s n ≡ Some (record { number = n; key = k; value = v })
   entry_stored n entry k v there key value =
       ap (stored_in s.pairs n) there ∙ ap (λ o. stored_at n o (value_in s.pairs (value_part entry))) key ∙ ap (stored_at n (Some k)) value
 
@@ -111,10 +113,12 @@ module _ {K V S : Type 0} (s : StoreState K V S) where
   pub key_from-there : (n : ℕ) (p : Stored K V) → pair_of s n ≡ Some p → (first : ℕ) × (key_from n (slice_get s.pairs n) ≡ Some first)
   key_from-there n p h = let e = pair_entry n p h in (brought_by n (key_part e.entry), ap (key_from n) e.there)
 
-  pub key_from-same : (n : ℕ) (p : Stored K V) → pair_of s n ≡ Some p → (first : ℕ) → key_from n (slice_get s.pairs n) ≡ Some first → key_in s.pairs (Logged first) ≡ Some p.key
+  pub key_from-same : (n : ℕ) (p : Stored K V) → pair_of s n ≡ Some p → (first : ℕ) → key_from n (slice_get s.pairs n) ≡ Some first
+      → key_in s.pairs (Logged first) ≡ Some p.key
   key_from-same n p h first from =
       let e = pair_entry n p h in
-      let is : brought_by n (key_part e.entry) ≡ first = (let f : Some (brought_by n (key_part e.entry)) ≡ Some first = sym (ap (key_from n) e.there) ∙ from in cc) in
+      let is : brought_by n (key_part e.entry)
+      ≡ first = (let f : Some (brought_by n (key_part e.entry)) ≡ Some first = sym (ap (key_from n) e.there) ∙ from in cc) in
       ap (λ m. key_in s.pairs (Logged m)) (sym is) ∙ key_known s.pairs n (key_part e.entry) (ap key_brought e.there) ∙ e.key
 
   -- a pair stays where the log grows
@@ -137,7 +141,8 @@ module _ {K V S A : Type 0} (s : StoreState K V S) (r : Running K V A) (s' : Sto
   pub value_logged : (key later : Part K) (a : Answer) (v : V) → own_value s r ≡ Some v → LogsPair key later a s r s' r' → own_value s' r' ≡ Some v
   value_logged key later a v value_is (value, has, is, few, grown, left) =
       let more : List (Pair K V) = pair_with key value ∷ [] in
-      let brought : value_brought (slice_get (s.pairs ++ more) (length s.pairs)) ≡ owned value = ap value_brought (get-append_last s.pairs (pair_with key value)) ∙ ap owned (value_with key value) in
+      let brought : value_brought (slice_get (s.pairs ++ more) (length s.pairs)) ≡ owned value = ap value_brought
+      (get-append_last s.pairs (pair_with key value)) ∙ ap owned (value_with key value) in
       ap (λ (y : StoreState K V S). value_at y.pairs r'.value) grown ∙ ap (λ (y : Running K V A). value_at (s.pairs ++ more) y.value) left
       ∙ value_known (s.pairs ++ more) (length s.pairs) value brought ∙ value-more s.pairs more value v (sym (ap (value_at s.pairs) has) ∙ value_is)
 
@@ -146,7 +151,8 @@ module _ {K V S A : Type 0} (s : StoreState K V S) (r : Running K V A) (s' : Sto
     pub pair : pair_of s' (length s.pairs) ≡ Some (record { number = length s.pairs; key = k; value = v })
     pub value : own_value s' r' ≡ Some v
 
-  pub pair_logged : (key later : Part K) (a : Answer) (k : K) (v : V) → key_in s.pairs key ≡ Some k → own_value s r ≡ Some v → LogsPair key later a s r s' r' → IsLogged k v
+  pub pair_logged : (key later : Part K) (a : Answer) (k : K) (v : V) → key_in s.pairs key ≡ Some k → own_value s r ≡ Some v
+      → LogsPair key later a s r s' r' → IsLogged k v
   pair_logged key later a k v key_is value_is logs = record { pair = stands logs; value = value_logged key later a v value_is logs }
     where
       stands : LogsPair key later a s r s' r' → pair_of s' (length s.pairs) ≡ Some (record { number = length s.pairs; key = k; value = v })
@@ -168,12 +174,14 @@ module _ {K V S A : Type 0} (s : StoreState K V S) (r : Running K V A) (s' : Sto
       known : LogsOwn a s r s' r' → own_key s' r' ≡ Some k
       known (value, has, is, few, grown, left) =
           let more : List (Pair K V) = pair_with r.key value ∷ [] in
-          let brought : key_brought (slice_get (s.pairs ++ more) (length s.pairs)) ≡ owned r.key = ap key_brought (get-append_last s.pairs (pair_with r.key value)) ∙ ap owned (key_with r.key value) in
+          let brought : key_brought (slice_get (s.pairs ++ more) (length s.pairs)) ≡ owned r.key = ap key_brought
+          (get-append_last s.pairs (pair_with r.key value)) ∙ ap owned (key_with r.key value) in
           ap (λ (y : StoreState K V S). key_in y.pairs r'.key) grown ∙ ap (λ (y : Running K V A). key_in (s.pairs ++ more) y.key) left
           ∙ key_known (s.pairs ++ more) (length s.pairs) r.key brought ∙ key-more s.pairs more r.key k key_is
 
   -- and so it does where its pair has the key of another
-  pub of_logged : (a : Answer) (n : ℕ) (p : Stored K V) (v : V) → pair_of s n ≡ Some p → own_value s r ≡ Some v → LogsOf n a s r s' r' → IsLogged p.key v × ((k : K) → own_key s r ≡ Some k → own_key s' r' ≡ Some k)
+  pub of_logged : (a : Answer) (n : ℕ) (p : Stored K V) (v : V) → pair_of s n ≡ Some p → own_value s r ≡ Some v → LogsOf n a s r s' r'
+      → IsLogged p.key v × ((k : K) → own_key s r ≡ Some k → own_key s' r' ≡ Some k)
   of_logged a n p v there value_is (first, from, logs) = (
     pair_logged (Logged first) r.key a p.key v (key_from-same s n p there first from) value_is logs,
     λ k own. kept logs k own,
@@ -181,5 +189,6 @@ module _ {K V S A : Type 0} (s : StoreState K V S) (r : Running K V A) (s' : Sto
     where
       kept : LogsPair (Logged first) r.key a s r s' r' → (k : K) → own_key s r ≡ Some k → own_key s' r' ≡ Some k
       kept (value, has, is, few, grown, left) k own =
-          ap (λ (y : StoreState K V S). key_in y.pairs r'.key) grown ∙ ap (λ (y : Running K V A). key_in (s.pairs ++ pair_with (Logged first) value ∷ []) y.key) left
+          ap (λ (y : StoreState K V S). key_in y.pairs r'.key) grown
+          ∙ ap (λ (y : Running K V A). key_in (s.pairs ++ pair_with (Logged first) value ∷ []) y.key) left
           ∙ key-more s.pairs (pair_with (Logged first) value ∷ []) r.key k own

@@ -21,8 +21,8 @@ abbrev pub HasCapacity : (capacity initial : ℕ) → Tables → Type 0
 HasCapacity zero initial words = words ≡ record { root = 0; tables = []; made = 0 }
 HasCapacity (suc n) initial words = IsOpened initial words
 
--- no pairs, a count of 0 in as many shards as were asked for, rounded up, and a table for the
--- capacity
+-- no pairs, a count of 0 in as many shards as were asked for, rounded up, and a table for
+-- the capacity
 pub record IsNewStore {K V S : Type 0} (capacity shards : ℕ) (hasher : S) (entries : ℕ)
     (s : StoreState K V S) : Type 0 where
   pub initial : IsEntriesFor capacity entries

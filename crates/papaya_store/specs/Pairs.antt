@@ -1,5 +1,5 @@
--- The parts of the pairs of a log: what a pair brought is its own, and of the rest it names the pair
--- that brought it.
+-- The parts of the pairs of a log: what a pair brought is its own, and of the rest it names the
+-- pair that brought it.
 use Rattle.std.specs.Prelude.{ℕ, List, Option, Some, None, slice_get}
 use Rattle.papaya_store.specs.declared.pairs.Pair.{Pair}
 use Rattle.papaya_store.specs.declared.pairs.Pair.TheVariants as pairs

@@ -34,8 +34,8 @@ Gives n v answer v' = ((answer ≡ Ok) × IsGiven n v v')
     ⊎ ((answer ≡ Refused Memory) × (v'.scanner ≡ v.scanner) × (v'.answers ≡ v.answers)
     × (v'.given ≡ v.given))
 
--- Just one ask is answered: of the copy of all as a copier's is, a showing by the closure's
--- answers.
+-- Just one ask is answered: of the copy of all as a copier's is, a showing by the
+-- closure's answers.
 abbrev pub PerformsScan : {K V S A : Type 0} → (K → K → Bool) → Says K V A → (S → K → ℕ) → Bool
     → ScanAsk → StoreState K V S → Scanning A → Answer → StoreState K V S → Scanning A → Type 0
 PerformsScan eq says hash refuse (Copy ask) s v answer s' v' =

@@ -35,17 +35,20 @@ pub record IsLeft {K V S A : Type 0} (eq : K → K → Bool) (hash : S → K →
   pub initial_is : s'.initial ≡ s.initial
   pub keeps : KeepsPairs s.store s'.store
 
-module _ {K V S A : Type 0} (eq : K → K → Bool) (hash : S → K → ℕ) (s : CoreState K V S A) (law : IsLawfulKeys eq (hash s.store.hasher)) (says : Says K V A) (s' : CoreState K V S A) (h : History) (r : Running K V A) (under_way : running s'.callers 0 ≡ Some r) where
+module _ {K V S A : Type 0} (eq : K → K → Bool) (hash : S → K → ℕ) (s : CoreState K V S A) (law : IsLawfulKeys eq (hash s.store.hasher))
+    (says : Says K V A) (s' : CoreState K V S A) (h : History) (r : Running K V A) (under_way : running s'.callers 0 ≡ Some r) where
   -- the call that is under way is the one that was made
   sole_left : (change_in r.machine.call.state ≡ None) → IsSole eq hash s law says s' h → IsLeft eq hash s s' r
   sole_left none sole =
-      let is : sole.work ≡ works.Call r = same_item sole.work (works.Call r) (sym (ap (λ (l : List (Seat K V A)). working l 0) sole.callers) ∙ call-under_way (working s'.callers 0) r under_way) in
+      let is : sole.work ≡ works.Call r = same_item sole.work (works.Call r)
+      (sym (ap (λ (l : List (Seat K V A)). working l 0) sole.callers) ∙ call-under_way (working s'.callers 0) r under_way) in
       record {
         map = subst (IsUnmoved eq hash s law says s') is sole.unmoved none;
         core = without_seat eq hash s law s' {says = says} sole.follows;
         counted = λ owes counted.
             ap (λ z. int_wrap w64 (s'.store.count.sum +ℤ (z +ℤ pos 0))) (sym owes)
-            ∙ sym (ap (λ (l : List (Seat K V A)). int_wrap w64 (s'.store.count.sum +ℤ owed_by_seats l)) (sole.callers ∙ ap (λ w. one_seat (Some w)) is)) ∙ sole.follows.counted counted;
+            ∙ sym (ap (λ (l : List (Seat K V A)). int_wrap w64 (s'.store.count.sum +ℤ owed_by_seats l))
+            (sole.callers ∙ ap (λ w. one_seat (Some w)) is)) ∙ sole.follows.counted counted;
         hasher_is = sole.follows.hasher_is;
         mode_is = sole.follows.mode_is;
         initial_is = sole.follows.initial_is;
@@ -57,11 +60,17 @@ module _ {K V S A : Type 0} (eq : K → K → Bool) (hash : S → K → ℕ) (s 
   goes_left none (inr (reply, over)) = let f : None ≡ Some r = sym (ap (λ (l : List (Seat K V A)). running l 0) over.callers) ∙ under_way in absurd cc
 
   -- so it is left, if it has changed nothing
-  pub call_left : (call : Call K V A) (steps : ℕ) → IsLawfulCore eq (hash s.store.hasher) s.store s.callers s.mode → s.callers ≡ [] → TurnsRun eq says hash (Begin 0 call ∷ Finish 0 steps ∷ []) 2 s s' h → change_in r.machine.call.state ≡ None → IsLeft eq hash s s' r
+  pub call_left : (call : Call K V A) (steps : ℕ) → IsLawfulCore eq (hash s.store.hasher) s.store s.callers s.mode → s.callers ≡ []
+      → TurnsRun eq says hash (Begin 0 call ∷ Finish 0 steps ∷ []) 2 s s' h → change_in r.machine.call.state ≡ None → IsLeft eq hash s s' r
   call_left call steps lawful idle runs none = goes_left none (runs_to eq hash s law says call steps s' h lawful idle runs)
 
 -- The same with keys that are hashed as the hasher does.
-pub lawful_left : {K V S A H : Type 0} (eq : K → K → Bool) (input : K → List (List ℕ)) (build : S → H) (write : H → List ℕ → H) (finish : H → ℕ) → IsEquivalence eq → ((x y : K) → eq x y ≡ true → input x ≡ input y) → (says : Says K V A) (s s' : CoreState K V S A) (h : History) (r : Running K V A) (call : Call K V A) (steps : ℕ)
-    → IsLawfulCore eq (hash_of input build write finish s.store.hasher) s.store s.callers s.mode → s.callers ≡ [] → TurnsRun eq says (hash_of input build write finish) (Begin 0 call ∷ Finish 0 steps ∷ []) 2 s s' h → running s'.callers 0 ≡ Some r → change_in r.machine.call.state ≡ None → IsLeft eq (hash_of input build write finish) s s' r
+pub lawful_left : {K V S A H : Type 0} (eq : K → K → Bool) (input : K → List (List ℕ)) (build : S → H) (write : H → List ℕ → H) (finish : H → ℕ)
+    → IsEquivalence eq → ((x y : K) → eq x y ≡ true → input x ≡ input y)
+    → (says : Says K V A) (s s' : CoreState K V S A) (h : History) (r : Running K V A) (call : Call K V A) (steps : ℕ)
+    → IsLawfulCore eq (hash_of input build write finish s.store.hasher) s.store s.callers s.mode → s.callers ≡ []
+    → TurnsRun eq says (hash_of input build write finish) (Begin 0 call ∷ Finish 0 steps ∷ []) 2 s s' h → running s'.callers 0 ≡ Some r
+    → change_in r.machine.call.state ≡ None → IsLeft eq (hash_of input build write finish) s s' r
 lawful_left eq input build write finish classes respects says s s' h r call steps lawful idle runs under_way none =
-    call_left eq (hash_of input build write finish) s (keys_lawful eq input build write finish classes respects s.store.hasher) says s' h r under_way call steps lawful idle runs none
+    call_left eq (hash_of input build write finish) s (keys_lawful eq input build write finish classes respects s.store.hasher) says s' h r under_way
+    call steps lawful idle runs none

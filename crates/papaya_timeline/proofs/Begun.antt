@@ -105,11 +105,46 @@ module _ {K V A : Type 0} (hash : K → ℕ) (mode : Mode) (initial number : ℕ
   scan_not_resizer z v w is e = let f : None ≡ Some v = ap (λ (w : Work K V A). scanner_in (Some w)) (sym is ∙ e) in absurd cc
 
   pub call_begun : (call : Call K V A) (r : Running K V A) → begun_work hash mode initial number call ≡ works.Call r → IsBegun call r
-  call_begun (Get k) r e = record { key = k; task = tasks.Get; key_is = refl; task_is = refl; is = same_call (begun hash mode initial number tasks.Get k None None) r _ refl e }
-  call_begun (Insert k v) r e = record { key = k; task = tasks.Insert true; key_is = refl; task_is = refl; is = same_call (begun hash mode initial number (tasks.Insert true) k (Some v) None) r _ refl e }
-  call_begun (TryInsert k v) r e = record { key = k; task = tasks.Insert false; key_is = refl; task_is = refl; is = same_call (begun hash mode initial number (tasks.Insert false) k (Some v) None) r _ refl e }
-  call_begun (RemoveIf k a) r e = record { key = k; task = tasks.RemoveIf; key_is = refl; task_is = refl; is = same_call (begun hash mode initial number tasks.RemoveIf k None (Some a)) r _ refl e }
-  call_begun (Compute k a) r e = record { key = k; task = tasks.Compute; key_is = refl; task_is = refl; is = same_call (begun hash mode initial number tasks.Compute k None (Some a)) r _ refl e }
+  call_begun (Get k) r e = record {
+    key = k;
+    task = tasks.Get;
+    key_is = refl;
+    task_is = refl;
+    is = same_call
+        (begun hash mode initial number tasks.Get k None None) r _ refl e;
+  }
+  call_begun (Insert k v) r e = record {
+    key = k;
+    task = tasks.Insert true;
+    key_is = refl;
+    task_is = refl;
+    is = same_call
+        (begun hash mode initial number (tasks.Insert true) k (Some v) None) r _ refl e;
+  }
+  call_begun (TryInsert k v) r e = record {
+    key = k;
+    task = tasks.Insert false;
+    key_is = refl;
+    task_is = refl;
+    is = same_call
+        (begun hash mode initial number (tasks.Insert false) k (Some v) None) r _ refl e;
+  }
+  call_begun (RemoveIf k a) r e = record {
+    key = k;
+    task = tasks.RemoveIf;
+    key_is = refl;
+    task_is = refl;
+    is = same_call
+        (begun hash mode initial number tasks.RemoveIf k None (Some a)) r _ refl e;
+  }
+  call_begun (Compute k a) r e = record {
+    key = k;
+    task = tasks.Compute;
+    key_is = refl;
+    task_is = refl;
+    is = same_call
+        (begun hash mode initial number tasks.Compute k None (Some a)) r _ refl e;
+  }
   call_begun (Reserve more) r e = absurd (no_call (resizer.begun (resizes.Reserve more) mode.resize initial number) r _ refl e)
   call_begun CopyAll r e = absurd (no_call (resizer.begun resizes.CopyAll mode.resize initial number) r _ refl e)
   call_begun Clear r e = absurd (call_not_scan (scanner_begun mode.resize initial number scans.Clear None) r _ refl e)
@@ -122,8 +157,18 @@ module _ {K V A : Type 0} (hash : K → ℕ) (mode : Mode) (initial number : ℕ
   resizer_begun_is (TryInsert k v) z e = absurd (no_resizer (begun hash mode initial number (tasks.Insert false) k (Some v) None) z _ refl e)
   resizer_begun_is (RemoveIf k a) z e = absurd (no_resizer (begun hash mode initial number tasks.RemoveIf k None (Some a)) z _ refl e)
   resizer_begun_is (Compute k a) z e = absurd (no_resizer (begun hash mode initial number tasks.Compute k None (Some a)) z _ refl e)
-  resizer_begun_is (Reserve more) z e = record { resize = resizes.Reserve more; no_key = refl; is = same_resizer (resizer.begun (resizes.Reserve more) mode.resize initial number) z _ refl e }
-  resizer_begun_is CopyAll z e = record { resize = resizes.CopyAll; no_key = refl; is = same_resizer (resizer.begun resizes.CopyAll mode.resize initial number) z _ refl e }
+  resizer_begun_is (Reserve more) z e = record {
+    resize = resizes.Reserve more;
+    no_key = refl;
+    is = same_resizer
+        (resizer.begun (resizes.Reserve more) mode.resize initial number) z _ refl e;
+  }
+  resizer_begun_is CopyAll z e = record {
+    resize = resizes.CopyAll;
+    no_key = refl;
+    is = same_resizer
+        (resizer.begun resizes.CopyAll mode.resize initial number) z _ refl e;
+  }
   resizer_begun_is Clear z e = absurd (resizer_not_scan (scanner_begun mode.resize initial number scans.Clear None) z _ refl e)
   resizer_begun_is (Retain a) z e = absurd (resizer_not_scan (scanner_begun mode.resize initial number scans.Retain (Some a)) z _ refl e)
   resizer_begun_is Walk z e = absurd (resizer_not_scan (scanner_begun mode.resize initial number scans.Walk None) z _ refl e)
@@ -136,12 +181,31 @@ module _ {K V A : Type 0} (hash : K → ℕ) (mode : Mode) (initial number : ℕ
   scanner_begun_is (Compute k a) v e = absurd (scan_not_call (begun hash mode initial number tasks.Compute k None (Some a)) v _ refl e)
   scanner_begun_is (Reserve more) v e = absurd (scan_not_resizer (resizer.begun (resizes.Reserve more) mode.resize initial number) v _ refl e)
   scanner_begun_is CopyAll v e = absurd (scan_not_resizer (resizer.begun resizes.CopyAll mode.resize initial number) v _ refl e)
-  scanner_begun_is Clear v e = record { scan = scans.Clear; no_key = refl; has = tt; is = same_scanner (scanner_begun mode.resize initial number scans.Clear None) v _ refl e }
-  scanner_begun_is (Retain a) v e = record { scan = scans.Retain; no_key = refl; has = (a, refl); is = same_scanner (scanner_begun mode.resize initial number scans.Retain (Some a)) v _ refl e }
-  scanner_begun_is Walk v e = record { scan = scans.Walk; no_key = refl; has = tt; is = same_scanner (scanner_begun mode.resize initial number scans.Walk None) v _ refl e }
+  scanner_begun_is Clear v e = record {
+    scan = scans.Clear;
+    no_key = refl;
+    has = tt;
+    is = same_scanner
+        (scanner_begun mode.resize initial number scans.Clear None) v _ refl e;
+  }
+  scanner_begun_is (Retain a) v e = record {
+    scan = scans.Retain;
+    no_key = refl;
+    has = (a, refl);
+    is = same_scanner
+        (scanner_begun mode.resize initial number scans.Retain (Some a)) v _ refl e;
+  }
+  scanner_begun_is Walk v e = record {
+    scan = scans.Walk;
+    no_key = refl;
+    has = tt;
+    is = same_scanner
+        (scanner_begun mode.resize initial number scans.Walk None) v _ refl e;
+  }
 
 -- a call that begins stands on nothing that its closure said
-pub begun_stands : (task : Task) (hash : ℕ) (mode : ResizeMode) (initial : ℕ) (limit : Option ℕ) (said : Said) → StandsOn (calls.started task hash mode initial limit) said → ⊥
+pub begun_stands : (task : Task) (hash : ℕ) (mode : ResizeMode) (initial : ℕ) (limit : Option ℕ) (said : Said)
+    → StandsOn (calls.started task hash mode initial limit) said → ⊥
 begun_stands task hash mode initial limit said stands = search rules
 
 -- what it was handed is at hand

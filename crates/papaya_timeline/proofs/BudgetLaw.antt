@@ -39,11 +39,14 @@ module _ {K P : Type 0} (g : Setting K P) (c : Coding K P) (s : State P) (tables
       ∙ ap changes_of (code_kind g c w)
 
   -- they are fewer where the word's kind has fewer
-  slot_fewer : (t x new : ℕ) (v w : Word P) → s.slot t x ≡ v → new ≡ word_of g c (slot_put s t x w) (Slot t x) → changes_of (kind w) < changes_of (kind v) → changes_of_word new < changes_of_word (word_of g c s (Slot t x))
+  slot_fewer : (t x new : ℕ) (v w : Word P) → s.slot t x ≡ v → new ≡ word_of g c (slot_put s t x w) (Slot t x)
+      → changes_of (kind w) < changes_of (kind v) → changes_of_word new < changes_of_word (word_of g c s (Slot t x))
   slot_fewer t x new v w was is less = let before = slot_before t x v was in let later = slot_after t x new w is in omega (arith, before, later, less)
 
   -- what a call asks for; a table that it opens was made
-  pub call_fewer : (kind : Option StepKind) (at : At) (new : ℕ) (loaded : LoadedPairs P) (k : K) (e : Exchange P) → IsAsked g c k kind at new s loaded e → Allows g s e → new ≡ word_of g c (after s e) at → (at ≡ Root → new ≤ tables) → IsFewer kind (changes_at tables at new) (changes_at tables at (word_of g c s at))
+  pub call_fewer : (kind : Option StepKind) (at : At) (new : ℕ) (loaded : LoadedPairs P) (k : K) (e : Exchange P)
+      → IsAsked g c k kind at new s loaded e → Allows g s e → new ≡ word_of g c (after s e) at → (at ≡ Root → new ≤ tables)
+      → IsFewer kind (changes_at tables at new) (changes_at tables at (word_of g c s at))
   call_fewer (Some kinds.Open) Root new loaded k e is may written made =
       let opens = subst (Allows g s) is may in
       let none = opens.0 in
@@ -60,7 +63,8 @@ module _ {K P : Type 0} (g : Setting K P) (c : Coding K P) (s : State P) (tables
   call_fewer _ _ new loaded k e is may written made = absurd is
 
   -- a call asks for no word of a chunk
-  pub call_chunk : (kind : Option StepKind) (at : At) (new : ℕ) (loaded : LoadedPairs P) (k : K) (e : Exchange P) → IsAsked g c k kind at new s loaded e → IsChunkOf at
+  pub call_chunk : (kind : Option StepKind) (at : At) (new : ℕ) (loaded : LoadedPairs P) (k : K) (e : Exchange P)
+      → IsAsked g c k kind at new s loaded e → IsChunkOf at
   call_chunk (Some kinds.Open) Root new loaded k e is = tt
   call_chunk (Some kinds.Take) Made new loaded k e is = tt
   call_chunk (Some kinds.Claim) (Slot t x) new loaded k e is = tt
@@ -68,17 +72,21 @@ module _ {K P : Type 0} (g : Setting K P) (c : Coding K P) (s : State P) (tables
   call_chunk (Some kinds.Delete) (Slot t x) new loaded k e is = tt
   call_chunk _ _ new loaded k e is = absurd is
 
-  module _ (sound : IsSound g s) (sizes : (t : ℕ) → g.size t ≤ 2 ^ 32) (cut : (x : ℕ) → g.chunk_of x ≤ x) (low : (t : ℕ) → IsOn s.first s.next t → t ≤ tables) where
+  module _ (sound : IsSound g s) (sizes : (t : ℕ) → g.size t ≤ 2 ^ 32) (cut : (x : ℕ) → g.chunk_of x ≤ x)
+      (low : (t : ℕ) → IsOn s.first s.next t → t ≤ tables) where
     -- a table to which the root goes is a later one
     promoted : (n : ℕ) → Allows g s (Promote s.root n) → (s.root < n) × (n ≤ tables)
     promoted n may =
         let made = may.made in
-        let on : IsOn s.first s.next s.root = ⊎_elim (λ (none : (s.root ≡ 0) × (s.first ≡ 0)). absurd (let z = none.0 in omega (arith, z, made))) (λ h. h) sound.root in
-        let next = walk_between s.next sound.rises (λ l. s.aborted l ≡ true) s.first s.root may.target.links n on may.target.is may.target.made may.target.over in
+        let on : IsOn s.first s.next s.root = ⊎_elim (λ (none : (s.root ≡ 0) × (s.first ≡ 0)). absurd (let z = none.0 in omega (arith, z, made)))
+        (λ h. h) sound.root in
+        let next = walk_between s.next sound.rises (λ l. s.aborted l ≡ true) s.first s.root may.target.links n on may.target.is may.target.made
+        may.target.over in
         (next.1, low n next.0)
 
     -- what a copier asks for
-    pub copy_fewer : (kind : Option StepKind) (at : At) (new : ℕ) (kept : Option P) (e : Exchange P) → IsCopyAsked c kind at new s kept e → Allows g s e → new ≡ word_of g c (after s e) at → changes_at tables at new < changes_at tables at (word_of g c s at)
+    pub copy_fewer : (kind : Option StepKind) (at : At) (new : ℕ) (kept : Option P) (e : Exchange P) → IsCopyAsked c kind at new s kept e
+        → Allows g s e → new ≡ word_of g c (after s e) at → changes_at tables at new < changes_at tables at (word_of g c s at)
     copy_fewer (Some kinds.Link) (Next t) new kept e is may written =
         let links = subst (Allows g s) is may in
         let none : links_of (s.next t) ≡ 1 = ap links_of links.last in
@@ -95,7 +103,8 @@ module _ {K P : Type 0} (g : Setting K P) (c : Coding K P) (s : State P) (tables
         slot_fewer t x new (Marked p) (Copied p) marked (subst (λ y. new ≡ word_of g c (after s y) (Slot t x)) is written) (omega arith)
     copy_fewer (Some kinds.Advance) (Done n chunk) new kept e is may written =
         let before : word_of g c s (Done n chunk) ≡ 0 = ap (λ b. one_if b) (subst (Allows g s) is may).done in
-        let one : new ≡ 1 = subst (λ y. new ≡ word_of g c (after s y) (Done n chunk)) is written ∙ ap (λ b. one_if (cond b true (s.done n chunk))) (ap (λ b. b && (chunk == chunk)) (eq-eqb n n refl) ∙ eq-eqb chunk chunk refl) in
+        let one : new ≡ 1 = subst (λ y. new ≡ word_of g c (after s y) (Done n chunk)) is written
+        ∙ ap (λ b. one_if (cond b true (s.done n chunk))) (ap (λ b. b && (chunk == chunk)) (eq-eqb n n refl) ∙ eq-eqb chunk chunk refl) in
         omega (arith, before, one)
     copy_fewer (Some kinds.Promote) Root new kept e is may written =
         let later = promoted new (subst (Allows g s) is may) in
@@ -104,12 +113,14 @@ module _ {K P : Type 0} (g : Setting K P) (c : Coding K P) (s : State P) (tables
         omega (arith, more, most)
     copy_fewer (Some kinds.Abort) (Aborted n) new kept e is may written =
         let before : word_of g c s (Aborted n) ≡ 0 = ap (λ b. one_if b) (subst (Allows g s) is may).before in
-        let one : new ≡ 1 = subst (λ y. new ≡ word_of g c (after s y) (Aborted n)) is written ∙ ap (λ b. one_if (cond b true (s.aborted n))) (eq-eqb n n refl) in
+        let one : new ≡ 1 = subst (λ y. new ≡ word_of g c (after s y) (Aborted n)) is written
+        ∙ ap (λ b. one_if (cond b true (s.aborted n))) (eq-eqb n n refl) in
         omega (arith, before, one)
     copy_fewer _ _ new kept e is may written = absurd is
 
     -- and the word of a chunk is one of those that a table may have
-    pub copy_chunk : (kind : Option StepKind) (at : At) (new : ℕ) (kept : Option P) (e : Exchange P) → IsCopyAsked c kind at new s kept e → Allows g s e → IsChunkOf at
+    pub copy_chunk : (kind : Option StepKind) (at : At) (new : ℕ) (kept : Option P) (e : Exchange P) → IsCopyAsked c kind at new s kept e
+        → Allows g s e → IsChunkOf at
     copy_chunk (Some kinds.Link) (Next t) new kept e is may = tt
     copy_chunk (Some kinds.Mark) (Slot t x) new kept e is may = tt
     copy_chunk (Some kinds.Close) (Slot t x) new kept e is may = tt

@@ -1,5 +1,8 @@
 -- What a write of a word spends, and the making of a table; and how much may be spent at most.
-use Rattle.std.proofs.Common.{◌≡◌, ℕ, suc, ◌+◌, ◌-◌, ◌^◌, ◌==◌, ◌<◌, ◌≤◌, Bool, true, false, cond, List, length, slice_get, slice_set, slice_index, sum_by, take, All, Some, refl, sym, ◌∙◌, ap, subst, arith, length-set, length-take, lt-ltb}
+use Rattle.std.proofs.Common.{◌≡◌, ℕ, suc, ◌+◌, ◌-◌, ◌^◌, ◌==◌, ◌<◌, ◌≤◌, Bool, true, false, cond}
+use Rattle.std.proofs.Common.{List, length, slice_get, slice_set, slice_index, sum_by, take, All}
+use Rattle.std.proofs.Common.{Some, refl, sym, ◌∙◌, ap, subst, arith, length-set, length-take}
+use Rattle.std.proofs.Common.{lt-ltb}
 use Rattle.std.proofs.lemmas.List.Sums.{sum_by-set, sum_by-le}
 use Rattle.std.proofs.lemmas.List.{get_or-take}
 use Rattle.std.proofs.Math.Nat.{le-min, min-le_left}
@@ -45,7 +48,8 @@ all_within : {X : Type 0} (f : X → ℕ) (m : ℕ) (xs : List X) → ((x : X) �
 all_within f m xs h = λ k d lt. h _
 
 -- the same of so many of the first words
-sum-set_first : (f : ℕ → ℕ) (n : ℕ) (xs : List ℕ) (i y : ℕ) → i < length xs → i < n → sum_by f (take n (slice_set xs i y)) + f (slice_index xs i) ≡ sum_by f (take n xs) + f y
+sum-set_first : (f : ℕ → ℕ) (n : ℕ) (xs : List ℕ) (i y : ℕ) → i < length xs → i < n
+    → sum_by f (take n (slice_set xs i y)) + f (slice_index xs i) ≡ sum_by f (take n xs) + f y
 sum-set_first f n xs i y within first =
     let long = length-take n xs in
     let here : i < length (take n xs) = subst (λ m. i < m) (sym long) (le-min {k = suc i} {a = n} {b = length xs} first within) in
@@ -62,7 +66,8 @@ first_few n xs =
     omega (arith, words, few)
 
 -- of the words of chunks one was set
-copies-set : (done : List ℕ) (chunk word : ℕ) → chunk < length done → chunk < 2 ^ 32 → copies_in (slice_set done chunk word) + copies_of (slice_index done chunk) ≡ copies_in done + copies_of word
+copies-set : (done : List ℕ) (chunk word : ℕ) → chunk < length done → chunk < 2 ^ 32
+    → copies_in (slice_set done chunk word) + copies_of (slice_index done chunk) ≡ copies_in done + copies_of word
 unfolding copies_in
 copies-set done chunk word within few = sum-set_first copies_of (2 ^ 32) done chunk word within few
 
@@ -86,15 +91,19 @@ module _ (w : Tables) (at : At) (n word : ℕ) (t : TableWords) (there : table_o
       let same = sum-set exchanges_of w.tables (n - 1) t (written at t word) (table_there w.tables n t there).1 in
       let is = ap exchanges_in put_is in
       let many : length (slice_set w.tables (n - 1) (written at t word)) ≡ length w.tables = length-set w.tables (n - 1) (written at t word) in
-      let root : exchanges_in (record w { tables = slice_set w.tables (n - 1) (written at t word) }) ≡ sum_by exchanges_of (slice_set w.tables (n - 1) (written at t word)) + (length w.tables - w.root) = ap (λ m. sum_by exchanges_of (slice_set w.tables (n - 1) (written at t word)) + (m - w.root)) many in
+      let root : exchanges_in (record w { tables = slice_set w.tables (n - 1) (written at t word) }) ≡ sum_by exchanges_of
+      (slice_set w.tables (n - 1) (written at t word)) + (length w.tables - w.root) = ap
+      (λ m. sum_by exchanges_of (slice_set w.tables (n - 1) (written at t word)) + (m - w.root)) many in
       omega (arith, same, is, root)
 
   -- where the table's own change is told
-  put-changes : (before later : ℕ) → exchanges_of (written at t word) + before ≡ exchanges_of t + later → exchanges_in (put_at at n w word) + before ≡ exchanges_in w + later
+  put-changes : (before later : ℕ) → exchanges_of (written at t word) + before ≡ exchanges_of t + later
+      → exchanges_in (put_at at n w word) + before ≡ exchanges_in w + later
   put-changes before later change = let all = put-sum in omega (arith, all, change)
 
 -- the words after a write may change as often, but for the word that was written
-pub placed-changes : (w : Tables) (at : At) (new : ℕ) → IsPlaced w.tables at → IsChunkOf at → exchanges_in (put w at new) + changes_at (length w.tables) at (word_at w at) ≡ exchanges_in w + changes_at (length w.tables) at new
+pub placed-changes : (w : Tables) (at : At) (new : ℕ) → IsPlaced w.tables at → IsChunkOf at
+    → exchanges_in (put w at new) + changes_at (length w.tables) at (word_at w at) ≡ exchanges_in w + changes_at (length w.tables) at new
 placed-changes w Root new placed chunk_is = omega arith
 placed-changes w Made new placed chunk_is = refl
 placed-changes w (Next n) new (t, there) chunk_is =
@@ -104,16 +113,20 @@ placed-changes w (Aborted n) new (t, there) chunk_is =
     subst (λ y. exchanges_in (put w (Aborted n) new) + ends_of y ≡ exchanges_in w + ends_of new) (sym (ap (word_in (λ v. v.aborted)) there))
     (put-changes w (Aborted n) n new t there (ends_of t.aborted) (ends_of new) (omega arith))
 placed-changes w (Done n chunk) new (t, there, lt) chunk_is =
-    subst (λ y. exchanges_in (put w (Done n chunk) new) + copies_of y ≡ exchanges_in w + copies_of new) (sym (ap (word_in (λ v. slice_index v.done chunk)) there))
+    subst (λ y. exchanges_in (put w (Done n chunk) new) + copies_of y ≡ exchanges_in w + copies_of new)
+    (sym (ap (word_in (λ v. slice_index v.done chunk)) there))
     (put-changes w (Done n chunk) n new t there (copies_of (slice_index t.done chunk)) (copies_of new)
     (let words = copies-set t.done chunk new lt chunk_is in
-    let is : exchanges_of (written (Done n chunk) t new) ≡ exchanges_of (record t { done = slice_set t.done chunk new }) = ap (λ v. exchanges_of v) (done-written w n chunk new t there lt) in
+    let is : exchanges_of (written (Done n chunk) t new) ≡ exchanges_of (record t { done = slice_set t.done chunk new }) = ap (λ v. exchanges_of v)
+    (done-written w n chunk new t there lt) in
     omega (arith, words, is)))
 placed-changes w (Slot n i) new (t, there, lt) chunk_is =
-    subst (λ y. exchanges_in (put w (Slot n i) new) + changes_of_word y ≡ exchanges_in w + changes_of_word new) (sym (ap (word_in (λ v. slice_index v.slots i)) there))
+    subst (λ y. exchanges_in (put w (Slot n i) new) + changes_of_word y ≡ exchanges_in w + changes_of_word new)
+    (sym (ap (word_in (λ v. slice_index v.slots i)) there))
     (put-changes w (Slot n i) n new t there (changes_of_word (slice_index t.slots i)) (changes_of_word new)
     (let slots = sum-set_word changes_of_word t.slots i new lt in
-    let is : exchanges_of (written (Slot n i) t new) ≡ exchanges_of (record t { slots = slice_set t.slots i new }) = ap (λ b. exchanges_of (cond b (record t { slots = slice_set t.slots i new }) t)) (lt-ltb i (length t.slots) lt) in
+    let is : exchanges_of (written (Slot n i) t new) ≡ exchanges_of (record t { slots = slice_set t.slots i new }) = ap
+    (λ b. exchanges_of (cond b (record t { slots = slice_set t.slots i new }) t)) (lt-ltb i (length t.slots) lt) in
     omega (arith, slots, is)))
 
 -- a hint that is written spends nothing
@@ -151,11 +164,14 @@ few_exchanges t most =
     omega (arith, slots, link, words)
 
 -- All words change less often than a bound, where tables are few and have sizes of tables.
-pub exchanges_few : (w : Tables) → length w.tables ≤ 2 ^ 32 → ((n : ℕ) (t : TableWords) → table_of w.tables n ≡ Some t → length t.slots ≤ 2 ^ 32) → exchanges_in w < 2 ^ 128
+pub exchanges_few : (w : Tables) → length w.tables ≤ 2 ^ 32 → ((n : ℕ) (t : TableWords) → table_of w.tables n ≡ Some t → length t.slots ≤ 2 ^ 32)
+    → exchanges_in w < 2 ^ 128
 exchanges_few w few sizes =
-    let each : All (λ t. exchanges_of t ≤ 2 ^ 35) w.tables = λ k d lt. few_exchanges (get_or w.tables k d) (sizes (suc k) (get_or w.tables k d) (there k d lt)) in
+    let each : All (λ t. exchanges_of t ≤ 2 ^ 35) w.tables = λ k d lt.
+    few_exchanges (get_or w.tables k d) (sizes (suc k) (get_or w.tables k d) (there k d lt)) in
     let sum = sum_by-le exchanges_of (2 ^ 35) w.tables each in
     omega (arith, sum, few)
   where
     there : (k : ℕ) (d : TableWords) (lt : k < length w.tables) → table_of w.tables (suc k) ≡ Some (get_or w.tables k d)
-    there k d lt = table_at w.tables (suc k) (differs (suc k) 0 (λ e. absurd (omega (arith, e)))) ∙ ap (slice_get w.tables) (let e : suc k - 1 ≡ k = omega arith in e) ∙ slice_get-get_or w.tables k d lt
+    there k d lt = table_at w.tables (suc k) (differs (suc k) 0 (λ e. absurd (omega (arith, e))))
+        ∙ ap (slice_get w.tables) (let e : suc k - 1 ≡ k = omega arith in e) ∙ slice_get-get_or w.tables k d lt

@@ -1,5 +1,7 @@
 -- What always holds of the core, over its making, a begin and a step.
-use Rattle.std.proofs.Common.{◌≡◌, ◌≢◌, ℕ, zero, suc, ◌==◌, ◌≤◌, ◌^◌, max, Bool, List, [], slice_get, Option, Some, None, ◌⊎◌, inl, inr, refl, sym, ◌∙◌, ap, subst}
+use Rattle.std.proofs.Common.{◌≡◌, ◌≢◌, ℕ, zero, suc, ◌==◌, ◌≤◌, ◌^◌, max, Bool, List, []}
+use Rattle.std.proofs.Common.{slice_get, Option, Some, None, ◌⊎◌, inl, inr, refl, sym, ◌∙◌, ap}
+use Rattle.std.proofs.Common.{subst}
 use Rattle.std.proofs.lemmas.Bool.{cases_Bool, eqb-true, eqb-false}
 use Rattle.std.specs.Int.{IsPowerOfTwo}
 use Rattle.papaya_words.specs.declared.probe.ResizeMode.{ResizeMode}
@@ -37,7 +39,11 @@ use Rattle.papaya_store.specs.Asks.{PerformsAsk}
 use Rattle.papaya_timeline.specs.Core.{IsCore, IsGoing}
 use Rattle.papaya_store.specs.New.{HasCapacity}
 use Rattle.papaya_keys.proofs.TableSizes.{table_size}
-use Rattle.papaya_timeline.proofs.CallersLemmas.{resizing-elsewhere, resizing-here, resizing-with_seat, running-elsewhere, running-here, running-with_seat, scanning-elsewhere, scanning-here, scanning-with_seat}
+use Rattle.papaya_timeline.proofs.CallersLemmas.{resizing-elsewhere, resizing-here}
+use Rattle.papaya_timeline.proofs.CallersLemmas.{resizing-with_seat, running-elsewhere}
+use Rattle.papaya_timeline.proofs.CallersLemmas.{running-here, running-with_seat}
+use Rattle.papaya_timeline.proofs.CallersLemmas.{scanning-elsewhere, scanning-here}
+use Rattle.papaya_timeline.proofs.CallersLemmas.{scanning-with_seat}
 use Rattle.papaya_chain.specs.Scanner as scanners
 use Rattle.papaya_store.specs.declared.scans.Scanning.{Scanning}
 use Rattle.papaya_timeline.proofs.StoreLemmas.{AllSized, numbered, unnumbered, performed_ask, performed_copy, append-sized}
@@ -58,12 +64,17 @@ reply_asked (asks.Call (Ask_done r)) reply e = let same : r ≡ reply = cc in ap
 reply_asked ask reply e = let f : None ≡ Some reply = e in absurd cc
 
 -- a call that begins stands, and has not replied
-pub begun-core : {K V A : Type 0} (hash : K → ℕ) (mode : Mode) (initial number : ℕ) (call : Call K V A) → IsChunked mode.resize → IsLimit mode.limit → IsPowerOfTwo initial
-    → ((r : Running K V A) → begun_work hash mode initial number call ≡ works.Call r → IsStanding r.machine × IsGoing r.machine) × ((z : Resizer) → begun_work hash mode initial number call ≡ works.Resize z → IsStandingResizer z × (reply_of z ≡ None))
+pub begun-core : {K V A : Type 0} (hash : K → ℕ) (mode : Mode) (initial number : ℕ) (call : Call K V A) → IsChunked mode.resize → IsLimit mode.limit
+    → IsPowerOfTwo initial
+    → ((r : Running K V A) → begun_work hash mode initial number call ≡ works.Call r → IsStanding r.machine × IsGoing r.machine)
+    × ((z : Resizer) → begun_work hash mode initial number call ≡ works.Resize z → IsStandingResizer z × (reply_of z ≡ None))
 begun-core {K} {V} {A} hash mode initial number call chunked limits power = (
   λ r e. let is = call_begun hash mode initial number call r e in
-      subst (λ (y : Running K V A). IsStanding y.machine × IsGoing y.machine) (sym is.is)
-      (started_stands is.task (hash is.key) mode.resize initial number mode.limit limits chunked power, still_going (started is.task (hash is.key) mode.resize initial number mode.limit) refl),
+      subst (λ (y : Running K V A). IsStanding y.machine × IsGoing y.machine) (sym is.is) (
+        started_stands is.task (hash is.key) mode.resize initial number mode.limit limits chunked power,
+        still_going
+            (started is.task (hash is.key) mode.resize initial number mode.limit) refl,
+      ),
   λ z e. let is = resizer_begun_is hash mode initial number call z e in
       subst (λ (y : Resizer). IsStandingResizer y × (reply_of y ≡ None)) (sym is.is)
       (record { chunked = chunked; initial = power; state = standing_begun is.resize }, unreplied is.resize),
@@ -80,7 +91,9 @@ begun-core {K} {V} {A} hash mode initial number call chunked limits power = (
     unreplied (resizes.Reserve more) = refl
 
 -- and so does one that scans a table
-pub begun-scanner : {K V A : Type 0} (hash : K → ℕ) (mode : Mode) (initial number : ℕ) (call : Call K V A) → IsChunked mode.resize → IsPowerOfTwo initial → (v : Scanning A) → begun_work hash mode initial number call ≡ works.Scan v → scanners.IsStandingScanner v.scanner × (scanners.reply_of v.scanner ≡ None)
+pub begun-scanner : {K V A : Type 0} (hash : K → ℕ) (mode : Mode) (initial number : ℕ) (call : Call K V A) → IsChunked mode.resize
+    → IsPowerOfTwo initial → (v : Scanning A) → begun_work hash mode initial number call ≡ works.Scan v → scanners.IsStandingScanner v.scanner
+    × (scanners.reply_of v.scanner ≡ None)
 begun-scanner {A = A} hash mode initial number call chunked power v e =
     let is = scanner_begun_is hash mode initial number call v e in
     subst (λ (y : Scanning A). scanners.IsStandingScanner y.scanner × (scanners.reply_of y.scanner ≡ None)) (sym is.is)
@@ -96,7 +109,11 @@ begun-scanner {A = A} hash mode initial number call chunked power v e =
 
 module _ {K V S A : Type 0} where
   -- work was put into a seat, or taken out of it
-  pub with_work-core : (store : StoreState K V S) (callers : List (Seat K V A)) (mode : Mode) (caller : ℕ) (work : Option (Work K V A)) → IsCore store callers mode → ((r : Running K V A) → work ≡ Some (works.Call r) → IsStanding r.machine × IsGoing r.machine) → ((z : Resizer) → work ≡ Some (works.Resize z) → IsStandingResizer z × (reply_of z ≡ None)) → ((v : Scanning A) → work ≡ Some (works.Scan v) → scanners.IsStandingScanner v.scanner × (scanners.reply_of v.scanner ≡ None)) → IsCore store (with_work callers caller work) mode
+  pub with_work-core : (store : StoreState K V S) (callers : List (Seat K V A)) (mode : Mode) (caller : ℕ) (work : Option (Work K V A))
+      → IsCore store callers mode → ((r : Running K V A) → work ≡ Some (works.Call r) → IsStanding r.machine × IsGoing r.machine)
+      → ((z : Resizer) → work ≡ Some (works.Resize z) → IsStandingResizer z × (reply_of z ≡ None))
+      → ((v : Scanning A) → work ≡ Some (works.Scan v) → scanners.IsStandingScanner v.scanner × (scanners.reply_of v.scanner ≡ None))
+      → IsCore store (with_work callers caller work) mode
   with_work-core store callers mode caller work core stands resizes scans = record {
     chunked = core.chunked;
     limit = core.limit;
@@ -120,11 +137,13 @@ module _ {K V S A : Type 0} where
   }
 
   -- a caller's work was taken out of its seat
-  pub without-core : (store : StoreState K V S) (callers : List (Seat K V A)) (mode : Mode) (caller : ℕ) → IsCore store callers mode → IsCore store (with_work callers caller None) mode
+  pub without-core : (store : StoreState K V S) (callers : List (Seat K V A)) (mode : Mode) (caller : ℕ) → IsCore store callers mode
+      → IsCore store (with_work callers caller None) mode
   without-core store callers mode caller core = with_work-core store callers mode caller None core (λ r e. absurd cc) (λ z e. absurd cc) (λ v e. absurd cc)
 
   -- a caller got a seat
-  pub with_seat-core : (store : StoreState K V S) (callers : List (Seat K V A)) (mode : Mode) (caller : ℕ) → IsCore store callers mode → IsCore store (with_seat callers caller) mode
+  pub with_seat-core : (store : StoreState K V S) (callers : List (Seat K V A)) (mode : Mode) (caller : ℕ) → IsCore store callers mode
+      → IsCore store (with_seat callers caller) mode
   with_seat-core store callers mode caller core = record {
     chunked = core.chunked;
     limit = core.limit;
@@ -136,11 +155,15 @@ module _ {K V S A : Type 0} where
   }
 
   -- an ask of a caller was answered
-  pub performed-core : (eq : K → K → Bool) (says : Says K V A) (hash : S → K → ℕ) (refuse : Bool) (store : StoreState K V S) (callers : List (Seat K V A)) (mode : Mode) (r : Running K V A) (a : Answer) (store' : StoreState K V S) (later : Running K V A) → IsCore store callers mode → IsFitAsk (ask_of r.machine) → PerformsAsk eq says hash refuse (ask_of r.machine) store r a store' later → IsCore store' callers mode
+  pub performed-core : (eq : K → K → Bool) (says : Says K V A) (hash : S → K → ℕ) (refuse : Bool) (store : StoreState K V S)
+      (callers : List (Seat K V A)) (mode : Mode) (r : Running K V A) (a : Answer) (store' : StoreState K V S) (later : Running K V A)
+      → IsCore store callers mode → IsFitAsk (ask_of r.machine) → PerformsAsk eq says hash refuse (ask_of r.machine) store r a store' later
+      → IsCore store' callers mode
   performed-core eq says hash refuse store callers mode r a store' later core fit performs = record {
     chunked = core.chunked;
     limit = core.limit;
-    sizes = numbered store'.words.tables (performed_ask eq hash says refuse (ask_of r.machine) store r a store' later (unnumbered store.words.tables core.sizes) fit performs).sized;
+    sizes = numbered store'.words.tables (performed_ask eq hash says refuse (ask_of r.machine) store r a store' later
+        (unnumbered store.words.tables core.sizes) fit performs).sized;
     standing = core.standing;
     going = core.going;
     resizers = core.resizers;
@@ -148,7 +171,9 @@ module _ {K V S A : Type 0} where
   }
 
   -- so it is with one of a copy
-  pub copied-core : (eq : K → K → Bool) (hash : S → K → ℕ) (refuse : Bool) (ask : CopyAsk) (store : StoreState K V S) (callers : List (Seat K V A)) (mode : Mode) (a : Answer) (store' : StoreState K V S) → IsCore store callers mode → IsFitCopyAsk ask → PerformsCopy eq hash refuse ask store a store' → IsCore store' callers mode
+  pub copied-core : (eq : K → K → Bool) (hash : S → K → ℕ) (refuse : Bool) (ask : CopyAsk) (store : StoreState K V S) (callers : List (Seat K V A))
+      (mode : Mode) (a : Answer) (store' : StoreState K V S) → IsCore store callers mode → IsFitCopyAsk ask
+      → PerformsCopy eq hash refuse ask store a store' → IsCore store' callers mode
   copied-core eq hash refuse ask store callers mode a store' core fit performs = record {
     chunked = core.chunked;
     limit = core.limit;
@@ -166,9 +191,12 @@ no-tables words e i t there = let f : None ≡ Some t = sym (ap (λ (w : Tables)
 pub new-sized : (capacity initial : ℕ) (words : Tables) → IsPowerOfTwo initial → initial ≤ 2 ^ 32 → HasCapacity capacity initial words → AllSized words.tables
 new-sized zero initial words power most e = no-tables words e
 new-sized (suc n) initial words power most (limit, is, e) =
-    subst (λ (w : Tables). AllSized w.tables) (sym e) (append-sized [] 1 (max initial 8) limit 0 (table_size initial limit power most is) (no-tables (record { root = 0; tables = []; made = 0 }) refl))
+    subst (λ (w : Tables). AllSized w.tables) (sym e)
+    (append-sized [] 1 (max initial 8) limit 0 (table_size initial limit power most is) (no-tables (record { root = 0; tables = []; made = 0 }) refl))
 
-pub new-core : {K V S A : Type 0} (store : StoreState K V S) (callers : List (Seat K V A)) (mode : Mode) (capacity initial : ℕ) → IsChunked mode.resize → IsLimit mode.limit → IsPowerOfTwo initial → initial ≤ 2 ^ 32 → HasCapacity capacity initial store.words → callers ≡ [] → IsCore store callers mode
+pub new-core : {K V S A : Type 0} (store : StoreState K V S) (callers : List (Seat K V A)) (mode : Mode) (capacity initial : ℕ)
+    → IsChunked mode.resize → IsLimit mode.limit → IsPowerOfTwo initial → initial ≤ 2 ^ 32 → HasCapacity capacity initial store.words → callers ≡ []
+    → IsCore store callers mode
 new-core store callers mode capacity initial chunked limits power most words none = record {
   chunked = chunked;
   limit = limits;

@@ -1,5 +1,7 @@
 -- The content of a core as a list: no key stands twice in it, and it has no more pairs than the log.
-use Rattle.std.proofs.Common.{◌≡◌, ⊎_elim, ℕ, zero, suc, ◌≤◌, ◌==◌, Bool, true, false, List, [], ◌∷◌, ◌++◌, length, map, Option, Some, None, refl, sym, ◌∙◌, ap, subst, arith, eqb-true}
+use Rattle.std.proofs.Common.{◌≡◌, ⊎_elim, ℕ, zero, suc, ◌≤◌, ◌==◌, Bool, true, false, List, []}
+use Rattle.std.proofs.Common.{◌∷◌, ◌++◌, length, map, Option, Some, None, refl, sym, ◌∙◌, ap, subst}
+use Rattle.std.proofs.Common.{arith, eqb-true}
 use Rattle.std.proofs.lemmas.List.{length-map}
 use Rattle.std.proofs.lemmas.Bool.{cases_Bool, cond-true, cond-false, or_cases, or_left, or_right}
 use Rattle.std.proofs.lemmas.Map.Steps.{length-le_from_distinct_below}
@@ -52,7 +54,8 @@ module _ {K V S : Type 0} (store : StoreState K V S) where
   -- the pairs of a table
   slots_logged : (words : List ℕ) → AllLogged (pairs_of_slots store words)
   slots_logged [] = tt
-  slots_logged (word ∷ words) = append_logged (pairs_of_kind store (kind_of word) (number_of word)) (pairs_of_slots store words) (kind_logged (kind_of word) (number_of word)) (slots_logged words)
+  slots_logged (word ∷ words) = append_logged (pairs_of_kind store (kind_of word) (number_of word)) (pairs_of_slots store words)
+      (kind_logged (kind_of word) (number_of word)) (slots_logged words)
 
   module _ (eq : K → K → Bool) where
     -- a pair that comes in, if its key has none
@@ -79,21 +82,30 @@ module _ {K V S : Type 0} (store : StoreState K V S) where
 
     module _ (itself : (k : K) → eq k k ≡ true) where
       -- a number of the list is a pair's whose key has a pair there
-      number_found : (ps : List (Stored K V)) → AllLogged ps → (n : ℕ) → list_any (λ m. n == m) (map (λ p. p.number) ps) ≡ true → (q : Stored K V) × (pair_of store n ≡ Some q) × (lookup eq (λ p. p.key) ps q.key ≡ None → ⊥)
+      number_found : (ps : List (Stored K V)) → AllLogged ps → (n : ℕ) → list_any (λ m. n == m) (map (λ p. p.number) ps) ≡ true → (q : Stored K V)
+          × (pair_of store n ≡ Some q) × (lookup eq (λ p. p.key) ps q.key ≡ None → ⊥)
       number_found [] h n e = absurd cc
       number_found (p ∷ ps) h n e =
           ⊎_elim
-          (λ (y : (n == p.number) ≡ true). (p, ap (pair_of store) (eqb-true n p.number y) ∙ h.0, λ none. let here = cond-true (eq p.key p.key) (Some p) (lookup eq (λ r. r.key) ps p.key) (itself p.key) in let f : Some p ≡ None = sym here ∙ none in cc))
+          (λ (y : (n == p.number) ≡ true). (
+            p,
+            ap (pair_of store) (eqb-true n p.number y)
+                ∙ h.0,
+            λ none. let here = cond-true (eq p.key p.key) (Some p) (lookup eq (λ r. r.key) ps p.key) (itself p.key) in
+                let f : Some p ≡ None = sym here ∙ none in cc,
+          ))
           (λ (more : list_any (λ m. n == m) (map (λ r. r.number) ps) ≡ true). behind (number_found ps h.1 n more))
           (or_cases (n == p.number) (list_any (λ m. n == m) (map (λ r. r.number) ps)) e)
         where
-          behind : (q : Stored K V) × (pair_of store n ≡ Some q) × (lookup eq (λ r. r.key) ps q.key ≡ None → ⊥) → (q : Stored K V) × (pair_of store n ≡ Some q) × (lookup eq (λ r. r.key) (p ∷ ps) q.key ≡ None → ⊥)
+          behind : (q : Stored K V) × (pair_of store n ≡ Some q) × (lookup eq (λ r. r.key) ps q.key ≡ None → ⊥) → (q : Stored K V)
+              × (pair_of store n ≡ Some q) × (lookup eq (λ r. r.key) (p ∷ ps) q.key ≡ None → ⊥)
           behind (q, is, some) = (
             q,
             is,
             λ none.
                 ⊎_elim
-                (λ (y : eq q.key p.key ≡ true). let here = cond-true (eq q.key p.key) (Some p) (lookup eq (λ r. r.key) ps q.key) y in let f : Some p ≡ None = sym here ∙ none in cc)
+                (λ (y : eq q.key p.key ≡ true). let here = cond-true (eq q.key p.key) (Some p) (lookup eq (λ r. r.key) ps q.key) y in
+                let f : Some p ≡ None = sym here ∙ none in cc)
                 (λ (n' : eq q.key p.key ≡ false). some (sym (cond-false (eq q.key p.key) (Some p) (lookup eq (λ r. r.key) ps q.key) n') ∙ none))
                 (cases_Bool (eq q.key p.key)),
           )
@@ -102,8 +114,11 @@ module _ {K V S : Type 0} (store : StoreState K V S) where
       none_equal : (n : ℕ) (ns : List ℕ) → list_any (λ m. n == m) ns ≡ false → AllByRecursion (λ m. (n == m) ≡ false) ns
       none_equal n [] e = tt
       none_equal n (m ∷ ns) e = (
-        ⊎_elim (λ (y : (n == m) ≡ true). absurd (let some = or_left (n == m) (list_any (λ x. n == x) ns) y in cc (some, e))) (λ (d : (n == m) ≡ false). d) (cases_Bool (n == m)),
-        none_equal n ns (⊎_elim (λ (y : list_any (λ x. n == x) ns ≡ true). absurd (let some = or_right (n == m) (list_any (λ x. n == x) ns) y in cc (some, e))) (λ (d : list_any (λ x. n == x) ns ≡ false). d) (cases_Bool (list_any (λ x. n == x) ns))),
+        ⊎_elim (λ (y : (n == m) ≡ true). absurd (let some = or_left (n == m) (list_any (λ x. n == x) ns) y in cc (some, e)))
+            (λ (d : (n == m) ≡ false). d) (cases_Bool (n == m)),
+        none_equal n ns (⊎_elim (λ (y : list_any (λ x. n == x) ns ≡ true).
+            absurd (let some = or_right (n == m) (list_any (λ x. n == x) ns) y in cc (some, e))) (λ (d : list_any (λ x. n == x) ns ≡ false). d)
+            (cases_Bool (list_any (λ x. n == x) ns))),
       )
 
       -- where keys are apart, so are numbers
@@ -113,7 +128,9 @@ module _ {K V S : Type 0} (store : StoreState K V S) where
       numbers_distinct (p ∷ ps) h apart = (
         none_equal p.number (map (λ r. r.number) ps)
             (⊎_elim
-            (λ (y : list_any (λ m. p.number == m) (map (λ r. r.number) ps) ≡ true). absurd (let (q, is, some) = number_found ps h.1 p.number y in let same : p ≡ q = let both : Some p ≡ Some q = sym h.0 ∙ is in cc in some (subst (λ (r : Stored K V). lookup eq (λ r'. r'.key) ps r.key ≡ None) same apart.0)))
+            (λ (y : list_any (λ m. p.number == m) (map (λ r. r.number) ps) ≡ true).
+            absurd (let (q, is, some) = number_found ps h.1 p.number y in let same : p ≡ q = let both : Some p ≡ Some q = sym h.0 ∙ is in cc in
+            some (subst (λ (r : Stored K V). lookup eq (λ r'. r'.key) ps r.key ≡ None) same apart.0)))
             (λ (d : list_any (λ m. p.number == m) (map (λ r. r.number) ps) ≡ false). d)
             (cases_Bool (list_any (λ m. p.number == m) (map (λ r. r.number) ps)))),
         numbers_distinct ps h.1 apart.1,
@@ -122,7 +139,8 @@ module _ {K V S : Type 0} (store : StoreState K V S) where
       -- logged pairs whose keys are apart are no more than the log has
       logged_few : (ps : List (Stored K V)) → AllLogged ps → AreApart eq (λ p. p.key) ps → length ps ≤ length store.pairs
       logged_few ps h apart =
-          let few = length-le_from_distinct_below (map (λ p. p.number) ps) (length store.pairs) (numbers_distinct ps h apart) (λ n e. let r = number_found ps h n e in pair_below store n r.0 r.1) in
+          let few = length-le_from_distinct_below (map (λ p. p.number) ps) (length store.pairs) (numbers_distinct ps h apart)
+          (λ n e. let r = number_found ps h n e in pair_below store n r.0 r.1) in
           let same = length-map ps (λ (p : Stored K V). p.number) in
           omega (arith, few, same)
 
@@ -135,7 +153,8 @@ module _ {K V S : Type 0} (eq : K → K → Bool) (hash : K → ℕ) (mode : Mod
   abbrev c : Coding K (Stored K V)
   c = coding_of (low hash)
 
-  module _ {A : Type 0} (callers : List (Seat K V A)) (es : List (Exchange (Stored K V))) (call_traces : ℕ → CallTrace K V) (kept : IsKept eq hash mode store callers es call_traces) where
+  module _ {A : Type 0} (callers : List (Seat K V A)) (es : List (Exchange (Stored K V))) (call_traces : ℕ → CallTrace K V)
+      (kept : IsKept eq hash mode store callers es call_traces) where
     -- the words of the law
     abbrev now : State (Stored K V)
     now = run es start
@@ -150,6 +169,7 @@ module _ {K V S : Type 0} (eq : K → K → Bool) (hash : K → ℕ) (mode : Mod
     -- the content is never longer than a log may be
     pub content_few : length (content eq store) ≤ MAX_LOG_LEN
     content_few =
-        let few = logged_few store eq hashed.lawful.itself (content eq store) (from_logged store eq (length store.words.tables) (table_of store.words.tables store.words.root)) content_apart in
+        let few = logged_few store eq hashed.lawful.itself (content eq store)
+        (from_logged store eq (length store.words.tables) (table_of store.words.tables store.words.root)) content_apart in
         let most = kept.few in
         omega (arith, few, most)

@@ -32,8 +32,11 @@ owes_nothing : {K V A : Type 0} (reply : Option Reply) (z : Resizer) (w : Work K
 owes_nothing None z w is = ap (λ (v : Work _ _ _). owed_work (Some v)) is
 owes_nothing (Some reply) z w is = refl
 
-module _ {K V S A : Type 0} (eq : K → K → Bool) (hash : K → ℕ) (law : IsLawfulKeys eq hash) {hashes : S → K → ℕ} (refuse : Bool) (s : CoreState K V S A) (caller : ℕ) (s' : CoreState K V S A) (event : Event) (reply : Option Reply) (x : Resizes eq hashes refuse s caller s' event reply) (hasher : hashes s.store.hasher ≡ hash)
-    (es : List (Exchange (Stored K V))) (call_traces : ℕ → CallTrace K V) (core : IsCore s.store s.callers s.mode) (core' : IsCore s'.store s'.callers s'.mode) (kept : IsKept eq hash s.mode s.store s.callers es call_traces) where
+module _ {K V S A : Type 0} (eq : K → K → Bool) (hash : K → ℕ) (law : IsLawfulKeys eq hash) {hashes : S → K → ℕ} (refuse : Bool)
+    (s : CoreState K V S A) (caller : ℕ) (s' : CoreState K V S A) (event : Event) (reply : Option Reply)
+    (x : Resizes eq hashes refuse s caller s' event reply) (hasher : hashes s.store.hasher ≡ hash)
+    (es : List (Exchange (Stored K V))) (call_traces : ℕ → CallTrace K V) (core : IsCore s.store s.callers s.mode)
+    (core' : IsCore s'.store s'.callers s'.mode) (kept : IsKept eq hash s.mode s.store s.callers es call_traces) where
   -- the work that goes on
   abbrev resumed : Resizer → Answer → Work K V A
   resumed z a = Resize (after z a)
@@ -41,7 +44,8 @@ module _ {K V S A : Type 0} (eq : K → K → Bool) (hash : K → ℕ) (law : Is
   -- the callers owe what they owed
   owed : owed_in s'.callers ≡ owed_in s.callers
   owed =
-      let was = owed-with_work s.callers caller (Resize x.before) (resizer-under_way (working s.callers caller) x.before x.was) (goes_on reply (Resize (after x.before x.answer))) in
+      let was = owed-with_work s.callers caller (Resize x.before) (resizer-under_way (working s.callers caller) x.before x.was)
+      (goes_on reply (Resize (after x.before x.answer))) in
       let none : owed_work (goes_on reply (resumed x.before x.answer)) ≡ pos 0 = owes_nothing reply (after x.before x.answer) _ refl in
       ap (λ (l : List (Seat K V A)). owed_in l) x.callers ∙ omega (arith, ints, was, none)
 
@@ -51,7 +55,9 @@ module _ {K V S A : Type 0} (eq : K → K → Bool) (hash : K → ℕ) (law : Is
       let left = resized.left eq hash law refuse s caller s' event reply x hasher es call_traces core kept in
       let hashed = hashed_setting eq hash law s' core' in
       one_length (setting_of eq (low hash) s'.mode s'.store.words.tables) hashed.lawful (content eq s'.store) (content eq s.store)
-      (content_apart eq hash s'.mode s'.store hashed s'.callers (es ++ left.made) (resized.call_traces' eq hash law refuse s caller s' event reply x hasher es call_traces core kept) (resized.resize_kept eq hash law refuse s caller s' event reply x hasher es call_traces core kept))
+      (content_apart eq hash s'.mode s'.store hashed s'.callers (es ++ left.made)
+      (resized.call_traces' eq hash law refuse s caller s' event reply x hasher es call_traces core kept)
+      (resized.resize_kept eq hash law refuse s caller s' event reply x hasher es call_traces core kept))
       (content_apart eq hash s.mode s.store (hashed_setting eq hash law s core) s.callers es call_traces kept)
       (resize_same eq hash law refuse s s' caller event reply x hasher core core' es call_traces kept)
 

@@ -54,7 +54,8 @@ ended_owes (Deleting spot word) reply e = let f : None ≡ Some reply = e in abs
 ended_owes (Uncounting spot) reply e = let f : None ≡ Some reply = e in absurd cc
 
 -- what goes on owes what its scanner owes
-goes_owes : (K V : Type 0) {A : Type 0} (reply : Option Reply) (v : Scanning A) → reply ≡ reply_of v.scanner → owed_work {K = K} {V = V} (goes_on reply (works.Scan v)) ≡ owed_scan v.scanner.state
+goes_owes : (K V : Type 0) {A : Type 0} (reply : Option Reply) (v : Scanning A) → reply ≡ reply_of v.scanner
+    → owed_work {K = K} {V = V} (goes_on reply (works.Scan v)) ≡ owed_scan v.scanner.state
 goes_owes K V None v is = refl
 goes_owes K V (Some reply) v is = sym (ended_owes v.scanner.state reply (sym is))
 
@@ -63,7 +64,9 @@ copy_heard : (o : Option CopyAsk) (ask : ScanAsk) (a : Answer) → copy_asks o �
 copy_heard None ask a e = let f : None ≡ Some ask = e in absurd cc
 copy_heard (Some is) ask a e = ap (λ y. unheard y a) (sym (same_item (Copy is) ask e))
 
-module _ {K V : Type 0} (g : Setting K (Stored K V)) (c : Coding K (Stored K V)) (w : Words (Stored K V)) (since : List (Exchange (Stored K V))) (loaded : told_by.LoadedPairs (Stored K V)) (a : Answer) (made : List (Exchange (Stored K V))) (loaded' : told_by.LoadedPairs (Stored K V)) (ask : ScanAsk) where
+module _ {K V : Type 0} (g : Setting K (Stored K V)) (c : Coding K (Stored K V)) (w : Words (Stored K V)) (since : List (Exchange (Stored K V)))
+    (loaded : told_by.LoadedPairs (Stored K V)) (a : Answer) (made : List (Exchange (Stored K V))) (loaded' : told_by.LoadedPairs (Stored K V))
+    (ask : ScanAsk) where
   pub was_heard : (state : State) → IsScanTold g c w since state loaded a made loaded' → asks_in state ≡ Some ask → unheard ask a ≡ None
   was_heard (Copying stage) h e = copy_heard (resizers.asks_in stage) ask a e
   was_heard AtRoot h e = ap (λ y. unheard y a) (sym (same_item _ ask e))
@@ -76,8 +79,11 @@ module _ {K V : Type 0} (g : Setting K (Stored K V)) (c : Coding K (Stored K V))
   was_heard Done h e = let f : None ≡ Some ask = e in absurd cc
   was_heard (Refused refused) h e = let f : None ≡ Some ask = e in absurd cc
 
-module _ {K V S A : Type 0} (eq : K → K → Bool) (hash : K → ℕ) (law : IsLawfulKeys eq hash) (says : Says K V A) (hashes : S → K → ℕ) (refuse : Bool) (s : CoreState K V S A) (caller : ℕ) (s' : CoreState K V S A) (event : Event) (reply : Option Reply) (x : Scans eq says hashes refuse s caller s' event reply) (hasher : hashes s.store.hasher ≡ hash)
-    (es : List (Exchange (Stored K V))) (call_traces : ℕ → CallTrace K V) (core : IsCore s.store s.callers s.mode) (kept : IsKept eq hash s.mode s.store s.callers es call_traces) where
+module _ {K V S A : Type 0} (eq : K → K → Bool) (hash : K → ℕ) (law : IsLawfulKeys eq hash) (says : Says K V A) (hashes : S → K → ℕ) (refuse : Bool)
+    (s : CoreState K V S A) (caller : ℕ) (s' : CoreState K V S A) (event : Event) (reply : Option Reply)
+    (x : Scans eq says hashes refuse s caller s' event reply) (hasher : hashes s.store.hasher ≡ hash)
+    (es : List (Exchange (Stored K V))) (call_traces : ℕ → CallTrace K V) (core : IsCore s.store s.callers s.mode)
+    (kept : IsKept eq hash s.mode s.store s.callers es call_traces) where
   abbrev bare : CoreState K V S A
   bare = scanned.bare eq hash law says hashes refuse s caller s' event reply x
 
@@ -98,7 +104,8 @@ module _ {K V S A : Type 0} (eq : K → K → Bool) (hash : K → ℕ) (law : Is
   bare_core' : IsCore s'.store bare.callers bare.mode
   bare_core' =
       let bare_core = scanned.bare_core eq hash law says hashes refuse s caller s' event reply x hasher es call_traces core kept in
-      (scan_core eq says hashes refuse s.store bare.callers s.mode bare_core x.before (core.scanners caller x.before x.was).0 x.answer s'.store x.later x.ask x.asked x.performs).0
+      (scan_core eq says hashes refuse s.store bare.callers s.mode bare_core x.before (core.scanners caller x.before x.was).0 x.answer s'.store
+      x.later x.ask x.asked x.performs).0
 
   -- what the others owe, and what it owes
   owed_before : owed_in bare.callers +ℤ owed_scan x.before.scanner.state ≡ owed_in s.callers
@@ -115,7 +122,8 @@ module _ {K V S A : Type 0} (eq : K → K → Bool) (hash : K → ℕ) (law : Is
   pub heard_reply : Heard → reply ≡ reply_of own.scanner
   heard_reply h =
       x.reply_is ∙ ap (λ o. reply_or o (reply_of own.scanner))
-      (was_heard (setting_of eq (low hash) s.mode s.store.words.tables) (coding_of (low hash)) (run es start) (call_traces caller).since (call_traces caller).scan x.answer h.made h.loaded x.ask x.before.scanner.state h.told x.asked)
+      (was_heard (setting_of eq (low hash) s.mode s.store.words.tables) (coding_of (low hash)) (run es start) (call_traces caller).since
+      (call_traces caller).scan x.answer h.made h.loaded x.ask x.before.scanner.state h.told x.asked)
 
   counted_heard : Heard → IsCounted eq s.store s.callers → IsCounted eq s'.store s'.callers
   counted_heard h was =
@@ -125,7 +133,8 @@ module _ {K V S A : Type 0} (eq : K → K → Bool) (hash : K → ℕ) (law : Is
       let scanning = scanned.before_scanning eq hash law says hashes refuse s caller s' event reply x hasher es call_traces core kept in
       let beside : IsCountedBeside eq s.store bare.callers x.before.scanner.state = ap (λ z. int_wrap w64 (s.store.count.sum +ℤ z)) owed_before ∙ was in
       ap (λ z. int_wrap w64 (s'.store.count.sum +ℤ z)) (owed_after ∙ ap (λ z. owed_in bare.callers +ℤ z) goes)
-      ∙ counted eq hash bare law bare_core call_traces x.before (scan_trace (call_traces caller)) caller x.answer s'.store x.later bare_core' es bare_kept scanning h beside
+      ∙ counted eq hash bare law bare_core call_traces x.before (scan_trace (call_traces caller)) caller x.answer s'.store x.later bare_core' es
+      bare_kept scanning h beside
 
   -- one that was told nothing owed nothing
   counted_unheard : Unheard → IsCounted eq s.store s.callers → IsCounted eq s'.store s'.callers
@@ -140,7 +149,8 @@ module _ {K V S A : Type 0} (eq : K → K → Bool) (hash : K → ℕ) (law : Is
       (ap (λ z. int_wrap w64 (s.store.count.sum +ℤ z)) same ∙ was)
 
   pub counted_scan : IsCounted eq s.store s.callers → IsCounted eq s'.store s'.callers
-  counted_scan was = elim (scanned.heard_so eq hash law says hashes refuse s caller s' event reply x hasher es call_traces core kept) [ inl u ↦ counted_unheard u was | inr h ↦ counted_heard h was ]
+  counted_scan was = elim (scanned.heard_so eq hash law says hashes refuse s caller s' event reply x hasher es call_traces core kept)
+      [ inl u ↦ counted_unheard u was | inr h ↦ counted_heard h was ]
 
   -- what a step did to the map, by its event
   pub heard_moves : Heard → MovesByScan eq s.store s'.store x.before.scanner.scan (call_traces caller).scan.shown event
@@ -149,7 +159,8 @@ module _ {K V S A : Type 0} (eq : K → K → Bool) (hash : K → ℕ) (law : Is
       let bare_kept = scanned.bare_kept eq hash law says hashes refuse s caller s' event reply x hasher es call_traces core kept in
       let scanning = scanned.before_scanning eq hash law says hashes refuse s caller s' event reply x hasher es call_traces core kept in
       subst (MovesByScan eq s.store s'.store x.before.scanner.scan (call_traces caller).scan.shown) (sym x.event_is)
-      (tells eq hash bare law bare_core call_traces x.before (scan_trace (call_traces caller)) caller x.answer s'.store x.later bare_core' es bare_kept scanning h x.ask x.asked)
+      (tells eq hash bare law bare_core call_traces x.before (scan_trace (call_traces caller)) caller x.answer s'.store x.later bare_core' es
+      bare_kept scanning h x.ask x.asked)
 
   -- where it was told nothing, nothing happened
   pub unheard_event : Unheard → event ≡ Other
@@ -167,7 +178,11 @@ module _ {K V S A : Type 0} (eq : K → K → Bool) (hash : K → ℕ) (law : Is
     update = update;
     went_is = went;
     came_is = came;
-    intended = λ retains. (retains, takes_told x.before.scanner.state x.ask x.asked x.answer kind p.number new (sym x.event_is ∙ is ∙ ap (λ o. Changed kind o new) went));
+    intended = λ retains. (
+      retains,
+      takes_told x.before.scanner.state x.ask x.asked x.answer kind p.number new
+          (sym x.event_is ∙ is ∙ ap (λ o. Changed kind o new) went),
+    );
   })
   by_event Begun is same = same
   by_event (Moved kind) is same = same

@@ -4,7 +4,11 @@ use Rattle.papaya_words.specs.Table.{TableWords}
 use Rattle.papaya_words.specs.declared.probe.Refused.TheVariants.{Capacity, Limit, RemoveNothing}
 use Rattle.papaya_call.specs.Answers.{Says}
 use Rattle.papaya_ask.specs.declared.ask.Ask.{Ask as Call_ask}
-use Rattle.papaya_ask.specs.declared.ask.Ask.TheVariants.{Load, Exchange as Ask_exchange, SameKey, ShowNone, ShowPair, SizeOf, MakeKey, MakeValue, MakePair, MakePairOf, MakeTable, AddToShard, Done as Ask_done, LoadHint, WriteHint}
+use Rattle.papaya_ask.specs.declared.ask.Ask.TheVariants.{Load, Exchange as Ask_exchange, SameKey}
+use Rattle.papaya_ask.specs.declared.ask.Ask.TheVariants.{ShowNone, ShowPair, SizeOf, MakeKey}
+use Rattle.papaya_ask.specs.declared.ask.Ask.TheVariants.{MakeValue, MakePair, MakePairOf}
+use Rattle.papaya_ask.specs.declared.ask.Ask.TheVariants.{MakeTable, AddToShard, Done as Ask_done}
+use Rattle.papaya_ask.specs.declared.ask.Ask.TheVariants.{LoadHint, WriteHint}
 use Rattle.papaya_ask.specs.declared.ask.Answer.{Answer as Call_answer}
 use Rattle.papaya_ask.specs.declared.ask.Answer.TheVariants.{Op, Refused as Was_refused}
 use Rattle.papaya_ask.specs.declared.ask.OpKind.{OpKind}
@@ -52,7 +56,8 @@ size_unrefused : (table : Option TableWords) → size_of table ≡ Was_refused R
 size_unrefused None e = cc
 size_unrefused (Some t) e = cc
 
-module _ {K V S A : Type 0} (eq : K → K → Bool) (says : Says K V A) (refuse : Bool) (s : StoreState K V S) (r : Running K V A) (a : Call_answer) (s' : StoreState K V S) (r' : Running K V A) where
+module _ {K V S A : Type 0} (eq : K → K → Bool) (says : Says K V A) (refuse : Bool) (s : StoreState K V S) (r : Running K V A) (a : Call_answer)
+    (s' : StoreState K V S) (r' : Running K V A) where
   -- what is logged, or is not, refuses none
   made_unrefused : LogsOrNot s r a s' r' → a ≡ Was_refused RemoveNothing → ⊥
   made_unrefused (inl (inl e, stays)) is = cc
@@ -107,7 +112,8 @@ module _ {K V S : Type 0} (eq : K → K → Bool) (hash : S → K → ℕ) (refu
       (λ _ lost. let f = lost.0 in cc)
   copy_unrefused (copies.LoadHint t x) (e, same) is = cc
   copy_unrefused (copies.WriteHint t x hint) (e, same) is = cc
-  copy_unrefused (copies.SizeOf t) (e, same) is = size_unrefused (table_of s.words.tables t) (let f : answers.Call (size_of (table_of s.words.tables t)) ≡ answers.Call (Was_refused RemoveNothing) = sym e ∙ is in cc)
+  copy_unrefused (copies.SizeOf t) (e, same) is = size_unrefused (table_of s.words.tables t)
+      (let f : answers.Call (size_of (table_of s.words.tables t)) ≡ answers.Call (Was_refused RemoveNothing) = sym e ∙ is in cc)
   copy_unrefused (copies.HashOf n) (e, hashes, same) is = hash_unrefused (pair_of s n) (sym e ∙ is)
     where
       hash_unrefused : (p : Option (Stored K V)) → hash_in (hash s.hasher) p ≡ answers.Call (Was_refused RemoveNothing) → ⊥
@@ -124,20 +130,24 @@ module _ {K V S : Type 0} (eq : K → K → Bool) (hash : S → K → ℕ) (refu
       (λ table. let f = table.0 in cc)
       made)
 
-module _ {K V S A : Type 0} (eq : K → K → Bool) (says : Says K V A) (hash : S → K → ℕ) (refuse : Bool) (s : StoreState K V S) (r : Running K V A) (a : Answer) (s' : StoreState K V S) (r' : Running K V A) where
+module _ {K V S A : Type 0} (eq : K → K → Bool) (says : Says K V A) (hash : S → K → ℕ) (refuse : Bool) (s : StoreState K V S) (r : Running K V A)
+    (a : Answer) (s' : StoreState K V S) (r' : Running K V A) where
   -- no answer refuses the removal of nothing
   pub unrefused : (ask : Ask) → PerformsAsk eq says hash refuse ask s r a s' r' → a ≡ answers.Call (Was_refused RemoveNothing) → ⊥
-  unrefused (asks.Call ask) (told, e, performs) is = let refused : told ≡ Was_refused RemoveNothing = cc (e, is) in call_unrefused eq says refuse s r told s' r' ask performs refused
+  unrefused (asks.Call ask) (told, e, performs) is = let refused : told ≡ Was_refused RemoveNothing = cc (e, is) in
+      call_unrefused eq says refuse s r told s' r' ask performs refused
   unrefused (asks.Copy ask) (performs, as_was) is = copy_unrefused eq hash refuse s a s' ask performs is
 
 -- why a call is refused that would remove nothing: its closure was just shown that there is none
-pub removes_nothing : (m : Machine) (a : Answer) → (a ≡ answers.Call (Was_refused RemoveNothing) → ⊥) → IsCause m a RemoveNothing → (ask_of m ≡ asks.Call ShowNone) × (a ≡ answers.Call (Op op_kinds.Remove))
+pub removes_nothing : (m : Machine) (a : Answer) → (a ≡ answers.Call (Was_refused RemoveNothing) → ⊥) → IsCause m a RemoveNothing
+    → (ask_of m ≡ asks.Call ShowNone) × (a ≡ answers.Call (Op op_kinds.Remove))
 removes_nothing m a never (inl by) =
     ⊎_elim
     (λ (refuses : IsToMake (calls.ask_of m.call) × (by.own.told ≡ Was_refused RemoveNothing)). absurd (never (by.own.is ∙ ap answers.Call refuses.1)))
     (λ others. ⊎_elim
     (λ (full : (RemoveNothing ≡ Limit) × IsAtLimit m.call by.own.told). let f : RemoveNothing ≡ Limit = full.0 in absurd cc)
-    (λ (shown : (RemoveNothing ≡ RemoveNothing) × (ask_of m ≡ asks.Call ShowNone) × (by.own.told ≡ Op op_kinds.Remove)). (shown.1, by.own.is ∙ ap answers.Call shown.2))
+    (λ (shown : (RemoveNothing ≡ RemoveNothing) × (ask_of m ≡ asks.Call ShowNone) × (by.own.told ≡ Op op_kinds.Remove)).
+    (shown.1, by.own.is ∙ ap answers.Call shown.2))
     others)
     by.why
 removes_nothing m a never (inr by) =
@@ -146,19 +156,24 @@ removes_nothing m a never (inr by) =
     (λ (long : WouldBeTooLong m a RemoveNothing). let f : RemoveNothing ≡ Capacity = long.capacity in absurd cc)
     by.why
 
-module _ {K V A : Type 0} (call : Call K V A) (m : Machine) (a : Answer) (c turn : ℕ) (event : Event) (h : History) (now : Map K V) (maps : List (Map K V)) (event_is : event ≡ event_of (kind_of_ask m) (ask_of m) a) where
+module _ {K V A : Type 0} (call : Call K V A) (m : Machine) (a : Answer) (c turn : ℕ) (event : Event) (h : History) (now : Map K V)
+    (maps : List (Map K V)) (event_is : event ≡ event_of (kind_of_ask m) (ask_of m) a) where
   -- what is shown in a step was last shown after it
-  shown_last : (shown : Option ℕ) (op : OpKind) → ask_of m ≡ asks.Call (show shown) → a ≡ answers.Call (Op op) → AtSomeMoment (λ m. number_in (at_key m (key_of call)) ≡ shown) c h maps → WasShownLast call shown op c (entry turn c event ∷ h) (now ∷ maps)
+  shown_last : (shown : Option ℕ) (op : OpKind) → ask_of m ≡ asks.Call (show shown) → a ≡ answers.Call (Op op)
+      → AtSomeMoment (λ m. number_in (at_key m (key_of call)) ≡ shown) c h maps → WasShownLast call shown op c (entry turn c event ∷ h) (now ∷ maps)
   shown_last shown op asking is at = (
     last_shown-own c turn event h ∙ ap (λ e. shown_by e (last_shown c h)) (event_is ∙ event_shown shown op (kind_of_ask m) (ask_of m) a asking is),
     inr (not_begin-own c c turn event (ap begins event_is ∙ event_begins (kind_of_ask m) (ask_of m) a), at),
   )
 
   -- so where a step ends the call, its closure was shown in it what the key had at a moment of the call
-  pub step_ending : Goes m a → ((after m a).call.task ≡ m.call.task) → ((reply : Reply) → ask_of m ≡ asks.Call (Ask_done reply) → ⊥) → (ask_of m ≡ asks.Call ShowNone → m.call.task ≡ tasks.Compute)
+  pub step_ending : Goes m a → ((after m a).call.task ≡ m.call.task) → ((reply : Reply) → ask_of m ≡ asks.Call (Ask_done reply) → ⊥)
+      → (ask_of m ≡ asks.Call ShowNone → m.call.task ≡ tasks.Compute)
       → ((shown : Option ℕ) → ask_of m ≡ asks.Call (show shown) → AtSomeMoment (λ m. number_in (at_key m (key_of call)) ≡ shown) c h maps)
-      → (reply : Reply) → (reply ≡ Refused RemoveNothing → (ask_of m ≡ asks.Call ShowNone) × (a ≡ answers.Call (Op op_kinds.Remove))) → ask_of (after m a) ≡ asks.Call (Ask_done reply) → IsEnding (after m a).call.task call reply c (entry turn c event ∷ h) (now ∷ maps)
+      → (reply : Reply) → (reply ≡ Refused RemoveNothing → (ask_of m ≡ asks.Call ShowNone) × (a ≡ answers.Call (Op op_kinds.Remove)))
+      → ask_of (after m a) ≡ asks.Call (Ask_done reply) → IsEnding (after m a).call.task call reply c (entry turn c event ∷ h) (now ∷ maps)
   step_ending goes task open_still offers showing reply removes done = record {
-    aborts = λ t is. let (shown, asking, told) = chain_aborted m a goes t open_still (done ∙ ap (λ y. asks.Call (Ask_done y)) is) in (shown, shown_last shown (op_kinds.Abort t) asking told (showing shown asking));
+    aborts = λ t is. let (shown, asking, told) = chain_aborted m a goes t open_still (done ∙ ap (λ y. asks.Call (Ask_done y)) is) in
+        (shown, shown_last shown (op_kinds.Abort t) asking told (showing shown asking));
     nothing = λ is. let (asking, told) = removes is in (task ∙ offers asking, shown_last None op_kinds.Remove asking told (showing None asking));
   }

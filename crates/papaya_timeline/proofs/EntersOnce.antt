@@ -24,7 +24,8 @@ module _ {K V : Type 0} where
 
 module _ {K V A : Type 0} (eq : K → K → Bool) where
   -- so each legal event leaves it
-  legal_steps : (schedule : List (Turn K V A)) (caller : ℕ) (h : History) (before : Map K V) (maps : List (Map K V)) (m : Map K V) (said : Answered V) (event : Event) → IsLegal eq event schedule caller h before maps m said → Steps before maps m
+  legal_steps : (schedule : List (Turn K V A)) (caller : ℕ) (h : History) (before : Map K V) (maps : List (Map K V)) (m : Map K V) (said : Answered V)
+      (event : Event) → IsLegal eq event schedule caller h before maps m said → Steps before maps m
   legal_steps schedule caller h before maps m said (Changed kind old new) change = λ j p has.
       ⊎_elim
       (λ (mine : eq j change.key ≡ true). inr (came_new (before ∷ maps) change.came p change.fresh (sym (change.update.class j mine) ∙ has)))
@@ -39,7 +40,8 @@ module _ {K V A : Type 0} (eq : K → K → Bool) where
   legal_steps schedule caller h before maps m said Other legal = same_steps before maps m legal
 
   -- so it is along a timeline
-  pub timeline_steady : (schedule : List (Turn K V A)) (start : Map K V) (h : History) (maps : List (Map K V)) (said : Answered V) → Timeline eq schedule start h maps said → IsSteady maps
+  pub timeline_steady : (schedule : List (Turn K V A)) (start : Map K V) (h : History) (maps : List (Map K V)) (said : Answered V)
+      → Timeline eq schedule start h maps said → IsSteady maps
   timeline_steady schedule start [] [] said t = tt
   timeline_steady schedule start [] (m ∷ []) [] t = tt
   timeline_steady schedule start [] (m ∷ []) (answered ∷ said) t = absurd t
@@ -50,7 +52,8 @@ module _ {K V A : Type 0} (eq : K → K → Bool) where
   timeline_steady schedule start (e ∷ before) (m ∷ m0 ∷ maps) (answered ∷ said) t =
       (legal_steps schedule e.caller before m0 maps m said e.event t.0, timeline_steady schedule start before (m0 ∷ maps) said t.2)
 
-module _ {K V : Type 0} (j : K) (p : Stored K V) (lost : Map K V) (older : List (Map K V)) (not_there : lost j ≡ Some p → ⊥) (was : IsUnused p.number older → ⊥) where
+module _ {K V : Type 0} (j : K) (p : Stored K V) (lost : Map K V) (older : List (Map K V)) (not_there : lost j ≡ Some p → ⊥)
+    (was : IsUnused p.number older → ⊥) where
   -- a number that no map of a list has, none of its end has
   unused_behind : (newer : List (Map K V)) → IsUnused p.number (newer ++ lost ∷ older) → IsUnused p.number older
   unused_behind [] unused = unused.1
@@ -59,7 +62,14 @@ module _ {K V : Type 0} (j : K) (p : Stored K V) (lost : Map K V) (older : List 
   -- once lost, it is in no later map
   pub never_back : (newer : List (Map K V)) → IsSteady (newer ++ lost ∷ older) → HaveNot j p newer
   never_back [] steady = tt
-  never_back (m ∷ []) steady = ((λ has. ⊎_elim (λ (before : lost j ≡ Some p). not_there before) (λ (unused : IsUnused p.number (lost ∷ older)). was unused.1) (steady.0 j p has)), tt)
+  never_back (m ∷ []) steady = (
+    (λ has. ⊎_elim (λ (before : lost j ≡ Some p). not_there before)
+        (λ (unused : IsUnused p.number (lost ∷ older)). was unused.1) (steady.0 j p has)),
+    tt,
+  )
   never_back (m ∷ m0 ∷ newer) steady =
-      let rest = never_back (m0 ∷ newer) steady.1 in
-      ((λ has. ⊎_elim (λ (before : m0 j ≡ Some p). rest.0 before) (λ (unused : IsUnused p.number (m0 ∷ (newer ++ lost ∷ older))). was (unused_behind newer unused.1)) (steady.0 j p has)), rest)
+      let rest = never_back (m0 ∷ newer) steady.1 in (
+        (λ has. ⊎_elim (λ (before : m0 j ≡ Some p). rest.0 before)
+            (λ (unused : IsUnused p.number (m0 ∷ (newer ++ lost ∷ older))). was (unused_behind newer unused.1)) (steady.0 j p has)),
+        rest,
+      )

@@ -4,9 +4,16 @@ use Rattle.papaya_ask.specs.declared.ask.At.{At}
 use Rattle.papaya_call.specs.Answers.{op_kind}
 use Rattle.papaya_call.specs.declared.answers.Operation.{Operation}
 use Rattle.papaya_ask.specs.declared.ask.Ask.{Ask}
-use Rattle.papaya_ask.specs.declared.ask.Ask.TheVariants.{Load, Exchange as Ask_exchange, SameKey, ShowNone, ShowPair, SizeOf, MakeKey, MakeValue, MakePair, MakePairOf, MakeTable, AddToShard, Done as Ask_done, LoadHint, WriteHint}
+use Rattle.papaya_ask.specs.declared.ask.Ask.TheVariants.{Load, Exchange as Ask_exchange, SameKey}
+use Rattle.papaya_ask.specs.declared.ask.Ask.TheVariants.{ShowNone, ShowPair, SizeOf, MakeKey}
+use Rattle.papaya_ask.specs.declared.ask.Ask.TheVariants.{MakeValue, MakePair, MakePairOf}
+use Rattle.papaya_ask.specs.declared.ask.Ask.TheVariants.{MakeTable, AddToShard, Done as Ask_done}
+use Rattle.papaya_ask.specs.declared.ask.Ask.TheVariants.{LoadHint, WriteHint}
 use Rattle.papaya_ask.specs.declared.ask.Answer.{Answer}
-use Rattle.papaya_ask.specs.declared.ask.Answer.TheVariants.{Word as Word_read, Exchanged, Found as Found_instead, Yes, Op, Size, Made as Made_number, Ok as Ok_done, Refused as Was_refused}
+use Rattle.papaya_ask.specs.declared.ask.Answer.TheVariants.{Word as Word_read, Exchanged}
+use Rattle.papaya_ask.specs.declared.ask.Answer.TheVariants.{Found as Found_instead, Yes, Op, Size}
+use Rattle.papaya_ask.specs.declared.ask.Answer.TheVariants.{Made as Made_number, Ok as Ok_done}
+use Rattle.papaya_ask.specs.declared.ask.Answer.TheVariants.{Refused as Was_refused}
 use Rattle.papaya_ask.specs.declared.ask.OpKind.{OpKind}
 use Rattle.papaya_ask.specs.declared.ask.StepKind.{StepKind}
 use Rattle.papaya_ask.specs.declared.ask.StepKind.TheVariants as kinds
@@ -24,7 +31,8 @@ use Rattle.papaya_timeline.proofs.StoreLemmas.{matched}
 use Rattle.papaya_timeline.proofs.TimelineLemmas.{entry, answered-own, answered-now, asked-own, asked-now}
 
 -- an exchange of this ask was made
-pub record IsExchanged {K P : Type 0} (g : Setting K P) (c : Coding K P) (k : K) (s : State P) (kind : Option StepKind) (loaded : LoadedPairs P) (ask : Ask) (answer : Answer) (es : List (Exchange P)) : Type 0 where
+pub record IsExchanged {K P : Type 0} (g : Setting K P) (c : Coding K P) (k : K) (s : State P) (kind : Option StepKind) (loaded : LoadedPairs P)
+    (ask : Ask) (answer : Answer) (es : List (Exchange P)) : Type 0 where
   pub at : At
   pub old : ℕ
   pub new : ℕ
@@ -41,22 +49,36 @@ IsQuiet kind ask answer es = (es ≡ []) × (call_event kind ask answer ≡ Othe
 
 -- or the closure of a removal was shown a pair, and answered
 abbrev pub IsShowing : {P : Type 0} → Option StepKind → Ask → Answer → List (Exchange P) → Type 0
-IsShowing kind ask answer es = (n : ℕ) × (agrees : Bool) × (ask ≡ ShowPair n) × (answer ≡ Yes agrees) × (es ≡ []) × (call_event kind ask answer ≡ Asked n agrees)
+IsShowing kind ask answer es = (n : ℕ) × (agrees : Bool) × (ask ≡ ShowPair n) × (answer ≡ Yes agrees) × (es ≡ [])
+    × (call_event kind ask answer ≡ Asked n agrees)
 
 -- or that of a compute was shown a pair, or that there is none, and answered
 abbrev pub IsShown : {P : Type 0} → Option StepKind → Ask → Answer → List (Exchange P) → Type 0
-IsShown kind ask answer es = (shown : Option ℕ) × (op : OpKind) × (ask ≡ show shown) × (answer ≡ Op op) × (es ≡ []) × (call_event kind ask answer ≡ Shown shown op)
+IsShown kind ask answer es = (shown : Option ℕ) × (op : OpKind) × (ask ≡ show shown) × (answer ≡ Op op) × (es ≡ [])
+    × (call_event kind ask answer ≡ Shown shown op)
 
 module _ {K P : Type 0} (g : Setting K P) (c : Coding K P) (k : K) (s : State P) (kind : Option StepKind) (loaded : LoadedPairs P) where
   abbrev Cases : Ask → Answer → List (Exchange P) → Type 0
   Cases ask answer es = IsQuiet kind ask answer es ⊎ IsExchanged g c k s kind loaded ask answer es ⊎ IsShowing kind ask answer es ⊎ IsShown kind ask answer es
 
   -- what is told is one of them
-  pub told_cases : (ask : Ask) (answer : Answer) (es : List (Exchange P)) (loaded' : LoadedPairs P) → IsTold g c k s kind loaded ask answer es loaded' → Cases ask answer es
+  pub told_cases : (ask : Ask) (answer : Answer) (es : List (Exchange P)) (loaded' : LoadedPairs P) → IsTold g c k s kind loaded ask answer es loaded'
+      → Cases ask answer es
   told_cases (Load at) answer es loaded' h = inl (h.1, refl)
   told_cases (Ask_exchange at old new) answer es loaded' h =
       matched (Cases (Ask_exchange at old new) answer es) (word_of g c s at == old) _ _ h
-      (λ same h'. let e = h'.1 in inr (inl (record { at = at; old = old; new = new; by = e.0; ask_is = refl; answer_is = h'.0; stood = eqb-true (word_of g c s at) old same; asked = e.1; made = e.2 })))
+      (λ same h'. let e = h'.1 in inr (inl (record {
+        at = at;
+        old = old;
+        new = new;
+        by = e.0;
+        ask_is = refl;
+        answer_is = h'.0;
+        stood = eqb-true
+            (word_of g c s at) old same;
+        asked = e.1;
+        made = e.2;
+      })))
       (λ differ h'. inl (h'.1, ap (answered_event kind old new) h'.0))
   told_cases (SameKey n) answer es loaded' h = inl (h.1.0, refl)
   told_cases ShowNone answer es loaded' h =
@@ -87,13 +109,16 @@ module _ {K P : Type 0} (g : Setting K P) (c : Coding K P) (k : K) (s : State P)
   told_cases (Ask_done reply) answer es loaded' h = inl (h.1.0, refl)
 
   -- so at most one exchange
-  pub one_exchange : (ask : Ask) (answer : Answer) (es : List (Exchange P)) (loaded' : LoadedPairs P) → IsTold g c k s kind loaded ask answer es loaded' → (es ≡ []) ⊎ ((e : Exchange P) × (es ≡ e ∷ []))
+  pub one_exchange : (ask : Ask) (answer : Answer) (es : List (Exchange P)) (loaded' : LoadedPairs P)
+      → IsTold g c k s kind loaded ask answer es loaded' → (es ≡ []) ⊎ ((e : Exchange P) × (es ≡ e ∷ []))
   one_exchange ask answer es loaded' h =
       let none : (es ≡ []) → (es ≡ []) ⊎ ((e : Exchange P) × (es ≡ e ∷ [])) = λ e. inl e in
-      ⊎_elim (λ quiet. none quiet.0) (λ x. ⊎_elim (λ y. inr (y.by, y.made)) (λ z. ⊎_elim (λ y. none y.4) (λ y. none y.4) z) x) (told_cases ask answer es loaded' h)
+      ⊎_elim (λ quiet. none quiet.0) (λ x. ⊎_elim (λ y. inr (y.by, y.made)) (λ z. ⊎_elim (λ y. none y.4) (λ y. none y.4) z) x)
+      (told_cases ask answer es loaded' h)
 
 -- what holds of events of exchanges and of no event holds where an exchange was asked for
-pub exchanged_cases : (P : Event → Type 0) → P Other → ((kind : StepKind) (old new : Option ℕ) → P (Changed kind old new)) → ((kind : StepKind) → P (Moved kind)) → (kind : Option StepKind) (old new : ℕ) (answer : Answer) → P (answered_event kind old new answer)
+pub exchanged_cases : (P : Event → Type 0) → P Other → ((kind : StepKind) (old new : Option ℕ) → P (Changed kind old new))
+    → ((kind : StepKind) → P (Moved kind)) → (kind : Option StepKind) (old new : ℕ) (answer : Answer) → P (answered_event kind old new answer)
 exchanged_cases P other changed moved kind old new answer = by_answer answer
   where
     by_kind : (kind : Option StepKind) → P (kind_event kind old new)
@@ -124,7 +149,8 @@ exchanged_cases P other changed moved kind old new answer = by_answer answer
     by_answer (Was_refused refused) = other
 
 -- what holds of the answers of closures and of no event holds where a closure was shown something
-shown_cases : (P : Event → Type 0) → P Other → ((n : ℕ) (agrees : Bool) → P (Asked n agrees)) → (shown : Option ℕ) → ((op : OpKind) → P (Shown shown op)) → (answer : Answer) → P (shown_event shown answer)
+shown_cases : (P : Event → Type 0) → P Other → ((n : ℕ) (agrees : Bool) → P (Asked n agrees)) → (shown : Option ℕ)
+    → ((op : OpKind) → P (Shown shown op)) → (answer : Answer) → P (shown_event shown answer)
 shown_cases P other asked None op_given (Yes agrees) = other
 shown_cases P other asked (Some n) op_given (Yes agrees) = asked n agrees
 shown_cases P other asked shown op_given (Op op) = op_given op
@@ -137,7 +163,9 @@ shown_cases P other asked shown op_given Ok_done = other
 shown_cases P other asked shown op_given (Was_refused refused) = other
 
 -- what holds of events of exchanges, of showings and of no event holds of a step's
-event_cases : (P : Event → Type 0) → P Other → ((kind : StepKind) (old new : Option ℕ) → P (Changed kind old new)) → ((kind : StepKind) → P (Moved kind)) → ((n : ℕ) (agrees : Bool) → P (Asked n agrees)) → ((n : Option ℕ) (op : OpKind) → P (Shown n op)) → (kind : Option StepKind) (ask : Ask) (answer : Answer) → P (call_event kind ask answer)
+event_cases : (P : Event → Type 0) → P Other → ((kind : StepKind) (old new : Option ℕ) → P (Changed kind old new))
+    → ((kind : StepKind) → P (Moved kind)) → ((n : ℕ) (agrees : Bool) → P (Asked n agrees)) → ((n : Option ℕ) (op : OpKind) → P (Shown n op))
+    → (kind : Option StepKind) (ask : Ask) (answer : Answer) → P (call_event kind ask answer)
 event_cases P other changed moved asked shown kind (Load at) answer = other
 event_cases P other changed moved asked shown kind (Ask_exchange at old new) answer = exchanged_cases P other changed moved kind old new answer
 event_cases P other changed moved asked shown kind (SameKey n) answer = other
@@ -159,28 +187,41 @@ pub event_begins : (kind : Option StepKind) (ask : Ask) (answer : Answer) → be
 event_begins = event_cases (λ e. begins e ≡ false) refl (λ kind old new. refl) (λ kind. refl) (λ n agrees. refl) (λ n op. refl)
 
 -- what the closure of a removal has answered after a step, it had answered before it or answers now
-pub step_asked : (c turn n : ℕ) (agrees : Bool) (kind : Option StepKind) (ask : Ask) (answer : Answer) (event : Event) (before : History) → event ≡ call_event kind ask answer → WasAsked c n agrees before ⊎ ((ask ≡ ShowPair n) × (answer ≡ Yes agrees)) → WasAsked c n agrees (entry turn c event ∷ before)
-step_asked c turn n agrees kind ask answer event before is (inl was) = asked-own c c turn n agrees event before (ap begins is ∙ event_begins kind ask answer) was
-step_asked c turn n agrees kind ask answer event before is (inr (showed, said)) = asked-now c turn n agrees event before (is ∙ ap (λ y. call_event kind y answer) showed ∙ ap (shown_event (Some n)) said)
+pub step_asked : (c turn n : ℕ) (agrees : Bool) (kind : Option StepKind) (ask : Ask) (answer : Answer) (event : Event) (before : History)
+    → event ≡ call_event kind ask answer → WasAsked c n agrees before ⊎ ((ask ≡ ShowPair n) × (answer ≡ Yes agrees))
+    → WasAsked c n agrees (entry turn c event ∷ before)
+step_asked c turn n agrees kind ask answer event before is (inl was) = asked-own c c turn n agrees event before
+    (ap begins is ∙ event_begins kind ask answer) was
+step_asked c turn n agrees kind ask answer event before is (inr (showed, said)) = asked-now c turn n agrees event before
+    (is ∙ ap (λ y. call_event kind y answer) showed ∙ ap (shown_event (Some n)) said)
 
 -- the event of a showing to a compute's closure
-pub event_shown : (shown : Option ℕ) (op : OpKind) (kind : Option StepKind) (ask : Ask) (answer : Answer) → ask ≡ show shown → answer ≡ Op op → call_event kind ask answer ≡ Shown shown op
+pub event_shown : (shown : Option ℕ) (op : OpKind) (kind : Option StepKind) (ask : Ask) (answer : Answer) → ask ≡ show shown → answer ≡ Op op
+    → call_event kind ask answer ≡ Shown shown op
 event_shown None op kind ask answer showed said = ap (λ y. call_event kind y answer) showed ∙ ap (shown_event None) said
 event_shown (Some n) op kind ask answer showed said = ap (λ y. call_event kind y answer) showed ∙ ap (shown_event (Some n)) said
 
 -- what a closure has answered after a step, it had answered before it or answers now
-pub step_answered : {V : Type 0} (c turn : ℕ) (shown : Option ℕ) (op : Operation V ℕ) (kind : Option StepKind) (ask : Ask) (answer : Answer) (event : Event) (before : History) (o : Option (Operation V ℕ)) (said : Answered V) → event ≡ call_event kind ask answer → WasAnswered c shown op before said ⊎ ((ask ≡ show shown) × (answer ≡ Op (op_kind op)) × (o ≡ Some op)) → WasAnswered c shown op (entry turn c event ∷ before) (o ∷ said)
-step_answered c turn shown op kind ask answer event before o said is (inl was) = answered-own c c turn shown op event before o said (ap begins is ∙ event_begins kind ask answer) was
-step_answered c turn shown op kind ask answer event before o said is (inr (showed, given, now)) = answered-now c turn shown op event before o said (is ∙ event_shown shown (op_kind op) kind ask answer showed given) now
+pub step_answered : {V : Type 0} (c turn : ℕ) (shown : Option ℕ) (op : Operation V ℕ) (kind : Option StepKind) (ask : Ask) (answer : Answer)
+    (event : Event) (before : History) (o : Option (Operation V ℕ)) (said : Answered V) → event ≡ call_event kind ask answer
+    → WasAnswered c shown op before said ⊎ ((ask ≡ show shown) × (answer ≡ Op (op_kind op)) × (o ≡ Some op))
+    → WasAnswered c shown op (entry turn c event ∷ before) (o ∷ said)
+step_answered c turn shown op kind ask answer event before o said is (inl was) = answered-own c c turn shown op event before o said
+    (ap begins is ∙ event_begins kind ask answer) was
+step_answered c turn shown op kind ask answer event before o said is (inr (showed, given, now)) = answered-now c turn shown op event before o said
+    (is ∙ event_shown shown (op_kind op) kind ask answer showed given) now
 
 -- that there is none a closure has been shown after a step only if it was before it, or is now
-pub event_none : (before : Bool) (kind : Option StepKind) (ask : Ask) (answer : Answer) → none_by (call_event kind ask answer) before ≡ true → (before ≡ true) ⊎ ((ask ≡ ShowNone) × ((op : OpKind) × (answer ≡ Op op)))
+pub event_none : (before : Bool) (kind : Option StepKind) (ask : Ask) (answer : Answer) → none_by (call_event kind ask answer) before ≡ true
+    → (before ≡ true) ⊎ ((ask ≡ ShowNone) × ((op : OpKind) × (answer ≡ Op op)))
 event_none before kind (Load at) answer e = inl e
-event_none before kind (Ask_exchange at old new) answer e = inl (sym (exchanged_cases (λ y. none_by y before ≡ before) refl (λ kind old new. refl) (λ kind. refl) kind old new answer) ∙ e)
+event_none before kind (Ask_exchange at old new) answer e = inl
+    (sym (exchanged_cases (λ y. none_by y before ≡ before) refl (λ kind old new. refl) (λ kind. refl) kind old new answer) ∙ e)
 event_none before kind (SameKey n) answer e = inl e
 event_none before kind ShowNone answer e = by_answer answer e
   where
-    by_answer : (answer : Answer) → none_by (shown_event None answer) before ≡ true → (before ≡ true) ⊎ ((ShowNone ≡ ShowNone) × ((op : OpKind) × (answer ≡ Op op)))
+    by_answer : (answer : Answer) → none_by (shown_event None answer) before ≡ true → (before ≡ true)
+        ⊎ ((ShowNone ≡ ShowNone) × ((op : OpKind) × (answer ≡ Op op)))
     by_answer (Op op) e = inr (refl, (op, refl))
     by_answer (Yes agrees) e = inl e
     by_answer Exchanged e = inl e
@@ -203,11 +244,14 @@ event_none before kind (AddToShard by) answer e = inl e
 event_none before kind (Ask_done reply) answer e = inl e
 
 -- and the open call stays open
-pub event_open : {A : Type 0} (begun before : Option A) (kind : Option StepKind) (ask : Ask) (answer : Answer) → open_after (call_event kind ask answer) begun before ≡ before
+pub event_open : {A : Type 0} (begun before : Option A) (kind : Option StepKind) (ask : Ask) (answer : Answer)
+    → open_after (call_event kind ask answer) begun before ≡ before
 event_open begun before = event_cases (λ e. open_after e begun before ≡ before) refl (λ kind old new. refl) (λ kind. refl) (λ n agrees. refl) (λ n op. refl)
 
 -- it tells the change that the machine makes
-pub event_change : (before : Change) (kind : Option StepKind) (ask : Ask) (answer : Answer) → ((at : At) (old new : ℕ) → ask ≡ Ask_exchange at old new → before ≡ None) → change_by (call_event kind ask answer) before ≡ change_after kind ask answer before
+pub event_change : (before : Change) (kind : Option StepKind) (ask : Ask) (answer : Answer)
+    → ((at : At) (old new : ℕ) → ask ≡ Ask_exchange at old new → before ≡ None)
+    → change_by (call_event kind ask answer) before ≡ change_after kind ask answer before
 event_change before kind (Load at) answer once = refl
 event_change before kind (Ask_exchange at old new) answer once = by_answer answer
   where
@@ -255,7 +299,8 @@ event_change before kind (AddToShard by) answer once = refl
 event_change before kind (Ask_done reply) answer once = refl
 
 -- where no change was made after an answer, none was made before it
-pub unchanged_before : (before : Change) (kind : Option StepKind) (ask : Ask) (answer : Answer) → ((at : At) (old new : ℕ) → ask ≡ Ask_exchange at old new → before ≡ None) → change_after kind ask answer before ≡ None → before ≡ None
+pub unchanged_before : (before : Change) (kind : Option StepKind) (ask : Ask) (answer : Answer)
+    → ((at : At) (old new : ℕ) → ask ≡ Ask_exchange at old new → before ≡ None) → change_after kind ask answer before ≡ None → before ≡ None
 unchanged_before before kind (Load at) answer once e = e
 unchanged_before before kind (Ask_exchange at old new) answer once e = once at old new refl
 unchanged_before before kind (SameKey n) answer once e = e

@@ -31,11 +31,13 @@ module _ {K P : Type 0} (g : Setting K P) (c : Coding K P) (s : State P) (last k
   abbrev On : ℕ → Type 0
   On t = IsOn s.first s.next t
 
-  carry_follows : (slot : Slot) (p : P) (goes : Carry) (marked : ℕ) → ReliesCarry g c s last kept slot p goes → carry.carry_ask goes marked ≡ MakeTable slots limit chunks → On (carry.carry_follows goes)
+  carry_follows : (slot : Slot) (p : P) (goes : Carry) (marked : ℕ) → ReliesCarry g c s last kept slot p goes
+      → carry.carry_ask goes marked ≡ MakeTable slots limit chunks → On (carry.carry_follows goes)
   carry_follows slot p (carries.Linking hash made) marked relies e = relies.4.on
   carry_follows slot p other marked relies e = absurd cc
 
-  settle_follows : (slot : Slot) (goes : Settle) → ReliesSettle g c s last kept slot goes → settle.settle_ask goes slot ≡ MakeTable slots limit chunks → On (settle.settle_follows goes)
+  settle_follows : (slot : Slot) (goes : Settle) → ReliesSettle g c s last kept slot goes → settle.settle_ask goes slot ≡ MakeTable slots limit chunks
+      → On (settle.settle_follows goes)
   settle_follows slot (settles.Carrying marked goes) relies e = carry_follows slot relies.pair goes marked relies.relies e
   settle_follows slot other relies e = absurd cc
 
@@ -44,17 +46,23 @@ module _ {K P : Type 0} (g : Setting K P) (c : Coding K P) (s : State P) (last k
   step_follows (steps.Settling chunk goes) relies e = settle_follows (step.slot_of chunk) goes relies.1 e
   step_follows other relies e = absurd cc
 
-  pub copying_follows : (goes : Copying) → ReliesCopying g c s last kept goes → copying.copying_ask goes ≡ MakeTable slots limit chunks → On (copying.copying_follows goes)
+  pub copying_follows : (goes : Copying) → ReliesCopying g c s last kept goes → copying.copying_ask goes ≡ MakeTable slots limit chunks
+      → On (copying.copying_follows goes)
   copying_follows (Stepping aim goes) relies e = step_follows goes relies.1 e
   copying_follows (Lone slot goes) relies e = settle_follows slot goes relies.1 e
 
 module _ {K P : Type 0} (g : Setting K P) (c : Coding K P) (begun since : List (Exchange P)) (k : K) (m : Machine) (loaded : LoadedPairs P) where
   -- so it is where a machine asks for a table for a copy
-  pub machine_follows : Relies g c begun since k m loaded → (slots limit chunks : ℕ) → machine.ask_of m ≡ asks.Copy (MakeTable slots limit chunks) → IsOn (now g c begun since k).first (now g c begun since k).next (machine.follows_of m)
+  pub machine_follows : Relies g c begun since k m loaded → (slots limit chunks : ℕ) → machine.ask_of m ≡ asks.Copy (MakeTable slots limit chunks)
+      → IsOn (now g c begun since k).first (now g c begun since k).next (machine.follows_of m)
   machine_follows relies slots limit chunks e = by_phase m.phase relies.phase e
     where
-      by_phase : (phase : Phase) → ReliesPhase g c begun since k m loaded phase → machine.asks_in m.call phase ≡ asks.Copy (MakeTable slots limit chunks) → IsOn (now g c begun since k).first (now g c begun since k).next (machine.follows_in phase)
+      by_phase : (phase : Phase) → ReliesPhase g c begun since k m loaded phase
+          → machine.asks_in m.call phase ≡ asks.Copy (MakeTable slots limit chunks)
+          → IsOn (now g c begun since k).first (now g c begun since k).next (machine.follows_in phase)
       by_phase Calling h e = absurd cc
       by_phase (Linking made) h e = h.relies.on
-      by_phase (Copying_root goes) (inl h) e = copying_follows g c (now g c begun since k) loaded.call.last loaded.kept slots limit chunks goes h.relies (let f : copying.copying_ask goes ≡ MakeTable slots limit chunks = cc in f)
-      by_phase (Copying_root goes) (inr h) e = copying_follows g c (now g c begun since k) loaded.call.last loaded.kept slots limit chunks goes h.relies (let f : copying.copying_ask goes ≡ MakeTable slots limit chunks = cc in f)
+      by_phase (Copying_root goes) (inl h) e = copying_follows g c (now g c begun since k) loaded.call.last loaded.kept slots limit chunks goes
+          h.relies (let f : copying.copying_ask goes ≡ MakeTable slots limit chunks = cc in f)
+      by_phase (Copying_root goes) (inr h) e = copying_follows g c (now g c begun since k) loaded.call.last loaded.kept slots limit chunks goes
+          h.relies (let f : copying.copying_ask goes ≡ MakeTable slots limit chunks = cc in f)

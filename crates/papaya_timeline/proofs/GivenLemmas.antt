@@ -26,17 +26,20 @@ module _ {K V S A : Type 0} (says : Says K V A) (s s' : StoreState K V S) (stay 
   gives_more (Replied reply) answered a a' same = same
 
   module _ (schedule : List (Turn K V A)) where
-    pub left_more : (a' : A) (caller : ℕ) (h : History) (said : Answered V) → HasLeft says s schedule a' caller h said → HasLeft says s' schedule a' caller h said
+    pub left_more : (a' : A) (caller : ℕ) (h : History) (said : Answered V) → HasLeft says s schedule a' caller h said
+        → HasLeft says s' schedule a' caller h said
     left_more a' caller [] said x = absurd x
     left_more a' caller (e ∷ before) [] x = absurd x
     left_more a' caller (e ∷ before) (answered ∷ said) (inl begun) = inl begun
-    left_more a' caller (e ∷ before) (answered ∷ said) (inr (inl (own, on, (a, x, gives)))) = inr (inl (own, on, (a, left_more a caller before said x, gives_more e.event answered a a' gives)))
+    left_more a' caller (e ∷ before) (answered ∷ said) (inr (inl (own, on, (a, x, gives)))) = inr
+        (inl (own, on, (a, left_more a caller before said x, gives_more e.event answered a a' gives)))
     left_more a' caller (e ∷ before) (answered ∷ said) (inr (inr (other, x))) = inr (inr (other, left_more a' caller before said x))
 
     pub given_more : (h : History) (said : Answered V) → AreGiven says s schedule h said → AreGiven says s' schedule h said
     given_more [] said x = tt
     given_more (e ∷ before) [] x = absurd x
     given_more (e ∷ before) (answered ∷ said) (now, x) = (
-      λ call opened asks. let (a, a', left, gives) = now call opened asks in (a, a', left_more a e.caller before said left, gives_more e.event answered a a' gives),
+      λ call opened asks. let (a, a', left, gives) = now call opened asks in
+          (a, a', left_more a e.caller before said left, gives_more e.event answered a a' gives),
       given_more before said x,
     )

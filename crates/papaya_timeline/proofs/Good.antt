@@ -23,7 +23,10 @@ use Rattle.papaya_timeline.specs.Maps.{Map, at_key, key_of}
 use Rattle.papaya_store.specs.Performs.{own_key, own_value}
 use Rattle.papaya_store.specs.Store.{KeepsPairs, StoreState, Stored, pair_of}
 use Rattle.papaya_timeline.specs.Runs.{History}
-use Rattle.papaya_timeline.specs.Timeline.{Answered, open_call, change_of, given_by, last_asked, was_shown_none, AreSince, AtBegin, AtSomeMoment, OfEach, OfSome, WasAnswered, WasAsked, WereThere, IsUnused, Timeline}
+use Rattle.papaya_timeline.specs.Timeline.{Answered, open_call, change_of, given_by, last_asked}
+use Rattle.papaya_timeline.specs.Timeline.{was_shown_none, AreSince, AtBegin, AtSomeMoment, OfEach}
+use Rattle.papaya_timeline.specs.Timeline.{OfSome, WasAnswered, WasAsked, WereThere, IsUnused}
+use Rattle.papaya_timeline.specs.Timeline.{Timeline}
 use Rattle.papaya_chain.specs.declared.scanner.Scan.{Scan}
 use Rattle.papaya_chain.specs.declared.scanner.Scan.TheVariants as scans
 use Rattle.papaya_chain_law.specs.ScanTaken.{IsTakenOut}
@@ -64,7 +67,8 @@ answer_about (one ∷ older) n = cond (one.0.number == n) (Some one.1) (answer_a
 abbrev pub WasSaid : {K V S A : Type 0} → StoreState K V S → Running K V A → ℕ → History → Answered V → Said → Type 0
 WasSaid store r caller h said (Agrees n agrees) = WasAsked caller n agrees h
 WasSaid {V = V} store r caller h said (Inserts shown) = (v : V) × (own_value store r ≡ Some v) × WasAnswered caller shown (ops.Insert v) h said
-WasSaid {K = K} {V = V} store r caller h said (Makes shown n) = (q : Stored K V) × (pair_of store n ≡ Some q) × WasAnswered caller shown (ops.Insert q.value) h said
+WasSaid {K = K} {V = V} store r caller h said (Makes shown n) = (q : Stored K V) × (pair_of store n ≡ Some q)
+    × WasAnswered caller shown (ops.Insert q.value) h said
 WasSaid store r caller h said (Removes n) = WasAnswered caller (Some n) ops.Remove h said
 
 module _ {K V : Type 0} (eq : K → K → Bool) where
@@ -92,11 +96,13 @@ module _ {K V : Type 0} (eq : K → K → Bool) where
     pub are : AreSince caller h maps since
     pub there : WereThere caller h since
     pub keyed : OfEach IsKeyed since
-    pub covers : (k : K) (so_far rest : List (Exchange (Stored K V))) → so_far ++ rest ≡ fs → OfSome (λ m. m k ≡ replayed (replay (call_trace.begun ++ call_trace.loaded.before)) so_far k) since
+    pub covers : (k : K) (so_far rest : List (Exchange (Stored K V))) → so_far ++ rest ≡ fs
+        → OfSome (λ m. m k ≡ replayed (replay (call_trace.begun ++ call_trace.loaded.before)) so_far k) since
 
   module _ {S A : Type 0} where
     -- A call under way that scans a table, which began in the run, and the history of its caller.
-    pub record IsScanTied (says : Says K V A) (store : StoreState K V S) (schedule : List (Turn K V A)) (v : Scanning A) (call : Call K V A) (caller : ℕ) (call_trace : ScanTrace K V) (h : History) (maps : List (Map K V)) (answers : Answered V) : Type 0 where
+    pub record IsScanTied (says : Says K V A) (store : StoreState K V S) (schedule : List (Turn K V A)) (v : Scanning A) (call : Call K V A)
+        (caller : ℕ) (call_trace : ScanTrace K V) (h : History) (maps : List (Map K V)) (answers : Answered V) : Type 0 where
       pub scan : IsScanOf call v.scanner.scan
       pub unchanged : v.scanner.scan ≡ scans.Walk → change_of caller h ≡ None
       pub given : given_by caller h ≡ numbers_of call_trace.loaded.given
@@ -104,15 +110,18 @@ module _ {K V : Type 0} (eq : K → K → Bool) where
       -- the map as it began
       pub began : AtBegin (λ m. (k : K) → m k ≡ replay call_trace.begun k) caller h maps
       -- what a key had after some of the exchanges since it began, it had at a moment of the call
-      pub moments : (k : K) (so_far rest : List (Exchange (Stored K V))) → so_far ++ rest ≡ call_trace.since → AtSomeMoment (λ m. at_key m (Some k) ≡ at_key (replayed (replay call_trace.begun) so_far) (Some k)) caller h maps
+      pub moments : (k : K) (so_far rest : List (Exchange (Stored K V))) → so_far ++ rest ≡ call_trace.since
+          → AtSomeMoment (λ m. at_key m (Some k) ≡ at_key (replayed (replay call_trace.begun) so_far) (Some k)) caller h maps
       -- a pair that it had as the call began, and that was taken out since, has not come back
-      pub gone : (k : K) (p : Stored K V) → replay call_trace.begun k ≡ Some p → IsTakenOut replaying call_trace.since k → replay (call_trace.begun ++ call_trace.since) k ≡ Some p → ⊥
+      pub gone : (k : K) (p : Stored K V) → replay call_trace.begun k ≡ Some p → IsTakenOut replaying call_trace.since k
+          → replay (call_trace.begun ++ call_trace.since) k ≡ Some p → ⊥
       pub making : IsMaking caller call_trace h maps
       -- what its closure has left
       pub left : (a : A) → v.answers ≡ Some a → HasLeft says store schedule a caller h answers
 
     -- A call under way, which began in the run, and the history of its caller.
-    pub record IsTied (store : StoreState K V S) (r : Running K V A) (call : Call K V A) (caller : ℕ) (call_trace : CallTrace K V) (h : History) (maps : List (Map K V)) (answers : Answered V) : Type 0 where
+    pub record IsTied (store : StoreState K V S) (r : Running K V A) (call : Call K V A) (caller : ℕ) (call_trace : CallTrace K V) (h : History)
+        (maps : List (Map K V)) (answers : Answered V) : Type 0 where
       pub own : K
       pub key : own_key store r ≡ Some own
       pub key_is : key_of call ≡ Some own
@@ -127,10 +136,12 @@ module _ {K V : Type 0} (eq : K → K → Bool) where
       -- a closure that was shown that there is none will not be shown it again
       pub once : was_shown_none caller h ≡ true → HasShownNone r.machine.call.remembered.fill r.machine.call.state
       -- what its key had after some of the exchanges since the call began, it had at a moment of the call
-      pub moments : (so_far rest : List (Exchange (Stored K V))) → so_far ++ rest ≡ call_trace.since → AtSomeMoment (λ m. at_key m (key_of call) ≡ at_key (replayed (replay call_trace.begun) so_far) (key_of call)) caller h maps
+      pub moments : (so_far rest : List (Exchange (Stored K V))) → so_far ++ rest ≡ call_trace.since
+          → AtSomeMoment (λ m. at_key m (key_of call) ≡ at_key (replayed (replay call_trace.begun) so_far) (key_of call)) caller h maps
 
     -- The history has a timeline of maps, the newest of which is the replay of all exchanges; and the calls under way stand to it as they should.
-    pub record IsGood (says : Says K V A) (hash : K → ℕ) (schedule : List (Turn K V A)) (first : StoreState K V S) (start : Map K V) (s : CoreState K V S A) (h : History) : Type 0 where
+    pub record IsGood (says : Says K V A) (hash : K → ℕ) (schedule : List (Turn K V A)) (first : StoreState K V S) (start : Map K V)
+        (s : CoreState K V S A) (h : History) : Type 0 where
       pub es : List (Exchange (Stored K V))
       pub call_traces : ℕ → CallTrace K V
       pub maps : List (Map K V)
@@ -141,14 +152,20 @@ module _ {K V : Type 0} (eq : K → K → Bool) where
       pub logged : AreLogged s.store (replay es ∷ maps)
       pub given : AreGiven says s.store schedule h answers
       -- what the closures of the calls under way have left
-      pub left : (caller : ℕ) (r : Running K V A) (call : Call K V A) → running s.callers caller ≡ Some r → open_call schedule caller h ≡ Some call → (a : A) → r.answers ≡ Some a → HasLeft says s.store schedule a caller h answers
+      pub left : (caller : ℕ) (r : Running K V A) (call : Call K V A) → running s.callers caller ≡ Some r → open_call schedule caller h ≡ Some call
+          → (a : A) → r.answers ≡ Some a → HasLeft says s.store schedule a caller h answers
       -- a call that resizes the map is of that kind, and changes none
-      pub resized : (caller : ℕ) (z : Resizer) (call : Call K V A) → resizing s.callers caller ≡ Some z → open_call schedule caller h ≡ Some call → IsResize call × (change_of caller h ≡ None)
-      pub scanned : (caller : ℕ) (v : Scanning A) (call : Call K V A) → scanning s.callers caller ≡ Some v → open_call schedule caller h ≡ Some call → IsScanTied says s.store schedule v call caller (scan_trace (call_traces caller)) h (replay es ∷ maps) answers
+      pub resized : (caller : ℕ) (z : Resizer) (call : Call K V A) → resizing s.callers caller ≡ Some z → open_call schedule caller h ≡ Some call
+          → IsResize call × (change_of caller h ≡ None)
+      pub scanned : (caller : ℕ) (v : Scanning A) (call : Call K V A) → scanning s.callers caller ≡ Some v → open_call schedule caller h ≡ Some call
+          → IsScanTied says s.store schedule v call caller (scan_trace (call_traces caller)) h (replay es ∷ maps) answers
       -- the pairs of the log where the run began are there, and those that came since, or were made by calls that began since, are new
       pub kept_pairs : KeepsPairs first s.store
       pub fresh : AreNew first schedule h
-      pub made_new : (caller : ℕ) (r : Running K V A) (call : Call K V A) → running s.callers caller ≡ Some r → open_call schedule caller h ≡ Some call → (q : Stored K V) → IsOneOf (call_traces caller).loaded.call.made q → pair_of first q.number ≡ None
+      pub made_new : (caller : ℕ) (r : Running K V A) (call : Call K V A) → running s.callers caller ≡ Some r
+          → open_call schedule caller h ≡ Some call → (q : Stored K V) → IsOneOf (call_traces caller).loaded.call.made q → pair_of first q.number ≡ None
       -- a pair that was made and is not written yet was in no map
-      pub unused : (caller : ℕ) (r : Running K V A) → running s.callers caller ≡ Some r → (q : Stored K V) → IsOneOf (call_traces caller).loaded.call.made q → change_in r.machine.call.state ≡ None → IsUnused q.number (replay es ∷ maps)
-      pub tied : (caller : ℕ) (r : Running K V A) (call : Call K V A) → running s.callers caller ≡ Some r → open_call schedule caller h ≡ Some call → IsTied s.store r call caller (call_traces caller) h (replay es ∷ maps) answers
+      pub unused : (caller : ℕ) (r : Running K V A) → running s.callers caller ≡ Some r → (q : Stored K V)
+          → IsOneOf (call_traces caller).loaded.call.made q → change_in r.machine.call.state ≡ None → IsUnused q.number (replay es ∷ maps)
+      pub tied : (caller : ℕ) (r : Running K V A) (call : Call K V A) → running s.callers caller ≡ Some r → open_call schedule caller h ≡ Some call
+          → IsTied s.store r call caller (call_traces caller) h (replay es ∷ maps) answers

@@ -1,5 +1,7 @@
 -- Begins and steps keep a good history.
-use Rattle.std.proofs.Common.{arith, ◌≡◌, ◌≢◌, ◌⊎◌, inl, inr, ⊎_elim, ℕ, ◌<◌, Bool, true, false, cond, Option, None, Some, List, [], ◌∷◌, ◌++◌, length, slice_get, refl, sym, ◌∙◌, ap, subst, eq-eqb, append_assoc}
+use Rattle.std.proofs.Common.{arith, ◌≡◌, ◌≢◌, ◌⊎◌, inl, inr, ⊎_elim, ℕ, ◌<◌, Bool, true, false}
+use Rattle.std.proofs.Common.{cond, Option, None, Some, List, [], ◌∷◌, ◌++◌, length, slice_get}
+use Rattle.std.proofs.Common.{refl, sym, ◌∙◌, ap, subst, eq-eqb, append_assoc}
 use Rattle.std.proofs.lemmas.Bool.{cases_Bool}
 use Rattle.papaya_words.specs.declared.probe.Refused.TheVariants.{RemoveNothing}
 use Rattle.papaya_ask.specs.declared.ask.Ask.TheVariants.{ShowNone, Done as Ask_done}
@@ -52,8 +54,16 @@ use Rattle.papaya_timeline.specs.Kept.{IsKept, CallTrace, setting_of, coding_of,
 use Rattle.papaya_timeline.specs.Maps.{Map, Does, at_key, key_of}
 use Rattle.papaya_timeline.specs.Runs.{History, with_step}
 use Rattle.papaya_store.specs.Store.{KeepsPairs, StoreState, Stored, pair_of}
-use Rattle.papaya_timeline.specs.Timeline.{Answered, Timeline, IsLegal, MayChange, FitsOpen, FitsShown, IsAgreed, IsUnused, change_of, change_by, none_by, number_in, open_call, open_after, begun_by, begins, is_begin, was_shown_none, AtSomeMoment}
-use Rattle.papaya_timeline.proofs.CallersLemmas.{no-resizer, no-scanner, resizing-elsewhere, resizing-here, resizing-with_seat, scanning-elsewhere, scanning-here, scanning-with_seat, running-same, running-other, running-elsewhere, running-here, running-with_seat, same_item, differs}
+use Rattle.papaya_timeline.specs.Timeline.{Answered, Timeline, IsLegal, MayChange, FitsOpen}
+use Rattle.papaya_timeline.specs.Timeline.{FitsShown, IsAgreed, IsUnused, change_of, change_by}
+use Rattle.papaya_timeline.specs.Timeline.{none_by, number_in, open_call, open_after, begun_by}
+use Rattle.papaya_timeline.specs.Timeline.{begins, is_begin, was_shown_none, AtSomeMoment}
+use Rattle.papaya_timeline.proofs.CallersLemmas.{no-resizer, no-scanner, resizing-elsewhere}
+use Rattle.papaya_timeline.proofs.CallersLemmas.{resizing-here, resizing-with_seat}
+use Rattle.papaya_timeline.proofs.CallersLemmas.{scanning-elsewhere, scanning-here}
+use Rattle.papaya_timeline.proofs.CallersLemmas.{scanning-with_seat, running-same, running-other}
+use Rattle.papaya_timeline.proofs.CallersLemmas.{running-elsewhere, running-here, running-with_seat}
+use Rattle.papaya_timeline.proofs.CallersLemmas.{same_item, differs}
 use Rattle.papaya_timeline.proofs.ChainLemmas.{chain_changed, chain_once, own_asks}
 use Rattle.papaya_timeline.proofs.CoreLemmas.{cases_same, reply_asked}
 use Rattle.papaya_timeline.proofs.EndingLemmas.{removes_nothing, step_ending, unrefused}
@@ -72,7 +82,9 @@ use Rattle.papaya_timeline.proofs.StepEvents.{copy_kind, one_exchange, event_beg
 use Rattle.papaya_timeline.proofs.StepTells.{Tells, answering as answered_by, event_tells}
 use Rattle.papaya_timeline.proofs.TellLemmas.{IsAnswering}
 use Rattle.papaya_timeline.proofs.TiedLemmas.{IsEnding, HasMoreLogs, grown, tied_other, tied_entry, tied_fits, at_showing, at_showing_none, moments_more}
-use Rattle.papaya_timeline.proofs.TimelineLemmas.{entry, open_call-own, open_call-other, change_of-other, change_of-own, not_begin-own, logged_more, logged_unused, was_shown_none-own}
+use Rattle.papaya_timeline.proofs.TimelineLemmas.{entry, open_call-own, open_call-other}
+use Rattle.papaya_timeline.proofs.TimelineLemmas.{change_of-other, change_of-own, not_begin-own}
+use Rattle.papaya_timeline.proofs.TimelineLemmas.{logged_more, logged_unused, was_shown_none-own}
 use Rattle.papaya_store.specs.declared.mode.Mode.{Mode}
 use Rattle.papaya_store.specs.Performs.{own_value}
 use Rattle.papaya_timeline.proofs.MadePairs.{MakesOver}

@@ -39,27 +39,35 @@ use Rattle.papaya_store.specs.Scans.{PerformsScan}
 
 module _ {K V S A : Type 0} (eq : K → K → Bool) (hash : S → K → ℕ) (refuse : Bool) where
   -- what a scanner asks leaves the log
-  pub scan_pairs : (says : Says K V A) (ask : ScanAsk) (s : StoreState K V S) (v : Scanning A) (a : Answer) (s' : StoreState K V S) (v' : Scanning A) → PerformsScan eq says hash refuse ask s v a s' v' → s'.pairs ≡ s.pairs
+  pub scan_pairs : (says : Says K V A) (ask : ScanAsk) (s : StoreState K V S) (v : Scanning A) (a : Answer) (s' : StoreState K V S) (v' : Scanning A)
+      → PerformsScan eq says hash refuse ask s v a s' v' → s'.pairs ≡ s.pairs
   scan_pairs says (Copy ask) s v a s' v' (performs, same) = copy_pairs eq hash refuse ask s a s' performs
   scan_pairs says (Show n) s v a s' v' (told, same) = ap (λ (y : StoreState K V S). y.pairs) same
   scan_pairs says (Give n) s v a s' v' (told, same) = ap (λ (y : StoreState K V S). y.pairs) same
   scan_pairs says (AddToShard by) s v a s' v' (is, counted, same) = ap (λ (y : StoreState K V S). y.pairs) counted.1
 
   -- it is never refused as a removal of nothing is
-  pub scan_unrefused : (says : Says K V A) (ask : ScanAsk) (s : StoreState K V S) (v : Scanning A) (a : Answer) (s' : StoreState K V S) (v' : Scanning A) → PerformsScan eq says hash refuse ask s v a s' v' → a ≡ answers.Call (Was_refused RemoveNothing) → ⊥
+  pub scan_unrefused : (says : Says K V A) (ask : ScanAsk) (s : StoreState K V S) (v : Scanning A) (a : Answer) (s' : StoreState K V S)
+      (v' : Scanning A) → PerformsScan eq says hash refuse ask s v a s' v' → a ≡ answers.Call (Was_refused RemoveNothing) → ⊥
   scan_unrefused says (Copy ask) s v a s' v' (performs, same) is = copy_unrefused eq hash refuse s a s' ask performs is
-  scan_unrefused says (Show n) s v a s' v' ((told, e, inl (nothing, ok, as_was)), same) is = let f : answers.Call Ok ≡ answers.Call (Was_refused RemoveNothing) = sym (e ∙ ap answers.Call ok) ∙ is in absurd cc
-  scan_unrefused says (Show n) s v a s' v' ((told, e, inr (x, p, stays, x', had, there, said, told_so, later)), same) is = let f = sym (e ∙ ap answers.Call told_so) ∙ is in absurd (cc f)
-  scan_unrefused says (Give n) s v a s' v' ((told, e, inl (ok, given)), same) is = let f : answers.Call Ok ≡ answers.Call (Was_refused RemoveNothing) = sym (e ∙ ap answers.Call ok) ∙ is in absurd cc
-  scan_unrefused says (Give n) s v a s' v' ((told, e, inr (refused, as_was, left, gave)), same) is = let f : answers.Call (Was_refused Memory) ≡ answers.Call (Was_refused RemoveNothing) = sym (e ∙ ap answers.Call refused) ∙ is in absurd cc
-  scan_unrefused says (AddToShard by) s v a s' v' (e, counted, same) is = let f : answers.Call Ok ≡ answers.Call (Was_refused RemoveNothing) = sym e ∙ is in absurd cc
+  scan_unrefused says (Show n) s v a s' v' ((told, e, inl (nothing, ok, as_was)), same) is = let f : answers.Call Ok ≡ answers.Call
+      (Was_refused RemoveNothing) = sym (e ∙ ap answers.Call ok) ∙ is in absurd cc
+  scan_unrefused says (Show n) s v a s' v' ((told, e, inr (x, p, stays, x', had, there, said, told_so, later)), same) is = let f = sym
+      (e ∙ ap answers.Call told_so) ∙ is in absurd (cc f)
+  scan_unrefused says (Give n) s v a s' v' ((told, e, inl (ok, given)), same) is = let f : answers.Call Ok ≡ answers.Call
+      (Was_refused RemoveNothing) = sym (e ∙ ap answers.Call ok) ∙ is in absurd cc
+  scan_unrefused says (Give n) s v a s' v' ((told, e, inr (refused, as_was, left, gave)), same) is = let f : answers.Call (Was_refused Memory)
+      ≡ answers.Call (Was_refused RemoveNothing) = sym (e ∙ ap answers.Call refused) ∙ is in absurd cc
+  scan_unrefused says (AddToShard by) s v a s' v' (e, counted, same) is = let f : answers.Call Ok ≡ answers.Call (Was_refused RemoveNothing) = sym e
+      ∙ is in absurd cc
 
 -- a list that could not grow was answered so
 pub unheard_is : (ask : ScanAsk) (a : Answer) (refused : Refusal) → unheard ask a ≡ Some refused → a ≡ answers.Call (Was_refused refused)
 unheard_is ask a refused e = search rules
 
 -- what a scanner replies
-pub scan_replies : (state : State) (o : Option Refusal) (rep : Reply) → reply_or o (reply_in state) ≡ Some rep → ((rep ≡ Done) × (reply_in state ≡ Some Done)) ⊎ ((refused : Refusal) × (rep ≡ Refused refused))
+pub scan_replies : (state : State) (o : Option Refusal) (rep : Reply) → reply_or o (reply_in state) ≡ Some rep
+    → ((rep ≡ Done) × (reply_in state ≡ Some Done)) ⊎ ((refused : Refusal) × (rep ≡ Refused refused))
 scan_replies state (Some refused) rep e = inr (refused, sym (same_item (Refused refused) rep e))
 scan_replies states.Done None rep e = let is : rep ≡ Done = sym (same_item Done rep e) in inl (is, refl)
 scan_replies (states.Refused refused) None rep e = inr (refused, sym (same_item (Refused refused) rep e))
@@ -74,7 +82,8 @@ scan_replies (states.Uncounting spot) None rep e = absurd cc
 
 module _ {K V A : Type 0} (eq : K → K → Bool) where
   -- a walk alone gives
-  pub walk_gives : (call : Call K V A) (n c : ℕ) (h : History) (maps : List (Map K V)) → IsScanOf call scans.Walk → AtSomeMoment (HasNumber n) c h maps → FitsGiven eq (Some call) n c h maps
+  pub walk_gives : (call : Call K V A) (n c : ℕ) (h : History) (maps : List (Map K V)) → IsScanOf call scans.Walk
+      → AtSomeMoment (HasNumber n) c h maps → FitsGiven eq (Some call) n c h maps
   walk_gives Walk n c h maps of at = at
   walk_gives Clear n c h maps of at = absurd of
   walk_gives (Retain a) n c h maps of at = absurd of
@@ -87,7 +96,8 @@ module _ {K V A : Type 0} (eq : K → K → Bool) where
   walk_gives CopyAll n c h maps of at = absurd of
 
   -- a retain alone shows
-  pub retain_shows : (call : Call K V A) (n c : ℕ) (h : History) (maps : List (Map K V)) → IsScanOf call scans.Retain → AtSomeMoment (HasNumber n) c h maps → FitsAsked eq (Some call) n c h maps
+  pub retain_shows : (call : Call K V A) (n c : ℕ) (h : History) (maps : List (Map K V)) → IsScanOf call scans.Retain
+      → AtSomeMoment (HasNumber n) c h maps → FitsAsked eq (Some call) n c h maps
   retain_shows (Retain a) n c h maps of at = at
   retain_shows Clear n c h maps of at = absurd of
   retain_shows Walk n c h maps of at = absurd of
@@ -100,7 +110,9 @@ module _ {K V A : Type 0} (eq : K → K → Bool) where
   retain_shows CopyAll n c h maps of at = absurd of
 
   -- and a walk takes nothing out
-  pub scan_takes : (call : Call K V A) (scan : Scan) (made : Change) (p : Stored K V) (c : ℕ) (h : History) (said : _) → IsScanOf call scan → (scan ≡ scans.Walk → ⊥) → (scan ≡ scans.Retain → last_asked c p.number h ≡ Some false) → MayChange eq (Some call) made p.key (Some p) None × IsAgreed (Some call) c (Some p.number) None h said
+  pub scan_takes : (call : Call K V A) (scan : Scan) (made : Change) (p : Stored K V) (c : ℕ) (h : History) (said : _) → IsScanOf call scan
+      → (scan ≡ scans.Walk → ⊥) → (scan ≡ scans.Retain → last_asked c p.number h ≡ Some false) → MayChange eq (Some call) made p.key (Some p) None
+      × IsAgreed (Some call) c (Some p.number) None h said
   scan_takes Clear scan made p c h said of no_walk agreed = ((refl, refl), tt)
   scan_takes (Retain a) scans.Retain made p c h said of no_walk agreed = ((refl, refl), agreed refl)
   scan_takes (Retain a) scans.Clear made p c h said of no_walk agreed = absurd of
@@ -132,7 +144,9 @@ module _ {K V A : Type 0} (eq : K → K → Bool) where
   scan_refused CopyAll scan made of unchanged = absurd of
 
 -- a trace tells a call nothing of what a scanner is told
-pub tied_scan : {K V S A : Type 0} (eq : K → K → Bool) (store : StoreState K V S) (r : Running K V A) (call : Call K V A) (d : ℕ) (call_trace : CallTrace K V) (loaded : LoadedPairs (Stored K V)) (h : History) (maps : List (Map K V)) (said : _) → IsTied eq store r call d call_trace h maps said → IsTied eq store r call d (record call_trace { scan = loaded }) h maps said
+pub tied_scan : {K V S A : Type 0} (eq : K → K → Bool) (store : StoreState K V S) (r : Running K V A) (call : Call K V A) (d : ℕ)
+    (call_trace : CallTrace K V) (loaded : LoadedPairs (Stored K V)) (h : History) (maps : List (Map K V)) (said : _)
+    → IsTied eq store r call d call_trace h maps said → IsTied eq store r call d (record call_trace { scan = loaded }) h maps said
 tied_scan eq store r call d call_trace loaded h maps said t = record {
   own = t.own;
   key = t.key;
@@ -148,7 +162,8 @@ tied_scan eq store r call d call_trace loaded h maps said t = record {
 }
 
 -- a state without a table has given nothing
-pub none_given : {K P : Type 0} (g : Setting K P) (c : Coding K P) (s : Words P) (m : K → Option P) (since : List (Exchange P)) (scan : Scan) (loaded : LoadedPairs P) (state : State) → IsWithout state → ReliesState g c s m since scan loaded state → loaded.given ≡ []
+pub none_given : {K P : Type 0} (g : Setting K P) (c : Coding K P) (s : Words P) (m : K → Option P) (since : List (Exchange P)) (scan : Scan)
+    (loaded : LoadedPairs P) (state : State) → IsWithout state → ReliesState g c s m since scan loaded state → loaded.given ≡ []
 none_given g c s m since scan loaded (states.Copying stage) without relies = relies.0
 none_given g c s m since scan loaded states.AtRoot without relies = relies.0
 none_given g c s m since scan loaded (states.Sizing table) without relies = absurd without

@@ -1,5 +1,7 @@
 -- A step of a call that scans a table keeps a good history.
-use Rattle.std.proofs.Common.{◌≡◌, ◌≢◌, ◌⊎◌, ◌==◌, inl, inr, ⊎_elim, ℕ, Bool, true, false, cond, Option, None, Some, List, [], ◌∷◌, ◌++◌, slice_get, refl, sym, ◌∙◌, ap, subst, append-nil, append_assoc, eq-eqb}
+use Rattle.std.proofs.Common.{◌≡◌, ◌≢◌, ◌⊎◌, ◌==◌, inl, inr, ⊎_elim, ℕ, Bool, true, false, cond}
+use Rattle.std.proofs.Common.{Option, None, Some, List, [], ◌∷◌, ◌++◌, slice_get, refl, sym, ◌∙◌}
+use Rattle.std.proofs.Common.{ap, subst, append-nil, append_assoc, eq-eqb}
 use Rattle.papaya_words.specs.Word.{pair_of as number_of}
 use Rattle.papaya_words.specs.declared.probe.Refused.{Refused as Refusal}
 use Rattle.papaya_words.specs.declared.probe.Refused.TheVariants.{RemoveNothing, Capacity, Memory}
@@ -34,12 +36,20 @@ use Rattle.papaya_timeline.specs.Callers.{resizing, running, scanning, with_work
 use Rattle.papaya_timeline.specs.Core.{CoreState, IsCore}
 use Rattle.papaya_timeline.specs.Given.{HasLeft, asks_closure}
 use Rattle.papaya_timeline.specs.Headline.{AreLogged, ComesNew}
-use Rattle.papaya_timeline.specs.Kept.{CallTrace, IsKept, IsScanning, ScanTrace, coding_of, low, numbers_of, scan_trace, scanned_call_traces, setting_of, told_call_traces}
+use Rattle.papaya_timeline.specs.Kept.{CallTrace, IsKept, IsScanning, ScanTrace, coding_of, low}
+use Rattle.papaya_timeline.specs.Kept.{numbers_of, scan_trace, scanned_call_traces, setting_of}
+use Rattle.papaya_timeline.specs.Kept.{told_call_traces}
 use Rattle.papaya_timeline.specs.Maps.{IsUpdate, Map, Same}
 use Rattle.papaya_timeline.specs.Runs.{History, with_step}
-use Rattle.papaya_timeline.specs.Timeline.{Fits, FitsAsked, FitsDone, FitsGiven, FitsOpen, HasNumber, IsAgreed, IsAnsweredIn, IsLegal, IsUnused, MayChange, OfSome, Timeline, asked_then, begins, begun_by, change_by, change_of, given_by, given_then, last_asked, open_after, open_call}
+use Rattle.papaya_timeline.specs.Timeline.{Fits, FitsAsked, FitsDone, FitsGiven, FitsOpen}
+use Rattle.papaya_timeline.specs.Timeline.{HasNumber, IsAgreed, IsAnsweredIn, IsLegal, IsUnused}
+use Rattle.papaya_timeline.specs.Timeline.{MayChange, OfSome, Timeline, asked_then, begins}
+use Rattle.papaya_timeline.specs.Timeline.{begun_by, change_by, change_of, given_by, given_then}
+use Rattle.papaya_timeline.specs.Timeline.{last_asked, open_after, open_call}
 use Rattle.papaya_timeline.specs.ScanGoes.{Scans, event_of_scan, unheard}
-use Rattle.papaya_timeline.proofs.CallersLemmas.{differs, resizing-elsewhere, resizing-here, running-elsewhere, running-here, same_item, scanning-elsewhere, scanning-here}
+use Rattle.papaya_timeline.proofs.CallersLemmas.{differs, resizing-elsewhere, resizing-here}
+use Rattle.papaya_timeline.proofs.CallersLemmas.{running-elsewhere, running-here, same_item}
+use Rattle.papaya_timeline.proofs.CallersLemmas.{scanning-elsewhere, scanning-here}
 use Rattle.papaya_timeline.proofs.CoreLemmas.{cases_same}
 use Rattle.papaya_timeline.proofs.EntersOnce.{timeline_steady}
 use Rattle.papaya_timeline.proofs.GivenLemmas.{given_more, left_more}
@@ -47,7 +57,9 @@ use Rattle.papaya_timeline.proofs.Good.{IsGood, IsKeyed, IsScanOf, IsScanTied, I
 use Rattle.papaya_timeline.proofs.GoodResized.{IsQuiet, quiet_cases}
 use Rattle.papaya_timeline.proofs.GoodScans.{given_by-own, last_asked-own, replay_keyed, scan_entry, scan_other, scan_tied}
 use Rattle.papaya_timeline.proofs.GoodScanEnds as ends
-use Rattle.papaya_timeline.proofs.GoodScanFits.{none_given, retain_shows, scan_pairs, scan_refused, scan_replies, scan_takes, scan_unrefused, tied_scan, unheard_is, walk_gives}
+use Rattle.papaya_timeline.proofs.GoodScanFits.{none_given, retain_shows, scan_pairs, scan_refused}
+use Rattle.papaya_timeline.proofs.GoodScanFits.{scan_replies, scan_takes, scan_unrefused, tied_scan}
+use Rattle.papaya_timeline.proofs.GoodScanFits.{unheard_is, walk_gives}
 use Rattle.papaya_timeline.proofs.KeptLemmas.{IsLawfulKeys, hashed_setting}
 use Rattle.papaya_timeline.proofs.KeptScanned as kept_scan
 use Rattle.papaya_timeline.proofs.ReplayLemmas.{held_in_slot, next_legal, replay-append}

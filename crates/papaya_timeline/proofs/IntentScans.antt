@@ -6,7 +6,10 @@ use Rattle.papaya_words.specs.declared.probe.ResizeMode.{ResizeMode}
 use Rattle.papaya_words.specs.declared.word.Kind.{Kind}
 use Rattle.papaya_words.specs.declared.word.Kind.TheVariants as kinds
 use Rattle.papaya_ask.specs.declared.ask.Answer.{Answer as Call_answer}
-use Rattle.papaya_ask.specs.declared.ask.Answer.TheVariants.{Word as Word_read, Exchanged, Found as Found_instead, Yes, Op, Size, Made as Made_number, Ok as Ok_done, Refused as Was_refused}
+use Rattle.papaya_ask.specs.declared.ask.Answer.TheVariants.{Word as Word_read, Exchanged}
+use Rattle.papaya_ask.specs.declared.ask.Answer.TheVariants.{Found as Found_instead, Yes, Op, Size}
+use Rattle.papaya_ask.specs.declared.ask.Answer.TheVariants.{Made as Made_number, Ok as Ok_done}
+use Rattle.papaya_ask.specs.declared.ask.Answer.TheVariants.{Refused as Was_refused}
 use Rattle.papaya_ask.specs.declared.ask.At.TheVariants as words_at
 use Rattle.papaya_ask.specs.declared.ask.StepKind.{StepKind}
 use Rattle.papaya_ask.specs.declared.ask.StepKind.TheVariants.{Delete as Kind_delete}
@@ -43,10 +46,16 @@ abbrev IsNone : StepKind → (old new : Option ℕ) → Event → Type 0
 IsNone kind old new e = e ≡ Changed kind old new → ⊥
 
 -- a scan that changes the map takes out the pair that it was about to
-pub takes_told : (state : State) (ask : ScanAsk) → asks_in state ≡ Some ask → (a : Answer) (kind : StepKind) (n : ℕ) (new : Option ℕ) → event_of_scan (kind_in state) ask a ≡ Changed kind (Some n) new → TakesOut state n
-takes_told (Copying stage) ask asks a kind n new e = absurd (stage_quiet (IsNone kind (Some n) new) (λ f. absurd cc) (λ k f. absurd cc) stage (resizers.asks_in stage) ask asks a e)
-takes_told AtRoot ask asks a kind n new e = absurd (quiet (IsNone kind (Some n) new) (λ f. absurd cc) None (Load words_at.Root) (λ y. refl) a (ap (λ y. event_of_scan None y a) (same_item (Copy (Load words_at.Root)) ask asks) ∙ e))
-takes_told (Sizing table) ask asks a kind n new e = absurd (quiet (IsNone kind (Some n) new) (λ f. absurd cc) None (SizeOf table) (λ y. refl) a (ap (λ y. event_of_scan None y a) (same_item (Copy (SizeOf table)) ask asks) ∙ e))
+pub takes_told : (state : State) (ask : ScanAsk) → asks_in state ≡ Some ask → (a : Answer) (kind : StepKind) (n : ℕ) (new : Option ℕ)
+    → event_of_scan (kind_in state) ask a ≡ Changed kind (Some n) new → TakesOut state n
+takes_told (Copying stage) ask asks a kind n new e = absurd
+    (stage_quiet (IsNone kind (Some n) new) (λ f. absurd cc) (λ k f. absurd cc) stage (resizers.asks_in stage) ask asks a e)
+takes_told AtRoot ask asks a kind n new e = absurd
+    (quiet (IsNone kind (Some n) new) (λ f. absurd cc) None (Load words_at.Root) (λ y. refl) a
+    (ap (λ y. event_of_scan None y a) (same_item (Copy (Load words_at.Root)) ask asks) ∙ e))
+takes_told (Sizing table) ask asks a kind n new e = absurd
+    (quiet (IsNone kind (Some n) new) (λ f. absurd cc) None (SizeOf table) (λ y. refl) a
+    (ap (λ y. event_of_scan None y a) (same_item (Copy (SizeOf table)) ask asks) ∙ e))
 takes_told (Looking spot) ask asks a kind n new e =
     let load = Load (words_at.Slot spot.table spot.slot) in
     absurd (quiet (IsNone kind (Some n) new) (λ f. absurd cc) None load (λ y. refl) a (ap (λ y. event_of_scan None y a) (same_item (Copy load) ask asks) ∙ e))
@@ -78,7 +87,8 @@ takes_told (Showing spot word) ask asks a kind n new e = absurd (shows a (ap (λ
     shows (answers.Call (Was_refused refused)) f = absurd cc
     shows (answers.Hash hash) f = absurd cc
     shows (answers.Count count) f = absurd cc
-takes_told (Deleting spot word) ask asks a kind n new e = takes a (ap (λ y. event_of_scan (Some Kind_delete) y a) (same_item (Copy (deletes spot word)) ask asks) ∙ e)
+takes_told (Deleting spot word) ask asks a kind n new e = takes a
+    (ap (λ y. event_of_scan (Some Kind_delete) y a) (same_item (Copy (deletes spot word)) ask asks) ∙ e)
   where
     takes : (a : Answer) → event_of_scan (Some Kind_delete) (Copy (deletes spot word)) a ≡ Changed kind (Some n) new → pair_in word ≡ n
     takes (answers.Call Exchanged) f = cc f
@@ -138,11 +148,13 @@ abbrev SaysNo : State → Answer → ℕ → Type 0
 SaysNo state a n = (spot : Spot) × (word : ℕ) × (state ≡ Showing spot word) × (pair_in word ≡ n) × (a ≡ answers.Call (Yes false))
 
 -- A retain is about to take out a pair where it was, or where its closure answers so.
-retain_takes : (mode : ResizeMode) (initial number : ℕ) (a : Answer) (state : State) (n : ℕ) → TakesOut (after_in Retain mode initial number a state) n → TakesOut state n ⊎ SaysNo state a n
+retain_takes : (mode : ResizeMode) (initial number : ℕ) (a : Answer) (state : State) (n : ℕ)
+    → TakesOut (after_in Retain mode initial number a state) n → TakesOut state n ⊎ SaysNo state a n
 retain_takes mode initial number a (Copying stage) n h = absurd (copied_none stage (resizers.after_in CopyAll mode initial number a stage) n h)
 retain_takes mode initial number (answers.Call (Word_read root)) AtRoot n h = absurd (root_none root n h)
 retain_takes mode initial number a AtRoot n h = absurd h
-retain_takes mode initial number (answers.Call (Size slots limit)) (Sizing table) n h = absurd (looks_none (record { table = table; len = slots; slot = 0 }) n h)
+retain_takes mode initial number (answers.Call (Size slots limit)) (Sizing table) n h = absurd
+    (looks_none (record { table = table; len = slots; slot = 0 }) n h)
 retain_takes mode initial number a (Sizing table) n h = absurd h
 retain_takes mode initial number (answers.Call (Word_read word)) (Looking spot) n h = absurd (meets_none spot word (kind_of word) n h)
 retain_takes mode initial number a (Looking spot) n h = absurd h
@@ -163,32 +175,44 @@ retain_takes mode initial number (answers.Call said) (Refused refused) n h = abs
 retain_takes mode initial number (answers.Hash hash) (Refused refused) n h = absurd h
 retain_takes mode initial number (answers.Count count) (Refused refused) n h = absurd h
 
-module _ {K V S A : Type 0} (eq : K → K → Bool) (says : Says K V A) (hash : S → K → ℕ) (refuse : Bool) (s : StoreState K V S) (v : Scanning A) (ask : ScanAsk) (asked : ask_of v.scanner ≡ Some ask) (a : Answer) (s' : StoreState K V S) (v' : Scanning A) (performs : PerformsScan eq says hash refuse ask s v a s' v') (event : Event) (is : event ≡ event_of_scan (kind_of_ask v.scanner) ask a) where
+module _ {K V S A : Type 0} (eq : K → K → Bool) (says : Says K V A) (hash : S → K → ℕ) (refuse : Bool) (s : StoreState K V S) (v : Scanning A)
+    (ask : ScanAsk) (asked : ask_of v.scanner ≡ Some ask) (a : Answer) (s' : StoreState K V S) (v' : Scanning A)
+    (performs : PerformsScan eq says hash refuse ask s v a s' v') (event : Event) (is : event ≡ event_of_scan (kind_of_ask v.scanner) ask a) where
   -- the closure answers now
   says_no : (n : ℕ) → SaysNo v.scanner.state a n → AnswersNow says s' event (works.Scan v) (Some n) ops.Remove
   says_no n (spot, word, state, number, told) =
       let ask_is : Show n ≡ ask = same_item (Show n) ask (ap (λ m. Some (Show m)) (sym number) ∙ ap asks_in (sym state) ∙ asked) in
-      let event_is : event ≡ Asked n false = is ∙ ap (λ y. event_of_scan (kind_of_ask v.scanner) y a) (sym ask_is) ∙ ap (event_of_scan (kind_of_ask v.scanner) (Show n)) told in
+      let event_is : event ≡ Asked n false = is ∙ ap (λ y. event_of_scan (kind_of_ask v.scanner) y a) (sym ask_is)
+      ∙ ap (event_of_scan (kind_of_ask v.scanner) (Show n)) told in
       let ((said, was, shows), same) = subst (λ y. PerformsScan eq says hash refuse y s v a s' v') (sym ask_is) performs in
       let answer : said ≡ Yes false = cc (was, told) in
       subst (λ e. AnswersNow says s' e (works.Scan v) (Some n) ops.Remove) (sym event_is) (by_shows said answer same shows)
     where
-      by_shows : (said : Call_answer) → said ≡ Yes false → s' ≡ s → Shows says n s v said v' → AnswersNow says s' (Asked n false) (works.Scan v) (Some n) ops.Remove
+      by_shows : (said : Call_answer) → said ≡ Yes false → s' ≡ s → Shows says n s v said v'
+          → AnswersNow says s' (Asked n false) (works.Scan v) (Some n) ops.Remove
       by_shows said answer same (inl (none, ok, stays)) = let f : Yes false ≡ Ok_done = sym answer ∙ ok in absurd cc
       by_shows said answer same (inr (left, p, stays, left', had, there, gives, answers_so, then)) =
           let is_no : stays ≡ false = (let f : Yes stays ≡ Yes false = sym answers_so ∙ answer in cc) in
-          record { told = (refl, refl, refl); answers = left; had = had; left = left'; gives = (p, ap (λ (y : StoreState K V S). pair_of y n) same ∙ there, subst (λ y. says.yes left p.key p.value y left') is_no gives) }
+          record {
+            told = (refl, refl, refl);
+            answers = left;
+            had = had;
+            left = left';
+            gives = (p, ap (λ (y : StoreState K V S). pair_of y n) same ∙ there, subst (λ y. says.yes left p.key p.value y left') is_no gives);
+          }
 
   -- the scanner after the step
   abbrev later : Scanning A
   later = record v' { scanner = after v.scanner a }
 
-  pub scan_intends : (shown : Option ℕ) (op : Operation V ℕ) → Intends s' (works.Scan later) shown op → Intends s (works.Scan v) shown op ⊎ AnswersNow says s' event (works.Scan v) shown op
+  pub scan_intends : (shown : Option ℕ) (op : Operation V ℕ) → Intends s' (works.Scan later) shown op → Intends s (works.Scan v) shown op
+      ⊎ AnswersNow says s' event (works.Scan v) shown op
   scan_intends (Some n) ops.Remove (retains, takes) =
       ⊎_elim
       (λ was. inl (retains, was))
       (λ now. inr (says_no n now))
-      (retain_takes v.scanner.mode v.scanner.initial v.scanner.number a v.scanner.state n (subst (λ y. TakesOut (after_in y v.scanner.mode v.scanner.initial v.scanner.number a v.scanner.state) n) retains takes))
+      (retain_takes v.scanner.mode v.scanner.initial v.scanner.number a v.scanner.state n
+      (subst (λ y. TakesOut (after_in y v.scanner.mode v.scanner.initial v.scanner.number a v.scanner.state) n) retains takes))
   scan_intends (Some n) (ops.Insert w) h = absurd h
   scan_intends (Some n) (ops.Abort t) h = absurd h
   scan_intends None op h = absurd h

@@ -62,42 +62,53 @@ use Rattle.papaya_timeline.proofs.TiedLemmas.{value_back}
 
 -- a pair that a machine stands on is one that its call made
 module _ {K P : Type 0} (g : Setting K P) (c : Coding K P) (begun since : List (Exchange P)) (k : K) where
-  pub stands_own : (m : Call_machine) (loaded : LoadedPairs P) → Relies g c begun since k m loaded → (shown : Option ℕ) (n : ℕ) → StandsOn m (Makes shown n) → IsMadePair g c begun since k loaded n
+  pub stands_own : (m : Call_machine) (loaded : LoadedPairs P) → Relies g c begun since k m loaded → (shown : Option ℕ) (n : ℕ)
+      → StandsOn m (Makes shown n) → IsMadePair g c begun since k loaded n
   stands_own m loaded relies shown n stands = search rules
 
 -- an insertion writes the pair that it made
-writes_made : (made : Made) (hash : ℕ) (stage : Stage) (replace : Bool) → IsStandingState (tasks.Insert replace) stage → (at : At) (from to : ℕ) → calls.asks made hash stage ≡ Ask_exchange at from to → (old : Option ℕ) (n : ℕ) → change_in (calls.at_exchanged made stage) ≡ Some (old, Some n) → HasMade made n
+writes_made : (made : Made) (hash : ℕ) (stage : Stage) (replace : Bool) → IsStandingState (tasks.Insert replace) stage → (at : At) (from to : ℕ)
+    → calls.asks made hash stage ≡ Ask_exchange at from to → (old : Option ℕ) (n : ℕ) → change_in (calls.at_exchanged made stage) ≡ Some (old, Some n)
+    → HasMade made n
 writes_made made hash stage replace stands at from to e old n change = search rules
 
 -- where an event tells a change, the exchange was made
-exchanged : (kind : Option StepKind) (from to : ℕ) (told : Call_answer) (by : StepKind) (old new : Option ℕ) → answered_event kind from to told ≡ Changed by old new → told ≡ Exchanged
+exchanged : (kind : Option StepKind) (from to : ℕ) (told : Call_answer) (by : StepKind) (old new : Option ℕ)
+    → answered_event kind from to told ≡ Changed by old new → told ≡ Exchanged
 exchanged kind from to told by old new e = search rules
 
 -- so does one over a chain of tables
-pub insertion_made : (m : Machine) (answer : Answer) → Goes m answer → IsStanding m → (kind : StepKind) (old : Option ℕ) (n : ℕ) → event_of (kind_of_ask m) (ask_of m) answer ≡ Changed kind old (Some n) → change_in (after m answer).call.state ≡ Some (old, Some n) → (replace : Bool) → m.call.task ≡ tasks.Insert replace → HasMade m.call.made n
+pub insertion_made : (m : Machine) (answer : Answer) → Goes m answer → IsStanding m → (kind : StepKind) (old : Option ℕ) (n : ℕ)
+    → event_of (kind_of_ask m) (ask_of m) answer ≡ Changed kind old (Some n) → change_in (after m answer).call.state ≡ Some (old, Some n)
+    → (replace : Bool) → m.call.task ≡ tasks.Insert replace → HasMade m.call.made n
 insertion_made m answer goes stands kind old n e change replace is =
     let (at, from, to, asking) = subst (λ y. Tells y (ask_of m) answer) e (event_tells m answer) in
     let asks_so : calls.ask_of m.call ≡ Ask_exchange at from to = (own_asks m (Ask_exchange at from to) asking).1 in
     let own = own_exchange m answer goes at from to asks_so in
-    let event_is : answered_event (kind_of_ask m) from to own.told ≡ Changed kind old (Some n) = ap (λ y. event_of (kind_of_ask m) (asks.Call (Ask_exchange at from to)) y) (sym own.is) ∙ ap (λ y. event_of (kind_of_ask m) y answer) (sym asking) ∙ e in
+    let event_is : answered_event (kind_of_ask m) from to own.told ≡ Changed kind old (Some n) = ap
+    (λ y. event_of (kind_of_ask m) (asks.Call (Ask_exchange at from to)) y) (sym own.is) ∙ ap (λ y. event_of (kind_of_ask m) y answer) (sym asking) ∙ e in
     let was : own.told ≡ Exchanged = exchanged (kind_of_ask m) from to own.told kind old (Some n) event_is in
-    let then : change_in (calls.at_exchanged m.call.made m.call.state) ≡ Some (old, Some n) = ap (λ y. change_in (calls.after m.call y).state) (sym was) ∙ ap (λ (d : Call_machine). change_in d.state) (sym own.call) ∙ change in
+    let then : change_in (calls.at_exchanged m.call.made m.call.state) ≡ Some (old, Some n) = ap (λ y. change_in (calls.after m.call y).state)
+    (sym was) ∙ ap (λ (d : Call_machine). change_in d.state) (sym own.call) ∙ change in
     writes_made m.call.made m.call.hash m.call.state replace (subst (λ t. IsStandingState t m.call.state) is stands.call.state) at from to asks_so old n then
 
 -- a pair that a call over a chain has made was made before the answer, or is the answer
-chain_made : (m : Machine) (answer : Answer) → Goes m answer → (n : ℕ) → HasMade (after m answer).call.made n → HasMade m.call.made n ⊎ (MakesOver (ask_of m) × (answer ≡ given.Call (Made_number n)))
+chain_made : (m : Machine) (answer : Answer) → Goes m answer → (n : ℕ) → HasMade (after m answer).call.made n → HasMade m.call.made n
+    ⊎ (MakesOver (ask_of m) × (answer ≡ given.Call (Made_number n)))
 chain_made m answer (inl waits) n e = inl (subst (λ (d : Call_machine). HasMade d.made n) waits.call e)
 chain_made m answer (inr (inl own)) n e =
     ⊎_elim
     (λ was. inl was)
-    (λ (now : MakesPair (calls.ask_of m.call) × (own.told ≡ Made_number n)). inr (subst MakesOver (sym (asks_own m own.phase)) now.0, own.is ∙ ap given.Call now.1))
+    (λ (now : MakesPair (calls.ask_of m.call) × (own.told ≡ Made_number n)).
+    inr (subst MakesOver (sym (asks_own m own.phase)) now.0, own.is ∙ ap given.Call now.1))
     (after_made m.call own.told n (subst (λ (d : Call_machine). HasMade d.made n) own.call e))
 chain_made m answer (inr (inr (inl enters))) n e = inl (subst (λ (d : Call_machine). HasMade d.made n) enters.call e)
 chain_made m answer (inr (inr (inr (inl begins)))) n e = inl (subst (λ (d : Call_machine). HasMade d.made n) begins.call e)
 chain_made m answer (inr (inr (inr (inr ends)))) n e = inl (subst (λ (d : Call_machine). HasMade d.made n) ends.call e)
 
 -- the value that is at hand as an insertion begins
-handed : {V : Type 0} (w : V) (made : Type 0) (op : Operation V ℕ) (v : V) → op ≡ ops.Insert v → (Some w ≡ Some v) ⊎ made → (made → ⊥) → (u : V) × (op ≡ ops.Insert u) × (Some w ≡ Some u)
+handed : {V : Type 0} (w : V) (made : Type 0) (op : Operation V ℕ) (v : V) → op ≡ ops.Insert v → (Some w ≡ Some v) ⊎ made → (made → ⊥) → (u : V)
+    × (op ≡ ops.Insert u) × (Some w ≡ Some u)
 handed w made op v is (inl same) none = (v, is, same)
 handed w made op v is (inr so) none = absurd (none so)
 
@@ -153,16 +164,23 @@ module _ {K V S : Type 0} where
   same_pair store n p q is there = same_item p q (sym is ∙ there)
 
   -- the value of a pair that was logged before
-  value_before : (store store' : StoreState K V S) → KeepsPairs store store' → (n : ℕ) (v : V) → ((q : Stored K V) × (pair_of store n ≡ Some q)) → HasValue store' n v → HasValue store n v
-  value_before store store' stay n v (q, logged) (p, there, value) = let same : p ≡ q = same_pair store' n p q there (stay n q logged) in (q, logged, ap (λ (y : Stored K V). y.value) (sym same) ∙ value)
+  value_before : (store store' : StoreState K V S) → KeepsPairs store store' → (n : ℕ) (v : V) → ((q : Stored K V) × (pair_of store n ≡ Some q))
+      → HasValue store' n v → HasValue store n v
+  value_before store store' stay n v (q, logged) (p, there, value) = let same : p ≡ q = same_pair store' n p q there (stay n q logged) in
+      (q, logged, ap (λ (y : Stored K V). y.value) (sym same) ∙ value)
 
 module _ {K V S A : Type 0} where
   -- a change is what its call intends
-  pub change_intended : (store : StoreState K V S) (r : Running K V A) (old : Option ℕ) (came : Option (Stored K V)) → ((q : Stored K V) → came ≡ Some q → pair_of store q.number ≡ Some q) → ((q : Stored K V) → came ≡ Some q → (replace : Bool) → r.machine.call.task ≡ tasks.Insert replace → HasMade r.machine.call.made q.number)
-      → (came ≡ None → HasClosure r.machine.call.task) → IsSaidChange r.machine.call.task r.machine.call old (number_in came) → Intends store (works.Call r) old (operation_for came)
+  pub change_intended : (store : StoreState K V S) (r : Running K V A) (old : Option ℕ) (came : Option (Stored K V))
+      → ((q : Stored K V) → came ≡ Some q → pair_of store q.number ≡ Some q)
+      → ((q : Stored K V) → came ≡ Some q → (replace : Bool) → r.machine.call.task ≡ tasks.Insert replace → HasMade r.machine.call.made q.number)
+      → (came ≡ None → HasClosure r.machine.call.task) → IsSaidChange r.machine.call.task r.machine.call old (number_in came)
+      → Intends store (works.Call r) old (operation_for came)
   change_intended store r old came logged made closure said = by_task r.machine.call.task refl old came logged made closure said
     where
-      by_task : (task : Task) → r.machine.call.task ≡ task → (old : Option ℕ) (came : Option (Stored K V)) → ((q : Stored K V) → came ≡ Some q → pair_of store q.number ≡ Some q) → ((q : Stored K V) → came ≡ Some q → (replace : Bool) → r.machine.call.task ≡ tasks.Insert replace → HasMade r.machine.call.made q.number)
+      by_task : (task : Task) → r.machine.call.task ≡ task → (old : Option ℕ) (came : Option (Stored K V))
+          → ((q : Stored K V) → came ≡ Some q → pair_of store q.number ≡ Some q)
+          → ((q : Stored K V) → came ≡ Some q → (replace : Bool) → r.machine.call.task ≡ tasks.Insert replace → HasMade r.machine.call.made q.number)
           → (came ≡ None → HasClosure task) → IsSaidChange task r.machine.call old (number_in came) → IntendsAs store task r old (operation_for came)
       by_task tasks.Get is old came logged made closure said = absurd said
       by_task (tasks.Insert replace) is old (Some q) logged made closure said = inr (q.number, made q refl replace is, (q, logged q refl, refl))
@@ -181,7 +199,9 @@ module _ {K V S A : Type 0} where
     pub stood : (shown : Option ℕ) (n : ℕ) → StandsOn r.machine.call (Makes shown n) → (q : Stored K V) × (pair_of store n ≡ Some q)
 
   -- where its machine stays, a longer log gives a call no intent
-  pub still_intends : (store store' : StoreState K V S) → KeepsPairs store store' → ((at : Part V) (v : V) → value_in store.pairs at ≡ Some v → value_in store'.pairs at ≡ Some v) → (r : Running K V A) → HasLogged store r → (shown : Option ℕ) (op : Operation V ℕ) → Intends store' (works.Call r) shown op → Intends store (works.Call r) shown op
+  pub still_intends : (store store' : StoreState K V S) → KeepsPairs store store'
+      → ((at : Part V) (v : V) → value_in store.pairs at ≡ Some v → value_in store'.pairs at ≡ Some v) → (r : Running K V A) → HasLogged store r
+      → (shown : Option ℕ) (op : Operation V ℕ) → Intends store' (works.Call r) shown op → Intends store (works.Call r) shown op
   still_intends store store' stay values r logged shown op h = by_task r.machine.call.task shown op h
     where
       by_task : (task : Task) (shown : Option ℕ) (op : Operation V ℕ) → IntendsAs store' task r shown op → IntendsAs store task r shown op
@@ -197,17 +217,26 @@ module _ {K V S A : Type 0} where
       by_task tasks.RemoveIf None (ops.Insert v) h = absurd h
       by_task tasks.RemoveIf None (ops.Abort t) h = absurd h
       by_task tasks.Compute shown (ops.Insert v) (inl h) = inl (h.0, value_back store.pairs store'.pairs values r.value logged.valued v h.1)
-      by_task tasks.Compute shown (ops.Insert v) (inr (n, stands, value)) = inr (n, stands, value_before store store' stay n v (logged.stood shown n stands) value)
+      by_task tasks.Compute shown (ops.Insert v) (inr (n, stands, value)) = inr
+          (n, stands, value_before store store' stay n v (logged.stood shown n stands) value)
       by_task tasks.Compute (Some n) ops.Remove h = h
       by_task tasks.Compute (Some n) (ops.Abort t) h = absurd h
       by_task tasks.Compute None ops.Remove h = absurd h
       by_task tasks.Compute None (ops.Abort t) h = absurd h
 
-module _ {K V S A : Type 0} (eq : K → K → Bool) (says : Says K V A) (hash : S → K → ℕ) (refuse : Bool) (s : StoreState K V S) (r : Running K V A) (a : Answer) (s' : StoreState K V S) (r' : Running K V A) where
+module _ {K V S A : Type 0} (eq : K → K → Bool) (says : Says K V A) (hash : S → K → ℕ) (refuse : Bool) (s : StoreState K V S) (r : Running K V A)
+    (a : Answer) (s' : StoreState K V S) (r' : Running K V A) where
   -- A step of the call r, which answers what its machine asks; a pair that it makes is of the value at hand.
-  module _ (performs : PerformsAsk eq says hash refuse (ask_of r.machine) s r a s' r') (stay : KeepsPairs s s') (valued : (part : Part V) → r.value ≡ Some part → (v : V) × (value_in s.pairs part ≡ Some v)) (value_stays : (v : V) → own_value s' r' ≡ Some v → (own_value s r ≡ Some v) ⊎ (r.machine.call.task ≡ tasks.Compute)) (made : (n : ℕ) → MakesOver (ask_of r.machine) → a ≡ given.Call (Made_number n) → (q : Stored K V) × (pair_of s' n ≡ Some q) × (own_value s r ≡ Some q.value))
-      (again : (i n : ℕ) → StandsOn r.machine.call (Makes (Some i) n) → IsAnswered r.machine.call.state ⊎ ((p : Stored K V) × (pair_of s n ≡ Some p) × (own_value s r ≡ Some p.value))) (shows : ShowsPairs r.machine.call)
-      (logged : HasLogged s r) (goes : Goes r.machine a) (task_stays : (after r.machine a).call.task ≡ r.machine.call.task) (said : (said : Said) → StandsOn (after r.machine a).call said → StandsOn r.machine.call said ⊎ ((own : IsOwnStep r.machine a) × IsSaidBy r.machine.call own.told said))
+  module _ (performs : PerformsAsk eq says hash refuse (ask_of r.machine) s r a s' r') (stay : KeepsPairs s s')
+      (valued : (part : Part V) → r.value ≡ Some part → (v : V) × (value_in s.pairs part ≡ Some v))
+      (value_stays : (v : V) → own_value s' r' ≡ Some v → (own_value s r ≡ Some v) ⊎ (r.machine.call.task ≡ tasks.Compute))
+      (made : (n : ℕ) → MakesOver (ask_of r.machine) → a ≡ given.Call (Made_number n) → (q : Stored K V) × (pair_of s' n ≡ Some q)
+      × (own_value s r ≡ Some q.value))
+      (again : (i n : ℕ) → StandsOn r.machine.call (Makes (Some i) n) → IsAnswered r.machine.call.state
+      ⊎ ((p : Stored K V) × (pair_of s n ≡ Some p) × (own_value s r ≡ Some p.value))) (shows : ShowsPairs r.machine.call)
+      (logged : HasLogged s r) (goes : Goes r.machine a) (task_stays : (after r.machine a).call.task ≡ r.machine.call.task)
+      (said : (said : Said) → StandsOn (after r.machine a).call said → StandsOn r.machine.call said
+      ⊎ ((own : IsOwnStep r.machine a) × IsSaidBy r.machine.call own.told said))
       (event : Event) (is : event ≡ event_of (kind_of_ask r.machine) (ask_of r.machine) a) (answering : IsAnswering says s' r r' event) where
     -- the call after the step
     abbrev later : Running K V A
@@ -225,7 +254,14 @@ module _ {K V S A : Type 0} (eq : K → K → Bool) (says : Says K V A) (hash : 
         let (a', had') = answering.gave (ap asks_closure event_is) in
         let (b, had, gives) = answering.left a' had' in
         subst (λ e. Now e shown op) (sym event_is)
-        (record { told = (refl, refl); answers = b; had = had; left = a'; gives = subst (λ o. GivesIn says s' (Shown shown (op_kind op)) o b a') now (subst (λ e. GivesIn says s' e answering.answered b a') event_is gives) })
+        (record {
+          told = (refl, refl);
+          answers = b;
+          had = had;
+          left = a';
+          gives = subst (λ o. GivesIn says s' (Shown shown (op_kind op)) o b a') now
+              (subst (λ e. GivesIn says s' e answering.answered b a') event_is gives);
+        })
 
     -- or it was asked of a pair, and agreed
     agrees_now : (n : ℕ) → event ≡ Asked n true → Now event (Some n) ops.Remove
@@ -236,9 +272,12 @@ module _ {K V S A : Type 0} (eq : K → K → Bool) (says : Says K V A) (hash : 
         (record { told = (refl, refl, refl); answers = b; had = had; left = a'; gives = subst (λ e. GivesIn says s' e answering.answered b a') event_is gives })
 
     -- what the closure of a compute answers now
-    operation : (shown : Option ℕ) (kind : OpKind) (own : IsOwnStep r.machine a) → calls.ask_of r.machine.call ≡ show shown → own.told ≡ Op kind → (event ≡ Shown shown kind) × ((op : Operation V ℕ) × (answering.answered ≡ Some op) × (op_kind op ≡ kind))
+    operation : (shown : Option ℕ) (kind : OpKind) (own : IsOwnStep r.machine a) → calls.ask_of r.machine.call ≡ show shown → own.told ≡ Op kind
+        → (event ≡ Shown shown kind) × ((op : Operation V ℕ) × (answering.answered ≡ Some op) × (op_kind op ≡ kind))
     operation shown kind own asking told =
-        let event_is : event ≡ Shown shown kind = is ∙ event_shown shown kind (kind_of_ask r.machine) (ask_of r.machine) a (asks_own r.machine own.phase ∙ ap asks.Call asking) (own.is ∙ ap given.Call told) in
+        let event_is : event ≡ Shown shown kind = is
+        ∙ event_shown shown kind (kind_of_ask r.machine) (ask_of r.machine) a (asks_own r.machine own.phase ∙ ap asks.Call asking)
+        (own.is ∙ ap given.Call told) in
         (event_is, subst (λ e. IsAnsweredIn e answering.answered) event_is answering.fits)
 
     -- the value of a pair that was made now
@@ -250,7 +289,8 @@ module _ {K V S A : Type 0} (eq : K → K → Bool) (says : Says K V A) (hash : 
 
     -- an insertion's value
     inserts : (v : V) (replace : Bool) → r.machine.call.task ≡ tasks.Insert replace → WouldStore s' later v → WouldStore s r v
-    inserts v replace task (inl had) = ⊎_elim (λ was. inl was) (λ computes. let f : tasks.Insert replace ≡ tasks.Compute = sym task ∙ computes in absurd cc) (value_stays v had)
+    inserts v replace task (inl had) = ⊎_elim (λ was. inl was)
+        (λ computes. let f : tasks.Insert replace ≡ tasks.Compute = sym task ∙ computes in absurd cc) (value_stays v had)
     inserts v replace task (inr (n, made_then, value)) =
         ⊎_elim
         (λ was. inr (n, was, value_before s s' stay n v (logged.made n was) value))
@@ -258,7 +298,8 @@ module _ {K V S A : Type 0} (eq : K → K → Bool) (says : Says K V A) (hash : 
         (chain_made r.machine a goes n made_then)
 
     -- a compute's
-    computes_at_hand : (shown : Option ℕ) (v : V) → StandsOn later.machine.call (Inserts shown) → own_value s' later ≡ Some v → Before tasks.Compute shown (ops.Insert v)
+    computes_at_hand : (shown : Option ℕ) (v : V) → StandsOn later.machine.call (Inserts shown) → own_value s' later ≡ Some v
+        → Before tasks.Compute shown (ops.Insert v)
     computes_at_hand shown v stands had = elim (said (Inserts shown) stands) [
       | inl before ↦ inl (inl (before, at_hand_before before))
       | inr by ↦
@@ -271,9 +312,11 @@ module _ {K V S A : Type 0} (eq : K → K → Bool) (says : Says K V A) (hash : 
     ]
       where
         at_hand_before : StandsOn r.machine.call (Inserts shown) → own_value s r ≡ Some v
-        at_hand_before before = ⊎_elim (λ kept. kept.1 valued v had) (λ showing. absurd (one_value r.machine shown showing.0 before showing.2)) (at_hand eq says hash refuse s r a s' r' (ask_of r.machine) performs)
+        at_hand_before before = ⊎_elim (λ kept. kept.1 valued v had) (λ showing. absurd (one_value r.machine shown showing.0 before showing.2))
+            (at_hand eq says hash refuse s r a s' r' (ask_of r.machine) performs)
 
-    computes_made : (shown : Option ℕ) (v : V) (n : ℕ) → StandsOn later.machine.call (Makes shown n) → HasValue s' n v → Before tasks.Compute shown (ops.Insert v)
+    computes_made : (shown : Option ℕ) (v : V) (n : ℕ) → StandsOn later.machine.call (Makes shown n) → HasValue s' n v
+        → Before tasks.Compute shown (ops.Insert v)
     computes_made shown v n stands value = elim (said (Makes shown n) stands) [
       | inl before ↦ inl (inr (n, before, value_before s s' stay n v (logged.stood shown n before) value))
       | inr by ↦
@@ -286,7 +329,11 @@ module _ {K V S A : Type 0} (eq : K → K → Bool) (says : Says K V A) (hash : 
               | inl stood ↦ inl (inr (n, stood, value_before s s' stay n v (logged.stood shown n stood) value))
               | inr (i, m, is_shown, stood, newest) ↦ elim (again i m stood) [
                 | inl waits ↦ absurd (newest waits)
-                | inr (p, there, p_value) ↦ inl (inr (m, subst (λ y. StandsOn r.machine.call (Makes y m)) (sym is_shown) stood, (p, there, same_item p.value v (sym p_value ∙ had))))
+                | inr (p, there, p_value) ↦ inl (inr (
+                  m,
+                  subst (λ y. StandsOn r.machine.call (Makes y m)) (sym is_shown) stood,
+                  (p, there, same_item p.value v (sym p_value ∙ had)),
+                ))
               ]
             ]
           ]
@@ -307,11 +354,13 @@ module _ {K V S A : Type 0} (eq : K → K → Bool) (says : Says K V A) (hash : 
       | inl before ↦ inl before
       | inr by ↦
           let (own, (asking, told)) = by in
-          inr (agrees_now n (is ∙ ap (λ y. event_of (kind_of_ask r.machine) y a) (asks_own r.machine own.phase ∙ ap asks.Call asking) ∙ ap (λ y. event_of (kind_of_ask r.machine) (asks.Call (ShowPair n)) y) (own.is ∙ ap given.Call told)))
+          inr (agrees_now n (is ∙ ap (λ y. event_of (kind_of_ask r.machine) y a) (asks_own r.machine own.phase ∙ ap asks.Call asking)
+          ∙ ap (λ y. event_of (kind_of_ask r.machine) (asks.Call (ShowPair n)) y) (own.is ∙ ap given.Call told)))
     ]
 
     -- so a call intends what it did, or what its closure answers now
-    pub call_intends : (shown : Option ℕ) (op : Operation V ℕ) → Intends s' (works.Call later) shown op → Intends s (works.Call r) shown op ⊎ AnswersNow says s' event (works.Call r) shown op
+    pub call_intends : (shown : Option ℕ) (op : Operation V ℕ) → Intends s' (works.Call later) shown op → Intends s (works.Call r) shown op
+        ⊎ AnswersNow says s' event (works.Call r) shown op
     call_intends shown op h = by_task r.machine.call.task refl shown op (subst (λ t. IntendsAs s' t later shown op) task_stays h)
       where
         by_task : (task : Task) → r.machine.call.task ≡ task → (shown : Option ℕ) (op : Operation V ℕ) → IntendsAs s' task later shown op → Before task shown op

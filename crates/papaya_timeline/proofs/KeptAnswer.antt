@@ -45,7 +45,8 @@ abbrev pub Stands : {P : Type 0} → State P → P → Type 0
 Stands s p = (t : ℕ) × (x : ℕ) × (named (s.slot t x) ≡ Some p)
 
 -- The words of a store keep to the law in this setting, with this coding. Keys of the law are keys of the map, or, for a call by a query, keys of the map and the query. `own` is the call's own key in the log's terms, where it has one.
-module _ {Q K V S A : Type 0} (g : Setting Q (Stored K V)) (c : Coding Q (Stored K V)) (store : StoreState K V S) (r : Running K V A) (es : List (Exchange (Stored K V))) (call_trace : CallTrace K V) (own : Option K) where
+module _ {Q K V S A : Type 0} (g : Setting Q (Stored K V)) (c : Coding Q (Stored K V)) (store : StoreState K V S) (r : Running K V A)
+    (es : List (Exchange (Stored K V))) (call_trace : CallTrace K V) (own : Option K) where
   -- the words as the law has them
   abbrev pub words_now : State (Stored K V)
   words_now = run es start
@@ -70,7 +71,8 @@ module _ {Q K V S A : Type 0} (g : Setting Q (Stored K V)) (c : Coding Q (Stored
   HasValue ask a store' later = KeepsValue store' later ⊎ AnswersValue ask a later
 
   -- it is as it was
-  pub same_value : (store' : StoreState K V S) → ((at : Part V) (v : V) → value_in store.pairs at ≡ Some v → value_in store'.pairs at ≡ Some v) → KeepsValue store' r
+  pub same_value : (store' : StoreState K V S) → ((at : Part V) (v : V) → value_in store.pairs at ≡ Some v → value_in store'.pairs at ≡ Some v)
+      → KeepsValue store' r
   same_value store' values = record { same = λ v h. by_part r.value v h; had = λ part is. (part, is) }
     where
       by_part : (value : Option (Part V)) (v : V) → value_at store.pairs value ≡ Some v → value_at store'.pairs value ≡ Some v
@@ -97,15 +99,19 @@ module _ {Q K V S A : Type 0} (g : Setting Q (Stored K V)) (c : Coding Q (Stored
     pub there : (t : ℕ) → 0 < t → Comes (run (es ++ made) start) t → IsMade store t
     -- a pair that a slot names stood in one before, or is one that the call made
     pub slots : (t x : ℕ) (p : Stored K V) → named ((run (es ++ made) start).slot t x) ≡ Some p → Stands words_now p ⊎ IsOneOf call_trace.loaded.call.made p
-    pub unchanged : change_in (after r.machine a).call.state ≡ None → (change_in r.machine.call.state ≡ None) × ((t x : ℕ) (p : Stored K V) → named ((run (es ++ made) start).slot t x) ≡ Some p → Stands words_now p)
+    pub unchanged : change_in (after r.machine a).call.state ≡ None → (change_in r.machine.call.state ≡ None)
+        × ((t x : ℕ) (p : Stored K V) → named ((run (es ++ made) start).slot t x) ≡ Some p → Stands words_now p)
     -- the pairs that the machine was told of
     pub last : (p : Stored K V) → loaded.call.last ≡ Some p → (call_trace.loaded.call.last ≡ Some p) ⊎ Stands words_now p
     pub carried : (p : Stored K V) → loaded.kept ≡ Some p → (call_trace.loaded.kept ≡ Some p) ⊎ (call_trace.loaded.call.last ≡ Some p)
-    pub new : (q : Stored K V) → IsOneOf loaded.call.made q → IsOneOf call_trace.loaded.call.made q ⊎ ((q.number ≡ length store.pairs) × (own_value store r ≡ Some q.value) × (pair_of store' q.number ≡ Some q))
+    pub new : (q : Stored K V) → IsOneOf loaded.call.made q → IsOneOf call_trace.loaded.call.made q
+        ⊎ ((q.number ≡ length store.pairs) × (own_value store r ≡ Some q.value) × (pair_of store' q.number ≡ Some q))
     -- the value of the call
     pub value : HasValue ask a store' later
     -- a table that was made is there
-    pub opens : (t : ℕ) → a ≡ answers.Call (Made_number t) → ((slots : ℕ) × (limit : ℕ) × (chunks : ℕ) × (ask ≡ asks.Call (MakeTable slots limit chunks))) ⊎ ((slots : ℕ) × (limit : ℕ) × (chunks : ℕ) × (ask ≡ asks.Copy (Make_next slots limit chunks))) → IsMade store' t
+    pub opens : (t : ℕ) → a ≡ answers.Call (Made_number t)
+        → ((slots : ℕ) × (limit : ℕ) × (chunks : ℕ) × (ask ≡ asks.Call (MakeTable slots limit chunks)))
+        ⊎ ((slots : ℕ) × (limit : ℕ) × (chunks : ℕ) × (ask ≡ asks.Copy (Make_next slots limit chunks))) → IsMade store' t
 
   -- What an answer without an exchange leaves of the logs: they may grow.
   pub record HasLogs (key : Q) (store' : StoreState K V S) (later : Running K V A) : Type 0 where
@@ -124,7 +130,8 @@ module _ {Q K V S A : Type 0} (g : Setting Q (Stored K V)) (c : Coding Q (Stored
   pub record HasLoaded (store' : StoreState K V S) (loaded : LoadedPairs (Stored K V)) : Type 0 where
     pub last : (p : Stored K V) → loaded.call.last ≡ Some p → (call_trace.loaded.call.last ≡ Some p) ⊎ Stands words_now p
     pub carried : (p : Stored K V) → loaded.kept ≡ Some p → (call_trace.loaded.kept ≡ Some p) ⊎ (call_trace.loaded.call.last ≡ Some p)
-    pub new : (q : Stored K V) → IsOneOf loaded.call.made q → IsOneOf call_trace.loaded.call.made q ⊎ ((q.number ≡ length store.pairs) × (own_value store r ≡ Some q.value) × (pair_of store' q.number ≡ Some q))
+    pub new : (q : Stored K V) → IsOneOf loaded.call.made q → IsOneOf call_trace.loaded.call.made q
+        ⊎ ((q.number ≡ length store.pairs) × (own_value store r ≡ Some q.value) × (pair_of store' q.number ≡ Some q))
 
   -- the pairs of before
   pub same_loaded : (store' : StoreState K V S) → HasLoaded store' call_trace.loaded
@@ -134,7 +141,8 @@ module _ {Q K V S A : Type 0} (g : Setting Q (Stored K V)) (c : Coding Q (Stored
       (coded : (at : At) → word_of g c words_now at ≡ word_at store.words at)
       (there : (t : ℕ) → 0 < t → Comes words_now t → IsMade store t) where
     -- what a call has changed after its ask was answered
-    pub changed : (ask : Ask) → ask_of r.machine ≡ ask → (a : Answer) (made : List (Exchange (Stored K V))) (loaded : LoadedPairs (Stored K V)) → Tells key ask a made loaded → change_in (after r.machine a).call.state ≡ change_by (kind_of_ask r.machine) ask a (change_in r.machine.call.state)
+    pub changed : (ask : Ask) → ask_of r.machine ≡ ask → (a : Answer) (made : List (Exchange (Stored K V))) (loaded : LoadedPairs (Stored K V))
+        → Tells key ask a made loaded → change_in (after r.machine a).call.state ≡ change_by (kind_of_ask r.machine) ask a (change_in r.machine.call.state)
     changed ask e a made loaded told =
         let asked : Tells key (ask_of r.machine) a made loaded = subst (λ y. Tells key y a made loaded) (sym e) told in
         chain_changes g c key words_now r.machine call_trace.loaded a made loaded
@@ -146,11 +154,13 @@ module _ {Q K V S A : Type 0} (g : Setting Q (Stored K V)) (c : Coding Q (Stored
     none_made = ap (λ l. run l start) (append-nil es)
 
     -- an answer without an exchange
-    pub unexchanged : (ask : Ask) → ask_of r.machine ≡ ask → (a : Answer) (store' : StoreState K V S) (later : Running K V A) (loaded : LoadedPairs (Stored K V))
+    pub unexchanged : (ask : Ask) → ask_of r.machine ≡ ask
+        → (a : Answer) (store' : StoreState K V S) (later : Running K V A) (loaded : LoadedPairs (Stored K V))
         → Tells key ask a [] loaded
         → change_by (kind_of_ask r.machine) ask a (change_in r.machine.call.state) ≡ change_in r.machine.call.state
         → HasLogs key store' later → HasLoaded store' loaded → HasValue ask a store' later
-        → ((t : ℕ) → a ≡ answers.Call (Made_number t) → ((slots : ℕ) × (limit : ℕ) × (chunks : ℕ) × (ask ≡ asks.Call (MakeTable slots limit chunks))) ⊎ ((slots : ℕ) × (limit : ℕ) × (chunks : ℕ) × (ask ≡ asks.Copy (Make_next slots limit chunks))) → IsMade store' t)
+        → ((t : ℕ) → a ≡ answers.Call (Made_number t) → ((slots : ℕ) × (limit : ℕ) × (chunks : ℕ) × (ask ≡ asks.Call (MakeTable slots limit chunks)))
+        ⊎ ((slots : ℕ) × (limit : ℕ) × (chunks : ℕ) × (ask ≡ asks.Copy (Make_next slots limit chunks))) → IsMade store' t)
         → IsAnswered key ask a store' later
     unexchanged ask e a store' later loaded told still logs pairs value opens = record {
       made = [];
@@ -178,16 +188,31 @@ module _ {Q K V S A : Type 0} (g : Setting Q (Stored K V)) (c : Coding Q (Stored
 
     -- the logs as they were, but for the count
     pub same_logs : own_key store r ≡ own → (count : Count) → HasLogs key (record store { count = count }) r
-    same_logs owns count = record { keys = λ at k h. h; values = λ at v h. h; own_is = owns; logged = λ n p h. h; longer = omega arith; few = λ h. h; tables_few = λ h. h; grown = grown-same store.words.tables; words = λ at. refl; hints = λ n i. inl refl }
+    same_logs owns count = record {
+      keys = λ at k h. h;
+      values = λ at v h. h;
+      own_is = owns;
+      logged = λ n p h. h;
+      longer = omega arith;
+      few = λ h.
+          h;
+      tables_few = λ h. h;
+      grown = grown-same store.words.tables;
+      words = λ at. refl;
+      hints = λ n i. inl refl;
+    }
 
     -- an answer that leaves words, logs and call, but for the count
-    pub quiet : own_key store r ≡ own → (ask : Ask) → ask_of r.machine ≡ ask → (a : Answer) (store' : StoreState K V S) (later : Running K V A) (loaded : LoadedPairs (Stored K V)) (count : Count) → store' ≡ record store { count = count } → later ≡ r
+    pub quiet : own_key store r ≡ own → (ask : Ask) → ask_of r.machine ≡ ask
+        → (a : Answer) (store' : StoreState K V S) (later : Running K V A) (loaded : LoadedPairs (Stored K V)) (count : Count)
+        → store' ≡ record store { count = count } → later ≡ r
         → Tells key ask a [] loaded
         → change_by (kind_of_ask r.machine) ask a (change_in r.machine.call.state) ≡ change_in r.machine.call.state
         → ((p : Stored K V) → loaded.call.last ≡ Some p → (call_trace.loaded.call.last ≡ Some p) ⊎ Stands words_now p)
         → ((p : Stored K V) → loaded.kept ≡ Some p → (call_trace.loaded.kept ≡ Some p) ⊎ (call_trace.loaded.call.last ≡ Some p))
         → loaded.call.made ≡ call_trace.loaded.call.made
-        → ((t : ℕ) → a ≡ answers.Call (Made_number t) → ((slots : ℕ) × (limit : ℕ) × (chunks : ℕ) × (ask ≡ asks.Call (MakeTable slots limit chunks))) ⊎ ((slots : ℕ) × (limit : ℕ) × (chunks : ℕ) × (ask ≡ asks.Copy (Make_next slots limit chunks))) → ⊥)
+        → ((t : ℕ) → a ≡ answers.Call (Made_number t) → ((slots : ℕ) × (limit : ℕ) × (chunks : ℕ) × (ask ≡ asks.Call (MakeTable slots limit chunks)))
+        ⊎ ((slots : ℕ) × (limit : ℕ) × (chunks : ℕ) × (ask ≡ asks.Copy (Make_next slots limit chunks))) → ⊥)
         → IsAnswered key ask a store' later
     quiet owns ask e a store' later loaded count same_store same_call told still last carried made never =
         subst (λ y. IsAnswered key ask a y later) (sym same_store) (subst (IsAnswered key ask a (record store { count = count })) (sym same_call)
@@ -197,13 +222,15 @@ module _ {Q K V S A : Type 0} (g : Setting Q (Stored K V)) (c : Coding Q (Stored
         (λ t is which. absurd (never t is which))))
 
     -- an exchange that was made
-    pub exchanged : own_key store r ≡ own → (ask : Ask) → ask_of r.machine ≡ ask → (at : At) (new : ℕ) (by : Exchange (Stored K V)) (loaded : LoadedPairs (Stored K V))
+    pub exchanged : own_key store r ≡ own → (ask : Ask) → ask_of r.machine ≡ ask
+        → (at : At) (new : ℕ) (by : Exchange (Stored K V)) (loaded : LoadedPairs (Stored K V))
         → Tells key ask (answers.Call Exchanged) (by ∷ []) loaded
         → IsPlaced store.words.tables at
         → IsWritten g c words_now at new (state_after words_now by)
         → ((t : ℕ) → 0 < t → Comes (state_after words_now by) t → IsMade store t)
         → ((t x : ℕ) (p : Stored K V) → named ((state_after words_now by).slot t x) ≡ Some p → Stands words_now p ⊎ IsOneOf call_trace.loaded.call.made p)
-        → (change_in (after r.machine (answers.Call Exchanged)).call.state ≡ None → (change_in r.machine.call.state ≡ None) × ((t x : ℕ) (p : Stored K V) → named ((state_after words_now by).slot t x) ≡ Some p → Stands words_now p))
+        → (change_in (after r.machine (answers.Call Exchanged)).call.state ≡ None → (change_in r.machine.call.state ≡ None)
+        × ((t x : ℕ) (p : Stored K V) → named ((state_after words_now by).slot t x) ≡ Some p → Stands words_now p))
         → ((p : Stored K V) → loaded.call.last ≡ Some p → (call_trace.loaded.call.last ≡ Some p) ⊎ Stands words_now p)
         → loaded.kept ≡ call_trace.loaded.kept → loaded.call.made ≡ call_trace.loaded.call.made
         → IsAnswered key ask (answers.Call Exchanged) (record store { words = put store.words at new }) r
@@ -235,21 +262,26 @@ module _ {Q K V S A : Type 0} (g : Setting Q (Stored K V)) (c : Coding Q (Stored
       where
         written_at : (other : At) → word_of g c (state_after words_now by) other ≡ word_at (put store.words at new) other
         written_at other = elim (cases_place other at) [
-          | inl same ↦ ap (word_of g c (state_after words_now by)) same ∙ written.here ∙ sym (placed-here store.words at new placed) ∙ ap (word_at (put store.words at new)) (sym same)
+          | inl same ↦ ap (word_of g c (state_after words_now by)) same ∙ written.here ∙ sym (placed-here store.words at new placed)
+              ∙ ap (word_at (put store.words at new)) (sym same)
           | inr differ ↦ written.others other differ ∙ coded other ∙ sym (placed-other store.words at new placed other differ)
         ]
 
     -- what a call is told for itself, of which its copy hears nothing
-    pub own_told : (ask : Call_ask) (a : Call_answer) (made : List (Exchange (Stored K V))) (loaded : Call_loaded (Stored K V)) → IsCallTold g c key words_now (kind_of_ask r.machine) call_trace.loaded.call ask a made loaded → Tells key (asks.Call ask) (answers.Call a) made (record call_trace.loaded { call = loaded })
+    pub own_told : (ask : Call_ask) (a : Call_answer) (made : List (Exchange (Stored K V))) (loaded : Call_loaded (Stored K V))
+        → IsCallTold g c key words_now (kind_of_ask r.machine) call_trace.loaded.call ask a made loaded
+        → Tells key (asks.Call ask) (answers.Call a) made (record call_trace.loaded { call = loaded })
     own_told ask a made loaded told = record { told = a; is = refl; call = loaded; tells = told; handed = refl }
 
   -- the pair that the word at a place names
-  named_last : (last : Option (Stored K V)) (t x : ℕ) (p : Stored K V) (o : Option (Stored K V)) → named (words_now.slot t x) ≡ o → or_last o last ≡ Some p → (last ≡ Some p) ⊎ Stands words_now p
+  named_last : (last : Option (Stored K V)) (t x : ℕ) (p : Stored K V) (o : Option (Stored K V)) → named (words_now.slot t x) ≡ o
+      → or_last o last ≡ Some p → (last ≡ Some p) ⊎ Stands words_now p
   named_last last t x p None e h = inl h
   named_last last t x p (Some q) e h = inr (t, x, e ∙ h)
 
   -- the pair that a machine was told of stood in the slot that was loaded, or it was told of before
-  pub told_last : (at : At) (p : Stored K V) → (told_of words_now at call_trace.loaded.call).last ≡ Some p → (call_trace.loaded.call.last ≡ Some p) ⊎ Stands words_now p
+  pub told_last : (at : At) (p : Stored K V) → (told_of words_now at call_trace.loaded.call).last ≡ Some p → (call_trace.loaded.call.last ≡ Some p)
+      ⊎ Stands words_now p
   told_last Root p h = inl h
   told_last (Next t) p h = inl h
   told_last Made p h = inl h
@@ -258,7 +290,8 @@ module _ {Q K V S A : Type 0} (g : Setting Q (Stored K V)) (c : Coding Q (Stored
   told_last (Slot t x) p h = named_last call_trace.loaded.call.last t x p (named (words_now.slot t x)) refl h
 
   -- and so it is for a copier
-  pub copy_last : (at : At) (p : Stored K V) → copy_told_last words_now at call_trace.loaded.call.last ≡ Some p → (call_trace.loaded.call.last ≡ Some p) ⊎ Stands words_now p
+  pub copy_last : (at : At) (p : Stored K V) → copy_told_last words_now at call_trace.loaded.call.last ≡ Some p
+      → (call_trace.loaded.call.last ≡ Some p) ⊎ Stands words_now p
   copy_last Root p h = inl h
   copy_last (Next t) p h = inl h
   copy_last Made p h = inl h

@@ -2,7 +2,11 @@
 use Rattle.std.proofs.Common.{◌≡◌, ℕ, Bool, true, false, Option, None, Some, inl, inr, refl, sym, ◌∙◌, ap, subst}
 use Rattle.papaya_call.specs.Answers.{Says}
 use Rattle.papaya_ask.specs.declared.ask.Ask.{Ask as Call_ask}
-use Rattle.papaya_ask.specs.declared.ask.Ask.TheVariants.{Load, Exchange, SameKey, ShowNone, ShowPair, SizeOf, MakeKey, MakeValue, MakePair, MakePairOf, MakeTable, AddToShard, Done as Ask_done, LoadHint, WriteHint}
+use Rattle.papaya_ask.specs.declared.ask.Ask.TheVariants.{Load, Exchange, SameKey, ShowNone}
+use Rattle.papaya_ask.specs.declared.ask.Ask.TheVariants.{ShowPair, SizeOf, MakeKey, MakeValue}
+use Rattle.papaya_ask.specs.declared.ask.Ask.TheVariants.{MakePair, MakePairOf, MakeTable}
+use Rattle.papaya_ask.specs.declared.ask.Ask.TheVariants.{AddToShard, Done as Ask_done, LoadHint}
+use Rattle.papaya_ask.specs.declared.ask.Ask.TheVariants.{WriteHint}
 use Rattle.papaya_ask.specs.declared.ask.Answer.{Answer as Call_answer}
 use Rattle.papaya_ask.specs.declared.call.Call.{Call}
 use Rattle.papaya_ask.specs.declared.call.Call.TheVariants.{Get, Insert, TryInsert, RemoveIf, Compute, Reserve, CopyAll, Clear, Retain, Walk}
@@ -45,17 +49,21 @@ module _ {K V A : Type 0} where
 
 module _ {K V S A : Type 0} where
   -- a closure that was shown something has answers left
-  shown_answers : {Computes : Type 0} (s : StoreState K V S) (r : Running K V A) (a : Call_answer) (s' : StoreState K V S) (r' : Running K V A) → IsShowing Computes s r a s' r' → HasAnswers r.answers → HasAnswers r'.answers
-  shown_answers s r a s' r' shown has = elim shown.call [ inl same ↦ same_call r r' has same | inr (v, x, later, of) ↦ (x, ap (λ (y : Running K V A). y.answers) later) ]
+  shown_answers : {Computes : Type 0} (s : StoreState K V S) (r : Running K V A) (a : Call_answer) (s' : StoreState K V S) (r' : Running K V A)
+      → IsShowing Computes s r a s' r' → HasAnswers r.answers → HasAnswers r'.answers
+  shown_answers s r a s' r' shown has = elim shown.call
+      [ inl same ↦ same_call r r' has same | inr (v, x, later, of) ↦ (x, ap (λ (y : Running K V A). y.answers) later) ]
 
   -- a call for which a pair was logged keeps them
-  logged_keeps : (s : StoreState K V S) (r : Running K V A) (a : Call_answer) (s' : StoreState K V S) (r' : Running K V A) → HasAnswers r.answers → LogsOrNot s r a s' r' → HasAnswers r'.answers
+  logged_keeps : (s : StoreState K V S) (r : Running K V A) (a : Call_answer) (s' : StoreState K V S) (r' : Running K V A) → HasAnswers r.answers
+      → LogsOrNot s r a s' r' → HasAnswers r'.answers
   logged_keeps s r a s' r' has (inl (unlogged, stays)) = same_call r r' has stays.1
   logged_keeps s r a s' r' has (inr (key, left, (value, was, is, few, grown, moved))) = (has.0, ap (λ (y : Running K V A). y.answers) moved ∙ has.1)
 
 module _ {K V S A : Type 0} (eq : K → K → Bool) (says : Says K V A) where
   -- whatever was asked
-  pub answers_performed : (refuse : Bool) (ask : Call_ask) (s : StoreState K V S) (r : Running K V A) (a : Call_answer) (s' : StoreState K V S) (r' : Running K V A) → Performs eq says refuse ask s r a s' r' → HasAnswers r.answers → HasAnswers r'.answers
+  pub answers_performed : (refuse : Bool) (ask : Call_ask) (s : StoreState K V S) (r : Running K V A) (a : Call_answer) (s' : StoreState K V S)
+      (r' : Running K V A) → Performs eq says refuse ask s r a s' r' → HasAnswers r.answers → HasAnswers r'.answers
   answers_performed refuse (Load at) s r a s' r' h has = same_call r r' has h.1.1
   answers_performed refuse (Exchange at old new) s r a s' r' h has = same_call r r' has h.1
   answers_performed refuse (SameKey n) s r a s' r' h has = same_call r r' has h.1.1
@@ -68,12 +76,14 @@ module _ {K V S A : Type 0} (eq : K → K → Bool) (says : Says K V A) where
   answers_performed refuse MakeValue s r a s' r' h has = logged_keeps s r a s' r' has (part_logs s r a s' r' refuse h)
   answers_performed refuse MakePair s r a s' r' h has = logged_keeps s r a s' r' has (own_logs s r a s' r' refuse h)
   answers_performed refuse (MakePairOf n) s r a s' r' h has = logged_keeps s r a s' r' has (of_logs s r a s' r' refuse n h)
-  answers_performed refuse (MakeTable slots limit chunks) s r a s' r' h has = matched (HasAnswers r'.answers) refuse _ _ h (λ _ none. same_call r r' has none.1.1) (λ _ makes. same_call r r' has makes.1)
+  answers_performed refuse (MakeTable slots limit chunks) s r a s' r' h has = matched (HasAnswers r'.answers) refuse _ _ h
+      (λ _ none. same_call r r' has none.1.1) (λ _ makes. same_call r r' has makes.1)
   answers_performed refuse (AddToShard by) s r a s' r' h has = same_call r r' has h.2
   answers_performed refuse (Ask_done reply) s r a s' r' h has = same_call r r' has h.1.1
 
 module _ {K V S A : Type 0} (eq : K → K → Bool) (says : Says K V A) (hash : S → K → ℕ) where
   -- and whatever was asked for its copy
-  pub answers_asked : (refuse : Bool) (ask : Ask) (s : StoreState K V S) (r : Running K V A) (a : Answer) (s' : StoreState K V S) (r' : Running K V A) → PerformsAsk eq says hash refuse ask s r a s' r' → HasAnswers r.answers → HasAnswers r'.answers
+  pub answers_asked : (refuse : Bool) (ask : Ask) (s : StoreState K V S) (r : Running K V A) (a : Answer) (s' : StoreState K V S) (r' : Running K V A)
+      → PerformsAsk eq says hash refuse ask s r a s' r' → HasAnswers r.answers → HasAnswers r'.answers
   answers_asked refuse (asks.Call ask) s r a s' r' (told, is, h) has = answers_performed eq says refuse ask s r told s' r' h has
   answers_asked refuse (asks.Copy ask) s r a s' r' (h, same) has = same_call r r' has same

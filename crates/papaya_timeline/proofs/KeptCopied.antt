@@ -36,7 +36,8 @@ use Rattle.papaya_call_law.specs.Told.{IsOneOf}
 pub use Rattle.papaya_timeline.proofs.CopyAnswers.{Suits}
 use Rattle.papaya_law.specs.Hints.{IsHint}
 
-module _ {Q K V S A : Type 0} (eq : K → K → Bool) (hashes : S → K → ℕ) (g : Setting Q (Stored K V)) (c : Coding Q (Stored K V)) (store : StoreState K V S) (r : Running K V A) (es : List (Exchange (Stored K V))) (call_trace : CallTrace K V) (own : Option K)
+module _ {Q K V S A : Type 0} (eq : K → K → Bool) (hashes : S → K → ℕ) (g : Setting Q (Stored K V)) (c : Coding Q (Stored K V))
+    (store : StoreState K V S) (r : Running K V A) (es : List (Exchange (Stored K V))) (call_trace : CallTrace K V) (own : Option K)
     (hashed : IsHashed g c) (key : Q)
     (split : call_trace.begun ++ call_trace.since ≡ es) (may : AllAllowed g start (call_trace.begun ++ call_trace.since))
     (relies : Relies g c call_trace.begun call_trace.since key r.machine call_trace.loaded)
@@ -54,23 +55,32 @@ module _ {Q K V S A : Type 0} (eq : K → K → Bool) (hashes : S → K → ℕ)
   Leaves ask a store' later = IsAnswered g c store r es call_trace own key (asks.Copy ask) a store' later
 
   -- the call asks as a copy may
-  asker : (ask : CopyAsk) → ask_of r.machine ≡ asks.Copy ask → IsAsker g c store es call_trace.loaded coded there (kind_of_ask r.machine) (follows_of r.machine) ask
+  asker : (ask : CopyAsk) → ask_of r.machine ≡ asks.Copy ask
+      → IsAsker g c store es call_trace.loaded coded there (kind_of_ask r.machine) (follows_of r.machine) ask
   asker ask e = record {
-    names = subst (λ l. AreThere g c (run l start) call_trace.loaded.call.last call_trace.loaded.kept ask) split (copies_there g c hashed call_trace.begun call_trace.since may key r.machine call_trace.loaded relies ask e);
-    may = λ at old new is stands. asked_copy g c store r es call_trace own hashed key split may relies coded there opens links owns suits.sizes suits.chunks at old new (e ∙ ap asks.Copy is) stands;
+    names = subst (λ l. AreThere g c (run l start) call_trace.loaded.call.last call_trace.loaded.kept ask) split
+        (copies_there g c hashed call_trace.begun call_trace.since may key r.machine call_trace.loaded relies ask e);
+    may = λ at old new is stands. asked_copy g c store r es call_trace own hashed key split may relies coded there opens links owns suits.sizes
+        suits.chunks at old new (e ∙ ap asks.Copy is) stands;
     low = λ slots limit chunks is.
         let on = machine_follows g c call_trace.begun call_trace.since key r.machine call_trace.loaded relies slots limit chunks (e ∙ ap asks.Copy is) in
-        let words = on_there g c store r es call_trace own hashed key split may relies coded there opens links owns suits.sizes suits.chunks (follows_of r.machine) on in
+        let words = on_there g c store r es call_trace own hashed key split may relies coded there opens links owns suits.sizes suits.chunks
+        (follows_of r.machine) on in
         table_low store.words.tables (follows_of r.machine) words.0 words.1;
-    links = λ behind old t is. let linking = machine_links r.machine behind old t (e ∙ ap asks.Copy is) in let made = links behind t linking.0 linking.1 in (made.0, made.1);
+    links = λ behind old t is. let linking = machine_links r.machine behind old t (e ∙ ap asks.Copy is) in
+        let made = links behind t linking.0 linking.1 in (made.0, made.1);
     reads = λ t x is. hints t x;
-    writes = λ t x n is. subst (λ l. IsHint g c (run l start) t x n) split (copies_guarantee_hint g c hashed call_trace.begun call_trace.since may key r.machine call_trace.loaded relies t x n (e ∙ ap asks.Copy is));
+    writes = λ t x n is. subst (λ l. IsHint g c (run l start) t x n) split
+        (copies_guarantee_hint g c hashed call_trace.begun call_trace.since may key r.machine call_trace.loaded relies t x n (e ∙ ap asks.Copy is));
   }
 
   -- each ask
-  pub answered_copy : (refuse : Bool) (ask : CopyAsk) → ask_of r.machine ≡ asks.Copy ask → (a : Answer) (store' : StoreState K V S) (later : Running K V A) → PerformsCopy eq hashes refuse ask store a store' → later ≡ r → Leaves ask a store' later
+  pub answered_copy : (refuse : Bool) (ask : CopyAsk) → ask_of r.machine ≡ asks.Copy ask
+      → (a : Answer) (store' : StoreState K V S) (later : Running K V A) → PerformsCopy eq hashes refuse ask store a store' → later ≡ r
+      → Leaves ask a store' later
   answered_copy refuse ask e a store' later performs same_call =
-      let left = copied_left g c store es call_trace.loaded coded there eq hashes last carried suits (kind_of_ask r.machine) (follows_of r.machine) refuse ask (asker ask e) a store' performs in
+      let left = copied_left g c store es call_trace.loaded coded there eq hashes last carried suits (kind_of_ask r.machine) (follows_of r.machine)
+      refuse ask (asker ask e) a store' performs in
       subst (Leaves ask a store') (sym same_call) (record {
         made = left.made;
         loaded = left.loaded';
@@ -87,7 +97,11 @@ module _ {Q K V S A : Type 0} (eq : K → K → Bool) (hashes : S → K → ℕ)
         hints = left.hints;
         there = left.there;
         slots = λ t x p h. inl (left.slots t x p h);
-        unchanged = λ none. (sym (changed g c store r es call_trace own hashed key relies coded there (asks.Copy ask) e a left.made left.loaded' left.told) ∙ none, left.slots);
+        unchanged = λ none. (
+          sym (changed g c store r es call_trace own hashed key relies coded there (asks.Copy ask) e a left.made left.loaded'
+              left.told) ∙ none,
+          left.slots,
+        );
         last = left.last;
         carried = left.carried;
         new = λ q h. inl (subst (λ l. IsOneOf l q) left.same_made h);

@@ -7,7 +7,9 @@ use Rattle.papaya_ask.specs.declared.ask.StepKind.TheVariants as kinds
 use Rattle.papaya_law.specs.Allows.{Allows}
 use Rattle.papaya_law.specs.Code.{Coding}
 use Rattle.papaya_law.specs.Copying.{IsCopied}
-use Rattle.papaya_law.specs.Exchange.{Setting, Word, Closed, Live, Marked, Copied, Tombstone, State, Exchange, Open, Link, Close, Place, Finish, Advance, Promote, Abort, Take, after}
+use Rattle.papaya_law.specs.Exchange.{Setting, Word, Closed, Live, Marked, Copied, Tombstone, State}
+use Rattle.papaya_law.specs.Exchange.{Exchange, Open, Link, Close, Place, Finish, Advance, Promote}
+use Rattle.papaya_law.specs.Exchange.{Abort, Take, after}
 use Rattle.papaya_law.specs.Grows.{Comes}
 use Rattle.papaya_law.specs.Invariant.{named}
 use Rattle.papaya_call_law.specs.Copier.{IsCopyAsked, last_after}
@@ -21,13 +23,15 @@ both true b h = (refl, h)
 both false b h = absurd cc
 
 -- the root is exchanged where there is none yet
-pub root_empty : {K P : Type 0} (g : Setting K P) (c : Coding K P) (k : K) (s : State P) (loaded : LoadedPairs P) (new : ℕ) (kind : Option StepKind) (e : Exchange P) → IsAsked g c k kind Root new s loaded e → Allows g s e → s.root ≡ 0
+pub root_empty : {K P : Type 0} (g : Setting K P) (c : Coding K P) (k : K) (s : State P) (loaded : LoadedPairs P) (new : ℕ) (kind : Option StepKind)
+    (e : Exchange P) → IsAsked g c k kind Root new s loaded e → Allows g s e → s.root ≡ 0
 root_empty g c k s loaded new (Some kinds.Open) e is allows = (subst (Allows g s) is allows).0
 root_empty g c k s loaded new _ e h allows = absurd h
 
 module _ {P : Type 0} (s : State P) where
   -- a slot after a word was put into one that names nothing, or a pair that stood somewhere
-  put_stood : (t x : ℕ) (w : Word P) → ((p : P) → named w ≡ Some p → Stands s p) → (u y : ℕ) (p : P) (b : Bool) → named (cond b w (s.slot u y)) ≡ Some p → Stands s p
+  put_stood : (t x : ℕ) (w : Word P) → ((p : P) → named w ≡ Some p → Stands s p) → (u y : ℕ) (p : P) (b : Bool)
+      → named (cond b w (s.slot u y)) ≡ Some p → Stands s p
   put_stood t x w stood u y p true e = stood p e
   put_stood t x w stood u y p false e = (u, y, e)
 
@@ -58,7 +62,8 @@ module _ {P : Type 0} (s : State P) (loaded : LoadedPairs P) (new : ℕ) where
   numbered = record { place = inr (inl refl); comes = λ t h. inl h; slots = λ t x p e. inl (t, x, e); unchanged = λ old word none t x p e. (t, x, e) }
 
   -- what an asked exchange changes
-  pub changes : {K : Type 0} (g : Setting K P) (c : Coding K P) (k : K) (kind : Option StepKind) (at : At) (e : Exchange P) → IsAsked g c k kind at new s loaded e → IsChanged kind at e
+  pub changes : {K : Type 0} (g : Setting K P) (c : Coding K P) (k : K) (kind : Option StepKind) (at : At) (e : Exchange P)
+      → IsAsked g c k kind at new s loaded e → IsChanged kind at e
   changes g c k (Some kinds.Take) Made e is = subst (IsChanged (Some kinds.Take) Made) (sym is) numbered
   changes g c k (Some kinds.Open) Root e is = subst (IsChanged (Some kinds.Open) Root) (sym is) opened
   changes g c k (Some kinds.Claim) (Slot t x) e (q, own, key, is) = subst (IsChanged (Some kinds.Claim) (Slot t x)) (sym is) (record {
@@ -89,7 +94,8 @@ module _ {P : Type 0} (s : State P) (last : Option P) (new : ℕ) where
     pub last_is : (p : P) → last_after e last ≡ Some p → (last ≡ Some p) ⊎ Stands s p
 
   -- words of other kinds than slots
-  unslotted : (at : At) (e : Exchange P) → ((t x : ℕ) (p : P) → named ((after s e).slot t x) ≡ Some p → Stands s p) → ((t : ℕ) → Comes (after s e) t → Comes s t ⊎ ((u : ℕ) × (at ≡ Next u) × (new ≡ t))) → last_after e last ≡ last → IsCopied_on at e
+  unslotted : (at : At) (e : Exchange P) → ((t x : ℕ) (p : P) → named ((after s e).slot t x) ≡ Some p → Stands s p)
+      → ((t : ℕ) → Comes (after s e) t → Comes s t ⊎ ((u : ℕ) × (at ≡ Next u) × (new ≡ t))) → last_after e last ≡ last → IsCopied_on at e
   unslotted at e slots comes same = record { comes = comes; slots = slots; last_is = λ p h. inl (sym same ∙ h) }
 
   -- a table was linked
@@ -106,22 +112,32 @@ module _ {P : Type 0} (s : State P) (last : Option P) (new : ℕ) where
 
   -- a pair that is copied stands in a slot
   copied_stands : {K : Type 0} (g : Setting K P) (n : ℕ) (p : P) → IsCopied g s n p → Stands s p
-  copied_stands g n p source = elim source.stood [ inl marked ↦ (source.from, source.slot, ap named marked) | inr copied ↦ (source.from, source.slot, ap named copied) ]
+  copied_stands g n p source = elim source.stood
+      [ inl marked ↦ (source.from, source.slot, ap named marked) | inr copied ↦ (source.from, source.slot, ap named copied) ]
 
   -- what an asked exchange changes
-  pub copies : {K : Type 0} (g : Setting K P) (c : Coding K P) (kept : Option P) (kind : Option StepKind) (at : At) (e : Exchange P) → IsCopyAsked c kind at new s kept e → Allows g s e → IsCopied_on at e
+  pub copies : {K : Type 0} (g : Setting K P) (c : Coding K P) (kept : Option P) (kind : Option StepKind) (at : At) (e : Exchange P)
+      → IsCopyAsked c kind at new s kept e → Allows g s e → IsCopied_on at e
   copies g c kept (Some kinds.Link) (Next t) e is may = subst (IsCopied_on (Next t)) (sym is) (linked t)
   copies g c kept (Some kinds.Mark) (Slot t x) e (p, live, is) may = subst (IsCopied_on (Slot t x)) (sym is) (record {
     comes = λ u h. inl h;
     slots = λ u y q h. put_stood s t x (Marked p) (λ o h. (t, x, ap named live ∙ h)) u y q ((u == t) && (y == x)) h;
     last_is = λ q h. inr (t, x, ap named live ∙ h);
   })
-  copies g c kept (Some kinds.Close) (Slot t x) e is may = subst (IsCopied_on (Slot t x)) (sym is) (unslotted (Slot t x) (Close t x) (λ u y q h. put_stood s t x Closed (λ o h. absurd cc) u y q ((u == t) && (y == x)) h) (λ u h. inl h) refl)
+  copies g c kept (Some kinds.Close) (Slot t x) e is may = subst (IsCopied_on (Slot t x)) (sym is)
+      (unslotted (Slot t x) (Close t x) (λ u y q h. put_stood s t x Closed (λ o h. absurd cc) u y q ((u == t) && (y == x)) h) (λ u h. inl h) refl)
   copies g c kept (Some kinds.Place) (Slot t x) e (p, own, number, is) may =
       let place = subst (Allows g s) is may in
-      subst (IsCopied_on (Slot t x)) (sym is) (unslotted (Slot t x) (Place t x p) (λ u y q h. put_stood s t x (Live p) (λ o h. subst (Stands s) (let f : Some p ≡ Some o = h in cc) (copied_stands g t p place.source)) u y q ((u == t) && (y == x)) h) (λ u h. inl h) refl)
-  copies g c kept (Some kinds.Finish) (Slot t x) e (p, marked, is) may = subst (IsCopied_on (Slot t x)) (sym is) (unslotted (Slot t x) (Finish t x p) (λ u y q h. put_stood s t x (Copied p) (λ o h. (t, x, ap named marked ∙ h)) u y q ((u == t) && (y == x)) h) (λ u h. inl h) refl)
-  copies g c kept (Some kinds.Advance) (Done n chunk) e is may = subst (IsCopied_on (Done n chunk)) (sym is) (unslotted (Done n chunk) (Advance n chunk) (λ u y q h. (u, y, h)) (λ u h. inl h) refl)
-  copies g c kept (Some kinds.Promote) Root e is may = subst (IsCopied_on Root) (sym is) (unslotted Root (Promote s.root new) (λ u y q h. (u, y, h)) (λ u h. inl h) refl)
-  copies g c kept (Some kinds.Abort) (Aborted n) e is may = subst (IsCopied_on (Aborted n)) (sym is) (unslotted (Aborted n) (Abort n) (λ u y q h. (u, y, h)) (λ u h. inl h) refl)
+      subst (IsCopied_on (Slot t x)) (sym is) (unslotted (Slot t x) (Place t x p)
+      (λ u y q h. put_stood s t x (Live p) (λ o h. subst (Stands s) (let f : Some p ≡ Some o = h in cc) (copied_stands g t p place.source)) u y q
+      ((u == t) && (y == x)) h) (λ u h. inl h) refl)
+  copies g c kept (Some kinds.Finish) (Slot t x) e (p, marked, is) may = subst (IsCopied_on (Slot t x)) (sym is)
+      (unslotted (Slot t x) (Finish t x p) (λ u y q h. put_stood s t x (Copied p) (λ o h. (t, x, ap named marked ∙ h)) u y q ((u == t) && (y == x)) h)
+      (λ u h. inl h) refl)
+  copies g c kept (Some kinds.Advance) (Done n chunk) e is may = subst (IsCopied_on (Done n chunk)) (sym is)
+      (unslotted (Done n chunk) (Advance n chunk) (λ u y q h. (u, y, h)) (λ u h. inl h) refl)
+  copies g c kept (Some kinds.Promote) Root e is may = subst (IsCopied_on Root) (sym is)
+      (unslotted Root (Promote s.root new) (λ u y q h. (u, y, h)) (λ u h. inl h) refl)
+  copies g c kept (Some kinds.Abort) (Aborted n) e is may = subst (IsCopied_on (Aborted n)) (sym is)
+      (unslotted (Aborted n) (Abort n) (λ u y q h. (u, y, h)) (λ u h. inl h) refl)
   copies g c kept _ _ e h may = absurd h

@@ -1,5 +1,7 @@
 -- The map that a core's words mean is the replay of the exchanges.
-use Rattle.std.proofs.Common.{◌≡◌, ⊎_elim, ℕ, zero, suc, ◌<◌, ◌≤◌, Bool, List, [], ◌∷◌, ◌++◌, length, slice_index, Some, inl, inr, refl, sym, ◌∙◌, ap, arith, append-nil, append_assoc}
+use Rattle.std.proofs.Common.{◌≡◌, ⊎_elim, ℕ, zero, suc, ◌<◌, ◌≤◌, Bool, List, [], ◌∷◌, ◌++◌}
+use Rattle.std.proofs.Common.{length, slice_index, Some, inl, inr, refl, sym, ◌∙◌, ap, arith}
+use Rattle.std.proofs.Common.{append-nil, append_assoc}
 use Rattle.std.proofs.lemmas.Bool.{cases_lt}
 use Rattle.papaya_words.specs.Table.{TableWords}
 use Rattle.papaya_words.specs.Word.{kind_of, pair_of as number_of}
@@ -29,7 +31,8 @@ use Rattle.papaya_store.specs.declared.mode.Mode.{Mode}
 -- the pairs of a table, from its first slot
 pairs_in-first : {P : Type 0} (slot : ℕ → Word P) (n : ℕ) → pairs_in slot (suc n) ≡ pairs_of_word (slot 0) ++ pairs_in (λ x. slot (suc x)) n
 pairs_in-first slot zero = sym (append-nil (pairs_of_word (slot 0)))
-pairs_in-first slot (suc n) = ap (λ l. l ++ pairs_of_word (slot (suc n))) (pairs_in-first slot n) ∙ append_assoc (pairs_of_word (slot 0)) (pairs_in (λ x. slot (suc x)) n) (pairs_of_word (slot (suc n)))
+pairs_in-first slot (suc n) = ap (λ l. l ++ pairs_of_word (slot (suc n))) (pairs_in-first slot n)
+    ∙ append_assoc (pairs_of_word (slot 0)) (pairs_in (λ x. slot (suc x)) n) (pairs_of_word (slot (suc n)))
 
 module _ {K V S : Type 0} (eq : K → K → Bool) (hash : K → ℕ) (mode : Mode) (store : StoreState K V S)
     (hashed : IsHashed (setting_of {V = V} eq (low hash) mode store.words.tables) (coding_of (low hash))) where
@@ -45,7 +48,8 @@ module _ {K V S : Type 0} (eq : K → K → Bool) (hash : K → ℕ) (mode : Mod
   pair_listed w p names logged = ap (λ n. listed (pair_of store n)) (code_pair g c hashed.coding w p names) ∙ ap listed logged
 
   -- the pair of a word
-  kind_pairs : (w : Word (Stored K V)) → ((p : Stored K V) → named w ≡ Some p → IsLogged store p) → pairs_of_kind store (kind w) (number_of (code g c w)) ≡ pairs_of_word w
+  kind_pairs : (w : Word (Stored K V)) → ((p : Stored K V) → named w ≡ Some p → IsLogged store p)
+      → pairs_of_kind store (kind w) (number_of (code g c w)) ≡ pairs_of_word w
   kind_pairs Empty logged = refl
   kind_pairs Closed logged = refl
   kind_pairs (Live p) logged = pair_listed (Live p) p refl (logged p refl)
@@ -54,21 +58,24 @@ module _ {K V S : Type 0} (eq : K → K → Bool) (hash : K → ℕ) (mode : Mod
   kind_pairs (Tombstone p) logged = refl
 
   -- the pair of a number that stands for a word
-  word_pairs : (w : Word (Stored K V)) (word : ℕ) → code g c w ≡ word → ((p : Stored K V) → named w ≡ Some p → IsLogged store p) → pairs_of_kind store (kind_of word) (number_of word) ≡ pairs_of_word w
+  word_pairs : (w : Word (Stored K V)) (word : ℕ) → code g c w ≡ word → ((p : Stored K V) → named w ≡ Some p → IsLogged store p)
+      → pairs_of_kind store (kind_of word) (number_of word) ≡ pairs_of_word w
   word_pairs w word is logged =
       ap (λ y. pairs_of_kind store (kind_of y) (number_of y)) (sym is)
       ∙ ap (λ y. pairs_of_kind store y (number_of (code g c w))) (code_kind g c w)
       ∙ kind_pairs w logged
 
   -- the pairs of a table's slots
-  slots_pairs : (words : List ℕ) (slot : ℕ → Word (Stored K V)) → ((x : ℕ) → code g c (slot x) ≡ slice_index words x) → ((x : ℕ) (p : Stored K V) → named (slot x) ≡ Some p → IsLogged store p) → pairs_of_slots store words ≡ pairs_in slot (length words)
+  slots_pairs : (words : List ℕ) (slot : ℕ → Word (Stored K V)) → ((x : ℕ) → code g c (slot x) ≡ slice_index words x)
+      → ((x : ℕ) (p : Stored K V) → named (slot x) ≡ Some p → IsLogged store p) → pairs_of_slots store words ≡ pairs_in slot (length words)
   slots_pairs [] slot coded logged = refl
   slots_pairs (word ∷ words) slot coded logged =
       ap (λ l. l ++ pairs_of_slots store words) (word_pairs (slot 0) word (coded 0) (logged 0))
       ∙ ap (λ l. pairs_of_word (slot 0) ++ l) (slots_pairs words (λ x. slot (suc x)) (λ x. coded (suc x)) (λ x. logged (suc x)))
       ∙ sym (pairs_in-first slot (length words))
 
-  module _ {A : Type 0} (callers : List (Seat K V A)) (es : List (Exchange (Stored K V))) (call_traces : ℕ → CallTrace K V) (kept : IsKept eq hash mode store callers es call_traces) where
+  module _ {A : Type 0} (callers : List (Seat K V A)) (es : List (Exchange (Stored K V))) (call_traces : ℕ → CallTrace K V)
+      (kept : IsKept eq hash mode store callers es call_traces) where
     -- the words of the law
     abbrev now : State (Stored K V)
     now = run es start
@@ -87,10 +94,12 @@ module _ {K V S : Type 0} (eq : K → K → Bool) (hash : K → ℕ) (mode : Mod
 
     -- the root's, too
     root_low : now.root ≤ length store.words.tables
-    root_low = elim (sound g hashed.lawful es kept.allowed).root [ inl none ↦ let e = none.0 in omega (arith, e) | inr on ↦ comes_low now.root (on_comes now now.root on) ]
+    root_low = elim (sound g hashed.lawful es kept.allowed).root
+        [ inl none ↦ let e = none.0 in omega (arith, e) | inr on ↦ comes_low now.root (on_comes now now.root on) ]
 
     -- the slots of a table of the chain have the pairs that the law has there
-    pub table_content : (t : ℕ) (words : TableWords) → table_of store.words.tables t ≡ Some words → pairs_of_slots store words.slots ≡ pairs_in (now.slot t) (g.size t)
+    pub table_content : (t : ℕ) (words : TableWords) → table_of store.words.tables t ≡ Some words
+        → pairs_of_slots store words.slots ≡ pairs_in (now.slot t) (g.size t)
     table_content t words there =
         slots_pairs words.slots (now.slot t) (λ x. kept.coded (Slot t x) ∙ ap (word_in (λ v. slice_index v.slots x)) there) (λ x. kept.logged t x)
         ∙ ap (pairs_in (now.slot t)) (sym (ap slots_in there))
@@ -100,7 +109,8 @@ module _ {K V S : Type 0} (eq : K → K → Bool) (hash : K → ℕ) (mode : Mod
     pairs_on n t = pairs_from eq store n (table_of store.words.tables t)
 
     -- they are those of the table, then those from its next one on
-    pairs_more : (n t : ℕ) → IsOn now.first now.next t → pairs_on (suc n) t ≡ joined eq (λ p. p.key) (pairs_in (now.slot t) (g.size t)) (pairs_on n (now.next t))
+    pairs_more : (n t : ℕ) → IsOn now.first now.next t
+        → pairs_on (suc n) t ≡ joined eq (λ p. p.key) (pairs_in (now.slot t) (g.size t)) (pairs_on n (now.next t))
     pairs_more n t on =
         let made = kept.made t on.0 (on_comes now t on) in
         ap (pairs_from eq store (suc n)) made.1

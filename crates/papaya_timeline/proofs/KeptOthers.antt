@@ -1,5 +1,6 @@
 -- A step of one caller leaves what all others rely on, and so keeps a core's words to the law of exchanges.
-use Rattle.std.proofs.Common.{◌≡◌, ◌≢◌, ℕ, ◌<◌, ◌≤◌, Bool, cond, List, ◌++◌, length, Option, Some, None, ◌⊎◌, inl, inr, refl, sym, ◌∙◌, ap, subst, append_assoc, eq-eqb}
+use Rattle.std.proofs.Common.{◌≡◌, ◌≢◌, ℕ, ◌<◌, ◌≤◌, Bool, cond, List, ◌++◌, length, Option, Some}
+use Rattle.std.proofs.Common.{None, ◌⊎◌, inl, inr, refl, sym, ◌∙◌, ap, subst, append_assoc, eq-eqb}
 use Rattle.papaya_words.specs.declared.limits.TheConstants.{MAX_LOG_LEN, MAX_TABLES}
 use Rattle.papaya_ask.specs.declared.ask.At.{At}
 use Rattle.papaya_law.specs.Allows.{AllAllowed}
@@ -30,7 +31,9 @@ use Rattle.papaya_timeline.specs.declared.seat.Work.{Work}
 use Rattle.papaya_timeline.specs.declared.seat.Work.TheVariants as works
 use Rattle.papaya_timeline.specs.Callers.{resizing, running, scanning, with_work}
 use Rattle.papaya_timeline.specs.Core.{CoreState, IsCore}
-use Rattle.papaya_timeline.specs.Kept.{IsKept, IsCall, IsLogged, IsMade, IsMadeFor, IsResizing, IsScanning, CallTrace, ScanTrace, setting_of, coding_of, low, told_more, told_call_traces, scan_trace}
+use Rattle.papaya_timeline.specs.Kept.{IsKept, IsCall, IsLogged, IsMade, IsMadeFor, IsResizing}
+use Rattle.papaya_timeline.specs.Kept.{IsScanning, CallTrace, ScanTrace, setting_of, coding_of, low}
+use Rattle.papaya_timeline.specs.Kept.{told_more, told_call_traces, scan_trace}
 use Rattle.papaya_timeline.proofs.CallersLemmas.{differs, resizing-elsewhere, resizing-here, running-elsewhere, running-here, scanning-elsewhere, scanning-here}
 use Rattle.papaya_timeline.proofs.CoreLemmas.{cases_same}
 use Rattle.papaya_timeline.proofs.KeptAnswer.{Stands}
@@ -48,7 +51,8 @@ use Rattle.papaya_law.proofs.Later.{later_run}
 use Rattle.papaya_timeline.proofs.KeptHints.{KeepsHints}
 
 module _ {K V S A : Type 0} (eq : K → K → Bool) (hash : K → ℕ) (law : IsLawfulKeys eq hash) (s : CoreState K V S A) (caller : ℕ) (s' : CoreState K V S A)
-    (mode_is : s'.mode ≡ s.mode) (es : List (Exchange (Stored K V))) (call_traces : ℕ → CallTrace K V) (core : IsCore s.store s.callers s.mode) (kept : IsKept eq hash s.mode s.store s.callers es call_traces)
+    (mode_is : s'.mode ≡ s.mode) (es : List (Exchange (Stored K V))) (call_traces : ℕ → CallTrace K V) (core : IsCore s.store s.callers s.mode)
+    (kept : IsKept eq hash s.mode s.store s.callers es call_traces)
     (made : List (Exchange (Stored K V))) (loaded : LoadedPairs (Stored K V)) where
   -- the setting before and after the step, and the coding
   abbrev g : Setting K (Stored K V)
@@ -82,7 +86,8 @@ module _ {K V S A : Type 0} (eq : K → K → Bool) (hash : K → ℕ) (law : Is
     pub slots : (t x : ℕ) (p : Stored K V) → named ((run es' start).slot t x) ≡ Some p → Stands (run es start) p ⊎ Mine p
     -- the stepping call's pairs are logged, and are no other call's
     pub mine_logged : (p : Stored K V) → Mine p → IsLogged s'.store p
-    pub mine_apart : (d : ℕ) (r : Running K V A) → running s.callers d ≡ Some r → d ≢ caller → (p p' : Stored K V) → Mine p → IsOneOf (call_traces d).loaded.call.made p' → p.number ≢ p'.number
+    pub mine_apart : (d : ℕ) (r : Running K V A) → running s.callers d ≡ Some r → d ≢ caller → (p p' : Stored K V) → Mine p
+        → IsOneOf (call_traces d).loaded.call.made p' → p.number ≢ p'.number
 
   module _ {Mine : Stored K V → Type 0} (left : IsLeaving Mine) where
     -- keys are placed by their hashes
@@ -91,7 +96,8 @@ module _ {K V S A : Type 0} (eq : K → K → Bool) (hash : K → ℕ) (law : Is
 
     -- the tables that have come are as they were
     pub agrees : Agrees (IsOn (run es' start).first (run es' start).next) g g'
-    agrees = grown_agrees eq hash s.mode s'.mode s.store.words.tables s'.store.words.tables mode_is left.grown (IsOn (run es' start).first (run es' start).next) (λ t on. left.there t on.0 (on_comes (run es' start) t on))
+    agrees = grown_agrees eq hash s.mode s'.mode s.store.words.tables s'.store.words.tables mode_is left.grown
+        (IsOn (run es' start).first (run es' start).next) (λ t on. left.there t on.0 (on_comes (run es' start) t on))
 
     -- the map is the same in the grown setting
     pub same_map : (k : K) → map_left g' es k ≡ map_left g es k
@@ -110,13 +116,17 @@ module _ {K V S A : Type 0} (eq : K → K → Bool) (hash : K → ℕ) (law : Is
     longer_split call_trace split = sym (append_assoc call_trace.begun call_trace.since made) ∙ ap (λ l. l ++ made) split
 
     -- what a call relies on in the grown setting
-    pub grown_relies : (call_trace : CallTrace K V) (split : call_trace.begun ++ call_trace.since ≡ es) (k : K) (m : _) (loaded : LoadedPairs (Stored K V)) → Relies g c call_trace.begun (call_trace.since ++ made) k m loaded → Relies g' c call_trace.begun (call_trace.since ++ made) k m loaded
+    pub grown_relies : (call_trace : CallTrace K V) (split : call_trace.begun ++ call_trace.since ≡ es) (k : K) (m : _)
+        (loaded : LoadedPairs (Stored K V)) → Relies g c call_trace.begun (call_trace.since ++ made) k m loaded
+        → Relies g' c call_trace.begun (call_trace.since ++ made) k m loaded
     grown_relies call_trace split k m loaded relies =
         let to : es' ≡ call_trace.begun ++ (call_trace.since ++ made) = sym (longer_split call_trace split) in
-        relies_carries g g' c hashed call_trace.begun (call_trace.since ++ made) (subst (AllAllowed g start) to left.allowed) (subst (λ l. Agrees (IsOn (run l start).first (run l start).next) g g') to agrees) k m loaded relies
+        relies_carries g g' c hashed call_trace.begun (call_trace.since ++ made) (subst (AllAllowed g start) to left.allowed)
+        (subst (λ l. Agrees (IsOn (run l start).first (run l start).next) g g') to agrees) k m loaded relies
 
     -- and so what a resizer relies on
-    pub grown_resizer : (z : Resizer) (loaded : LoadedPairs (Stored K V)) → ReliesResizer g c (run es' start) z loaded → ReliesResizer g' c (run es' start) z loaded
+    pub grown_resizer : (z : Resizer) (loaded : LoadedPairs (Stored K V)) → ReliesResizer g c (run es' start) z loaded
+        → ReliesResizer g' c (run es' start) z loaded
     grown_resizer z loaded relies = resizer_carries g g' c (run es' start) (map_left g es') (keeping g hashed.lawful es' left.allowed) agrees z loaded relies
 
     -- a pair that stood in a slot is logged
@@ -124,7 +134,9 @@ module _ {K V S A : Type 0} (eq : K → K → Bool) (hash : K → ℕ) (law : Is
     stood_logged p (t, x, names) = left.logged p.number p (kept.logged t x p names)
 
     -- another call's facts
-    other_unwritten : (d : ℕ) (r : Running K V A) → running s.callers d ≡ Some r → d ≢ caller → (p : Stored K V) → IsOneOf (call_traces d).loaded.call.made p → change_in r.machine.call.state ≡ None → (t x : ℕ) (q : Stored K V) → named ((run es' start).slot t x) ≡ Some q → q.number ≢ p.number
+    other_unwritten : (d : ℕ) (r : Running K V A) → running s.callers d ≡ Some r → d ≢ caller → (p : Stored K V)
+        → IsOneOf (call_traces d).loaded.call.made p → change_in r.machine.call.state ≡ None → (t x : ℕ) (q : Stored K V)
+        → named ((run es' start).slot t x) ≡ Some q → q.number ≢ p.number
     other_unwritten d r runs differ p is_made none t x q names = elim (left.slots t x q names) [
       | inl (u, y, stood) ↦ (kept.calls d r runs).unwritten p is_made none u y q stood
       | inr mine ↦ left.mine_apart d r runs differ q p mine is_made
@@ -136,18 +148,22 @@ module _ {K V S A : Type 0} (eq : K → K → Bool) (hash : K → ℕ) (law : Is
     other_value (Some part) v h = left.values part v h
 
     -- so it relies on what is told of it after the step
-    other_call : (d : ℕ) (r : Running K V A) → running s.callers d ≡ Some r → d ≢ caller → (loaded : LoadedPairs (Stored K V)) → (call_traces d).loaded ≡ loaded → IsCall eq hash s'.mode s'.store r es' (record { begun = (call_traces d).begun; since = (call_traces d).since ++ made; loaded = loaded; scan = (call_traces d).scan })
+    other_call : (d : ℕ) (r : Running K V A) → running s.callers d ≡ Some r → d ≢ caller → (loaded : LoadedPairs (Stored K V))
+        → (call_traces d).loaded ≡ loaded → IsCall eq hash s'.mode s'.store r es'
+        (record { begun = (call_traces d).begun; since = (call_traces d).since ++ made; loaded = loaded; scan = (call_traces d).scan })
     other_call d r runs differ loaded e =
         let o = kept.calls d r runs in
         let call_trace : CallTrace K V = call_traces d in
         let stays : Relies g c call_trace.begun (call_trace.since ++ made) o.key r.machine call_trace.loaded =
-        all_stable g c hashed call_trace.begun call_trace.since made (subst (AllAllowed g start) (sym (longer_split call_trace o.split)) left.allowed) o.key r.machine call_trace.loaded o.relies in
+        all_stable g c hashed call_trace.begun call_trace.since made (subst (AllAllowed g start) (sym (longer_split call_trace o.split)) left.allowed)
+        o.key r.machine call_trace.loaded o.relies in
         record {
           key = o.key;
           own = left.keys r.key o.key o.own;
           answers = o.answers;
           split = longer_split call_trace o.split;
-          relies = subst (Relies g' c call_trace.begun (call_trace.since ++ made) o.key r.machine) e (grown_relies call_trace o.split o.key r.machine call_trace.loaded stays);
+          relies = subst (Relies g' c call_trace.begun (call_trace.since ++ made) o.key r.machine) e
+              (grown_relies call_trace o.split o.key r.machine call_trace.loaded stays);
           last = λ p l. left.logged p.number p (o.last p (ap (λ (y : LoadedPairs (Stored K V)). y.call.last) e ∙ l));
           carried = λ p l. left.logged p.number p (o.carried p (ap (λ (y : LoadedPairs (Stored K V)). y.kept) e ∙ l));
           made = λ p l. left.logged p.number p (o.made p (subst (λ (y : LoadedPairs (Stored K V)). IsOneOf y.call.made p) (sym e) l));
@@ -163,12 +179,15 @@ module _ {K V S A : Type 0} (eq : K → K → Bool) (hash : K → ℕ) (law : Is
         }
 
     -- and so does another resizer
-    other_resizer : (d : ℕ) (z : Resizer) → resizing s.callers d ≡ Some z → (loaded : LoadedPairs (Stored K V)) → (call_traces d).loaded ≡ loaded → IsResizing eq hash s'.mode s'.store z es' (record { begun = (call_traces d).begun; since = (call_traces d).since ++ made; loaded = loaded; scan = (call_traces d).scan })
+    other_resizer : (d : ℕ) (z : Resizer) → resizing s.callers d ≡ Some z → (loaded : LoadedPairs (Stored K V)) → (call_traces d).loaded ≡ loaded
+        → IsResizing eq hash s'.mode s'.store z es'
+        (record { begun = (call_traces d).begun; since = (call_traces d).since ++ made; loaded = loaded; scan = (call_traces d).scan })
     other_resizer d z resizes loaded e =
         let o = kept.resizers d z resizes in
         let stays : ReliesResizer g c (run es' start) z (call_traces d).loaded =
         subst (λ w. ReliesResizer g c w z (call_traces d).loaded) (sym (run-append es made start))
-        (resizer_stays g c hashed (run es start) (map_left g es) (keeping g hashed.lawful es (allowed_first g es made start left.allowed)) made (allowed_rest g es made start left.allowed) z (call_traces d).loaded o.relies) in
+        (resizer_stays g c hashed (run es start) (map_left g es) (keeping g hashed.lawful es (allowed_first g es made start left.allowed)) made
+        (allowed_rest g es made start left.allowed) z (call_traces d).loaded o.relies) in
         record {
           relies = subst (ReliesResizer g' c (run es' start) z) e (grown_resizer z (call_traces d).loaded stays);
           last = λ p l. left.logged p.number p (o.last p (ap (λ (y : LoadedPairs (Stored K V)). y.call.last) e ∙ l));
@@ -204,7 +223,8 @@ module _ {K V S A : Type 0} (eq : K → K → Bool) (hash : K → ℕ) (law : Is
       agrees_then = subst (λ (w : Words (Stored K V)). Agrees (IsOn w.first w.next) g g') (sym same_then) agrees
 
       map_then : m ≡ map_left g' call_trace.begun
-      map_then = sym (map_of_carries g g' (IsOn (run (call_trace.since ++ made) first).first (run (call_trace.since ++ made) first).next) agrees_then call_trace.begun (λ k. None))
+      map_then = sym (map_of_carries g g' (IsOn (run (call_trace.since ++ made) first).first (run (call_trace.since ++ made) first).next) agrees_then
+          call_trace.begun (λ k. None))
 
       relies_then : ReliesScanner g c first m (call_trace.since ++ made) v.scanner call_trace.loaded
       relies_then = record {
@@ -220,8 +240,10 @@ module _ {K V S A : Type 0} (eq : K → K → Bool) (hash : K → ℕ) (law : Is
         relies = subst (λ f. ReliesScanner g' c first f (call_trace.since ++ made) v.scanner call_trace.loaded) map_then (record {
           mode = subst (IsModeOf v.scanner.mode) (sym agrees_then.blocking) relies_then.mode;
           cut = cut_carries agrees_then v.scanner.mode relies_then.cut;
-          gives = gives_carries g g' c hashed first m keeps_first (call_trace.since ++ made) may_then agrees_then v.scanner.scan call_trace.loaded relies_then.gives;
-          state = state_carries g g' c hashed first m keeps_first (call_trace.since ++ made) may_then agrees_then v.scanner.scan call_trace.loaded v.scanner.state relies_then.state;
+          gives = gives_carries g g' c hashed first m keeps_first (call_trace.since ++ made) may_then agrees_then v.scanner.scan call_trace.loaded
+              relies_then.gives;
+          state = state_carries g g' c hashed first m keeps_first (call_trace.since ++ made) may_then agrees_then v.scanner.scan call_trace.loaded
+              v.scanner.state relies_then.state;
         });
         answers = scans.answers;
         given = scans.given;
@@ -243,26 +265,31 @@ module _ {K V S A : Type 0} (eq : K → K → Bool) (hash : K → ℕ) (law : Is
         (own_call : (r : Running K V A) → work ≡ Some (works.Call r) → IsCall eq hash s'.mode s'.store r es' (call_traces' caller))
         (own_resizer : (z : Resizer) → work ≡ Some (works.Resize z) → IsResizing eq hash s'.mode s'.store z es' (call_traces' caller))
         (own_scanner : (v : Scanning A) → work ≡ Some (works.Scan v) → IsScanning eq hash s'.mode s'.store v es' (scan_trace (call_traces' caller)))
-        (own_apart : (r : Running K V A) → work ≡ Some (works.Call r) → (d : ℕ) (q : Running K V A) → running s.callers d ≡ Some q → d ≢ caller → (p p' : Stored K V) → IsOneOf loaded.call.made p → IsOneOf (call_traces d).loaded.call.made p' → p.number ≢ p'.number) where
+        (own_apart : (r : Running K V A) → work ≡ Some (works.Call r) → (d : ℕ) (q : Running K V A) → running s.callers d ≡ Some q → d ≢ caller
+        → (p p' : Stored K V) → IsOneOf loaded.call.made p → IsOneOf (call_traces d).loaded.call.made p' → p.number ≢ p'.number) where
       -- the call of another caller is the one of before
       other_runs : (d : ℕ) (r : Running K V A) → d ≢ caller → running s'.callers d ≡ Some r → running s.callers d ≡ Some r
       other_runs d r differ runs = sym (running-elsewhere s.callers caller d work differ) ∙ sym (ap (λ (y : List (Seat K V A)). running y d) callers) ∙ runs
 
       other_resizes : (d : ℕ) (z : Resizer) → d ≢ caller → resizing s'.callers d ≡ Some z → resizing s.callers d ≡ Some z
-      other_resizes d z differ runs = sym (resizing-elsewhere s.callers caller d work differ) ∙ sym (ap (λ (y : List (Seat K V A)). resizing y d) callers) ∙ runs
+      other_resizes d z differ runs = sym (resizing-elsewhere s.callers caller d work differ)
+          ∙ sym (ap (λ (y : List (Seat K V A)). resizing y d) callers) ∙ runs
 
       other_scans : (d : ℕ) (v : Scanning A) → d ≢ caller → scanning s'.callers d ≡ Some v → scanning s.callers d ≡ Some v
       other_scans d v differ runs = sym (scanning-elsewhere s.callers caller d work differ) ∙ sym (ap (λ (y : List (Seat K V A)). scanning y d) callers) ∙ runs
 
       -- the stepping caller goes on with its work
       own_runs : (d : ℕ) (r : Running K V A) → d ≡ caller → running s'.callers d ≡ Some r → work ≡ Some (works.Call r)
-      own_runs d r same runs = running-here s.callers caller work r (sym (ap (λ (y : List (Seat K V A)). running y caller) callers) ∙ ap (running s'.callers) (sym same) ∙ runs)
+      own_runs d r same runs = running-here s.callers caller work r
+          (sym (ap (λ (y : List (Seat K V A)). running y caller) callers) ∙ ap (running s'.callers) (sym same) ∙ runs)
 
       own_resizes : (d : ℕ) (z : Resizer) → d ≡ caller → resizing s'.callers d ≡ Some z → work ≡ Some (works.Resize z)
-      own_resizes d z same runs = resizing-here s.callers caller work z (sym (ap (λ (y : List (Seat K V A)). resizing y caller) callers) ∙ ap (resizing s'.callers) (sym same) ∙ runs)
+      own_resizes d z same runs = resizing-here s.callers caller work z
+          (sym (ap (λ (y : List (Seat K V A)). resizing y caller) callers) ∙ ap (resizing s'.callers) (sym same) ∙ runs)
 
       own_scans : (d : ℕ) (v : Scanning A) → d ≡ caller → scanning s'.callers d ≡ Some v → work ≡ Some (works.Scan v)
-      own_scans d v same runs = scanning-here s.callers caller work v (sym (ap (λ (y : List (Seat K V A)). scanning y caller) callers) ∙ ap (scanning s'.callers) (sym same) ∙ runs)
+      own_scans d v same runs = scanning-here s.callers caller work v
+          (sym (ap (λ (y : List (Seat K V A)). scanning y caller) callers) ∙ ap (scanning s'.callers) (sym same) ∙ runs)
 
       -- each call relies on what is told of it
       calls : (d : ℕ) (r : Running K V A) → running s'.callers d ≡ Some r → IsCall eq hash s'.mode s'.store r es' (call_traces' d)
@@ -284,15 +311,22 @@ module _ {K V S A : Type 0} (eq : K → K → Bool) (hash : K → ℕ) (law : Is
       ]
 
       -- no two calls have made one pair
-      apart : (d e : ℕ) (r q : Running K V A) → running s'.callers d ≡ Some r → running s'.callers e ≡ Some q → d ≢ e → (p p' : Stored K V) → IsOneOf (call_traces' d).loaded.call.made p → IsOneOf (call_traces' e).loaded.call.made p' → p.number ≢ p'.number
+      apart : (d e : ℕ) (r q : Running K V A) → running s'.callers d ≡ Some r → running s'.callers e ≡ Some q → d ≢ e → (p p' : Stored K V)
+          → IsOneOf (call_traces' d).loaded.call.made p → IsOneOf (call_traces' e).loaded.call.made p' → p.number ≢ p'.number
       apart d e r q runs_d runs_e differ p p' made_d made_e = elim (cases_same d caller) [
         | inl d_steps ↦ elim (cases_same e caller) [
           | inl e_steps ↦ absurd (differ (d_steps ∙ sym e_steps))
-          | inr e_not ↦ own_apart r (own_runs d r d_steps runs_d) e q (other_runs e q e_not runs_e) e_not p p' (subst (λ (y : LoadedPairs (Stored K V)). IsOneOf y.call.made p) (sym (own_loaded d d_steps)) made_d) (subst (λ (y : LoadedPairs (Stored K V)). IsOneOf y.call.made p') (sym (other_loaded e e_not)) made_e)
+          | inr e_not ↦ own_apart r (own_runs d r d_steps runs_d) e q (other_runs e q e_not runs_e) e_not p p'
+              (subst (λ (y : LoadedPairs (Stored K V)). IsOneOf y.call.made p) (sym (own_loaded d d_steps)) made_d)
+              (subst (λ (y : LoadedPairs (Stored K V)). IsOneOf y.call.made p') (sym (other_loaded e e_not)) made_e)
         ]
         | inr d_not ↦ elim (cases_same e caller) [
-          | inl e_steps ↦ (λ same. own_apart q (own_runs e q e_steps runs_e) d r (other_runs d r d_not runs_d) d_not p' p (subst (λ (y : LoadedPairs (Stored K V)). IsOneOf y.call.made p') (sym (own_loaded e e_steps)) made_e) (subst (λ (y : LoadedPairs (Stored K V)). IsOneOf y.call.made p) (sym (other_loaded d d_not)) made_d) (sym same))
-          | inr e_not ↦ kept.apart d e r q (other_runs d r d_not runs_d) (other_runs e q e_not runs_e) differ p p' (subst (λ (y : LoadedPairs (Stored K V)). IsOneOf y.call.made p) (sym (other_loaded d d_not)) made_d) (subst (λ (y : LoadedPairs (Stored K V)). IsOneOf y.call.made p') (sym (other_loaded e e_not)) made_e)
+          | inl e_steps ↦ (λ same. own_apart q (own_runs e q e_steps runs_e) d r (other_runs d r d_not runs_d) d_not p' p
+              (subst (λ (y : LoadedPairs (Stored K V)). IsOneOf y.call.made p') (sym (own_loaded e e_steps)) made_e)
+              (subst (λ (y : LoadedPairs (Stored K V)). IsOneOf y.call.made p) (sym (other_loaded d d_not)) made_d) (sym same))
+          | inr e_not ↦ kept.apart d e r q (other_runs d r d_not runs_d) (other_runs e q e_not runs_e) differ p p'
+              (subst (λ (y : LoadedPairs (Stored K V)). IsOneOf y.call.made p) (sym (other_loaded d d_not)) made_d)
+              (subst (λ (y : LoadedPairs (Stored K V)). IsOneOf y.call.made p') (sym (other_loaded e e_not)) made_e)
         ]
       ]
 
@@ -303,7 +337,8 @@ module _ {K V S A : Type 0} (eq : K → K → Bool) (hash : K → ℕ) (law : Is
       -- what a hint says lasts
       hint_later : (n i h : ℕ) → IsHint g c (run es start) n i h → IsHint g' c (run es' start) n i h
       hint_later n i h is =
-          let later : IsLater g (run es start) (run es' start) = subst (IsLater g (run es start)) (sym (run-append es made start)) (later_run g hashed.lawful made (run es start) (allowed_rest g es made start left.allowed)) in
+          let later : IsLater g (run es start) (run es' start) = subst (IsLater g (run es start)) (sym (run-append es made start))
+          (later_run g hashed.lawful made (run es start) (allowed_rest g es made start left.allowed)) in
           hint_agrees g g' c (λ p. refl) ((run es' start).slot n i) h (hint_lasts g c hashed.coding (run es start) (run es' start) later n i h is)
 
       hints : (n i : ℕ) → IsHint g' c (run es' start) n i (hint_at s'.store.words n i)

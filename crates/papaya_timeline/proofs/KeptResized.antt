@@ -1,5 +1,7 @@
 -- A step of a call that resizes the map keeps a core's words to the law of exchanges.
-use Rattle.std.proofs.Common.{◌≡◌, ℕ, ◌%◌, ◌^◌, ◌==◌, ◌≤◌, ◌<◌, Bool, List, [], ◌∷◌, ◌++◌, length, Option, Some, None, inl, inr, ◌⊎◌, refl, sym, ◌∙◌, ap, subst, arith, MatchBool, eqb-true}
+use Rattle.std.proofs.Common.{◌≡◌, ℕ, ◌%◌, ◌^◌, ◌==◌, ◌≤◌, ◌<◌, Bool, List, [], ◌∷◌, ◌++◌, length}
+use Rattle.std.proofs.Common.{Option, Some, None, inl, inr, ◌⊎◌, refl, sym, ◌∙◌, ap, subst, arith}
+use Rattle.std.proofs.Common.{MatchBool, eqb-true}
 use Rattle.papaya_ask.specs.declared.ask.At.{At}
 use Rattle.papaya_ask.specs.declared.ask.At.TheVariants.{Root, Next}
 use Rattle.papaya_ask.specs.declared.ask.Answer.{Answer as Call_answer}
@@ -61,7 +63,11 @@ use Rattle.papaya_timeline.proofs.StoreLemmas.{matched}
 use Rattle.papaya_law.specs.Hints.{IsHint}
 
 -- what is told more is told less
-left_weaker : {Q K V S : Type 0} (g : Setting Q (Stored K V)) (c : Coding Q (Stored K V)) (store : StoreState K V S) (es : List (Exchange (Stored K V))) (loaded : LoadedPairs (Stored K V)) (T T' : List (Exchange (Stored K V)) → LoadedPairs (Stored K V) → Type 0) (a : Answer) (store' : StoreState K V S) → ((made : List (Exchange (Stored K V))) (loaded' : LoadedPairs (Stored K V)) → T made loaded' → T' made loaded') → IsLeft g c store es loaded T a store' → IsLeft g c store es loaded T' a store'
+left_weaker : {Q K V S : Type 0} (g : Setting Q (Stored K V)) (c : Coding Q (Stored K V)) (store : StoreState K V S)
+    (es : List (Exchange (Stored K V))) (loaded : LoadedPairs (Stored K V)) (T T' : List (Exchange (Stored K V)) → LoadedPairs (Stored K V) → Type 0)
+    (a : Answer) (store' : StoreState K V S)
+    → ((made : List (Exchange (Stored K V))) (loaded' : LoadedPairs (Stored K V)) → T made loaded' → T' made loaded')
+    → IsLeft g c store es loaded T a store' → IsLeft g c store es loaded T' a store'
 left_weaker g c store es loaded T T' a store' f left = record {
   made = left.made;
   loaded' = left.loaded';
@@ -82,23 +88,29 @@ left_weaker g c store es loaded T T' a store' f left = record {
 }
 
 -- work that goes on is no call on one key, and is the resizer
-pub goes_on-resizer : {K V A : Type 0} (reply : Option Reply) (y z : Resizer) (w : Work K V A) → w ≡ works.Resize y → goes_on reply w ≡ Some (works.Resize z) → y ≡ z
+pub goes_on-resizer : {K V A : Type 0} (reply : Option Reply) (y z : Resizer) (w : Work K V A) → w ≡ works.Resize y
+    → goes_on reply w ≡ Some (works.Resize z) → y ≡ z
 goes_on-resizer None y z w is e = same_item y z (ap (λ (v : Work _ _ _). resizer_in (Some v)) (sym is) ∙ ap resizer_in e)
 goes_on-resizer (Some reply) y z w is e = let f : None ≡ Some z = ap resizer_in e in cc
 
-pub goes_on-scanner : {K V A : Type 0} (reply : Option Reply) (y : Resizer) (v : Scanning A) (w : Work K V A) → w ≡ works.Resize y → goes_on reply w ≡ Some (works.Scan v) → ⊥
+pub goes_on-scanner : {K V A : Type 0} (reply : Option Reply) (y : Resizer) (v : Scanning A) (w : Work K V A) → w ≡ works.Resize y
+    → goes_on reply w ≡ Some (works.Scan v) → ⊥
 goes_on-scanner None y v w is e = let f : None ≡ Some v = ap (λ (u : Work _ _ _). scanner_in (Some u)) (sym is) ∙ ap scanner_in e in absurd cc
 goes_on-scanner (Some reply) y v w is e = let f : None ≡ Some v = ap scanner_in e in absurd cc
 
-pub goes_on-call : {K V A : Type 0} (reply : Option Reply) (y : Resizer) (r : Running K V A) (w : Work K V A) → w ≡ works.Resize y → goes_on reply w ≡ Some (works.Call r) → ⊥
+pub goes_on-call : {K V A : Type 0} (reply : Option Reply) (y : Resizer) (r : Running K V A) (w : Work K V A) → w ≡ works.Resize y
+    → goes_on reply w ≡ Some (works.Call r) → ⊥
 goes_on-call None y r w is e = let f : None ≡ Some r = ap (λ (v : Work _ _ _). call_in (Some v)) (sym is) ∙ ap call_in e in absurd cc
 goes_on-call (Some reply) y r w is e = let f : None ≡ Some r = ap call_in e in absurd cc
 
-module _ {K V S A : Type 0} (eq : K → K → Bool) (hash : K → ℕ) (law : IsLawfulKeys eq hash) (hashes : S → K → ℕ) (refuse : Bool) (s : CoreState K V S A) (es : List (Exchange (Stored K V))) (call_trace : CallTrace K V) (core : IsCore s.store s.callers s.mode) (z : Resizer) (hasher : hashes s.store.hasher ≡ hash)
+module _ {K V S A : Type 0} (eq : K → K → Bool) (hash : K → ℕ) (law : IsLawfulKeys eq hash) (hashes : S → K → ℕ) (refuse : Bool)
+    (s : CoreState K V S A) (es : List (Exchange (Stored K V))) (call_trace : CallTrace K V) (core : IsCore s.store s.callers s.mode) (z : Resizer)
+    (hasher : hashes s.store.hasher ≡ hash)
     (may : AllAllowed (setting_of {V = V} eq (low hash) s.mode s.store.words.tables) start es)
     (coded : (at : At) → word_of (setting_of eq (low hash) s.mode s.store.words.tables) (coding_of (low hash)) (run es start) at ≡ word_at s.store.words at)
     (there : (t : ℕ) → 0 < t → Comes (run es start) t → IsMade s.store t)
-    (hints : (t x : ℕ) → IsHint (setting_of {V = V} eq (low hash) s.mode s.store.words.tables) (coding_of (low hash)) (run es start) t x (hint_at s.store.words t x))
+    (hints : (t x : ℕ) → IsHint (setting_of {V = V} eq (low hash) s.mode s.store.words.tables) (coding_of (low hash)) (run es start) t x
+    (hint_at s.store.words t x))
     (resizing : IsResizing eq hash s.mode s.store z es call_trace) where
   -- the setting, the coding and the words
   abbrev g : Setting K (Stored K V)
@@ -117,7 +129,15 @@ module _ {K V S A : Type 0} (eq : K → K → Bool) (hash : K → ℕ) (law : Is
   keeps = keeping g hashed.lawful es may
 
   suits : Suits eq hashes g c s.store
-  suits = record { sizes = λ t. refl; places = λ t. refl; chunks = λ t. refl; numbers = λ p. refl; hashes_of = λ p. ap (λ (f : K → ℕ). f p.key % 2 ^ 64) (sym hasher); sames = λ p q. refl }
+  suits = record {
+    sizes = λ t. refl;
+    places = λ t. refl;
+    chunks = λ t. refl;
+    numbers = λ p. refl;
+    hashes_of = λ p.
+        ap (λ (f : K → ℕ). f p.key % 2 ^ 64) (sym hasher);
+    sames = λ p q. refl;
+  }
 
   -- the table that it is about to link has its words
   words : HasWords g (link_of z.state)
@@ -132,7 +152,8 @@ module _ {K V S A : Type 0} (eq : K → K → Bool) (hash : K → ℕ) (law : Is
   IsStageLeft stage a store' = IsLeft g c s.store es call_trace.loaded (λ made loaded'. IsStageTold g c now stage call_trace.loaded a made loaded') a store'
 
   -- a first table is opened
-  opened : (table : ℕ) → z.state ≡ stages.Opening table → (a : Call_answer) (store' : StoreState K V S) → Exchanges (word_at s.store.words Root) 0 (put s.store.words Root table) a s.store store' → IsStageLeft (stages.Opening table) (answers.Call a) store'
+  opened : (table : ℕ) → z.state ≡ stages.Opening table → (a : Call_answer) (store' : StoreState K V S)
+      → Exchanges (word_at s.store.words Root) 0 (put s.store.words Root table) a s.store store' → IsStageLeft (stages.Opening table) (answers.Call a) store'
   opened table is a store' h =
       matched (IsStageLeft (stages.Opening table) (answers.Call a) store') (word_at s.store.words Root == 0) _ _ h
       (λ hit done.
@@ -144,7 +165,9 @@ module _ {K V S A : Type 0} (eq : K → K → Bool) (hash : K → ℕ) (law : Is
       let written = subst (λ e. IsWritten g c now Root table (state_after now e)) same x.3 in
       subst (λ y. IsStageLeft (stages.Opening table) (answers.Call y) store') (sym done.0)
       (subst (IsStageLeft (stages.Opening table) (answers.Call Exchanged)) (sym done.1)
-      (exchanged_left g c s.store es call_trace.loaded coded there (λ made loaded'. IsStageTold g c now (stages.Opening table) call_trace.loaded (answers.Call Exchanged) made loaded') Root table (Open table) call_trace.loaded
+      (exchanged_left g c s.store es call_trace.loaded coded there
+      (λ made loaded'. IsStageTold g c now (stages.Opening table) call_trace.loaded (answers.Call Exchanged) made loaded') Root table (Open table)
+      call_trace.loaded
       (subst (λ b. MatchBool b
       ((answers.Call Exchanged ≡ answers.Call Exchanged) × (one ≡ one) × (call_trace.loaded ≡ call_trace.loaded))
       ((answers.Call Exchanged ≡ answers.Call (Found_instead now.root)) × ((one ≡ nothing) × (call_trace.loaded ≡ call_trace.loaded))))
@@ -155,7 +178,9 @@ module _ {K V S A : Type 0} (eq : K → K → Bool) (hash : K → ℕ) (law : Is
       (λ miss lost.
       let one : List (Exchange (Stored K V)) = Open table ∷ [] in
       let nothing : List (Exchange (Stored K V)) = [] in
-      quiet_left g c s.store es call_trace.loaded coded there (λ made loaded'. IsStageTold g c now (stages.Opening table) call_trace.loaded (answers.Call a) made loaded') (answers.Call a) store' call_trace.loaded lost.1
+      quiet_left g c s.store es call_trace.loaded coded there
+      (λ made loaded'. IsStageTold g c now (stages.Opening table) call_trace.loaded (answers.Call a) made loaded') (answers.Call a) store'
+      call_trace.loaded lost.1
       (subst (λ b. MatchBool b
       ((answers.Call a ≡ answers.Call Exchanged) × (nothing ≡ one) × (call_trace.loaded ≡ call_trace.loaded))
       ((answers.Call a ≡ answers.Call (Found_instead now.root)) × ((nothing ≡ nothing) × (call_trace.loaded ≡ call_trace.loaded))))
@@ -167,9 +192,12 @@ module _ {K V S A : Type 0} (eq : K → K → Bool) (hash : K → ℕ) (law : Is
       opened_made t some (inr linked) = there t some (inr linked)
 
   -- it asks as a copy may
-  follows_low : (stage : Stage) → z.state ≡ stage → (slots limit chunks : ℕ) → asks_in stage ≡ Some (MakeTable slots limit chunks) → follows_in stage ≤ length s.store.words.tables
+  follows_low : (stage : Stage) → z.state ≡ stage → (slots limit chunks : ℕ) → asks_in stage ≡ Some (MakeTable slots limit chunks)
+      → follows_in stage ≤ length s.store.words.tables
   follows_low (stages.Linking link) is slots limit chunks e = on_low _ (subst (λ y. ReliesStage g c now call_trace.loaded y) is resizing.relies.stage).on
-  follows_low (stages.Copying from copying) is slots limit chunks e = on_low _ (copying_follows g c now call_trace.loaded.call.last call_trace.loaded.kept slots limit chunks copying (subst (λ y. ReliesStage g c now call_trace.loaded y) is resizing.relies.stage).1 (same_item _ _ e))
+  follows_low (stages.Copying from copying) is slots limit chunks e = on_low _
+      (copying_follows g c now call_trace.loaded.call.last call_trace.loaded.kept slots limit chunks copying
+      (subst (λ y. ReliesStage g c now call_trace.loaded y) is resizing.relies.stage).1 (same_item _ _ e))
   follows_low stages.AtRoot is slots limit chunks e = omega arith
   follows_low (stages.Making room) is slots limit chunks e = omega arith
   follows_low (stages.Opening table) is slots limit chunks e = omega arith
@@ -199,17 +227,26 @@ module _ {K V S A : Type 0} (eq : K → K → Bool) (hash : K → ℕ) (law : Is
 
   -- a copy's exchange
   abbrev Asks : Stage → Type 0
-  Asks stage = (at : At) (old new : ℕ) → asks_in stage ≡ Some (Copy_exchange at old new) → word_of g c now at ≡ old → (e : Exchange (Stored K V)) × IsStageAsked g c now stage at new call_trace.loaded e × Allows g now e × IsWritten g c now at new (state_after now e)
+  Asks stage = (at : At) (old new : ℕ) → asks_in stage ≡ Some (Copy_exchange at old new) → word_of g c now at ≡ old → (e : Exchange (Stored K V))
+      × IsStageAsked g c now stage at new call_trace.loaded e × Allows g now e × IsWritten g c now at new (state_after now e)
 
   stage_asks : (stage : Stage) → z.state ≡ stage → Asks stage
-  stage_asks stage is = subst Asks is (λ at old new e stands. resizer_may g c hashed now (map_left g es) keeps z call_trace.loaded resizing.relies words at old new e stands)
+  stage_asks stage is = subst Asks is (λ at old new e stands.
+      resizer_may g c hashed now (map_left g es) keeps z call_trace.loaded resizing.relies words at old new e stands)
 
-  copied : (stage : Stage) → z.state ≡ stage → ((e : CopyAsk) → asks_in stage ≡ Some e → IsAsker g c s.store es call_trace.loaded coded there (kind_in stage) (follows_in stage) e) → (ask : CopyAsk) → asks_in stage ≡ Some ask → (a : Answer) (store' : StoreState K V S) → PerformsCopy eq hashes refuse ask s.store a store' → IsLeft g c s.store es call_trace.loaded (λ made loaded'. (ask : CopyAsk) × (asks_in stage ≡ Some ask) × IsCopyTold g c now (kind_in stage) (follows_in stage) call_trace.loaded ask a made loaded') a store'
+  copied : (stage : Stage) → z.state ≡ stage
+      → ((e : CopyAsk) → asks_in stage ≡ Some e → IsAsker g c s.store es call_trace.loaded coded there (kind_in stage) (follows_in stage) e)
+      → (ask : CopyAsk) → asks_in stage ≡ Some ask → (a : Answer) (store' : StoreState K V S) → PerformsCopy eq hashes refuse ask s.store a store'
+      → IsLeft g c s.store es call_trace.loaded
+      (λ made loaded'. (ask : CopyAsk) × (asks_in stage ≡ Some ask)
+      × IsCopyTold g c now (kind_in stage) (follows_in stage) call_trace.loaded ask a made loaded') a store'
   copied stage is asker ask e a store' performs =
       left_weaker g c s.store es call_trace.loaded _ _ a store' (λ made loaded' told. (ask, e, told))
-      (copied_left g c s.store es call_trace.loaded coded there eq hashes resizing.last resizing.carried suits (kind_in stage) (follows_in stage) refuse ask (asker ask e) a store' performs)
+      (copied_left g c s.store es call_trace.loaded coded there eq hashes resizing.last resizing.carried suits (kind_in stage) (follows_in stage)
+      refuse ask (asker ask e) a store' performs)
 
-  pub stage_left : (stage : Stage) → z.state ≡ stage → (ask : CopyAsk) → asks_in stage ≡ Some ask → (a : Answer) (store' : StoreState K V S) → PerformsCopy eq hashes refuse ask s.store a store' → IsStageLeft stage a store'
+  pub stage_left : (stage : Stage) → z.state ≡ stage → (ask : CopyAsk) → asks_in stage ≡ Some ask → (a : Answer) (store' : StoreState K V S)
+      → PerformsCopy eq hashes refuse ask s.store a store' → IsStageLeft stage a store'
   stage_left (stages.Opening table) is ask e a store' performs =
       let (told, a_is, h) = subst (λ y. PerformsCopy eq hashes refuse y s.store a store') (sym (same_item _ _ e)) performs in
       subst (λ y. IsStageLeft (stages.Opening table) y store') (sym a_is) (opened table is told store' h)
@@ -220,19 +257,25 @@ module _ {K V S A : Type 0} (eq : K → K → Bool) (hash : K → ℕ) (law : Is
         low = λ slots limit chunks same. follows_low stage is slots limit chunks (e ∙ ap (λ y. Some y) same);
         links = λ behind old t same. linked_made stage is behind old t (e ∙ ap (λ y. Some y) same);
         reads = λ t x same. hints t x;
-        writes = λ t x n same. resizer_may_hint g c hashed now (map_left g es) keeps z call_trace.loaded resizing.relies t x n (ap asks_in is ∙ e ∙ ap (λ y. Some y) same);
+        writes = λ t x n same. resizer_may_hint g c hashed now (map_left g es) keeps z call_trace.loaded resizing.relies t x n
+            (ap asks_in is ∙ e ∙ ap (λ y. Some y) same);
       })
       ask e a store' performs
 
-module _ {K V S A : Type 0} (eq : K → K → Bool) (hash : K → ℕ) (law : IsLawfulKeys eq hash) {hashes : S → K → ℕ} (refuse : Bool) (s : CoreState K V S A) (caller : ℕ) (s' : CoreState K V S A) (event : Event) (reply : Option Reply) (x : Resizes eq hashes refuse s caller s' event reply) (hasher : hashes s.store.hasher ≡ hash)
-    (es : List (Exchange (Stored K V))) (call_traces : ℕ → CallTrace K V) (core : IsCore s.store s.callers s.mode) (kept : IsKept eq hash s.mode s.store s.callers es call_traces) where
+module _ {K V S A : Type 0} (eq : K → K → Bool) (hash : K → ℕ) (law : IsLawfulKeys eq hash) {hashes : S → K → ℕ} (refuse : Bool)
+    (s : CoreState K V S A) (caller : ℕ) (s' : CoreState K V S A) (event : Event) (reply : Option Reply)
+    (x : Resizes eq hashes refuse s caller s' event reply) (hasher : hashes s.store.hasher ≡ hash)
+    (es : List (Exchange (Stored K V))) (call_traces : ℕ → CallTrace K V) (core : IsCore s.store s.callers s.mode)
+    (kept : IsKept eq hash s.mode s.store s.callers es call_traces) where
   -- the resizer's own facts
   abbrev pub resizing : IsResizing eq hash s.mode s.store x.before es (call_traces caller)
   resizing = kept.resizers caller x.before x.was
 
   -- what its answer leaves
-  pub left : IsStageLeft eq hash law hashes refuse s es (call_traces caller) core x.before hasher kept.allowed kept.coded kept.made kept.hints resizing x.before.state x.answer s'.store
-  left = stage_left eq hash law hashes refuse s es (call_traces caller) core x.before hasher kept.allowed kept.coded kept.made kept.hints resizing x.before.state refl x.ask x.asked x.answer s'.store x.performs
+  pub left : IsStageLeft eq hash law hashes refuse s es (call_traces caller) core x.before hasher kept.allowed kept.coded kept.made kept.hints
+      resizing x.before.state x.answer s'.store
+  left = stage_left eq hash law hashes refuse s es (call_traces caller) core x.before hasher kept.allowed kept.coded kept.made kept.hints resizing
+      x.before.state refl x.ask x.asked x.answer s'.store x.performs
 
   -- the setting and the coding
   abbrev g_now : Setting K (Stored K V)
@@ -246,7 +289,8 @@ module _ {K V S A : Type 0} (eq : K → K → Bool) (hash : K → ℕ) (law : Is
 
   -- it learns, and what was exchanged was allowed
   learnt : AllAllowed g_now (run es start) left.made × ReliesResizer g_now c_now (run left.made (run es start)) (after x.before x.answer) left.loaded'
-  learnt = resizer_learns g_now c_now hashed_now (run es start) (map_left g_now es) (keeping g_now hashed_now.lawful es kept.allowed) x.before (call_traces caller).loaded resizing.relies (stage_words g_now s.store (λ t. refl) x.before.state resizing.links) x.answer left.made left.loaded' left.told
+  learnt = resizer_learns g_now c_now hashed_now (run es start) (map_left g_now es) (keeping g_now hashed_now.lawful es kept.allowed) x.before
+      (call_traces caller).loaded resizing.relies (stage_words g_now s.store (λ t. refl) x.before.state resizing.links) x.answer left.made left.loaded' left.told
 
   -- the exchanges after it
   abbrev pub es' : List (Exchange (Stored K V))
@@ -281,7 +325,8 @@ module _ {K V S A : Type 0} (eq : K → K → Bool) (hash : K → ℕ) (law : Is
   own_last p (inl old) = leaving.logged p.number p (resizing.last p old)
   own_last p (inr stood) = others.stood_logged eq hash law s caller s' x.mode es call_traces core kept left.made left.loaded' leaving p stood
 
-  own_carried : (p : Stored K V) → (((call_traces caller).loaded.kept ≡ Some p) ⊎ ((call_traces caller).loaded.call.last ≡ Some p)) → pair_of s'.store p.number ≡ Some p
+  own_carried : (p : Stored K V) → (((call_traces caller).loaded.kept ≡ Some p) ⊎ ((call_traces caller).loaded.call.last ≡ Some p))
+      → pair_of s'.store p.number ≡ Some p
   own_carried p (inl old) = leaving.logged p.number p (resizing.carried p old)
   own_carried p (inr told) = leaving.logged p.number p (resizing.last p told)
 
@@ -294,17 +339,21 @@ module _ {K V S A : Type 0} (eq : K → K → Bool) (hash : K → ℕ) (law : Is
   still_made = others.still_made eq hash law s caller s' x.mode es call_traces core kept left.made left.loaded' leaving
 
   -- a table that it was told of was made as it asked
-  newly_made : (n slots limit chunks : ℕ) → x.answer ≡ answers.Call (Made_number n) → asks_in x.before.state ≡ Some (MakeTable slots limit chunks) → IsMadeFor s'.store n chunks
+  newly_made : (n slots limit chunks : ℕ) → x.answer ≡ answers.Call (Made_number n) → asks_in x.before.state ≡ Some (MakeTable slots limit chunks)
+      → IsMadeFor s'.store n chunks
   newly_made n slots limit chunks is making =
-      copier_made eq hashes refuse s.store x.answer s'.store slots limit chunks (subst (λ y. PerformsCopy eq hashes refuse y s.store x.answer s'.store) (same_item _ _ (sym x.asked ∙ making)) x.performs) n is
+      copier_made eq hashes refuse s.store x.answer s'.store slots limit chunks
+      (subst (λ y. PerformsCopy eq hashes refuse y s.store x.answer s'.store) (same_item _ _ (sym x.asked ∙ making)) x.performs) n is
 
   -- so it relies on what is told of it after the step
   pub own_resizing : IsResizing eq hash s'.mode s'.store (after x.before x.answer) es' (call_traces' caller)
   own_resizing =
       let stage = stage_made (IsMadeFor s'.store) x.before.resize x.before.mode x.before.initial x.before.number x.answer x.before.state newly_made
-      (stage_is (IsMadeFor s'.store) x.before.state (λ t e. let there = still_there t (resizing.opens t e) in (there.0, there.1, omega arith)) (λ behind t chunks e. still_made t chunks (resizing.links behind t chunks e))) in
+      (stage_is (IsMadeFor s'.store) x.before.state (λ t e. let there = still_there t (resizing.opens t e) in (there.0, there.1, omega arith))
+      (λ behind t chunks e. still_made t chunks (resizing.links behind t chunks e))) in
       record {
-        relies = others.grown_resizer eq hash law s caller s' x.mode es call_traces core kept left.made left.loaded' leaving (after x.before x.answer) (call_traces' caller).loaded
+        relies = others.grown_resizer eq hash law s caller s' x.mode es call_traces core kept left.made left.loaded' leaving (after x.before x.answer)
+            (call_traces' caller).loaded
             (subst (ReliesResizer g_now c_now (run es' start) (after x.before x.answer)) own_loaded
             (subst (λ w. ReliesResizer g_now c_now w (after x.before x.answer) left.loaded') (sym (run-append es left.made start)) learnt.1));
         last = λ p l. own_last p (left.last p (ap (λ (y : LoadedPairs (Stored K V)). y.call.last) own_loaded ∙ l));
@@ -315,9 +364,11 @@ module _ {K V S A : Type 0} (eq : K → K → Bool) (hash : K → ℕ) (law : Is
 
   -- the core after the step
   pub resize_kept : IsKept eq hash s'.mode s'.store s'.callers es' call_traces'
-  resize_kept = others.leaves_kept eq hash law s caller s' x.mode es call_traces core kept left.made left.loaded' leaving (goes_on reply (works.Resize (after x.before x.answer))) x.callers
+  resize_kept = others.leaves_kept eq hash law s caller s' x.mode es call_traces core kept left.made left.loaded' leaving
+      (goes_on reply (works.Resize (after x.before x.answer))) x.callers
       (λ r e. absurd (goes_on-call reply (after x.before x.answer) r _ refl e))
-      (λ z e. subst (λ y. IsResizing eq hash s'.mode s'.store y es' (call_traces' caller)) (goes_on-resizer reply (after x.before x.answer) z _ refl e) own_resizing)
+      (λ z e. subst (λ y. IsResizing eq hash s'.mode s'.store y es' (call_traces' caller))
+      (goes_on-resizer reply (after x.before x.answer) z _ refl e) own_resizing)
       (λ v e. absurd (goes_on-scanner reply (after x.before x.answer) v _ refl e))
       (λ r e. absurd (goes_on-call reply (after x.before x.answer) r _ refl e))
 

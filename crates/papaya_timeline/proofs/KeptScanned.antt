@@ -18,10 +18,16 @@ use Rattle.papaya_timeline.specs.declared.trace.Event.{Event}
 use Rattle.papaya_timeline.specs.Advances.{goes_on}
 use Rattle.papaya_timeline.specs.Callers.{call_in, resizer_in, resizing, running, scanner_in, scanning, with_work, working}
 use Rattle.papaya_timeline.specs.Core.{CoreState, IsCore}
-use Rattle.papaya_timeline.specs.Kept.{CallTrace, IsCall, IsKept, IsResizing, IsScanning, ScanTrace, scan_trace, scanned_call_traces, told_call_traces, told_more}
+use Rattle.papaya_timeline.specs.Kept.{CallTrace, IsCall, IsKept, IsResizing, IsScanning, ScanTrace}
+use Rattle.papaya_timeline.specs.Kept.{scan_trace, scanned_call_traces, told_call_traces, told_more}
 use Rattle.papaya_timeline.specs.ScanGoes.{Scans, reply_or, unheard}
 use Rattle.papaya_timeline.specs.Scans.{IsHeard, IsUnheard}
-use Rattle.papaya_timeline.proofs.CallersLemmas.{call-under_way, differs, either_way, idle-here, left-working, resizer-under_way, resizing-elsewhere, resizing-here, running-elsewhere, running-here, same_item, scanner-under_way, scanning-elsewhere, scanning-here}
+use Rattle.papaya_timeline.proofs.CallersLemmas.{call-under_way, differs, either_way, idle-here}
+use Rattle.papaya_timeline.proofs.CallersLemmas.{left-working, resizer-under_way}
+use Rattle.papaya_timeline.proofs.CallersLemmas.{resizing-elsewhere, resizing-here}
+use Rattle.papaya_timeline.proofs.CallersLemmas.{running-elsewhere, running-here, same_item}
+use Rattle.papaya_timeline.proofs.CallersLemmas.{scanner-under_way, scanning-elsewhere}
+use Rattle.papaya_timeline.proofs.CallersLemmas.{scanning-here}
 use Rattle.papaya_timeline.proofs.CoreLemmas.{cases_same, with_work-core, without-core}
 use Rattle.papaya_timeline.proofs.KeptSettings.{IsLawfulKeys}
 use Rattle.papaya_timeline.proofs.ScanKept.{scan_heard}
@@ -34,28 +40,34 @@ use Rattle.papaya_chain_law.specs.ScanTold as scans
 use Rattle.papaya_store.specs.declared.scans.Scanning.{Scanning}
 
 -- a scanner that goes on is the one that was put back, and nothing else
-pub goes_on-scan : {K V A : Type 0} (reply : Option Reply) (u v : Scanning A) (w : Work K V A) → w ≡ works.Scan u → goes_on reply w ≡ Some (works.Scan v) → (reply ≡ None) × (u ≡ v)
+pub goes_on-scan : {K V A : Type 0} (reply : Option Reply) (u v : Scanning A) (w : Work K V A) → w ≡ works.Scan u
+    → goes_on reply w ≡ Some (works.Scan v) → (reply ≡ None) × (u ≡ v)
 goes_on-scan None u v w is e = (refl, same_item u v (ap (λ (y : Work _ _ _). scanner_in (Some y)) (sym is) ∙ ap scanner_in e))
 goes_on-scan (Some reply) u v w is e = let f : None ≡ Some v = ap scanner_in e in absurd cc
 
-pub scan_no-call : {K V A : Type 0} (reply : Option Reply) (u : Scanning A) (r : Running K V A) (w : Work K V A) → w ≡ works.Scan u → goes_on reply w ≡ Some (works.Call r) → ⊥
+pub scan_no-call : {K V A : Type 0} (reply : Option Reply) (u : Scanning A) (r : Running K V A) (w : Work K V A) → w ≡ works.Scan u
+    → goes_on reply w ≡ Some (works.Call r) → ⊥
 scan_no-call None u r w is e = let f : None ≡ Some r = ap (λ (y : Work _ _ _). call_in (Some y)) (sym is) ∙ ap call_in e in absurd cc
 scan_no-call (Some reply) u r w is e = let f : None ≡ Some r = ap call_in e in absurd cc
 
-pub scan_no-resizer : {K V A : Type 0} (reply : Option Reply) (u : Scanning A) (z : Resizer) (w : Work K V A) → w ≡ works.Scan u → goes_on reply w ≡ Some (works.Resize z) → ⊥
+pub scan_no-resizer : {K V A : Type 0} (reply : Option Reply) (u : Scanning A) (z : Resizer) (w : Work K V A) → w ≡ works.Scan u
+    → goes_on reply w ≡ Some (works.Resize z) → ⊥
 scan_no-resizer None u z w is e = let f : None ≡ Some z = ap (λ (y : Work _ _ _). resizer_in (Some y)) (sym is) ∙ ap resizer_in e in absurd cc
 scan_no-resizer (Some reply) u z w is e = let f : None ≡ Some z = ap resizer_in e in absurd cc
 
 -- where it was told nothing the call has replied
-module _ {K V S A : Type 0} (store store' : StoreState K V S) (v : Scanning A) (answer : Answer) (ask : ScanAsk) (asked : ask_of v.scanner ≡ Some ask) (u : IsUnheard store v answer store') where
+module _ {K V S A : Type 0} (store store' : StoreState K V S) (v : Scanning A) (answer : Answer) (ask : ScanAsk) (asked : ask_of v.scanner ≡ Some ask)
+    (u : IsUnheard store v answer store') where
   gave : Some (Give (pair_of u.giving.1)) ≡ Some ask
   gave = ap asks_in (sym u.giving.2) ∙ asked
 
   pub was_unheard : unheard ask answer ≡ Some Memory
-  was_unheard = ap (λ a. unheard ask a) u.refused ∙ ap (λ a. unheard a (answers.Call (Was_refused Memory))) (sym (same_item (Give (pair_of u.giving.1)) ask gave))
+  was_unheard = ap (λ a. unheard ask a) u.refused
+      ∙ ap (λ a. unheard a (answers.Call (Was_refused Memory))) (sym (same_item (Give (pair_of u.giving.1)) ask gave))
 
 -- the others rely on what they did where a caller's call is taken out
-module _ {K V S A : Type 0} (eq : K → K → Bool) (hash : K → ℕ) (s : CoreState K V S A) (caller : ℕ) (es : List (Exchange (Stored K V))) (call_traces : ℕ → CallTrace K V) (kept : IsKept eq hash s.mode s.store s.callers es call_traces) where
+module _ {K V S A : Type 0} (eq : K → K → Bool) (hash : K → ℕ) (s : CoreState K V S A) (caller : ℕ) (es : List (Exchange (Stored K V)))
+    (call_traces : ℕ → CallTrace K V) (kept : IsKept eq hash s.mode s.store s.callers es call_traces) where
   abbrev fewer : List (Seat K V A)
   fewer = with_work s.callers caller None
 
@@ -84,7 +96,9 @@ module _ {K V S A : Type 0} (eq : K → K → Bool) (hash : K → ℕ) (s : Core
     apart = λ d e r q runs_d runs_e. kept.apart d e r q (left_call d r runs_d) (left_call e q runs_e);
   }
 
-module _ {K V S A : Type 0} (eq : K → K → Bool) (hash : K → ℕ) (law : IsLawfulKeys eq hash) (says : Says K V A) (hashes : S → K → ℕ) (refuse : Bool) (s : CoreState K V S A) (caller : ℕ) (s' : CoreState K V S A) (event : Event) (reply : Option Reply) (x : Scans eq says hashes refuse s caller s' event reply) where
+module _ {K V S A : Type 0} (eq : K → K → Bool) (hash : K → ℕ) (law : IsLawfulKeys eq hash) (says : Says K V A) (hashes : S → K → ℕ) (refuse : Bool)
+    (s : CoreState K V S A) (caller : ℕ) (s' : CoreState K V S A) (event : Event) (reply : Option Reply)
+    (x : Scans eq says hashes refuse s caller s' event reply) where
   -- the core with the caller's call taken out
   abbrev pub bare : CoreState K V S A
   bare = record s { callers = with_work s.callers caller None }
@@ -108,13 +122,15 @@ module _ {K V S A : Type 0} (eq : K → K → Bool) (hash : K → ℕ) (law : Is
       (λ r e. absurd (scan_no-call reply own r _ refl e))
       (λ z e. absurd (scan_no-resizer reply own z _ refl e))
       (λ v e. let is = goes_on-scan reply own v _ refl e in
-      subst (λ (y : Scanning A). IsStandingScanner y.scanner × (reply_of y.scanner ≡ None)) is.1 (then.2, no_reply (unheard x.ask x.answer) (reply_of own.scanner) (sym x.reply_is ∙ is.0)))))
+      subst (λ (y : Scanning A). IsStandingScanner y.scanner × (reply_of y.scanner ≡ None)) is.1
+      (then.2, no_reply (unheard x.ask x.answer) (reply_of own.scanner) (sym x.reply_is ∙ is.0)))))
     where
       no_reply : (o : Option _) (r : Option Reply) → reply_or o r ≡ None → r ≡ None
       no_reply None r e = e
       no_reply (Some refused) r e = let f : Some (Reply_refused refused) ≡ None = e in absurd cc
 
-  module _ (hasher : hashes s.store.hasher ≡ hash) (es : List (Exchange (Stored K V))) (call_traces : ℕ → CallTrace K V) (core : IsCore s.store s.callers s.mode) (kept : IsKept eq hash s.mode s.store s.callers es call_traces) where
+  module _ (hasher : hashes s.store.hasher ≡ hash) (es : List (Exchange (Stored K V))) (call_traces : ℕ → CallTrace K V)
+      (core : IsCore s.store s.callers s.mode) (kept : IsKept eq hash s.mode s.store s.callers es call_traces) where
     pub bare_core : IsCore bare.store bare.callers bare.mode
     bare_core = without-core s.store s.callers s.mode caller core
 
@@ -137,8 +153,10 @@ module _ {K V S A : Type 0} (eq : K → K → Bool) (hash : K → ℕ) (law : Is
 
     pub heard_so : Unheard ⊎ Heard
     heard_so =
-        subst (λ l. IsKept eq hash bare.mode bare.store bare.callers l call_traces → IsScanning eq hash s.mode s.store x.before l call_trace → Unheard ⊎ IsHeard eq hash bare caller l call_traces x.before call_trace x.answer s'.store x.later) before_scanning.split
-        (λ k w. scan_heard eq hash law says hashes refuse bare bare_core hasher caller (idle-here s.callers caller) call_trace call_traces k x.before w x.ask x.asked x.answer s'.store x.later x.performs)
+        subst (λ l. IsKept eq hash bare.mode bare.store bare.callers l call_traces → IsScanning eq hash s.mode s.store x.before l call_trace → Unheard
+        ⊎ IsHeard eq hash bare caller l call_traces x.before call_trace x.answer s'.store x.later) before_scanning.split
+        (λ k w. scan_heard eq hash law says hashes refuse bare bare_core hasher caller (idle-here s.callers caller) call_trace call_traces k x.before
+        w x.ask x.asked x.answer s'.store x.later x.performs)
         bare_kept before_scanning
 
     -- it was told nothing: its call is over, and all rely on what they did
@@ -164,7 +182,8 @@ module _ {K V S A : Type 0} (eq : K → K → Bool) (hash : K → ℕ) (law : Is
       call_traces' = scanned_call_traces call_traces caller h.made h.loaded
 
       -- what a scanner is told tells a call nothing
-      same_call : (r : Running K V A) (t : CallTrace K V) (loaded : scans.LoadedPairs (Stored K V)) → IsCall eq hash s.mode s'.store r es' t → IsCall eq hash s.mode s'.store r es' (record t { scan = loaded })
+      same_call : (r : Running K V A) (t : CallTrace K V) (loaded : scans.LoadedPairs (Stored K V)) → IsCall eq hash s.mode s'.store r es' t
+          → IsCall eq hash s.mode s'.store r es' (record t { scan = loaded })
       same_call r t loaded o = record {
         key = o.key;
         own = o.own;
@@ -182,7 +201,8 @@ module _ {K V S A : Type 0} (eq : K → K → Bool) (hash : K → ℕ) (law : Is
         again = o.again;
       }
 
-      same_resizer : (z : Resizer) (t : CallTrace K V) (loaded : scans.LoadedPairs (Stored K V)) → IsResizing eq hash s.mode s'.store z es' t → IsResizing eq hash s.mode s'.store z es' (record t { scan = loaded })
+      same_resizer : (z : Resizer) (t : CallTrace K V) (loaded : scans.LoadedPairs (Stored K V)) → IsResizing eq hash s.mode s'.store z es' t
+          → IsResizing eq hash s.mode s'.store z es' (record t { scan = loaded })
       same_resizer z t loaded o = record { relies = o.relies; last = o.last; carried = o.carried; opens = o.opens; links = o.links }
 
       -- the callers then
@@ -218,7 +238,8 @@ module _ {K V S A : Type 0} (eq : K → K → Bool) (hash : K → ℕ) (law : Is
       scanners d v e = elim (cases_same d caller) [
         | inl same ↦
             let is = goes_on-scan reply own v _ refl (scanning-here s.callers caller work v (ap (scanning callers') (sym same) ∙ e)) in
-            subst (λ y. IsScanning eq hash s.mode s'.store v es' (scan_trace (call_traces' y))) (sym same) (subst (λ (y : Scanning A). IsScanning eq hash s.mode s'.store y es' (scan_trace (call_traces' caller))) is.1 own_scanning)
+            subst (λ y. IsScanning eq hash s.mode s'.store v es' (scan_trace (call_traces' y))) (sym same)
+            (subst (λ (y : Scanning A). IsScanning eq hash s.mode s'.store y es' (scan_trace (call_traces' caller))) is.1 own_scanning)
         | inr differ ↦
             subst (λ y. IsScanning eq hash s.mode s'.store v es' (told_more (scan_trace (call_traces d)) h.made y)) (other_loaded d differ)
             (h.kept.scanners d v (scanning-elsewhere s.callers caller d None differ ∙ sym (scanning-elsewhere s.callers caller d work differ) ∙ e))
@@ -258,6 +279,23 @@ module _ {K V S A : Type 0} (eq : K → K → Bool) (hash : K → ℕ) (law : Is
 
     pub step_after : IsAfter
     step_after = elim heard_so [
-      | inl u ↦ record { es_then = es; call_traces_then = call_traces; kept_after = unheard_kept u; keeps = subst (λ (y : StoreState K V S). KeepsPairs s.store y) (sym u.same) (λ n p e. e); hasher_is = ap (λ (y : StoreState K V S). y.hasher) u.same; pairs_are = ap (λ (y : StoreState K V S). y.pairs) u.same; own_made = refl }
-      | inr h ↦ record { es_then = es' h; call_traces_then = call_traces' h; kept_after = scan_kept h; keeps = h.keeps; hasher_is = h.hasher; pairs_are = h.pairs; own_made = either_way (caller == caller) (call_traces caller).loaded }
+      | inl u ↦ record {
+        es_then = es;
+        call_traces_then = call_traces;
+        kept_after = unheard_kept u;
+        keeps = subst (λ (y : StoreState K V S). KeepsPairs s.store y) (sym u.same) (λ n p e. e);
+        hasher_is = ap (λ (y : StoreState K V S). y.hasher)
+            u.same;
+        pairs_are = ap (λ (y : StoreState K V S). y.pairs) u.same;
+        own_made = refl;
+      }
+      | inr h ↦ record {
+        es_then = es' h;
+        call_traces_then = call_traces' h;
+        kept_after = scan_kept h;
+        keeps = h.keeps;
+        hasher_is = h.hasher;
+        pairs_are = h.pairs;
+        own_made = either_way (caller == caller) (call_traces caller).loaded;
+      }
     ]

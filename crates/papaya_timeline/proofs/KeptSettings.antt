@@ -42,13 +42,16 @@ mode_cut mode x = refl
 
 module _ {K V : Type 0} (eq : K → K → Bool) (hash : K → ℕ) where
   -- keys are placed by their hashes
-  pub tables_hashed : IsLawfulKeys eq hash → (mode : Mode) (tables : List TableWords) → ((n : ℕ) (t : TableWords) → table_of tables n ≡ Some t → IsSize (length t.slots) t.limit) → IsHashed (setting_of {V = V} eq (low hash) mode tables) (coding_of (low hash))
+  pub tables_hashed : IsLawfulKeys eq hash → (mode : Mode) (tables : List TableWords)
+      → ((n : ℕ) (t : TableWords) → table_of tables n ≡ Some t → IsSize (length t.slots) t.limit)
+      → IsHashed (setting_of {V = V} eq (low hash) mode tables) (coding_of (low hash))
   tables_hashed law mode tables sized =
       let classes = law.classes in
       let alike : (k l : K) → eq k l ≡ true → low hash k ≡ low hash l = λ k l e. ap (λ n. n % 2 ^ 64) (law.alike k l e) in
       record {
         lawful = planned_lawful (hashed (is_blocking mode.resize) (chunk_of (chunk_len mode.resize)) mode.limit (λ (p : Stored K V). p.key) eq (low hash))
-            (hashed_lawful (is_blocking mode.resize) (chunk_of (chunk_len mode.resize)) mode.limit (λ (p : Stored K V). p.key) eq (low hash) classes.refl (λ k l e. classes.symm l k ∙ e) (λ k l m e f. classes.congr k l m e ∙ f) alike)
+            (hashed_lawful (is_blocking mode.resize) (chunk_of (chunk_len mode.resize)) mode.limit (λ (p : Stored K V). p.key) eq (low hash)
+            classes.refl (λ k l e. classes.symm l k ∙ e) (λ k l m e f. classes.congr k l m e ∙ f) alike)
             (λ t. slots_in (table_of tables t)) (λ t. places_in (table_of tables t)) (λ t. chunks_in (table_of tables t))
             (λ t. some_slot (table_of tables t) (λ w e. sized t w e)) (λ t. some_place (table_of tables t));
         coding = record { respects = alike; hash_fits = λ k. mod-lt (hash k) (omega arith) };
@@ -56,9 +59,23 @@ module _ {K V : Type 0} (eq : K → K → Bool) (hash : K → ℕ) where
       }
 
   -- where tables grow, the setting says of the made ones what it said
-  pub grown_agrees : (mode mode' : Mode) (tables tables' : List TableWords) → mode' ≡ mode → HasMoreTables tables tables' → (On : ℕ → Type 0) → ((t : ℕ) → On t → (words : TableWords) × (table_of tables t ≡ Some words)) → Agrees On (setting_of {V = V} eq (low hash) mode tables) (setting_of {V = V} eq (low hash) mode' tables')
+  pub grown_agrees : (mode mode' : Mode) (tables tables' : List TableWords) → mode' ≡ mode → HasMoreTables tables tables' → (On : ℕ → Type 0)
+      → ((t : ℕ) → On t → (words : TableWords) × (table_of tables t ≡ Some words))
+      → Agrees On (setting_of {V = V} eq (low hash) mode tables) (setting_of {V = V} eq (low hash) mode' tables')
   grown_agrees mode mode' tables tables' same grown On made =
-      record { blocking = ap (λ (m : Mode). is_blocking m.resize) same; most = ap (λ (m : Mode). m.limit) same; key = λ p. refl; same = λ k l. refl; size = size; chunk_of = λ x. ap (λ (m : Mode). chunk_of (chunk_len m.resize) x) same; chunks = chunks; places = places; place = λ k t j on. ap (λ n. place (low hash k) n j) (size t on) }
+      record {
+        blocking = ap (λ (m : Mode). is_blocking m.resize) same;
+        most = ap (λ (m : Mode). m.limit) same;
+        key = λ p. refl;
+        same = λ k l.
+            refl;
+        size = size;
+        chunk_of = λ x. ap (λ (m : Mode). chunk_of (chunk_len m.resize) x) same;
+        chunks = chunks;
+        places = places;
+        place = λ k t j
+            on. ap (λ n. place (low hash k) n j) (size t on);
+      }
     where
       -- a made table is as long as it was
       size : (t : ℕ) → On t → slots_in (table_of tables' t) ≡ slots_in (table_of tables t)
@@ -82,5 +99,6 @@ module _ {K V : Type 0} (eq : K → K → Bool) (hash : K → ℕ) where
           ap chunks_in g.1 ∙ g.4 ∙ sym (ap chunks_in m.1)
 
 -- what copies as one of two settings that agree does so as the other
-pub cut_carries : {K P : Type 0} {On : ℕ → Type 0} {g g' : Setting K P} → Agrees On g g' → (mode : ResizeMode) → IsCutAs mode g.chunk_of → IsCutAs mode g'.chunk_of
+pub cut_carries : {K P : Type 0} {On : ℕ → Type 0} {g g' : Setting K P} → Agrees On g g' → (mode : ResizeMode) → IsCutAs mode g.chunk_of
+    → IsCutAs mode g'.chunk_of
 cut_carries agrees mode cut x = agrees.chunk_of x ∙ cut x

@@ -1,5 +1,6 @@
 -- A step of one caller keeps a core's words to the law of exchanges.
-use Rattle.std.proofs.Common.{◌≡◌, ◌≢◌, ℕ, ◌%◌, ◌^◌, ◌<◌, Bool, List, ◌++◌, length, Option, Some, None, ◌⊎◌, inl, inr, refl, sym, ◌∙◌, ap, subst, arith, append_assoc}
+use Rattle.std.proofs.Common.{◌≡◌, ◌≢◌, ℕ, ◌%◌, ◌^◌, ◌<◌, Bool, List, ◌++◌, length, Option, Some}
+use Rattle.std.proofs.Common.{None, ◌⊎◌, inl, inr, refl, sym, ◌∙◌, ap, subst, arith, append_assoc}
 use Rattle.papaya_call.specs.Answers.{Says}
 use Rattle.papaya_ask.specs.declared.ask.Ask.TheVariants.{Exchange as Ask_exchange}
 use Rattle.papaya_ask.specs.declared.ask.At.TheVariants.{Root}
@@ -56,9 +57,12 @@ use Rattle.papaya_timeline.proofs.CallersLemmas.{same_item}
 use Rattle.papaya_timeline.proofs.MadePairs.{IsMadeNow, MakesOver, pair_made_now}
 use Rattle.papaya_timeline.proofs.Waits.{chain_answered, chain_waits}
 
-module _ {K V S A : Type 0} (eq : K → K → Bool) (hash : K → ℕ) (law : IsLawfulKeys eq hash) (says : Says K V A) (hashes : S → K → ℕ) (refuse : Bool) (s : CoreState K V S A) (caller : ℕ) (s' : CoreState K V S A)
-    (before : Running K V A) (a : Answer) (later : Running K V A) (was : running s.callers caller ≡ Some before) (performs : PerformsAsk eq says hashes refuse (ask_of before.machine) s.store before a s'.store later) (hasher : hashes s.store.hasher ≡ hash)
-    (mode_is : s'.mode ≡ s.mode) (es : List (Exchange (Stored K V))) (call_traces : ℕ → CallTrace K V) (core : IsCore s.store s.callers s.mode) (kept : IsKept eq hash s.mode s.store s.callers es call_traces) where
+module _ {K V S A : Type 0} (eq : K → K → Bool) (hash : K → ℕ) (law : IsLawfulKeys eq hash) (says : Says K V A) (hashes : S → K → ℕ) (refuse : Bool)
+    (s : CoreState K V S A) (caller : ℕ) (s' : CoreState K V S A)
+    (before : Running K V A) (a : Answer) (later : Running K V A) (was : running s.callers caller ≡ Some before)
+    (performs : PerformsAsk eq says hashes refuse (ask_of before.machine) s.store before a s'.store later) (hasher : hashes s.store.hasher ≡ hash)
+    (mode_is : s'.mode ≡ s.mode) (es : List (Exchange (Stored K V))) (call_traces : ℕ → CallTrace K V) (core : IsCore s.store s.callers s.mode)
+    (kept : IsKept eq hash s.mode s.store s.callers es call_traces) where
   -- the setting before and after the step, and the coding
   abbrev g : Setting K (Stored K V)
   g = setting_of eq (low hash) s.mode s.store.words.tables
@@ -87,12 +91,24 @@ module _ {K V S A : Type 0} (eq : K → K → Bool) (hash : K → ℕ) (law : Is
   pub left : IsAnswered g c s.store before es (call_traces caller) (Some call.key) call.key (ask_of before.machine) a s'.store later
   left = by_ask (ask_of before.machine) refl performs
     where
-      by_ask : (ask : Ask) → ask_of before.machine ≡ ask → PerformsAsk eq says hashes refuse ask s.store before a s'.store later → IsAnswered g c s.store before es (call_traces caller) (Some call.key) call.key ask a s'.store later
+      by_ask : (ask : Ask) → ask_of before.machine ≡ ask → PerformsAsk eq says hashes refuse ask s.store before a s'.store later
+          → IsAnswered g c s.store before es (call_traces caller) (Some call.key) call.key ask a s'.store later
       by_ask (asks.Call ask) e (told, is, h) =
           subst (λ y. IsAnswered g c s.store before es (call_traces caller) (Some call.key) call.key (asks.Call ask) y s'.store later) (sym is)
-          (answered_call eq says hash s.mode s.store before es (call_traces caller) hashed call.key call.split (may (call_traces caller) call.split) call.relies kept.coded kept.made kept.hints call.last call.valued call.opens call.links call.own refuse ask e told s'.store later h)
+          (answered_call eq says hash s.mode s.store before es (call_traces caller) hashed call.key call.split (may (call_traces caller) call.split)
+          call.relies kept.coded kept.made kept.hints call.last call.valued call.opens call.links call.own refuse ask e told s'.store later h)
       by_ask (asks.Copy ask) e (h, same) =
-          answered_copy eq hashes g c s.store before es (call_traces caller) (Some call.key) hashed call.key call.split (may (call_traces caller) call.split) call.relies kept.coded kept.made kept.hints call.last call.carried call.opens call.links call.own (record { sizes = λ t. refl; places = λ t. refl; chunks = λ t. refl; numbers = λ p. refl; hashes_of = λ p. ap (λ (f : K → ℕ). f p.key % 2 ^ 64) (sym hasher); sames = λ p q. refl }) refuse ask e a s'.store later h same
+          answered_copy eq hashes g c s.store before es (call_traces caller) (Some call.key) hashed call.key call.split
+          (may (call_traces caller) call.split) call.relies kept.coded kept.made kept.hints call.last call.carried call.opens call.links call.own
+          (record {
+            sizes = λ t. refl;
+            places = λ t. refl;
+            chunks = λ t. refl;
+            numbers = λ p. refl;
+            hashes_of = λ p.
+                ap (λ (f : K → ℕ). f p.key % 2 ^ 64) (sym hasher);
+            sames = λ p q. refl;
+          }) refuse ask e a s'.store later h same
 
   -- the exchanges after it
   abbrev pub es' : List (Exchange (Stored K V))
@@ -103,9 +119,12 @@ module _ {K V S A : Type 0} (eq : K → K → Bool) (hash : K → ℕ) (law : Is
   longer_split call_trace split = sym (append_assoc call_trace.begun call_trace.since left.made) ∙ ap (λ l. l ++ left.made) split
 
   -- the machine learns, and what was exchanged was allowed
-  learnt : AllAllowed g start ((call_traces caller).begun ++ ((call_traces caller).since ++ left.made)) × Relies g c (call_traces caller).begun ((call_traces caller).since ++ left.made) call.key (after before.machine a) left.loaded
-  learnt = all_learns g c hashed (call_traces caller).begun (call_traces caller).since (may (call_traces caller) call.split) call.key before.machine (call_traces caller).loaded call.relies a (λ _. link_words g s.store (λ t. refl) (link_in before.machine.phase) call.links) left.made left.loaded
-      (subst (λ l. IsTold g c call.key (run l start) (kind_of_ask before.machine) (follows_of before.machine) (call_traces caller).loaded (ask_of before.machine) a left.made left.loaded) (sym call.split) left.told)
+  learnt : AllAllowed g start ((call_traces caller).begun ++ ((call_traces caller).since ++ left.made))
+      × Relies g c (call_traces caller).begun ((call_traces caller).since ++ left.made) call.key (after before.machine a) left.loaded
+  learnt = all_learns g c hashed (call_traces caller).begun (call_traces caller).since (may (call_traces caller) call.split) call.key before.machine
+      (call_traces caller).loaded call.relies a (λ _. link_words g s.store (λ t. refl) (link_in before.machine.phase) call.links) left.made left.loaded
+      (subst (λ l. IsTold g c call.key (run l start) (kind_of_ask before.machine) (follows_of before.machine) (call_traces caller).loaded
+      (ask_of before.machine) a left.made left.loaded) (sym call.split) left.told)
 
   -- all exchanges were allowed
   all : AllAllowed g start es'
@@ -131,14 +150,16 @@ module _ {K V S A : Type 0} (eq : K → K → Bool) (hash : K → ℕ) (law : Is
 
   -- the answer was for the call itself, or the call was set aside
   order : IsInOrder before.machine a before.machine.phase
-  order = in_order g c (call_traces caller).begun (call_traces caller).since call.key before.machine (call_traces caller).loaded (run es start) a left.made left.loaded call.relies left.told
+  order = in_order g c (call_traces caller).begun (call_traces caller).since call.key before.machine (call_traces caller).loaded (run es start) a
+      left.made left.loaded call.relies left.told
 
   -- the stepping call's task stays
   same_task : (after before.machine a).call.task ≡ before.machine.call.task
   same_task = (chain_task before.machine a order).0
 
   -- what its call relies on in the grown setting
-  grown_relies : (call_trace : CallTrace K V) (split : call_trace.begun ++ call_trace.since ≡ es) (k : K) (m : _) (loaded : LoadedPairs (Stored K V)) → Relies g c call_trace.begun (call_trace.since ++ left.made) k m loaded → Relies g' c call_trace.begun (call_trace.since ++ left.made) k m loaded
+  grown_relies : (call_trace : CallTrace K V) (split : call_trace.begun ++ call_trace.since ≡ es) (k : K) (m : _) (loaded : LoadedPairs (Stored K V))
+      → Relies g c call_trace.begun (call_trace.since ++ left.made) k m loaded → Relies g' c call_trace.begun (call_trace.since ++ left.made) k m loaded
   grown_relies = others.grown_relies eq hash law s caller s' mode_is es call_traces core kept left.made left.loaded leaving
 
   -- the map is the same in the grown setting
@@ -171,7 +192,8 @@ module _ {K V S A : Type 0} (eq : K → K → Bool) (hash : K → ℕ) (law : Is
   own_carried p (inr told) = left.logged p.number p (call.last p told)
 
   -- each pair that it made is logged
-  own_made : (p : Stored K V) → (IsOneOf (call_traces caller).loaded.call.made p ⊎ ((p.number ≡ length s.store.pairs) × (own_value s.store before ≡ Some p.value) × (pair_of s'.store p.number ≡ Some p))) → IsLogged s'.store p
+  own_made : (p : Stored K V) → (IsOneOf (call_traces caller).loaded.call.made p
+      ⊎ ((p.number ≡ length s.store.pairs) × (own_value s.store before ≡ Some p.value) × (pair_of s'.store p.number ≡ Some p))) → IsLogged s'.store p
   own_made p (inl old) = left.logged p.number p (call.made p old)
   own_made p (inr (number, value, there)) = there
 
@@ -187,11 +209,13 @@ module _ {K V S A : Type 0} (eq : K → K → Bool) (hash : K → ℕ) (law : Is
   own_links =
       is_made (IsMadeFor s'.store) (link_in (after before.machine a).phase)
       (machine_made (IsMadeFor s'.store) before.machine a
-      (λ n behind slots limit chunks aside is making. copy_made eq says hashes refuse s.store before a s'.store later before.machine behind slots limit chunks making performs n is)
+      (λ n behind slots limit chunks aside is making.
+      copy_made eq says hashes refuse s.store before a s'.store later before.machine behind slots limit chunks making performs n is)
       (made_is (IsMadeFor s'.store) (link_in before.machine.phase) (λ behind t chunks linking. still_made t chunks (call.links behind t chunks linking))))
 
   -- a pair that it made and did not write stands in no slot
-  own_unwritten : (p : Stored K V) → IsOneOf left.loaded.call.made p → change_in (after before.machine a).call.state ≡ None → (t x : ℕ) (q : Stored K V) → named ((run es' start).slot t x) ≡ Some q → q.number ≢ p.number
+  own_unwritten : (p : Stored K V) → IsOneOf left.loaded.call.made p → change_in (after before.machine a).call.state ≡ None
+      → (t x : ℕ) (q : Stored K V) → named ((run es' start).slot t x) ≡ Some q → q.number ≢ p.number
   own_unwritten p made none t x q names =
       let u = left.unchanged none in
       let (v, y, stood) = u.1 t x q names in
@@ -213,15 +237,18 @@ module _ {K V S A : Type 0} (eq : K → K → Bool) (hash : K → ℕ) (law : Is
   -- a pair of whose key one is to be made is logged
   as_loaded : (i : ℕ) → ask_of before.machine ≡ asks.Call (MakePairOf i) → (p : Stored K V) × (pair_of s.store i ≡ Some p)
   as_loaded i asking =
-      let of = machine_copied g c hashed (call_traces caller).begun (call_traces caller).since call.key (call_traces caller).loaded.call before.machine.call call.relies.call i (call_asks before.machine (MakePairOf i) asking).1 in
+      let of = machine_copied g c hashed (call_traces caller).begun (call_traces caller).since call.key (call_traces caller).loaded.call
+      before.machine.call call.relies.call i (call_asks before.machine (MakePairOf i) asking).1 in
       (of.0, subst (λ j. pair_of s.store j ≡ Some of.0) of.2 (call.last of.0 of.1))
 
   -- a pair that is made in the step has the value of the call
   pub made_now : (n : ℕ) → MakesOver (ask_of before.machine) → a ≡ answers.Call (Made_number n) → IsMadeNow s.store before s'.store later n
-  made_now n makes told = pair_made_now eq says refuse s.store before s'.store later hashes (ask_of before.machine) a performs makes n told call.key call.own call.valued as_loaded
+  made_now n makes told = pair_made_now eq says refuse s.store before s'.store later hashes (ask_of before.machine) a performs makes n told call.key
+      call.own call.valued as_loaded
 
   -- and a pair that is to take the place of another has it, but while a newer answer waits
-  own_again : (i n : ℕ) → StandsOn (after before.machine a).call (Makes (Some i) n) → IsAnsweredStage (after before.machine a).call.state ⊎ ((p : Stored K V) × (pair_of s'.store n ≡ Some p) × (own_value s'.store later ≡ Some p.value))
+  own_again : (i n : ℕ) → StandsOn (after before.machine a).call (Makes (Some i) n) → IsAnsweredStage (after before.machine a).call.state
+      ⊎ ((p : Stored K V) × (pair_of s'.store n ≡ Some p) × (own_value s'.store later ≡ Some p.value))
   own_again i n stands = elim (chain_said before.machine a order (core.standing caller before was).call call.shows (Makes (Some i) n) stands) [
     | inl stood ↦ elim (call.again i n stood) [
       | inl waits ↦ elim (chain_waits before.machine a (machine_goes before.machine a order) waits i n stands) [
@@ -233,17 +260,22 @@ module _ {K V S A : Type 0} (eq : K → K → Bool) (hash : K → ℕ) (law : Is
         | inr said ↦ inl (chain_answered before.machine a (machine_goes before.machine a order) said.told said.shown)
       ]
     ]
-    | inr (own, (said, makes, told)) ↦ (let m = made_now n (subst MakesOver (sym (ap (λ p. asks_in before.machine.call p) own.phase)) makes) (own.is ∙ ap answers.Call told) in inr (m.pair, m.there, m.after))
+    | inr (own, (said, makes, told)) ↦ (let m = made_now n (subst MakesOver (sym (ap (λ p. asks_in before.machine.call p) own.phase)) makes)
+        (own.is ∙ ap answers.Call told) in inr (m.pair, m.there, m.after))
   ]
 
   -- so it relies on what is told of it after the step
-  pub own_call : (loaded : LoadedPairs (Stored K V)) → left.loaded ≡ loaded → IsCall eq hash s'.mode s'.store (record later { machine = after before.machine a }) es' (record { begun = (call_traces caller).begun; since = (call_traces caller).since ++ left.made; loaded = loaded; scan = (call_traces caller).scan })
+  pub own_call : (loaded : LoadedPairs (Stored K V)) → left.loaded ≡ loaded
+      → IsCall eq hash s'.mode s'.store (record later { machine = after before.machine a }) es'
+      (record { begun = (call_traces caller).begun; since = (call_traces caller).since ++ left.made; loaded = loaded; scan = (call_traces caller).scan })
   own_call loaded e = record {
     key = call.key;
     own = left.own_is;
-    answers = λ asks. answers_asked eq says hashes refuse (ask_of before.machine) s.store before a s'.store later performs (call.answers (subst HasClosure same_task asks));
+    answers = λ asks. answers_asked eq says hashes refuse (ask_of before.machine) s.store before a s'.store later performs
+        (call.answers (subst HasClosure same_task asks));
     split = longer_split (call_traces caller) call.split;
-    relies = subst (Relies g' c (call_traces caller).begun ((call_traces caller).since ++ left.made) call.key (after before.machine a)) e (grown_relies (call_traces caller) call.split call.key (after before.machine a) left.loaded learnt.1);
+    relies = subst (Relies g' c (call_traces caller).begun ((call_traces caller).since ++ left.made) call.key (after before.machine a)) e
+        (grown_relies (call_traces caller) call.split call.key (after before.machine a) left.loaded learnt.1);
     last = λ p l. own_last p (left.last p (ap (λ (y : LoadedPairs (Stored K V)). y.call.last) e ∙ l));
     carried = λ p l. own_carried p (left.carried p (ap (λ (y : LoadedPairs (Stored K V)). y.kept) e ∙ l));
     made = λ p l. own_made p (left.new p (subst (λ (y : LoadedPairs (Stored K V)). IsOneOf y.call.made p) (sym e) l));
@@ -269,17 +301,20 @@ module _ {K V S A : Type 0} (eq : K → K → Bool) (hash : K → ℕ) (law : Is
   own_loaded = others.own_loaded eq hash law s caller s' mode_is es call_traces core kept left.made left.loaded leaving
 
   -- the stepping call's pairs are not another's
-  own_apart : (d : ℕ) (r : Running K V A) → running s.callers d ≡ Some r → d ≢ caller → (p p' : Stored K V) → IsOneOf left.loaded.call.made p → IsOneOf (call_traces d).loaded.call.made p' → p.number ≢ p'.number
+  own_apart : (d : ℕ) (r : Running K V A) → running s.callers d ≡ Some r → d ≢ caller → (p p' : Stored K V) → IsOneOf left.loaded.call.made p
+      → IsOneOf (call_traces d).loaded.call.made p' → p.number ≢ p'.number
   own_apart d r runs differ p p' mine other = elim (left.new p mine) [
     | inl old ↦ kept.apart caller d before r was runs (λ same. differ (sym same)) p p' old other
     | inr (number, value, there) ↦ (λ same. let lt : p'.number < length s.store.pairs = below p' ((kept.calls d r runs).made p' other) in omega arith)
   ]
 
-  module _ (goes : Option (Running K V A)) (callers : s'.callers ≡ with_call s.callers caller goes) (goes_is : (q : Running K V A) → goes ≡ Some q → record later { machine = after before.machine a } ≡ q) where
+  module _ (goes : Option (Running K V A)) (callers : s'.callers ≡ with_call s.callers caller goes)
+      (goes_is : (q : Running K V A) → goes ≡ Some q → record later { machine = after before.machine a } ≡ q) where
     -- the core after the step
     pub step_kept : IsKept eq hash s'.mode s'.store s'.callers es' call_traces'
     step_kept = others.leaves_kept eq hash law s caller s' mode_is es call_traces core kept left.made left.loaded leaving (as_work goes) callers
-        (λ r e. subst (λ y. IsCall eq hash s'.mode s'.store y es' (call_traces' caller)) (goes_is r (call-put goes r e)) (own_call (call_traces' caller).loaded (own_loaded caller refl)))
+        (λ r e. subst (λ y. IsCall eq hash s'.mode s'.store y es' (call_traces' caller)) (goes_is r (call-put goes r e))
+        (own_call (call_traces' caller).loaded (own_loaded caller refl)))
         (λ z e. absurd (no-resizer goes z e))
         (λ v e. absurd (no-scanner goes v e))
         (λ r e d q runs differ. own_apart d q runs differ)

@@ -1,5 +1,8 @@
 -- The words and the sizes of tables after a write, and after a table was made.
-use Rattle.std.proofs.Common.{◌≡◌, ◌≢◌, ℕ, zero, suc, ◌+◌, ◌-◌, ◌==◌, ◌<◌, ◌≤◌, Bool, true, false, cond, List, [], ◌∷◌, ◌++◌, length, slice_get, slice_set, slice_index, replicate, nat_lt, Some, None, ◌⊎◌, inl, inr, ⊎_elim, refl, sym, ◌∙◌, ap, subst, arith, length-set, lt-ltb}
+use Rattle.std.proofs.Common.{◌≡◌, ◌≢◌, ℕ, zero, suc, ◌+◌, ◌-◌, ◌==◌, ◌<◌, ◌≤◌, Bool, true, false}
+use Rattle.std.proofs.Common.{cond, List, [], ◌∷◌, ◌++◌, length, slice_get, slice_set, slice_index}
+use Rattle.std.proofs.Common.{replicate, nat_lt, Some, None, ◌⊎◌, inl, inr, ⊎_elim, refl, sym, ◌∙◌}
+use Rattle.std.proofs.Common.{ap, subst, arith, length-set, lt-ltb}
 use Rattle.std.proofs.lemmas.Option.{slice_get_within}
 use Rattle.papaya_words.specs.Table.{TableWords, new_table}
 use Rattle.papaya_ask.specs.declared.ask.At.{At}
@@ -61,19 +64,29 @@ table_at tables n z = ap (λ b. cond b None (slice_get tables (n - 1))) z
 
 -- Each table is still there, as long as it was.
 abbrev pub HasMoreTables : List TableWords → List TableWords → Type 0
-HasMoreTables tables tables' = (n : ℕ) (t : TableWords) → table_of tables n ≡ Some t → (t' : TableWords) × (table_of tables' n ≡ Some t') × (length t'.slots ≡ length t.slots) × (t'.limit ≡ t.limit) × (length t'.done ≡ length t.done)
+HasMoreTables tables tables' = (n : ℕ) (t : TableWords) → table_of tables n ≡ Some t → (t' : TableWords) × (table_of tables' n ≡ Some t')
+    × (length t'.slots ≡ length t.slots) × (t'.limit ≡ t.limit) × (length t'.done ≡ length t.done)
 
 -- tables that stay as they are
 pub grown-same : (tables : List TableWords) → HasMoreTables tables tables
 grown-same tables n t e = (t, e, refl, refl, refl)
 
 -- each table is as long after a write as before it
-written-size : (at : At) (t : TableWords) (word : ℕ) → (length (written at t word).slots ≡ length t.slots) × ((written at t word).limit ≡ t.limit) × (length (written at t word).done ≡ length t.done)
+written-size : (at : At) (t : TableWords) (word : ℕ) → (length (written at t word).slots ≡ length t.slots) × ((written at t word).limit ≡ t.limit)
+    × (length (written at t word).done ≡ length t.done)
 written-size Root t word = (refl, refl, refl)
 written-size (Next n) t word = (refl, refl, refl)
 written-size (Aborted n) t word = (refl, refl, refl)
-written-size (Done n chunk) t word = elim (nat_lt chunk (length t.done)) as (λ b. (length (cond b (record t { done = slice_set t.done chunk word }) t).slots ≡ length t.slots) × ((cond b (record t { done = slice_set t.done chunk word }) t).limit ≡ t.limit) × (length (cond b (record t { done = slice_set t.done chunk word }) t).done ≡ length t.done)) [ true ↦ (refl, refl, length-set t.done chunk word) | false ↦ (refl, refl, refl) ]
-written-size (Slot n i) t word = elim (nat_lt i (length t.slots)) as (λ b. (length (cond b (record t { slots = slice_set t.slots i word }) t).slots ≡ length t.slots) × ((cond b (record t { slots = slice_set t.slots i word }) t).limit ≡ t.limit) × (length (cond b (record t { slots = slice_set t.slots i word }) t).done ≡ length t.done)) [ true ↦ (length-set t.slots i word, refl, refl) | false ↦ (refl, refl, refl) ]
+written-size (Done n chunk) t word = elim (nat_lt chunk (length t.done))
+    as (λ b. (length (cond b (record t { done = slice_set t.done chunk word }) t).slots ≡ length t.slots)
+    × ((cond b (record t { done = slice_set t.done chunk word }) t).limit ≡ t.limit)
+    × (length (cond b (record t { done = slice_set t.done chunk word }) t).done ≡ length t.done))
+    [ true ↦ (refl, refl, length-set t.done chunk word) | false ↦ (refl, refl, refl) ]
+written-size (Slot n i) t word = elim (nat_lt i (length t.slots))
+    as (λ b. (length (cond b (record t { slots = slice_set t.slots i word }) t).slots ≡ length t.slots)
+    × ((cond b (record t { slots = slice_set t.slots i word }) t).limit ≡ t.limit)
+    × (length (cond b (record t { slots = slice_set t.slots i word }) t).done ≡ length t.done))
+    [ true ↦ (length-set t.slots i word, refl, refl) | false ↦ (refl, refl, refl) ]
 written-size Made t word = (refl, refl, refl)
 
 -- a table that is there gives way to another
@@ -110,15 +123,22 @@ module _ (w : Tables) (n : ℕ) (t t' : TableWords) (there : table_of w.tables n
   pub swapped-grown : length t'.slots ≡ length t.slots → t'.limit ≡ t.limit → length t'.done ≡ length t.done → HasMoreTables w.tables swapped
   swapped-grown slots limit done u v e = ⊎_elim
       (λ (same : u ≡ n).
-      let f : t ≡ v = same_item t v (sym there ∙ (ap (table_of w.tables) (sym same) ∙ e)) in
-      (t', ap (table_of swapped) same ∙ swapped-here, slots ∙ ap (λ (y : TableWords). length y.slots) f, limit ∙ ap (λ (y : TableWords). y.limit) f, done ∙ ap (λ (y : TableWords). length y.done) f))
+      let f : t ≡ v = same_item t v (sym there ∙ (ap (table_of w.tables) (sym same) ∙ e)) in (
+        t',
+        ap (table_of swapped) same ∙ swapped-here,
+        slots ∙ ap (λ (y : TableWords). length y.slots) f,
+        limit
+            ∙ ap (λ (y : TableWords). y.limit) f,
+        done ∙ ap (λ (y : TableWords). length y.done) f,
+      ))
       (λ (differ : u ≢ n). (v, swapped-other u differ ∙ e, refl, refl, refl))
       (cases_same u n)
 
   -- what both tables say
   pub swapped-left : (read : TableWords → ℕ) → read t' ≡ read t → (u : ℕ) → word_in read (table_of swapped u) ≡ word_in read (table_of w.tables u)
   swapped-left read same u = ⊎_elim
-      (λ (e : u ≡ n). ap (λ y. word_in read (table_of swapped y)) e ∙ ap (word_in read) swapped-here ∙ same ∙ sym (ap (word_in read) there) ∙ ap (λ y. word_in read (table_of w.tables y)) (sym e))
+      (λ (e : u ≡ n). ap (λ y. word_in read (table_of swapped y)) e ∙ ap (word_in read) swapped-here ∙ same ∙ sym (ap (word_in read) there)
+      ∙ ap (λ y. word_in read (table_of w.tables y)) (sym e))
       (λ (differ : u ≢ n). ap (word_in read) (swapped-other u differ))
       (cases_same u n)
 
@@ -158,7 +178,8 @@ module _ (w : Tables) (at : At) (n word : ℕ) (t : TableWords) (there : table_o
       subst (λ (v : Tables). HasMoreTables w.tables v.tables) (sym put-table) (swapped-grown w n t (written at t word) there size.0 size.1 size.2)
 
   -- a word that the write leaves
-  pub written-left : (read : TableWords → ℕ) → read (written at t word) ≡ read t → (u : ℕ) → word_in read (table_of (put_at at n w word).tables u) ≡ word_in read (table_of w.tables u)
+  pub written-left : (read : TableWords → ℕ) → read (written at t word) ≡ read t → (u : ℕ)
+      → word_in read (table_of (put_at at n w word).tables u) ≡ word_in read (table_of w.tables u)
   written-left read same u = ap (λ (v : Tables). word_in read (table_of v.tables u)) put-table ∙ swapped-left w n t (written at t word) there read same u
 
   -- and every word of another table
@@ -177,7 +198,8 @@ module _ (w : Tables) (n i word : ℕ) (t : TableWords) (there : table_of w.tabl
 
   -- the word that was written
   pub word-here : word_at (put w (Slot n i) word) (Slot n i) ≡ word
-  word-here = ap (word_in (λ v. slice_index v.slots i)) (written-here w (Slot n i) n word t there) ∙ ap (λ (y : TableWords). slice_index y.slots i) slot-written ∙ index-set_same t.slots i word lt
+  word-here = ap (word_in (λ v. slice_index v.slots i)) (written-here w (Slot n i) n word t there)
+      ∙ ap (λ (y : TableWords). slice_index y.slots i) slot-written ∙ index-set_same t.slots i word lt
 
   -- every other word is as it was
   pub word-other : (other : At) → (other ≡ Slot n i → ⊥) → word_at (put w (Slot n i) word) other ≡ word_at w other
@@ -185,10 +207,12 @@ module _ (w : Tables) (n i word : ℕ) (t : TableWords) (there : table_of w.tabl
   word-other Made differ = written-made w (Slot n i) n word t there
   word-other (Next u) differ = written-left w (Slot n i) n word t there (λ v. v.next) (ap (λ (y : TableWords). y.next) slot-written) u
   word-other (Aborted u) differ = written-left w (Slot n i) n word t there (λ v. v.aborted) (ap (λ (y : TableWords). y.aborted) slot-written) u
-  word-other (Done u c) differ = written-left w (Slot n i) n word t there (λ v. slice_index v.done c) (ap (λ (y : TableWords). slice_index y.done c) slot-written) u
+  word-other (Done u c) differ = written-left w (Slot n i) n word t there (λ v. slice_index v.done c)
+      (ap (λ (y : TableWords). slice_index y.done c) slot-written) u
   word-other (Slot u y) differ = ⊎_elim
       (λ (e : u ≡ n).
-      ap (λ z. word_in (λ v. slice_index v.slots y) (table_of (put w (Slot n i) word).tables z)) e ∙ ap (word_in (λ v. slice_index v.slots y)) (written-here w (Slot n i) n word t there)
+      ap (λ z. word_in (λ v. slice_index v.slots y) (table_of (put w (Slot n i) word).tables z)) e
+      ∙ ap (word_in (λ v. slice_index v.slots y)) (written-here w (Slot n i) n word t there)
       ∙ ap (λ (v : TableWords). slice_index v.slots y) slot-written
       ∙ index-set_other t.slots i y word (λ same. differ (ap (λ z. Slot z y) e ∙ ap (Slot n) same))
       ∙ sym (ap (word_in (λ v. slice_index v.slots y)) there) ∙ ap (λ z. word_in (λ v. slice_index v.slots y) (table_of w.tables z)) (sym e))
@@ -203,7 +227,8 @@ module _ (w : Tables) (n c word : ℕ) (t : TableWords) (there : table_of w.tabl
 
   -- the word that was written
   done-here : word_at (put w (Done n c) word) (Done n c) ≡ word
-  done-here = ap (word_in (λ v. slice_index v.done c)) (written-here w (Done n c) n word t there) ∙ ap (λ (y : TableWords). slice_index y.done c) done-written ∙ index-set_same t.done c word lt
+  done-here = ap (word_in (λ v. slice_index v.done c)) (written-here w (Done n c) n word t there)
+      ∙ ap (λ (y : TableWords). slice_index y.done c) done-written ∙ index-set_same t.done c word lt
 
   -- every other word is as it was
   done-other : (other : At) → (other ≡ Done n c → ⊥) → word_at (put w (Done n c) word) other ≡ word_at w other
@@ -211,10 +236,12 @@ module _ (w : Tables) (n c word : ℕ) (t : TableWords) (there : table_of w.tabl
   done-other Made differ = written-made w (Done n c) n word t there
   done-other (Next u) differ = written-left w (Done n c) n word t there (λ v. v.next) (ap (λ (y : TableWords). y.next) done-written) u
   done-other (Aborted u) differ = written-left w (Done n c) n word t there (λ v. v.aborted) (ap (λ (y : TableWords). y.aborted) done-written) u
-  done-other (Slot u y) differ = written-left w (Done n c) n word t there (λ v. slice_index v.slots y) (ap (λ (z : TableWords). slice_index z.slots y) done-written) u
+  done-other (Slot u y) differ = written-left w (Done n c) n word t there (λ v. slice_index v.slots y)
+      (ap (λ (z : TableWords). slice_index z.slots y) done-written) u
   done-other (Done u d) differ = ⊎_elim
       (λ (e : u ≡ n).
-      ap (λ z. word_in (λ v. slice_index v.done d) (table_of (put w (Done n c) word).tables z)) e ∙ ap (word_in (λ v. slice_index v.done d)) (written-here w (Done n c) n word t there)
+      ap (λ z. word_in (λ v. slice_index v.done d) (table_of (put w (Done n c) word).tables z)) e
+      ∙ ap (word_in (λ v. slice_index v.done d)) (written-here w (Done n c) n word t there)
       ∙ ap (λ (v : TableWords). slice_index v.done d) done-written
       ∙ index-set_other t.done c d word (λ same. differ (ap (λ z. Done z d) e ∙ ap (Done n) same))
       ∙ sym (ap (word_in (λ v. slice_index v.done d)) there) ∙ ap (λ z. word_in (λ v. slice_index v.done d) (table_of w.tables z)) (sym e))
@@ -303,7 +330,8 @@ placed-other w (Aborted n) new (t, there) (Slot u y) differ = written-left w (Ab
 placed-other w (Done n chunk) new (t, there, lt) other differ = done-other w n chunk new t there lt other differ
 
 -- what a table that is added says, where it says 0
-word-added : (read : TableWords → ℕ) (tables : List TableWords) (new : TableWords) → read new ≡ 0 → (i : ℕ) → word_in read (slice_get (tables ++ new ∷ []) i) ≡ word_in read (slice_get tables i)
+word-added : (read : TableWords → ℕ) (tables : List TableWords) (new : TableWords) → read new ≡ 0 → (i : ℕ)
+    → word_in read (slice_get (tables ++ new ∷ []) i) ≡ word_in read (slice_get tables i)
 word-added read [] new none zero = none
 word-added read [] new none (suc i) = refl
 word-added read (t ∷ tables) new none zero = refl
@@ -315,7 +343,8 @@ module _ (w : Tables) (number slots limit chunks : ℕ) where
   added = record w { tables = w.tables ++ new_table number slots limit chunks ∷ [] }
 
   -- a word of which the new table says 0
-  pub word-grown : (read : TableWords → ℕ) → read (new_table number slots limit chunks) ≡ 0 → (u : ℕ) → word_in read (table_of added.tables u) ≡ word_in read (table_of w.tables u)
+  pub word-grown : (read : TableWords → ℕ) → read (new_table number slots limit chunks) ≡ 0 → (u : ℕ)
+      → word_in read (table_of added.tables u) ≡ word_in read (table_of w.tables u)
   word-grown read none u = go (u == 0)
     where
       go : (b : Bool) → word_in read (cond b None (slice_get added.tables (u - 1))) ≡ word_in read (cond b None (slice_get w.tables (u - 1)))

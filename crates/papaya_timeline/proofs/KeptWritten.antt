@@ -35,7 +35,8 @@ use Rattle.papaya_timeline.proofs.KeptTables.{IsPlaced}
 use Rattle.papaya_timeline.proofs.LinkWords.{link_words}
 use Rattle.papaya_timeline.proofs.MachineLemmas.{machine_once}
 
-module _ {Q K V S A : Type 0} (g : Setting Q (Stored K V)) (c : Coding Q (Stored K V)) (store : StoreState K V S) (r : Running K V A) (es : List (Exchange (Stored K V))) (call_trace : CallTrace K V) (own : Option K)
+module _ {Q K V S A : Type 0} (g : Setting Q (Stored K V)) (c : Coding Q (Stored K V)) (store : StoreState K V S) (r : Running K V A)
+    (es : List (Exchange (Stored K V))) (call_trace : CallTrace K V) (own : Option K)
     (hashed : IsHashed g c) (key : Q)
     (split : call_trace.begun ++ call_trace.since ≡ es) (may : AllAllowed g start (call_trace.begun ++ call_trace.since))
     (relies : Relies g c call_trace.begun call_trace.since key r.machine call_trace.loaded)
@@ -44,7 +45,8 @@ module _ {Q K V S A : Type 0} (g : Setting Q (Stored K V)) (c : Coding Q (Stored
     (opens : (t : ℕ) → ask_of r.machine ≡ asks.Call (Ask_exchange Root 0 t) → IsMade store t)
     (links : (behind t chunks : ℕ) → link_in r.machine.phase ≡ Some (Linking behind t chunks) → IsMadeFor store t chunks)
     (owns : own_key store r ≡ own)
-    (sizes : (t : ℕ) → g.size t ≡ slots_in (table_of store.words.tables t)) (chunks_are : (t : ℕ) → g.chunks t ≡ chunks_in (table_of store.words.tables t)) where
+    (sizes : (t : ℕ) → g.size t ≡ slots_in (table_of store.words.tables t))
+    (chunks_are : (t : ℕ) → g.chunks t ≡ chunks_in (table_of store.words.tables t)) where
   -- the words as the law has them
   abbrev now : State (Stored K V)
   now = run es start
@@ -78,35 +80,50 @@ module _ {Q K V S A : Type 0} (g : Setting Q (Stored K V)) (c : Coding Q (Stored
     placed_call (inr (inl made)) = subst (IsPlaced store.words.tables) (sym made) tt
     placed_call (inr (inr (t, x, is))) =
         let m = r.machine.call in
-        let named_slot = slot_named g c hashed call_trace.begun call_trace.since may key (call_machine.ask_of m) (ask_named g c hashed call_trace.begun call_trace.since may key call_trace.loaded.call m.task m.hash m.made m.state relies.call.stage) t x (inr (old, new, calls ∙ ap (λ y. Ask_exchange y old new) is)) in
+        let named_slot = slot_named g c hashed call_trace.begun call_trace.since may key (call_machine.ask_of m)
+        (ask_named g c hashed call_trace.begun call_trace.since may key call_trace.loaded.call m.task m.hash m.made m.state relies.call.stage) t x
+        (inr (old, new, calls ∙ ap (λ y. Ask_exchange y old new) is)) in
         subst (IsPlaced store.words.tables) (sym is) (slot_there t x named_slot.0 named_slot.1)
 
     -- the exchange of the law that was made
-    pub asked_call : word_of g c now at ≡ old → (e : Exchange (Stored K V)) × IsAsked g c key (kind_of_ask r.machine) at new now call_trace.loaded.call e × Allows g now e × IsWritten g c now at new (state_after now e)
-    asked_call = subst (λ kind. word_of g c now at ≡ old → (e : Exchange (Stored K V)) × IsAsked g c key kind at new now call_trace.loaded.call e × Allows g now e × IsWritten g c now at new (state_after now e)) (sym kinds_are)
-        (subst (λ s. word_of g c s at ≡ old → (e : Exchange (Stored K V)) × IsAsked g c key (call_machine.kind_of_ask r.machine.call) at new s call_trace.loaded.call e × Allows g s e × IsWritten g c s at new (state_after s e)) same_now
+    pub asked_call : word_of g c now at ≡ old → (e : Exchange (Stored K V))
+        × IsAsked g c key (kind_of_ask r.machine) at new now call_trace.loaded.call e × Allows g now e × IsWritten g c now at new (state_after now e)
+    asked_call = subst (λ kind. word_of g c now at ≡ old → (e : Exchange (Stored K V)) × IsAsked g c key kind at new now call_trace.loaded.call e
+        × Allows g now e × IsWritten g c now at new (state_after now e)) (sym kinds_are)
+        (subst (λ s. word_of g c s at ≡ old → (e : Exchange (Stored K V))
+        × IsAsked g c key (call_machine.kind_of_ask r.machine.call) at new s call_trace.loaded.call e × Allows g s e
+        × IsWritten g c s at new (state_after s e)) same_now
         (machine_may g c hashed call_trace.begun call_trace.since may key r.machine.call call_trace.loaded.call relies.call at old new calls))
 
     -- an exchange of the root finds none and opens a table
-    opening : (e : Exchange (Stored K V)) → IsAsked g c key (kind_of_ask r.machine) at new now call_trace.loaded.call e → Allows g now e → word_of g c now at ≡ old → at ≡ Root → asks.Call (Ask_exchange at old new) ≡ asks.Call (Ask_exchange Root 0 new)
+    opening : (e : Exchange (Stored K V)) → IsAsked g c key (kind_of_ask r.machine) at new now call_trace.loaded.call e → Allows g now e
+        → word_of g c now at ≡ old → at ≡ Root → asks.Call (Ask_exchange at old new) ≡ asks.Call (Ask_exchange Root 0 new)
     opening e is allows stands root =
-        let none : now.root ≡ 0 = root_empty g c key now call_trace.loaded.call new (kind_of_ask r.machine) e (subst (λ y. IsAsked g c key (kind_of_ask r.machine) y new now call_trace.loaded.call e) root is) allows in
+        let none : now.root ≡ 0 = root_empty g c key now call_trace.loaded.call new (kind_of_ask r.machine) e
+        (subst (λ y. IsAsked g c key (kind_of_ask r.machine) y new now call_trace.loaded.call e) root is) allows in
         let zero : old ≡ 0 = sym stands ∙ ap (word_of g c now) root ∙ none in
         ap (λ y. asks.Call (Ask_exchange y old new)) root ∙ ap (λ y. asks.Call (Ask_exchange Root y new)) zero
 
     -- it was made
-    pub call_exchanged : (word_at store.words at == old) ≡ true → IsAnswered g c store r es call_trace own key (asks.Call (Ask_exchange at old new)) (answers.Call Exchanged) (record store { words = put store.words at new }) r
+    pub call_exchanged : (word_at store.words at == old) ≡ true
+        → IsAnswered g c store r es call_trace own key (asks.Call (Ask_exchange at old new)) (answers.Call Exchanged)
+        (record store { words = put store.words at new }) r
     call_exchanged hit =
         let stands : word_of g c now at ≡ old = coded at ∙ eqb-true (word_at store.words at) old hit in
         let x = asked_call stands in
-        let changed_by : IsChanged now call_trace.loaded.call new (kind_of_ask r.machine) at x.0 = changes now call_trace.loaded.call new g c key (kind_of_ask r.machine) at x.0 x.1 in
+        let changed_by : IsChanged now call_trace.loaded.call new (kind_of_ask r.machine) at x.0 = changes now call_trace.loaded.call new g c key
+        (kind_of_ask r.machine) at x.0 x.1 in
         let told : IsCallTold g c key now (kind_of_ask r.machine) call_trace.loaded.call (Ask_exchange at old new) Exchanged (x.0 ∷ []) call_trace.loaded.call =
         subst (λ b. MatchBool b
-        ((Exchanged ≡ Exchanged) × ((y : Exchange (Stored K V)) × IsAsked g c key (kind_of_ask r.machine) at new now call_trace.loaded.call y × (x.0 ∷ [] ≡ y ∷ [])) × (call_trace.loaded.call ≡ call_trace.loaded.call))
+        ((Exchanged ≡ Exchanged) × ((y : Exchange (Stored K V)) × IsAsked g c key (kind_of_ask r.machine) at new now call_trace.loaded.call y
+        × (x.0 ∷ [] ≡ y ∷ [])) × (call_trace.loaded.call ≡ call_trace.loaded.call))
         ((Exchanged ≡ Found_instead (word_of g c now at)) × (x.0 ∷ [] ≡ []) × (call_trace.loaded.call ≡ told_of now at call_trace.loaded.call)))
         (sym (ap (λ y. y == old) (coded at) ∙ hit)) (refl, (x.0, x.1, refl), refl) in
-        let heard : Tells g c store r es call_trace own key (asks.Call (Ask_exchange at old new)) (answers.Call Exchanged) (x.0 ∷ []) call_trace.loaded = own_told g c store r es call_trace own hashed key relies coded there (Ask_exchange at old new) Exchanged (x.0 ∷ []) call_trace.loaded.call told in
-        exchanged g c store r es call_trace own hashed key relies coded there owns (asks.Call (Ask_exchange at old new)) a at new x.0 call_trace.loaded heard (placed_call changed_by.place) x.3
+        let heard : Tells g c store r es call_trace own key (asks.Call (Ask_exchange at old new)) (answers.Call Exchanged) (x.0 ∷ [])
+        call_trace.loaded = own_told g c store r es call_trace own hashed key relies coded there (Ask_exchange at old new) Exchanged (x.0 ∷ [])
+        call_trace.loaded.call told in
+        exchanged g c store r es call_trace own hashed key relies coded there owns (asks.Call (Ask_exchange at old new)) a at new x.0
+        call_trace.loaded heard (placed_call changed_by.place) x.3
         (λ t some comes. elim (changed_by.comes t comes) [
           | inl before ↦ there t some before
           | inr (root, same_table) ↦ opens t (a ∙ opening x.0 x.1 x.2 stands root ∙ ap (λ y. asks.Call (Ask_exchange Root 0 y)) same_table)
@@ -114,7 +131,8 @@ module _ {Q K V S A : Type 0} (g : Setting Q (Stored K V)) (c : Coding Q (Stored
         changed_by.slots
         (λ none.
         let same_change : change_of_kind (kind_of_ask r.machine) old new ≡ None =
-        sym (changed g c store r es call_trace own hashed key relies coded there (asks.Call (Ask_exchange at old new)) a (answers.Call Exchanged) (x.0 ∷ []) call_trace.loaded heard) ∙ none in
+        sym (changed g c store r es call_trace own hashed key relies coded there (asks.Call (Ask_exchange at old new)) a (answers.Call Exchanged)
+        (x.0 ∷ []) call_trace.loaded heard) ∙ none in
         (machine_once r.machine.call at old new calls, changed_by.unchanged old new same_change))
         (λ p h. inl h) refl refl
 
@@ -129,9 +147,13 @@ module _ {Q K V S A : Type 0} (g : Setting Q (Stored K V)) (c : Coding Q (Stored
     placed_at (Slot t x) h = slot_there t x h.0 h.1
 
     pub placed_copy : IsPlaced store.words.tables at
-    placed_copy = placed_at at (copies_there g c hashed call_trace.begun call_trace.since may key r.machine call_trace.loaded relies (Copy_exchange at old new) a)
+    placed_copy = placed_at at (copies_there g c hashed call_trace.begun call_trace.since may key r.machine call_trace.loaded relies
+        (Copy_exchange at old new) a)
 
     -- the exchange of the law that was made
-    pub asked_copy : word_of g c now at ≡ old → (e : Exchange (Stored K V)) × IsCopyAsked c (kind_of_ask r.machine) at new now call_trace.loaded.kept e × Allows g now e × IsWritten g c now at new (state_after now e)
-    asked_copy = subst (λ s. word_of g c s at ≡ old → (e : Exchange (Stored K V)) × IsCopyAsked c (kind_of_ask r.machine) at new s call_trace.loaded.kept e × Allows g s e × IsWritten g c s at new (state_after s e)) same_now
-        (λ stands. copies_may g c hashed call_trace.begun call_trace.since may key r.machine call_trace.loaded relies (link_words g store chunks_are (link_in r.machine.phase) links) at old new a stands)
+    pub asked_copy : word_of g c now at ≡ old → (e : Exchange (Stored K V))
+        × IsCopyAsked c (kind_of_ask r.machine) at new now call_trace.loaded.kept e × Allows g now e × IsWritten g c now at new (state_after now e)
+    asked_copy = subst (λ s. word_of g c s at ≡ old → (e : Exchange (Stored K V))
+        × IsCopyAsked c (kind_of_ask r.machine) at new s call_trace.loaded.kept e × Allows g s e × IsWritten g c s at new (state_after s e)) same_now
+        (λ stands. copies_may g c hashed call_trace.begun call_trace.since may key r.machine call_trace.loaded relies
+        (link_words g store chunks_are (link_in r.machine.phase) links) at old new a stands)

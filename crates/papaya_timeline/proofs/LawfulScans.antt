@@ -35,16 +35,23 @@ use Rattle.papaya_store.specs.declared.scans.Scanning.{Scanning}
 use Rattle.papaya_store.specs.Scans.{PerformsScan}
 
 -- what it relies on tells why it ends refused
-module _ {K V S A : Type 0} (eq : K → K → Bool) (hash : K → ℕ) (s : CoreState K V S A) (v : Scanning A) (call_trace : ScanTrace K V) (a : Answer) (made : List (Exchange (Stored K V))) (loaded : LoadedPairs (Stored K V)) where
-  cause_told : (es : List (Exchange (Stored K V))) → IsScanning eq hash s.mode s.store v es call_trace → IsScanTold (setting_of eq (low hash) s.mode s.store.words.tables) (coding_of (low hash)) (run es start) call_trace.since v.scanner.state call_trace.loaded a made loaded → (refused : Refused) → reply_of (after v.scanner a) ≡ Some (Reply_refused refused) → IsScanCause v.scanner a refused
+module _ {K V S A : Type 0} (eq : K → K → Bool) (hash : K → ℕ) (s : CoreState K V S A) (v : Scanning A) (call_trace : ScanTrace K V) (a : Answer)
+    (made : List (Exchange (Stored K V))) (loaded : LoadedPairs (Stored K V)) where
+  cause_told : (es : List (Exchange (Stored K V))) → IsScanning eq hash s.mode s.store v es call_trace
+      → IsScanTold (setting_of eq (low hash) s.mode s.store.words.tables) (coding_of (low hash)) (run es start) call_trace.since v.scanner.state
+      call_trace.loaded a made loaded → (refused : Refused) → reply_of (after v.scanner a) ≡ Some (Reply_refused refused) → IsScanCause v.scanner a refused
   cause_told es scanning told refused over =
       let g = setting_of eq (low hash) s.mode s.store.words.tables in
       let c = coding_of (low hash) in
-      let same : run es start ≡ run call_trace.since (run call_trace.begun start) = ap (λ l. run l start) (sym scanning.split) ∙ run-append call_trace.begun call_trace.since start in
-      state_why g c (run call_trace.begun start) (map_left g call_trace.begun) call_trace.since v.scanner call_trace.loaded a made loaded refused v.scanner.state
+      let same : run es start ≡ run call_trace.since (run call_trace.begun start) = ap (λ l. run l start) (sym scanning.split)
+      ∙ run-append call_trace.begun call_trace.since start in
+      state_why g c (run call_trace.begun start) (map_left g call_trace.begun) call_trace.since v.scanner call_trace.loaded a made loaded refused
+      v.scanner.state
       (subst (λ w. IsScanTold g c w call_trace.since v.scanner.state call_trace.loaded a made loaded) same told) refl over
 
-module _ {K V S A H : Type 0} (eq : K → K → Bool) (input : K → List (List ℕ)) (build : S → H) (write : H → List ℕ → H) (finish : H → ℕ) (classes : IsEquivalence eq) (respects : (x y : K) → eq x y ≡ true → input x ≡ input y) (says : Says K V A) (refuse : Bool) (s : CoreState K V S A) (lawful : IsLawfulCore eq (hash_of input build write finish s.store.hasher) s.store s.callers s.mode) (caller : ℕ) where
+module _ {K V S A H : Type 0} (eq : K → K → Bool) (input : K → List (List ℕ)) (build : S → H) (write : H → List ℕ → H) (finish : H → ℕ)
+    (classes : IsEquivalence eq) (respects : (x y : K) → eq x y ≡ true → input x ≡ input y) (says : Says K V A) (refuse : Bool)
+    (s : CoreState K V S A) (lawful : IsLawfulCore eq (hash_of input build write finish s.store.hasher) s.store s.callers s.mode) (caller : ℕ) where
   -- keys are hashed so, and the law of them
   abbrev hashes : S → K → ℕ
   hashes = hash_of input build write finish
@@ -56,22 +63,28 @@ module _ {K V S A H : Type 0} (eq : K → K → Bool) (input : K → List (List 
   pub lawful_asks : (v : Scanning A) → scanning s.callers caller ≡ Some v → IsSome (ask_of v.scanner)
   lawful_asks v was =
       let (es, (call_traces, kept)) = lawful.law in
-      asks_so eq (hashes s.store.hasher) s.mode s.store v es (scan_trace (call_traces caller)) (kept.scanners caller v was) (lawful.core.scanners caller v was).1
+      asks_so eq (hashes s.store.hasher) s.mode s.store v es (scan_trace (call_traces caller)) (kept.scanners caller v was)
+      (lawful.core.scanners caller v was).1
 
   -- why it ends refused
-  pub lawful_scan_caused : (v : Scanning A) → scanning s.callers caller ≡ Some v → (ask : ScanAsk) → ask_of v.scanner ≡ Some ask → (a : Answer) (store' : StoreState K V S) (v' : Scanning A) → PerformsScan eq says hashes refuse ask s.store v a store' v' → (refused : Refused)
-      → reply_or (unheard ask a) (reply_of (after v.scanner a)) ≡ Some (Reply_refused refused) → (unheard ask a ≡ Some refused) ⊎ IsScanCause v.scanner a refused
+  pub lawful_scan_caused : (v : Scanning A) → scanning s.callers caller ≡ Some v → (ask : ScanAsk) → ask_of v.scanner ≡ Some ask
+      → (a : Answer) (store' : StoreState K V S) (v' : Scanning A) → PerformsScan eq says hashes refuse ask s.store v a store' v' → (refused : Refused)
+      → reply_or (unheard ask a) (reply_of (after v.scanner a)) ≡ Some (Reply_refused refused) → (unheard ask a ≡ Some refused)
+      ⊎ IsScanCause v.scanner a refused
   lawful_scan_caused v was ask asks a store' v' performs refused e =
       let (es, (call_traces, kept)) = lawful.law in
       let told = kept.scanners caller v was in
       by_list (unheard ask a) refl e
-      (elim (heard eq hashes says refuse (record s { callers = with_work s.callers caller None }) law (without-core s.store s.callers s.mode caller lawful.core) call_traces v (scan_trace (call_traces caller)) caller (idle-here s.callers caller) es
+      (elim (heard eq hashes says refuse (record s { callers = with_work s.callers caller None }) law
+      (without-core s.store s.callers s.mode caller lawful.core) call_traces v (scan_trace (call_traces caller)) caller (idle-here s.callers caller) es
       (without_kept eq (hashes s.store.hasher) s caller es call_traces kept) told ask asks a store' v' performs) [
         | inl u ↦ (λ none over. let f : None ≡ Some Memory = sym none ∙ was_unheard s.store store' v a ask asks u in absurd cc)
         | inr h ↦ (λ none over. cause_told eq (hashes s.store.hasher) s v (scan_trace (call_traces caller)) a h.made h.loaded es told h.told refused over)
       ])
     where
-      by_list : (o : Option Refused) → unheard ask a ≡ o → reply_or o (reply_of (after v.scanner a)) ≡ Some (Reply_refused refused) → (unheard ask a ≡ None → reply_of (after v.scanner a) ≡ Some (Reply_refused refused) → IsScanCause v.scanner a refused) → (unheard ask a ≡ Some refused) ⊎ IsScanCause v.scanner a refused
+      by_list : (o : Option Refused) → unheard ask a ≡ o → reply_or o (reply_of (after v.scanner a)) ≡ Some (Reply_refused refused)
+          → (unheard ask a ≡ None → reply_of (after v.scanner a) ≡ Some (Reply_refused refused) → IsScanCause v.scanner a refused)
+          → (unheard ask a ≡ Some refused) ⊎ IsScanCause v.scanner a refused
       by_list None none over why = inr (why none over)
       by_list (Some is) some over why = inl (some ∙ let same : is ≡ refused = cc in ap (λ y. Some y) same)
 
@@ -83,7 +96,8 @@ module _ {K V S A H : Type 0} (eq : K → K → Bool) (input : K → List (List 
         let then = step_after eq (hashes s.store.hasher) law says hashes refuse s caller s' event reply x refl es call_traces lawful.core kept in
         record {
           core = scanned-core eq (hashes s.store.hasher) law says hashes refuse s caller s' event reply x lawful.core;
-          law = subst (λ y. (es : _) × ((call_traces : _) × IsKept eq (hashes y) s'.mode s'.store s'.callers es call_traces)) (sym then.hasher_is) (then.es_then, (then.call_traces_then, then.kept_after));
+          law = subst (λ y. (es : _) × ((call_traces : _) × IsKept eq (hashes y) s'.mode s'.store s'.callers es call_traces)) (sym then.hasher_is)
+              (then.es_then, (then.call_traces_then, then.kept_after));
         }
 
     -- the count stays right, the map moves as the event tells, and no pair is gone from the log

@@ -14,7 +14,8 @@ use Rattle.papaya_store.specs.Store.{StoreState}
 use Rattle.papaya_store.specs.Tables.{table_of}
 use Rattle.papaya_timeline.specs.Kept.{IsMadeFor, IsScanLink, chunks_in}
 
-module _ {K P K' V S : Type 0} (g : Setting K P) (store : StoreState K' V S) (chunks_are : (t : ℕ) → g.chunks t ≡ chunks_in (table_of store.words.tables t)) where
+module _ {K P K' V S : Type 0} (g : Setting K P) (store : StoreState K' V S)
+    (chunks_are : (t : ℕ) → g.chunks t ≡ chunks_in (table_of store.words.tables t)) where
   -- of a call, or of a copy
   pub link_words : (o : Option Link) → ((behind t chunks : ℕ) → o ≡ Some (Linking behind t chunks) → IsMadeFor store t chunks) → HasWords g o
   link_words None made = tt
@@ -23,11 +24,13 @@ module _ {K P K' V S : Type 0} (g : Setting K P) (store : StoreState K' V S) (ch
 
   -- of a call that resizes the map
   pub stage_words : (stage : Stage) → ((behind t chunks : ℕ) → HasLink stage (Linking behind t chunks) → IsMadeFor store t chunks) → HasWords g (link_of stage)
-  stage_words (stages.Linking link) made = link_words (Some link) (λ behind t chunks e. made behind t chunks (let f : link ≡ Linking behind t chunks = cc e in f))
+  stage_words (stages.Linking link) made = link_words (Some link)
+      (λ behind t chunks e. made behind t chunks (let f : link ≡ Linking behind t chunks = cc e in f))
   stage_words (stages.Copying from copying) made = link_words (link_in_copying copying) made
   stage_words other made = tt
 
   -- and of one that scans a table
-  pub scan_words : (state : State) → ((behind t chunks : ℕ) → IsScanLink state (Linking behind t chunks) → IsMadeFor store t chunks) → HasWords g (link_in_scan state)
+  pub scan_words : (state : State) → ((behind t chunks : ℕ) → IsScanLink state (Linking behind t chunks) → IsMadeFor store t chunks)
+      → HasWords g (link_in_scan state)
   scan_words (Copying stage) made = stage_words stage made
   scan_words other made = tt

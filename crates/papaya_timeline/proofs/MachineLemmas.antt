@@ -32,7 +32,8 @@ pub machine_once : (m : Machine) (at : At) (old new : ℕ) → ask_of m ≡ Ask_
 machine_once m at old new e = search rules
 
 -- a machine that asks to open a table asked so before, or the table that it asked for was just made
-pub machine_opens : (m : Machine) (answer : Answer) (t : ℕ) → ask_of (after m answer) ≡ Ask_exchange Root 0 t → (ask_of m ≡ Ask_exchange Root 0 t) ⊎ ((answer ≡ Made_number t) × (slots : ℕ) × (limit : ℕ) × (chunks : ℕ) × (ask_of m ≡ MakeTable slots limit chunks))
+pub machine_opens : (m : Machine) (answer : Answer) (t : ℕ) → ask_of (after m answer) ≡ Ask_exchange Root 0 t → (ask_of m ≡ Ask_exchange Root 0 t)
+    ⊎ ((answer ≡ Made_number t) × (slots : ℕ) × (limit : ℕ) × (chunks : ℕ) × (ask_of m ≡ MakeTable slots limit chunks))
 machine_opens m answer t e = swapped (machine_opened m t answer e)
   where
     swapped : ((answer ≡ Made_number t) × ((slots : ℕ) × (limit : ℕ) × (ask_of m ≡ MakeTable slots limit 0))) ⊎ (ask_of m ≡ Ask_exchange Root 0 t)
@@ -41,7 +42,8 @@ machine_opens m answer t e = swapped (machine_opened m t answer e)
     swapped (inr opens) = inl opens
 
 -- a deletion is asked for where the closure agreed
-machine_deleting : (m : Machine) (at : At) (old new : ℕ) → kind_of_ask m ≡ Some kinds.Delete → ask_of m ≡ Ask_exchange at old new → (removal : Removal) × (m.state ≡ Deleting removal) × (removal.word ≡ old)
+machine_deleting : (m : Machine) (at : At) (old new : ℕ) → kind_of_ask m ≡ Some kinds.Delete → ask_of m ≡ Ask_exchange at old new
+    → (removal : Removal) × (m.state ≡ Deleting removal) × (removal.word ≡ old)
 machine_deleting m at old new kind e = search rules
 
 -- a reply stands on what the closure said, where it tells of that
@@ -50,11 +52,13 @@ machine_says m reply e = search rules
 
 module _ {K P : Type 0} (g : Setting K P) (c : Coding K P) (begun since : List (Exchange P)) (k : K) where
   -- where a machine asks no more, the reply is that of its task
-  pub machine_replies : (m : Machine) (loaded : LoadedPairs P) → Relies g c begun since k m loaded → (reply : Reply) → ask_of m ≡ Ask_done reply → IsReply g c begun since k loaded m.task reply × (change_in m.state ≡ change_of_reply reply)
+  pub machine_replies : (m : Machine) (loaded : LoadedPairs P) → Relies g c begun since k m loaded → (reply : Reply) → ask_of m ≡ Ask_done reply
+      → IsReply g c begun since k loaded m.task reply × (change_in m.state ≡ change_of_reply reply)
   machine_replies m loaded relies reply e = replied g c begun since k loaded m relies reply e
 
   -- a pair that a closure is shown is the one last told of, has the call's key, and was the map's at a moment of the call
-  pub machine_shows : (hashed : IsHashed g c) (m : Machine) (loaded : LoadedPairs P) → Relies g c begun since k m loaded → (n : ℕ) → ask_of m ≡ ShowPair n → (p : P) × (loaded.last ≡ Some p) × (c.number p ≡ n) × (g.same k (g.key p) ≡ true) × WasAtMoment g c begun since k (Some p)
+  pub machine_shows : (hashed : IsHashed g c) (m : Machine) (loaded : LoadedPairs P) → Relies g c begun since k m loaded → (n : ℕ)
+      → ask_of m ≡ ShowPair n → (p : P) × (loaded.last ≡ Some p) × (c.number p ≡ n) × (g.same k (g.key p) ≡ true) × WasAtMoment g c begun since k (Some p)
   machine_shows hashed m loaded relies n e = search rules
 
   -- that there is none it is shown where that was so at a moment of the call
@@ -66,7 +70,8 @@ module _ {K P : Type 0} (g : Setting K P) (c : Coding K P) (begun since : List (
   machine_offers m loaded relies e = search rules
 
   -- only an insertion that replaces and a compute ask to put a pair in place of another
-  pub machine_replaces : (m : Machine) (loaded : LoadedPairs P) → Relies g c begun since k m loaded → kind_of_ask m ≡ Some kinds.Replace → (m.task ≡ Insert true) ⊎ (m.task ≡ Compute)
+  pub machine_replaces : (m : Machine) (loaded : LoadedPairs P) → Relies g c begun since k m loaded → kind_of_ask m ≡ Some kinds.Replace
+      → (m.task ≡ Insert true) ⊎ (m.task ≡ Compute)
   machine_replaces m loaded relies e = search rules
 
   -- only a removal and a compute ask to delete a pair, and that is their key's
@@ -77,7 +82,8 @@ module _ {K P : Type 0} (g : Setting K P) (c : Coding K P) (begun since : List (
     pub number : c.number pair ≡ pair_of old
     pub same : g.same k (g.key pair) ≡ true
 
-  pub machine_takes : (coding : IsLawfulCoding g c) (m : Machine) (loaded : LoadedPairs P) → Relies g c begun since k m loaded → kind_of_ask m ≡ Some kinds.Delete → (at : At) (old new : ℕ) → ask_of m ≡ Ask_exchange at old new → IsTaken loaded m.task old
+  pub machine_takes : (coding : IsLawfulCoding g c) (m : Machine) (loaded : LoadedPairs P) → Relies g c begun since k m loaded
+      → kind_of_ask m ≡ Some kinds.Delete → (at : At) (old new : ℕ) → ask_of m ≡ Ask_exchange at old new → IsTaken loaded m.task old
   machine_takes coding m loaded relies kind at old new e =
       let (removal, is, word) = machine_deleting m at old new kind e in
       let (removes, r) = subst (ReliesStage g c begun since k loaded m.task) is relies.stage in
@@ -90,9 +96,11 @@ module _ {K P : Type 0} (g : Setting K P) (c : Coding K P) (begun since : List (
       }
 
 -- an exchange that changes the map is that of a call that may
-pub machine_changes : (m : Machine) → IsStanding m → (kind : StepKind) (old new : Option ℕ) (answer : Answer) → call_event (kind_of_ask m) (ask_of m) answer ≡ Changed kind old new → IsChanger m.task
+pub machine_changes : (m : Machine) → IsStanding m → (kind : StepKind) (old new : Option ℕ) (answer : Answer)
+    → call_event (kind_of_ask m) (ask_of m) answer ≡ Changed kind old new → IsChanger m.task
 machine_changes m stands kind old new answer e = search rules
 
 -- and where a pair comes, that of one that inserts
-pub machine_inserts : (m : Machine) → IsStanding m → (kind : StepKind) (old : Option ℕ) (n : ℕ) (answer : Answer) → call_event (kind_of_ask m) (ask_of m) answer ≡ Changed kind old (Some n) → MayInsert m.task
+pub machine_inserts : (m : Machine) → IsStanding m → (kind : StepKind) (old : Option ℕ) (n : ℕ) (answer : Answer)
+    → call_event (kind_of_ask m) (ask_of m) answer ≡ Changed kind old (Some n) → MayInsert m.task
 machine_inserts m stands kind old n answer e = search rules

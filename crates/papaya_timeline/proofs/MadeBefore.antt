@@ -2,7 +2,10 @@
 use Rattle.std.proofs.Common.{◌≡◌, ◌⊎◌, inl, inr, ℕ, ◌==◌, nat_lt, Bool, true, false, cond, Option, None, Some, refl, sym, ◌∙◌, ap, subst}
 use Rattle.std.proofs.lemmas.Bool.{cond_both}
 use Rattle.papaya_ask.specs.declared.ask.Answer.{Answer as Call_answer}
-use Rattle.papaya_ask.specs.declared.ask.Answer.TheVariants.{Word as Word_read, Exchanged, Found as Found_instead, Yes, Op, Size, Made as Made_number, Ok as Ok_done, Refused as Was_refused}
+use Rattle.papaya_ask.specs.declared.ask.Answer.TheVariants.{Word as Word_read, Exchanged}
+use Rattle.papaya_ask.specs.declared.ask.Answer.TheVariants.{Found as Found_instead, Yes, Op, Size}
+use Rattle.papaya_ask.specs.declared.ask.Answer.TheVariants.{Made as Made_number, Ok as Ok_done}
+use Rattle.papaya_ask.specs.declared.ask.Answer.TheVariants.{Refused as Was_refused}
 use Rattle.papaya_ask.specs.declared.ask.OpKind.{OpKind}
 use Rattle.papaya_ask.specs.declared.ask.OpKind.TheVariants as op_kinds
 use Rattle.papaya_ask.specs.declared.call.Task.{Task}
@@ -16,7 +19,11 @@ use Rattle.papaya_call.specs.declared.made.Of.{Of}
 use Rattle.papaya_call.specs.declared.write.Write.{Write}
 use Rattle.papaya_call.specs.declared.machine.Machine.{Machine as Call_machine}
 use Rattle.papaya_call.specs.declared.machine.State.{State as Stage}
-use Rattle.papaya_call.specs.declared.machine.State.TheVariants.{AtRoot, Making, Opening, Searching, Writing, Offering, Showing, Pairing, Putting, Deleting, Counting, Noting, Uncounting, Leaving, Growing, Ended}
+use Rattle.papaya_call.specs.declared.machine.State.TheVariants.{AtRoot, Making, Opening, Searching}
+use Rattle.papaya_call.specs.declared.machine.State.TheVariants.{Writing, Offering, Showing}
+use Rattle.papaya_call.specs.declared.machine.State.TheVariants.{Pairing, Putting, Deleting}
+use Rattle.papaya_call.specs.declared.machine.State.TheVariants.{Counting, Noting, Uncounting}
+use Rattle.papaya_call.specs.declared.machine.State.TheVariants.{Leaving, Growing, Ended}
 use Rattle.papaya_call.specs.Compute.{in_place_of}
 use Rattle.papaya_call.specs.Made.{answered, grown, grown_as, of_grown, own_grown, pair_ask, taken, taken_as, told, told_as, told_limit}
 use Rattle.papaya_call.specs.Machine.{made_at_exchanged, made_at_op, made_at_word, made_decided, made_in, made_to_pair, number_told, write_made, write_taken}
@@ -38,7 +45,8 @@ made_before made made' same n (inr (of, is, number)) = inr (of, sym same.1 ∙ i
 module _ (made : Made) where
   limit_same : (limit : Option ℕ) (count : ℕ) → IsSameMade made (number_told (told_limit made limit count) made)
   limit_same None count = (refl, refl)
-  limit_same (Some most) count = cond_both (nat_lt count most) (Some (record made { number = Free count })) None (λ o. IsSameMade made (number_told o made)) (λ _. (refl, refl)) (λ _. (refl, refl))
+  limit_same (Some most) count = cond_both (nat_lt count most) (Some (record made { number = Free count })) None
+      (λ o. IsSameMade made (number_told o made)) (λ _. (refl, refl)) (λ _. (refl, refl))
 
   told_same : (number : Number) (count : ℕ) → IsSameMade made (number_told (told_as made number count) made)
   told_same Wanted count = limit_same made.limit count
@@ -67,7 +75,8 @@ module _ (made : Made) where
   grown_same : (number : Number) (old : ℕ) → IsSameMade made (made_to_pair (grown_as number made old))
   grown_same Wanted old = (refl, refl)
   grown_same (Free n) old = (refl, refl)
-  grown_same Taken old = cond_both (old == 0) (own_grown made.keyed made.valued made) (of_grown made.valued made) (λ G. IsSameMade made (made_to_pair G)) (λ _. own_same made.keyed made.valued) (λ _. of_same made.valued)
+  grown_same Taken old = cond_both (old == 0) (own_grown made.keyed made.valued made) (of_grown made.valued made)
+      (λ G. IsSameMade made (made_to_pair G)) (λ _. own_same made.keyed made.valued) (λ _. of_same made.valued)
 
 module _ (m : Call_machine) (n : ℕ) where
   -- in this stage
@@ -78,20 +87,26 @@ module _ (m : Call_machine) (n : ℕ) where
   Before a s = HasMade m.made n ⊎ (MakesPair (calls.ask_of (in_stage s)) × (a ≡ Made_number n))
 
   -- a pair was made for a place
-  placed_before : (made' : Made) → IsSameMade m.made made' → (write : Write) (l : ℕ) (empty : Bool) → HasMade (cond empty (record made' { own = Some l }) (record made' { of = Some (made_of write l) })) n → HasMade m.made n ⊎ (l ≡ n)
+  placed_before : (made' : Made) → IsSameMade m.made made' → (write : Write) (l : ℕ) (empty : Bool)
+      → HasMade (cond empty (record made' { own = Some l }) (record made' { of = Some (made_of write l) })) n → HasMade m.made n ⊎ (l ≡ n)
   placed_before made' same write l true (inl own) = inr (same_item l n own)
   placed_before made' same write l true (inr of) = inl (made_before m.made made' same n (inr of))
   placed_before made' same write l false (inl own) = inl (made_before m.made made' same n (inl own))
-  placed_before made' same write l false (inr (of, is, number)) = let made_is : made_of write l ≡ of = same_item (made_of write l) of is in inr (ap (λ (o : Of). o.pair) made_is ∙ number)
+  placed_before made' same write l false (inr (of, is, number)) = let made_is : made_of write l ≡ of = same_item (made_of write l) of is in
+      inr (ap (λ (o : Of). o.pair) made_is ∙ number)
 
-  unserved_before : (write : Write) (l : ℕ) (G : Grown) → grown m.made write.old ≡ G → HasMade (made_to_write G write l) n → HasMade m.made n ⊎ (MakesPair (pair_ask m.made write.old) × (Made_number l ≡ Made_number n))
-  unserved_before write l (On made') is has = inl (made_before m.made made' (subst (λ G. IsSameMade m.made (made_to_pair G)) is (grown_same m.made m.made.number write.old)) n has)
-  unserved_before write l (Pair made') is has = elim (placed_before made' (subst (λ G. IsSameMade m.made (made_to_pair G)) is (grown_same m.made m.made.number write.old)) write l (write.old == 0) has) [
-    | inl before ↦ inl before
-    | inr number ↦ inr (makes_pair m.made write.old made' is, ap Made_number number)
-  ]
+  unserved_before : (write : Write) (l : ℕ) (G : Grown) → grown m.made write.old ≡ G → HasMade (made_to_write G write l) n → HasMade m.made n
+      ⊎ (MakesPair (pair_ask m.made write.old) × (Made_number l ≡ Made_number n))
+  unserved_before write l (On made') is has = inl
+      (made_before m.made made' (subst (λ G. IsSameMade m.made (made_to_pair G)) is (grown_same m.made m.made.number write.old)) n has)
+  unserved_before write l (Pair made') is has =
+      elim (placed_before made' (subst (λ G. IsSameMade m.made (made_to_pair G)) is (grown_same m.made m.made.number write.old)) write l (write.old == 0) has) [
+        | inl before ↦ inl before
+        | inr number ↦ inr (makes_pair m.made write.old made' is, ap Made_number number)
+      ]
 
-  written_before : (write : Write) (l : ℕ) (served : Option ℕ) → HasMade (write_grown served m.made write l) n → HasMade m.made n ⊎ (MakesPair (served_ask served write m.made) × (Made_number l ≡ Made_number n))
+  written_before : (write : Write) (l : ℕ) (served : Option ℕ) → HasMade (write_grown served m.made write l) n → HasMade m.made n
+      ⊎ (MakesPair (served_ask served write m.made) × (Made_number l ≡ Made_number n))
   written_before write l None has = unserved_before write l (grown m.made write.old) refl has
   written_before write l (Some i) has = inl has
 
@@ -139,7 +154,8 @@ module _ (m : Call_machine) (n : ℕ) where
 
   number_before : (l : ℕ) (s : Stage) → HasMade (made_in m.made l s) n → Before (Made_number l) s
   number_before l (Writing write) has = written_before write l (serves m.made write) has
-  number_before l (Pairing purpose) has = inl (made_before m.made (made_to_pair (grown m.made (in_place_of purpose))) (grown_same m.made m.made.number (in_place_of purpose)) n has)
+  number_before l (Pairing purpose) has = inl
+      (made_before m.made (made_to_pair (grown m.made (in_place_of purpose))) (grown_same m.made m.made.number (in_place_of purpose)) n has)
   number_before l s has = inl has
 
   made_after : (a : Call_answer) (s : Stage) → HasMade (calls.after (in_stage s) a).made n → Before a s
@@ -154,5 +170,6 @@ module _ (m : Call_machine) (n : ℕ) where
   made_after (Was_refused refused) s has = inl has
 
 -- what was made is the answer to an ask for it
-pub after_made : (m : Call_machine) (a : Call_answer) (n : ℕ) → HasMade (calls.after m a).made n → HasMade m.made n ⊎ (MakesPair (calls.ask_of m) × (a ≡ Made_number n))
+pub after_made : (m : Call_machine) (a : Call_answer) (n : ℕ) → HasMade (calls.after m a).made n → HasMade m.made n
+    ⊎ (MakesPair (calls.ask_of m) × (a ≡ Made_number n))
 after_made m a n made = made_after m n a m.state made

@@ -34,8 +34,10 @@ module _ {K V S A : Type 0} (s : StoreState K V S) (r : Running K V A) (s' : Sto
     pub before : own_value s r ≡ Some pair.value
     pub after : own_value s' r' ≡ Some pair.value
 
-module _ {K V S A : Type 0} (eq : K → K → Bool) (says : Says K V A) (refuse : Bool) (s : StoreState K V S) (r : Running K V A) (s' : StoreState K V S) (r' : Running K V A) where
-  module _ (valued : (part : Part V) → r.value ≡ Some part → (v : V) × (value_in s.pairs part ≡ Some v)) (told : Call_answer) (n : ℕ) (is : told ≡ Made_number n) where
+module _ {K V S A : Type 0} (eq : K → K → Bool) (says : Says K V A) (refuse : Bool) (s : StoreState K V S) (r : Running K V A) (s' : StoreState K V S)
+    (r' : Running K V A) where
+  module _ (valued : (part : Part V) → r.value ≡ Some part → (v : V) × (value_in s.pairs part ≡ Some v)) (told : Call_answer) (n : ℕ)
+      (is : told ≡ Made_number n) where
     -- it was logged
     logged_now : (key left : Part K) (k : K) → key_in s.pairs key ≡ Some k → LogsPair key left told s r s' r' → IsMadeNow s r s' r' n
     logged_now key left k key_is logs =
@@ -44,12 +46,20 @@ module _ {K V S A : Type 0} (eq : K → K → Bool) (says : Says K V A) (refuse 
         let value_is : own_value s r ≡ Some v = ap (value_at s.pairs) has ∙ there in
         let number : n ≡ length s.pairs = (let f : Made_number n ≡ Made_number (length s.pairs) = sym is ∙ e in cc) in
         let l = pair_logged s r s' r' key left told k v key_is value_is logs in
-        record { pair = record { number = length s.pairs; key = k; value = v }; there = ap (pair_of s') number ∙ l.pair; number = number; before = value_is; after = l.value }
+        record {
+          pair = record { number = length s.pairs; key = k; value = v };
+          there = ap (pair_of s') number
+              ∙ l.pair;
+          number = number;
+          before = value_is;
+          after = l.value;
+        }
 
     own_now : (k : K) → own_key s r ≡ Some k → Performs eq says refuse MakePair s r told s' r' → IsMadeNow s r s' r' n
     own_now k own h = matched (IsMadeNow s r s' r' n) refuse _ _ h (λ _ none. let f = sym is ∙ none.0 in absurd cc) (λ _ makes. by_cases makes)
       where
-        by_cases : (Refuses MAX_LOG_LEN (length s.pairs) told × Stays s r s' r') ⊎ (HasNoPair told r × Stays s r s' r') ⊎ LogsOwn told s r s' r' → IsMadeNow s r s' r' n
+        by_cases : (Refuses MAX_LOG_LEN (length s.pairs) told × Stays s r s' r') ⊎ (HasNoPair told r × Stays s r s' r') ⊎ LogsOwn told s r s' r'
+            → IsMadeNow s r s' r' n
         by_cases (inl (inl e, stays)) = let f = sym is ∙ e in absurd cc
         by_cases (inl (inr (e, full), stays)) = let f = sym is ∙ e in absurd cc
         by_cases (inr (inl (has, stays))) = let f = sym is ∙ has.0 in absurd cc
@@ -58,16 +68,20 @@ module _ {K V S A : Type 0} (eq : K → K → Bool) (says : Says K V A) (refuse 
     of_now : (m : ℕ) (p : Stored K V) → pair_of s m ≡ Some p → Performs eq says refuse (MakePairOf m) s r told s' r' → IsMadeNow s r s' r' n
     of_now m p as_loaded h = matched (IsMadeNow s r s' r' n) refuse _ _ h (λ _ none. let f = sym is ∙ none.0 in absurd cc) (λ _ makes. by_cases makes)
       where
-        by_cases : (Refuses MAX_LOG_LEN (length s.pairs) told × Stays s r s' r') ⊎ (HasNoPairOf m told s r × Stays s r s' r') ⊎ LogsOf m told s r s' r' → IsMadeNow s r s' r' n
+        by_cases : (Refuses MAX_LOG_LEN (length s.pairs) told × Stays s r s' r') ⊎ (HasNoPairOf m told s r × Stays s r s' r')
+            ⊎ LogsOf m told s r s' r' → IsMadeNow s r s' r' n
         by_cases (inl (inl e, stays)) = let f = sym is ∙ e in absurd cc
         by_cases (inl (inr (e, full), stays)) = let f = sym is ∙ e in absurd cc
         by_cases (inr (inl (has, stays))) = let f = sym is ∙ has.0 in absurd cc
         by_cases (inr (inr (first, from, logs))) = logged_now (Logged first) r.key p.key (key_from-same s m p as_loaded first from) logs
 
   -- of a step
-  pub pair_made_now : (hash : S → K → ℕ) (ask : Ask) (a : Answer) → PerformsAsk eq says hash refuse ask s r a s' r' → MakesOver ask → (n : ℕ) → a ≡ answers.Call (Made_number n) → (k : K) → own_key s r ≡ Some k → ((part : Part V) → r.value ≡ Some part → (v : V) × (value_in s.pairs part ≡ Some v))
+  pub pair_made_now : (hash : S → K → ℕ) (ask : Ask) (a : Answer) → PerformsAsk eq says hash refuse ask s r a s' r' → MakesOver ask → (n : ℕ)
+      → a ≡ answers.Call (Made_number n) → (k : K) → own_key s r ≡ Some k → ((part : Part V) → r.value ≡ Some part → (v : V) × (value_in s.pairs part ≡ Some v))
       → ((m : ℕ) → ask ≡ asks.Call (MakePairOf m) → (p : Stored K V) × (pair_of s m ≡ Some p)) → IsMadeNow s r s' r' n
-  pair_made_now hash (asks.Call MakePair) a (told, is, h) makes n e k own valued as_loaded = own_now valued told n (let f : answers.Call told ≡ answers.Call (Made_number n) = sym is ∙ e in cc) k own h
-  pair_made_now hash (asks.Call (MakePairOf m)) a (told, is, h) makes n e k own valued as_loaded = let (p, there) = as_loaded m refl in of_now valued told n (let f : answers.Call told ≡ answers.Call (Made_number n) = sym is ∙ e in cc) m p there h
+  pair_made_now hash (asks.Call MakePair) a (told, is, h) makes n e k own valued as_loaded = own_now valued told n
+      (let f : answers.Call told ≡ answers.Call (Made_number n) = sym is ∙ e in cc) k own h
+  pair_made_now hash (asks.Call (MakePairOf m)) a (told, is, h) makes n e k own valued as_loaded = let (p, there) = as_loaded m refl in
+      of_now valued told n (let f : answers.Call told ≡ answers.Call (Made_number n) = sym is ∙ e in cc) m p there h
   pair_made_now hash (asks.Call ask) a h makes n e k own valued as_loaded = absurd makes
   pair_made_now hash (asks.Copy ask) a h makes n e k own valued as_loaded = absurd makes

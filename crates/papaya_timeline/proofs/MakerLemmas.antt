@@ -1,7 +1,10 @@
 -- A call has the value that it is to make pairs of.
 use Rattle.std.proofs.Common.{rules, ◌≡◌, ◌⊎◌, inl, inr, ℕ, Bool, Option, None, Some, refl, sym, ◌∙◌, ap, subst}
 use Rattle.papaya_ask.specs.declared.ask.Ask.{Ask as Call_ask}
-use Rattle.papaya_ask.specs.declared.ask.Ask.TheVariants.{Load, Exchange, LoadHint, WriteHint, SameKey, ShowNone, ShowPair, SizeOf, MakeKey, MakeValue, MakePair, MakePairOf, MakeTable, AddToShard, Done as Ask_done}
+use Rattle.papaya_ask.specs.declared.ask.Ask.TheVariants.{Load, Exchange, LoadHint, WriteHint}
+use Rattle.papaya_ask.specs.declared.ask.Ask.TheVariants.{SameKey, ShowNone, ShowPair, SizeOf}
+use Rattle.papaya_ask.specs.declared.ask.Ask.TheVariants.{MakeKey, MakeValue, MakePair, MakePairOf}
+use Rattle.papaya_ask.specs.declared.ask.Ask.TheVariants.{MakeTable, AddToShard, Done as Ask_done}
 use Rattle.papaya_ask.specs.declared.ask.Answer.{Answer as Call_answer}
 use Rattle.papaya_ask.specs.declared.ask.Answer.TheVariants.{Op}
 use Rattle.papaya_ask.specs.declared.ask.OpKind.TheVariants as op_kinds
@@ -45,7 +48,8 @@ answered_stays (operations.Insert v) before there = (Own v, refl)
 answered_stays operations.Remove before there = there
 answered_stays (operations.Abort t) before there = there
 
-module _ {K V S A : Type 0} (eq : K → K → Bool) (says : Says K V A) (refuse : Bool) (s : StoreState K V S) (r : Running K V A) (told : Call_answer) (s' : StoreState K V S) (r' : Running K V A) where
+module _ {K V S A : Type 0} (eq : K → K → Bool) (says : Says K V A) (refuse : Bool) (s : StoreState K V S) (r : Running K V A) (told : Call_answer)
+    (s' : StoreState K V S) (r' : Running K V A) where
   same_value : r'.value ≡ r.value → IsThere r.value → IsThere r'.value
   same_value same there = subst IsThere (sym same) there
 
@@ -57,7 +61,8 @@ module _ {K V S A : Type 0} (eq : K → K → Bool) (says : Says K V A) (refuse 
   made_value (inr (key, left, (value, has, e, few, same, moved))) there = (_, ap (λ (y : Running K V A). y.value) moved)
 
   decided_value : (shown : Option (K × V)) → Decides says shown s r told s' r' → IsThere r.value → IsThere r'.value
-  decided_value shown (a, op, a', has, gives, is, same, later) there = subst IsThere (sym (ap (λ (y : Running K V A). y.value) later)) (answered_stays op r.value there)
+  decided_value shown (a, op, a', has, gives, is, same, later) there = subst IsThere (sym (ap (λ (y : Running K V A). y.value) later))
+      (answered_stays op r.value there)
 
   -- the value of a call stays there
   pub value_there : (ask : Call_ask) → Performs eq says refuse ask s r told s' r' → IsThere r.value → IsThere r'.value
@@ -82,7 +87,8 @@ module _ {K V S A : Type 0} (eq : K → K → Bool) (says : Says K V A) (refuse 
   value_there MakeValue h there = made_value (part_logs s r told s' r' refuse h) there
   value_there MakePair h there = made_value (own_logs s r told s' r' refuse h) there
   value_there (MakePairOf n) h there = made_value (of_logs s r told s' r' refuse n h) there
-  value_there (MakeTable slots limit chunks) h there = matched (IsThere r'.value) refuse _ _ h (λ _ none. same_call none.1.1 there) (λ _ makes. same_call makes.1 there)
+  value_there (MakeTable slots limit chunks) h there = matched (IsThere r'.value) refuse _ _ h (λ _ none. same_call none.1.1 there)
+      (λ _ makes. same_call makes.1 there)
   value_there (AddToShard by) (e, same, as_was) there = same_call as_was there
   value_there (Ask_done reply) (e, stays) there = same_call stays.1 there
 
@@ -92,13 +98,15 @@ module _ {K V S A : Type 0} (eq : K → K → Bool) (says : Says K V A) (refuse 
       subst IsThere (sym (ap (λ (y : Running K V A). y.value) later)) (insertion op kind r.value)
 
   -- and where a closure answers one it is there
-  pub answered_there : (ask : Call_ask) → Performs eq says refuse ask s r told s' r' → told ≡ Op op_kinds.Insert → (ask ≡ ShowNone) ⊎ ((n : ℕ) × (ask ≡ ShowPair n) × (r.machine.call.task ≡ tasks.Compute)) → IsThere r'.value
+  pub answered_there : (ask : Call_ask) → Performs eq says refuse ask s r told s' r' → told ≡ Op op_kinds.Insert → (ask ≡ ShowNone)
+      ⊎ ((n : ℕ) × (ask ≡ ShowPair n) × (r.machine.call.task ≡ tasks.Compute)) → IsThere r'.value
   answered_there ask h e (inl none) = of_none (subst (λ y. Performs eq says refuse y s r told s' r') none h)
     where
       of_none : Performs eq says refuse ShowNone s r told s' r' → IsThere r'.value
       of_none (inl (none, (is, stays))) = let f = sym is ∙ e in absurd cc
       of_none (inr decides) = by_decision None decides e
-  answered_there ask h e (inr (n, pair, computes)) = of_pair (subst (λ task. ShowsPair task says n s r told s' r') computes (subst (λ y. Performs eq says refuse y s r told s' r') pair h))
+  answered_there ask h e (inr (n, pair, computes)) = of_pair
+      (subst (λ task. ShowsPair task says n s r told s' r') computes (subst (λ y. Performs eq says refuse y s r told s' r') pair h))
     where
       of_pair : ShowsPair tasks.Compute says n s r told s' r' → IsThere r'.value
       of_pair (inl (none, (is, stays))) = let f = sym is ∙ e in absurd cc

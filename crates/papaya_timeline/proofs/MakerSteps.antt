@@ -3,7 +3,10 @@ use Rattle.std.proofs.Common.{◌≡◌, ◌⊎◌, inl, inr, ℕ, ◌+◌, Bool
 use Rattle.papaya_words.specs.declared.limits.TheConstants.{MAX_LOG_LEN, MAX_TABLES}
 use Rattle.papaya_words.specs.declared.probe.Refused.TheVariants.{Memory}
 use Rattle.papaya_ask.specs.declared.ask.Ask.{Ask as Call_ask}
-use Rattle.papaya_ask.specs.declared.ask.Ask.TheVariants.{Load, Exchange, LoadHint, WriteHint, SameKey, ShowNone, ShowPair, SizeOf, MakeKey, MakeValue, MakePair, MakePairOf, MakeTable, AddToShard, Done as Ask_done}
+use Rattle.papaya_ask.specs.declared.ask.Ask.TheVariants.{Load, Exchange, LoadHint, WriteHint}
+use Rattle.papaya_ask.specs.declared.ask.Ask.TheVariants.{SameKey, ShowNone, ShowPair, SizeOf}
+use Rattle.papaya_ask.specs.declared.ask.Ask.TheVariants.{MakeKey, MakeValue, MakePair, MakePairOf}
+use Rattle.papaya_ask.specs.declared.ask.Ask.TheVariants.{MakeTable, AddToShard, Done as Ask_done}
 use Rattle.papaya_ask.specs.declared.ask.Answer.{Answer as Call_answer}
 use Rattle.papaya_ask.specs.declared.ask.Answer.TheVariants.{Word as Word_read}
 use Rattle.papaya_ask.specs.declared.ask.At.TheVariants.{Next}
@@ -44,7 +47,8 @@ use Rattle.papaya_timeline.proofs.MakerLemmas.{answered_there, makes_for, shows_
 use Rattle.papaya_timeline.proofs.PairsBefore.{pairs_before}
 use Rattle.papaya_timeline.proofs.StoreLemmas.{matched}
 
-module _ {K V S A : Type 0} (eq : K → K → Bool) (says : Says K V A) (hash : S → K → ℕ) (refuse : Bool) (s : StoreState K V S) (r : Running K V A) (answer : Answer) (s' : StoreState K V S) (r' : Running K V A) (performs : PerformsAsk eq says hash refuse (ask_of r.machine) s r answer s' r')
+module _ {K V S A : Type 0} (eq : K → K → Bool) (says : Says K V A) (hash : S → K → ℕ) (refuse : Bool) (s : StoreState K V S) (r : Running K V A)
+    (answer : Answer) (s' : StoreState K V S) (r' : Running K V A) (performs : PerformsAsk eq says hash refuse (ask_of r.machine) s r answer s' r')
     (standing : IsStandingState r.machine.call.task r.machine.call.state) (maker : IsMaker r) where
   -- the call, without its chain
   abbrev call : Call_machine
@@ -55,7 +59,8 @@ module _ {K V S A : Type 0} (eq : K → K → Bool) (says : Says K V A) (hash : 
   aside_same t left = in_phase r.machine.phase performs
     where
       in_phase : (phase : Phase) → PerformsAsk eq says hash refuse (asks_in call phase) s r answer s' r' → r' ≡ r
-      in_phase Calling (told, is, h) = let loads : Performs eq says refuse (Load (Next t)) s r told s' r' = subst (λ ask. Performs eq says refuse ask s r told s' r') (aside_asks call.made call.hash call.state t left) h in loads.1.1
+      in_phase Calling (told, is, h) = let loads : Performs eq says refuse (Load (Next t)) s r told s'
+          r' = subst (λ ask. Performs eq says refuse ask s r told s' r') (aside_asks call.made call.hash call.state t left) h in loads.1.1
       in_phase (Linking link) (h, same) = same
       in_phase (Copying_root copying) (h, same) = same
 
@@ -106,7 +111,10 @@ module _ {K V S A : Type 0} (eq : K → K → Bool) (says : Says K V A) (hash : 
     ];
   }
 
-  module _ (has : HasClosure call.task → IsThere r.answers) (shows : (n : ℕ) → ask_of r.machine ≡ asks.Call (ShowPair n) → (p : Stored K V) × (pair_of s n ≡ Some p)) (as_loaded : (n : ℕ) → ask_of r.machine ≡ asks.Call (MakePairOf n) → (p : Stored K V) × (pair_of s n ≡ Some p)) (going : (reply : Reply) → ask_of r.machine ≡ asks.Call (Ask_done reply) → ⊥) where
+  module _ (has : HasClosure call.task → IsThere r.answers)
+      (shows : (n : ℕ) → ask_of r.machine ≡ asks.Call (ShowPair n) → (p : Stored K V) × (pair_of s n ≡ Some p))
+      (as_loaded : (n : ℕ) → ask_of r.machine ≡ asks.Call (MakePairOf n) → (p : Stored K V) × (pair_of s n ≡ Some p))
+      (going : (reply : Reply) → ask_of r.machine ≡ asks.Call (Ask_done reply) → ⊥) where
     -- a key and a value are put off, or refused
     part_served : (told : Call_answer) → MakesOr refuse told s r s' r' (IsPutOff told s r s' r') → alone.IsMaking told
     part_served told h = matched (alone.IsMaking told) refuse _ _ h (λ _ none. inr (Memory, none.0)) (λ _ off. inl (0, off.0))
@@ -123,15 +131,18 @@ module _ {K V S A : Type 0} (eq : K → K → Bool) (says : Says K V A) (hash : 
     own_served : (told : Call_answer) → IsThere r.value → Performs eq says refuse MakePair s r told s' r' → alone.IsMaking told
     own_served told value h = matched (alone.IsMaking told) refuse _ _ h (λ _ none. inr (Memory, none.0)) (λ _ makes. by_cases makes)
       where
-        by_cases : (Refuses MAX_LOG_LEN (length s.pairs) told × Stays s r s' r') ⊎ (HasNoPair told r × Stays s r s' r') ⊎ LogsOwn told s r s' r' → alone.IsMaking told
+        by_cases : (Refuses MAX_LOG_LEN (length s.pairs) told × Stays s r s' r') ⊎ (HasNoPair told r × Stays s r s' r') ⊎ LogsOwn told s r s' r'
+            → alone.IsMaking told
         by_cases (inl (none, stays)) = inr (refusal _ _ told none)
         by_cases (inr (inl ((is, none), stays))) = let f : None ≡ Some value.0 = sym none ∙ value.1 in absurd cc
         by_cases (inr (inr (part, has, is, few, grown, later))) = inl (length s.pairs, is)
 
-    of_served : (told : Call_answer) (n : ℕ) (p : Stored K V) → pair_of s n ≡ Some p → IsThere r.value → Performs eq says refuse (MakePairOf n) s r told s' r' → alone.IsMaking told
+    of_served : (told : Call_answer) (n : ℕ) (p : Stored K V) → pair_of s n ≡ Some p → IsThere r.value
+        → Performs eq says refuse (MakePairOf n) s r told s' r' → alone.IsMaking told
     of_served told n p there value h = matched (alone.IsMaking told) refuse _ _ h (λ _ none. inr (Memory, none.0)) (λ _ makes. by_cases makes)
       where
-        by_cases : (Refuses MAX_LOG_LEN (length s.pairs) told × Stays s r s' r') ⊎ (HasNoPairOf n told s r × Stays s r s' r') ⊎ LogsOf n told s r s' r' → alone.IsMaking told
+        by_cases : (Refuses MAX_LOG_LEN (length s.pairs) told × Stays s r s' r') ⊎ (HasNoPairOf n told s r × Stays s r s' r')
+            ⊎ LogsOf n told s r s' r' → alone.IsMaking told
         by_cases (inl (none, stays)) = inr (refusal _ _ told none)
         by_cases (inr (inl ((is, inl none), stays))) = let f : None ≡ Some value.0 = sym none ∙ value.1 in absurd cc
         by_cases (inr (inl ((is, inr none), stays))) = let e = pair_entry s n p there in let f : None ≡ Some e.entry = sym none ∙ e.there in absurd cc
@@ -150,7 +161,8 @@ module _ {K V S A : Type 0} (eq : K → K → Bool) (says : Says K V A) (hash : 
     no_answers closure none = let a = has closure in let f : None ≡ Some a.0 = sym none ∙ a.1 in cc
 
     -- it answers of a pair
-    pair_said : (told : Call_answer) (n : ℕ) → ((p : Stored K V) × (pair_of s n ≡ Some p)) → (task : Task) → call.task ≡ task → HasClosure task → ShowsPair task says n s r told s' r' → alone.IsSaying task told
+    pair_said : (told : Call_answer) (n : ℕ) → ((p : Stored K V) × (pair_of s n ≡ Some p)) → (task : Task) → call.task ≡ task → HasClosure task
+        → ShowsPair task says n s r told s' r' → alone.IsSaying task told
     pair_said told n there tasks.Get e closure h = absurd closure
     pair_said told n there (tasks.Insert replace) e closure h = absurd closure
     pair_said told n there tasks.RemoveIf e closure (inl (inl none, h)) = absurd (no_answers (subst HasClosure (sym e) tt) none)
@@ -161,7 +173,8 @@ module _ {K V S A : Type 0} (eq : K → K → Bool) (says : Says K V A) (hash : 
     pair_said told n there tasks.Compute e closure (inr (p, is_there, (a, op, a', has, gives, is, same, later))) = (op_kind op, is)
 
     -- whatever is asked
-    served : (ask : Call_ask) (told : Call_answer) → call_machine.ask_of call ≡ ask → asks.Call ask ≡ ask_of r.machine → Performs eq says refuse ask s r told s' r' → IsServed call.task ask told
+    served : (ask : Call_ask) (told : Call_answer) → call_machine.ask_of call ≡ ask → asks.Call ask ≡ ask_of r.machine
+        → Performs eq says refuse ask s r told s' r' → IsServed call.task ask told
     served (Load at) told own e h = tt
     served (Exchange at old new) told own e h = tt
     served (LoadHint t x) told own e h = tt
@@ -183,7 +196,8 @@ module _ {K V S A : Type 0} (eq : K → K → Bool) (says : Says K V A) (hash : 
     pub ask_served : IsServedAsk call.task (ask_of r.machine) answer
     ask_served = in_phase r.machine.phase refl performs
       where
-        in_phase : (phase : Phase) → r.machine.phase ≡ phase → PerformsAsk eq says hash refuse (asks_in call phase) s r answer s' r' → IsServedAsk call.task (asks_in call phase) answer
+        in_phase : (phase : Phase) → r.machine.phase ≡ phase → PerformsAsk eq says hash refuse (asks_in call phase) s r answer s' r'
+            → IsServedAsk call.task (asks_in call phase) answer
         in_phase Calling e (told, is, h) =
             subst (IsServedAsk call.task (asks.Call (call_machine.ask_of call))) (sym is)
             (served (call_machine.ask_of call) told refl (sym (ap (asks_in call) e)) h)

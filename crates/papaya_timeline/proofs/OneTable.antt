@@ -38,18 +38,21 @@ module _ {K V S : Type 0} (eq : K → K → Bool) (store : StoreState K V S) whe
         ∙ append-nil (pairs_of_slots store t.slots)
 
     -- a table that is there is one of the list
-    root_there : (n : ℕ) → length store.words.tables ≡ n → (o : Option TableWords) → table_of store.words.tables store.words.root ≡ o → pairs_from eq store n o ≡ pairs_of_table store o
+    root_there : (n : ℕ) → length store.words.tables ≡ n → (o : Option TableWords) → table_of store.words.tables store.words.root ≡ o
+        → pairs_from eq store n o ≡ pairs_of_table store o
     root_there n e None there = pairs_none n
     root_there n e (Some t) there =
         from_content n store.words.root (Some t) there
-        (let low = slice_get_within store.words.tables (store.words.root - 1) t (table_there store.words.tables store.words.root t there).1 in omega (arith, low, e))
+        (let low = slice_get_within store.words.tables (store.words.root - 1) t (table_there store.words.tables store.words.root t there).1 in
+        omega (arith, low, e))
 
     -- the content is the root table's
     pub root_content : content eq store ≡ pairs_of_table store (table_of store.words.tables store.words.root)
     root_content = root_there (length store.words.tables) refl (table_of store.words.tables store.words.root) refl
 
     -- no table of the law has a next one
-    pub law_single : {A : Type 0} (hash : K → ℕ) (mode : Mode) (callers : List (Seat K V A)) (es : List (Exchange (Stored K V))) (call_traces : ℕ → CallTrace K V) → IsKept eq hash mode store callers es call_traces → (t : ℕ) → (run es start).next t ≡ 0
+    pub law_single : {A : Type 0} (hash : K → ℕ) (mode : Mode) (callers : List (Seat K V A)) (es : List (Exchange (Stored K V)))
+        (call_traces : ℕ → CallTrace K V) → IsKept eq hash mode store callers es call_traces → (t : ℕ) → (run es start).next t ≡ 0
     law_single hash mode callers es call_traces kept t = kept.coded (Next t) ∙ next_none (table_of store.words.tables t) refl
       where
         next_none : (o : Option TableWords) → table_of store.words.tables t ≡ o → word_in (λ v. v.next) o ≡ 0

@@ -17,7 +17,11 @@ use Rattle.papaya_call.specs.declared.made.Of.{Of}
 use Rattle.papaya_call.specs.declared.remove.Removal.{Removal}
 use Rattle.papaya_call.specs.declared.machine.Machine.{Machine as Call_machine}
 use Rattle.papaya_call.specs.declared.machine.State.{State as Stage}
-use Rattle.papaya_call.specs.declared.machine.State.TheVariants.{AtRoot, Making, Opening, Searching, Writing, Offering, Showing, Pairing, Putting, Deleting, Counting, Noting, Uncounting, Leaving, Growing, Ended}
+use Rattle.papaya_call.specs.declared.machine.State.TheVariants.{AtRoot, Making, Opening, Searching}
+use Rattle.papaya_call.specs.declared.machine.State.TheVariants.{Writing, Offering, Showing}
+use Rattle.papaya_call.specs.declared.machine.State.TheVariants.{Pairing, Putting, Deleting}
+use Rattle.papaya_call.specs.declared.machine.State.TheVariants.{Counting, Noting, Uncounting}
+use Rattle.papaya_call.specs.declared.machine.State.TheVariants.{Leaving, Growing, Ended}
 use Rattle.papaya_call.specs.Machine as calls
 use Rattle.papaya_call.specs.Machine.{at_root, beaten, decided_held, goes_as, left}
 use Rattle.papaya_timeline.specs.Ends.{IsToPair}
@@ -43,18 +47,21 @@ beaten_pairs m removal word purpose e = search rules
 
 -- it was so before, or the closure answers a value
 abbrev pub WasPairs : Call_machine → Call_answer → Type 0
-WasPairs m told = IsToPair m ⊎ ((told ≡ Op op_kinds.Insert) × ((calls.ask_of m ≡ ShowNone) ⊎ ((n : ℕ) × (calls.ask_of m ≡ ShowPair n) × (m.task ≡ tasks.Compute))))
+WasPairs m told = IsToPair m ⊎ ((told ≡ Op op_kinds.Insert)
+    × ((calls.ask_of m ≡ ShowNone) ⊎ ((n : ℕ) × (calls.ask_of m ≡ ShowPair n) × (m.task ≡ tasks.Compute))))
 
 -- the machine in a stage
 abbrev at_stage : Call_machine → Stage → Call_machine
 at_stage m stage = record m { state = stage }
 
 -- that was so before
-recalled : (m : Call_machine) (stage next : Stage) (told : Call_answer) → IsRecalled m.remembered.choice next → (purpose : Purpose) → next ≡ Pairing purpose → WasPairs (at_stage m stage) told
+recalled : (m : Call_machine) (stage next : Stage) (told : Call_answer) → IsRecalled m.remembered.choice next → (purpose : Purpose)
+    → next ≡ Pairing purpose → WasPairs (at_stage m stage) told
 recalled m stage next told pairs purpose e = inl (inr (pairs purpose e))
 
 -- by the stage
-stage_pairs : (m : Call_machine) (stage : Stage) (told : Call_answer) (purpose : Purpose) → (calls.after (at_stage m stage) told).state ≡ Pairing purpose → WasPairs (at_stage m stage) told
+stage_pairs : (m : Call_machine) (stage : Stage) (told : Call_answer) (purpose : Purpose)
+    → (calls.after (at_stage m stage) told).state ≡ Pairing purpose → WasPairs (at_stage m stage) told
 stage_pairs m (Pairing other) told purpose e = inl (inl (other, refl))
 stage_pairs m AtRoot (Word_read word) purpose e = recalled m AtRoot _ (Word_read word) (root_pairs m.task m.remembered.choice m.remembered.fill word) purpose e
 stage_pairs m AtRoot told purpose e = search rules
@@ -74,7 +81,8 @@ stage_pairs m (Growing need) told purpose e = search rules
 stage_pairs m (Ended reply) told purpose e = search rules
 
 -- the answer of a closure leaves a pair that is to be made, or it has one removed
-decided_choice : (task : Task) (held : Remembered) (removal : Removal) (kind : OpKind) (old : ℕ) (new : Of) → (decided_held task held removal kind).choice ≡ Some (To_replace old new) → held.choice ≡ Some (To_replace old new)
+decided_choice : (task : Task) (held : Remembered) (removal : Removal) (kind : OpKind) (old : ℕ) (new : Of)
+    → (decided_held task held removal kind).choice ≡ Some (To_replace old new) → held.choice ≡ Some (To_replace old new)
 decided_choice tasks.Compute held removal op_kinds.Insert old new e = e
 decided_choice tasks.Compute held removal op_kinds.Remove old new e = absurd cc
 decided_choice tasks.Compute held removal (op_kinds.Abort t) old new e = e
@@ -83,7 +91,8 @@ decided_choice (tasks.Insert replace) held removal kind old new e = e
 decided_choice tasks.RemoveIf held removal kind old new e = e
 
 -- so of the answer that is remembered
-choice_pairs : (m : Call_machine) (stage : Stage) (told : Call_answer) (old : ℕ) (new : Of) → (calls.after (at_stage m stage) told).remembered.choice ≡ Some (To_replace old new) → WasPairs (at_stage m stage) told
+choice_pairs : (m : Call_machine) (stage : Stage) (told : Call_answer) (old : ℕ) (new : Of)
+    → (calls.after (at_stage m stage) told).remembered.choice ≡ Some (To_replace old new) → WasPairs (at_stage m stage) told
 choice_pairs m (Pairing other) told old new e = inl (inl (other, refl))
 choice_pairs m (Showing removal) (Op kind) old new e = inl (inr (old, new, decided_choice m.task m.remembered removal kind old new e))
 choice_pairs m stage (Word_read word) old new e = inl (inr (old, new, e))

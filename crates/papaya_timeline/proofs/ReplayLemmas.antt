@@ -1,12 +1,15 @@
 -- The map that a list of exchanges leaves, whatever tables there are.
-use Rattle.std.proofs.Common.{◌≡◌, ◌⊎◌, inl, inr, ⊎_elim, ℕ, Bool, true, false, cond, Option, None, Some, List, [], ◌∷◌, ◌++◌, refl, sym, ◌∙◌, ap, subst, append_assoc}
+use Rattle.std.proofs.Common.{◌≡◌, ◌⊎◌, inl, inr, ⊎_elim, ℕ, Bool, true, false, cond, Option, None}
+use Rattle.std.proofs.Common.{Some, List, [], ◌∷◌, ◌++◌, refl, sym, ◌∙◌, ap, subst, append_assoc}
 use Rattle.std.proofs.lemmas.Bool.{cases_Bool}
 use Rattle.papaya_words.specs.Table.{TableWords}
 use Rattle.papaya_words.specs.declared.probe.ResizeMode.TheVariants.{Blocking}
 use Rattle.papaya_law.specs.Allows.{AllAllowed}
 use Rattle.papaya_law.specs.Class.{IsOn, IsTied}
 use Rattle.papaya_law.specs.Content.{lookup, content}
-use Rattle.papaya_law.specs.Exchange.{Setting, State, Word, Exchange, Open, Claim, Replace, Delete, Link, Mark, Close, Place, Finish, Advance, Promote, Abort, Take, run, start}
+use Rattle.papaya_law.specs.Exchange.{Setting, State, Word, Exchange, Open, Claim, Replace, Delete}
+use Rattle.papaya_law.specs.Exchange.{Link, Mark, Close, Place, Finish, Advance, Promote, Abort}
+use Rattle.papaya_law.specs.Exchange.{Take, run, start}
 use Rattle.papaya_law.specs.Invariant.{IsBlockingState, IsIncrementalState, IsKeeping, named}
 use Rattle.papaya_law.specs.Meaning.{map_of, map_after, map_left, IsLegal, AllLegal, IsLawful}
 use Rattle.papaya_law.specs.View.{Here, Leaving, look}
@@ -22,7 +25,8 @@ use Rattle.papaya_timeline.proofs.Good.{replayed, replay}
 use Rattle.papaya_store.specs.declared.mode.Mode.{Mode}
 
 -- of a list that may be longer by one, a beginning is one of the list, or it is the whole
-pub beginning-cases : {A : Type 0} (so_far rest since made : List A) → (made ≡ []) ⊎ ((e : A) × (made ≡ e ∷ [])) → so_far ++ rest ≡ since ++ made → ((left : List A) × (so_far ++ left ≡ since)) ⊎ (so_far ≡ since ++ made)
+pub beginning-cases : {A : Type 0} (so_far rest since made : List A) → (made ≡ []) ⊎ ((e : A) × (made ≡ e ∷ [])) → so_far ++ rest ≡ since ++ made
+    → ((left : List A) × (so_far ++ left ≡ since)) ⊎ (so_far ≡ since ++ made)
 beginning-cases [] rest since made one e = inl (since, refl)
 beginning-cases (x ∷ so_far) rest [] made (inl none) e = let f : x ∷ (so_far ++ rest) ≡ [] = e ∙ none in cc
 beginning-cases (x ∷ so_far) rest [] made (inr (y, is)) e =
@@ -44,7 +48,8 @@ beginning-cases (x ∷ so_far) rest (y ∷ since) made one e =
 
 module _ {K V : Type 0} (eq : K → K → Bool) where
   -- the law's map in the setting that tables are is the replay
-  pub map_replayed : (hash : K → ℕ) (mode : Mode) (tables : List TableWords) (es : List (Exchange (Stored K V))) (m : Map K V) → map_of (setting_of eq hash mode tables) m es ≡ replayed eq m es
+  pub map_replayed : (hash : K → ℕ) (mode : Mode) (tables : List TableWords) (es : List (Exchange (Stored K V))) (m : Map K V)
+      → map_of (setting_of eq hash mode tables) m es ≡ replayed eq m es
   map_replayed hash mode tables [] m = refl
   map_replayed hash mode tables (Open t ∷ es) m = map_replayed hash mode tables es m
   map_replayed hash mode tables (Claim t x p ∷ es) m = map_replayed hash mode tables es (λ k. cond (eq k p.key) (Some p) (m k))
@@ -74,7 +79,8 @@ module _ {K V : Type 0} (eq : K → K → Bool) where
     g = setting_of eq hash mode tables
 
     -- a map has one pair for equal keys, and keeps to that
-    respects_put : (m : Map K V) → ((j k : K) → eq j k ≡ true → m j ≡ m k) → (l : K) (new : Option (Stored K V)) → (j k : K) → eq j k ≡ true → cond (eq j l) new (m j) ≡ cond (eq k l) new (m k)
+    respects_put : (m : Map K V) → ((j k : K) → eq j k ≡ true → m j ≡ m k) → (l : K) (new : Option (Stored K V)) → (j k : K) → eq j k ≡ true
+        → cond (eq j l) new (m j) ≡ cond (eq k l) new (m k)
     respects_put m alike l new j k same =
         let e : eq j l ≡ eq k l = same_left j k l same in
         ap (λ b. cond b new (m j)) e ∙ ap (λ v. cond (eq k l) new v) (alike j k same)
@@ -88,7 +94,8 @@ module _ {K V : Type 0} (eq : K → K → Bool) where
           ]
         ]
 
-    respects : (es : List (Exchange (Stored K V))) (m : Map K V) → ((j k : K) → eq j k ≡ true → m j ≡ m k) → (j k : K) → eq j k ≡ true → replayed eq m es j ≡ replayed eq m es k
+    respects : (es : List (Exchange (Stored K V))) (m : Map K V) → ((j k : K) → eq j k ≡ true → m j ≡ m k) → (j k : K) → eq j k ≡ true
+        → replayed eq m es j ≡ replayed eq m es k
     respects [] m alike = alike
     respects (Open t ∷ es) m alike = respects es m alike
     respects (Claim t x p ∷ es) m alike = respects es (λ k. cond (eq k p.key) (Some p) (m k)) (respects_put m alike p.key (Some p))
@@ -109,32 +116,42 @@ module _ {K V : Type 0} (eq : K → K → Bool) where
     replay-alike es = respects es (λ k. None) (λ j k same. refl)
 
     -- without blocking a pair of the map stands where a search comes to it
-    held_incremental : (state : State (Stored K V)) (m : Map K V) → IsIncrementalState g state m → (j : K) (p : Stored K V) → m j ≡ Some p → (t : ℕ) × (x : ℕ) × (named (state.slot t x) ≡ Some p)
+    held_incremental : (state : State (Stored K V)) (m : Map K V) → IsIncrementalState g state m → (j : K) (p : Stored K V) → m j ≡ Some p → (t : ℕ)
+        × (x : ℕ) × (named (state.slot t x) ≡ Some p)
     held_incremental state m holds j p e =
         let o = subst (IsTied (IsOn state.first state.next) g.places (look g state j)) e (holds.class j).tied in
-        let word : Word (Stored K V) = state.slot o.table (g.place j o.table o.at) in
-        (o.table, g.place j o.table o.at, ⊎_elim (λ (here : look g state j o.table o.at ≡ Here p). ap named (view_here g j word p here)) (λ (leaving : look g state j o.table o.at ≡ Leaving p). ap named (view_leaving g j word p leaving).0) o.has)
+        let word : Word (Stored K V) = state.slot o.table (g.place j o.table o.at) in (
+          o.table,
+          g.place j o.table o.at,
+          ⊎_elim (λ (here : look g state j o.table o.at ≡ Here p). ap named (view_here g j word p here))
+              (λ (leaving : look g state j o.table o.at ≡ Leaving p). ap named (view_leaving g j word p leaving).0) o.has,
+        )
 
     -- with blocking it stands in the root
-    held_blocking : (state : State (Stored K V)) (m : Map K V) → IsKeeping g state m → g.blocking ≡ true → (j : K) (p : Stored K V) → m j ≡ Some p → (t : ℕ) × (x : ℕ) × (named (state.slot t x) ≡ Some p)
+    held_blocking : (state : State (Stored K V)) (m : Map K V) → IsKeeping g state m → g.blocking ≡ true → (j : K) (p : Stored K V) → m j ≡ Some p
+        → (t : ℕ) × (x : ℕ) × (named (state.slot t x) ≡ Some p)
     held_blocking state m keeps blocks j p e =
         let there : lookup g.same g.key (content g state) j ≡ Some p = content_is g law state m keeps (λ b. absurd (cc (b, blocks))) j ∙ e in
         let found = table_found g (state.slot state.root) (g.size state.root) j p there in
         (state.root, found.0, ⊎_elim (λ is. ap named is) (λ is. ap named is) found.2)
 
     -- a pair of the map stands in a slot
-    pub held_in_slot : (es : List (Exchange (Stored K V))) → AllAllowed g start es → (j : K) (p : Stored K V) → replay eq es j ≡ Some p → (t : ℕ) × (x : ℕ) × (named ((run es start).slot t x) ≡ Some p)
+    pub held_in_slot : (es : List (Exchange (Stored K V))) → AllAllowed g start es → (j : K) (p : Stored K V) → replay eq es j ≡ Some p → (t : ℕ)
+        × (x : ℕ) × (named ((run es start).slot t x) ≡ Some p)
     held_in_slot es may j p e =
         let keeps = keeping g law es may in
         let there : map_left g es j ≡ Some p = ap (λ m. m j) (map_replayed hash mode tables es (λ k. None)) ∙ e in
         ⊎_elim
-        (λ (incremental : (g.blocking ≡ false) × IsIncrementalState g (run es start) (map_left g es)). held_incremental (run es start) (map_left g es) incremental.1 j p there)
-        (λ (blocks : (g.blocking ≡ true) × IsBlockingState g (run es start) (map_left g es)). held_blocking (run es start) (map_left g es) keeps blocks.0 j p there)
+        (λ (incremental : (g.blocking ≡ false) × IsIncrementalState g (run es start) (map_left g es)).
+        held_incremental (run es start) (map_left g es) incremental.1 j p there)
+        (λ (blocks : (g.blocking ≡ true) × IsBlockingState g (run es start) (map_left g es)).
+        held_blocking (run es start) (map_left g es) keeps blocks.0 j p there)
         keeps
 
     -- the exchange after these takes out of the map what the map has there
     pub next_legal : (es : List (Exchange (Stored K V))) (e : Exchange (Stored K V)) → AllAllowed g start (es ++ e ∷ []) → IsLegal g (replay eq es) e
-    next_legal es e may = subst (λ m. IsLegal g m e) (map_replayed hash mode tables es (λ k. None)) (last es (λ k. None) (legal_changes g law (es ++ e ∷ []) may))
+    next_legal es e may = subst (λ m. IsLegal g m e) (map_replayed hash mode tables es (λ k. None))
+        (last es (λ k. None) (legal_changes g law (es ++ e ∷ []) may))
       where
         last : (fs : List (Exchange (Stored K V))) (m : Map K V) → AllLegal g m (fs ++ e ∷ []) → IsLegal g (map_of g m fs) e
         last [] m legal = legal.0

@@ -1,5 +1,7 @@
 -- A call that resizes the map stands within its tables after each answer within the limits, and asks for tables of sizes of tables.
-use Rattle.std.proofs.Common.{◌≡◌, ⊎_elim, ℕ, zero, suc, ◌+◌, ◌*◌, ◌^◌, ◌/◌, ◌-◌, ◌<◌, ◌≤◌, ◌==◌, nat_le, max, Option, None, Some, refl, sym, subst, arith, leb-true, pow-suc}
+use Rattle.std.proofs.Common.{◌≡◌, ⊎_elim, ℕ, zero, suc, ◌+◌, ◌*◌, ◌^◌, ◌/◌, ◌-◌, ◌<◌, ◌≤◌, ◌==◌}
+use Rattle.std.proofs.Common.{nat_le, max, Option, None, Some, refl, sym, subst, arith, leb-true}
+use Rattle.std.proofs.Common.{pow-suc}
 use Rattle.std.proofs.lemmas.Bool.{cases_lt, cond_both}
 use Rattle.std.specs.Int.{IsPowerOfTwo}
 use Rattle.papaya_words.specs.Probe.{log_upto}
@@ -22,7 +24,9 @@ use Rattle.papaya_chain.specs.declared.resizer.Room.{Room}
 use Rattle.papaya_chain.specs.declared.resizer.State.{State}
 use Rattle.papaya_chain.specs.declared.resizer.State.TheVariants as stages
 use Rattle.papaya_chain.specs.Machine.{IsFit, copying_after, link_after}
-use Rattle.papaya_chain.specs.Resizer.{IsStandingIn, IsStandingResizer, after, after_in, ask_of, asks_in, at_count, at_last, at_next, at_root, called, copied, counted, copies, judges, linked, makes, over, told_root}
+use Rattle.papaya_chain.specs.Resizer.{IsStandingIn, IsStandingResizer, after, after_in, ask_of}
+use Rattle.papaya_chain.specs.Resizer.{asks_in, at_count, at_last, at_next, at_root, called, copied}
+use Rattle.papaya_chain.specs.Resizer.{counted, copies, judges, linked, makes, over, told_root}
 use Rattle.papaya_chain.specs.Room.{IsStandingRoom, entries_of, room_of, room_of_len}
 use Rattle.papaya_chain_law.proofs.CopyStanding.{copying_fits, copying_stands, link_fits, link_stands}
 use Rattle.papaya_timeline.proofs.CallersLemmas.{same_item}
@@ -31,17 +35,21 @@ use Rattle.papaya_timeline.proofs.CallersLemmas.{same_item}
 log_most : (most n : ℕ) → log_upto most n ≤ most
 unfolding log_upto
 log_most zero n = omega arith
-log_most (suc most) n = cond_both (nat_le (2 ^ suc most) n) (suc most) (log_upto most n) (λ l. l ≤ suc most) (λ _. omega arith) (λ _. let below = log_most most n in omega (arith, below))
+log_most (suc most) n = cond_both (nat_le (2 ^ suc most) n) (suc most) (log_upto most n) (λ l. l ≤ suc most) (λ _. omega arith)
+    (λ _. let below = log_most most n in omega (arith, below))
 
 -- so many slots are a power of two
 entries_power : (pairs : ℕ) → IsPowerOfTwo (entries_of pairs)
-entries_power pairs = cond_both (nat_le (pairs * 8 / 6) 1) 1 (2 * 2 ^ log_upto 63 (pairs * 8 / 6 - 1)) IsPowerOfTwo (λ _. (0, refl)) (λ _. (suc (log_upto 63 (pairs * 8 / 6 - 1)), omega (arith, pow-suc 2 (log_upto 63 (pairs * 8 / 6 - 1)))))
+entries_power pairs = cond_both (nat_le (pairs * 8 / 6) 1) 1 (2 * 2 ^ log_upto 63 (pairs * 8 / 6 - 1)) IsPowerOfTwo (λ _. (0, refl))
+    (λ _. (suc (log_upto 63 (pairs * 8 / 6 - 1)), omega (arith, pow-suc 2 (log_upto 63 (pairs * 8 / 6 - 1)))))
 
 -- a room that may be is of a size of tables
 room_stands : (pairs : ℕ) → IsStandingRoom (room_of pairs)
 room_stands pairs = cond_both (nat_le (entries_of pairs) (2 ^ 32)) (Some (room_of_len (max (entries_of pairs) 8))) None IsStandingRoom
     (λ short. record {
-      power = ⊎_elim (λ (lt : entries_of pairs < 8). let e : max (entries_of pairs) 8 ≡ 8 = omega (arith, lt) in (3, e)) (λ (le : 8 ≤ entries_of pairs). let e : max (entries_of pairs) 8 ≡ entries_of pairs = omega (arith, le) in subst IsPowerOfTwo (sym e) (entries_power pairs)) (cases_lt (entries_of pairs) 8);
+      power = ⊎_elim (λ (lt : entries_of pairs < 8). let e : max (entries_of pairs) 8 ≡ 8 = omega (arith, lt) in (3, e))
+          (λ (le : 8 ≤ entries_of pairs). let e : max (entries_of pairs) 8 ≡ entries_of pairs = omega (arith, le) in
+          subst IsPowerOfTwo (sym e) (entries_power pairs)) (cases_lt (entries_of pairs) 8);
       most = let le : entries_of pairs ≤ 2 ^ 32 = leb-true (entries_of pairs) (2 ^ 32) short in omega (arith, le);
       few = let most : log_upto 63 (max (entries_of pairs) 8) ≤ 63 = log_most 63 (max (entries_of pairs) 8) in omega (arith, most);
     })
@@ -54,17 +62,20 @@ makes_stands (Some room) stands = stands
 
 judges_stands : (root len : ℕ) (room : Option Room) → IsStandingRoom room → IsStandingIn (judges root len room)
 judges_stands root len None stands = tt
-judges_stands root len (Some room) stands = cond_both (nat_le room.len len) stages.Done (stages.Looking root len (Some room)) IsStandingIn (λ _. tt) (λ _. stands)
+judges_stands root len (Some room) stands = cond_both (nat_le room.len len) stages.Done (stages.Looking root len (Some room)) IsStandingIn (λ _. tt)
+    (λ _. stands)
 
 last_stands : (mode : ResizeMode) (root len : ℕ) (room : Option Room) → IsStandingRoom room → IsStandingIn (at_last mode root len room)
 last_stands mode root len None stands = tt
 last_stands mode root len (Some room) stands = stands
 
 next_stands : (mode : ResizeMode) (root len : ℕ) (room : Option Room) (next : ℕ) → IsStandingRoom room → IsStandingIn (at_next mode root len room next)
-next_stands mode root len room next stands = cond_both (next == 0) (at_last mode root len room) (copies root) IsStandingIn (λ _. last_stands mode root len room stands) (λ _. tt)
+next_stands mode root len room next stands = cond_both (next == 0) (at_last mode root len room) (copies root) IsStandingIn
+    (λ _. last_stands mode root len room stands) (λ _. tt)
 
 root_stands : (resize : Resize) (root : ℕ) → IsStandingIn (at_root resize root)
-root_stands (resizes.Reserve more) root = cond_both (root == 0) (makes (room_of more)) (stages.Sizing root) IsStandingIn (λ _. makes_stands (room_of more) (room_stands more)) (λ _. tt)
+root_stands (resizes.Reserve more) root = cond_both (root == 0) (makes (room_of more)) (stages.Sizing root) IsStandingIn
+    (λ _. makes_stands (room_of more) (room_stands more)) (λ _. tt)
 root_stands resizes.Chunk root = cond_both (root == 0) stages.Done (stages.Looking root 0 None) IsStandingIn (λ _. tt) (λ _. tt)
 root_stands resizes.CopyAll root = cond_both (root == 0) stages.Done (stages.Looking root 0 None) IsStandingIn (λ _. tt) (λ _. tt)
 
@@ -111,9 +122,12 @@ copied_stands resize from (copied_to.Search table) stands = over_stands resize
 copied_stands resize from (copied_to.Root root) stands = over_stands resize
 copied_stands resize from copied_to.Chunk stands = over_stands resize
 
-after_stands : (resize : Resize) (mode : ResizeMode) (initial number : ℕ) (a : Answer) (stage : State) → IsPowerOfTwo initial → IsFit a → IsStandingIn stage → IsStandingIn (after_in resize mode initial number a stage)
-after_stands resize mode initial number a (stages.Linking link) power fit stands = linked_stands (follows link) (link_after link mode initial a) (link_stands link mode initial a power fit stands)
-after_stands resize mode initial number a (stages.Copying from copying) power fit stands = copied_stands resize from (copying_after copying mode initial number a) (copying_stands copying mode initial number a power fit stands)
+after_stands : (resize : Resize) (mode : ResizeMode) (initial number : ℕ) (a : Answer) (stage : State) → IsPowerOfTwo initial → IsFit a
+    → IsStandingIn stage → IsStandingIn (after_in resize mode initial number a stage)
+after_stands resize mode initial number a (stages.Linking link) power fit stands = linked_stands (follows link) (link_after link mode initial a)
+    (link_stands link mode initial a power fit stands)
+after_stands resize mode initial number a (stages.Copying from copying) power fit stands = copied_stands resize from
+    (copying_after copying mode initial number a) (copying_stands copying mode initial number a power fit stands)
 after_stands resize mode initial number a stages.AtRoot power fit stands = called_stands resize mode stages.AtRoot a stands
 after_stands resize mode initial number a (stages.Making room) power fit stands = called_stands resize mode (stages.Making room) a stands
 after_stands resize mode initial number a (stages.Opening table) power fit stands = called_stands resize mode (stages.Opening table) a stands
@@ -125,7 +139,12 @@ after_stands resize mode initial number a (stages.Refused refused) power fit sta
 
 -- it stands after an answer
 pub resizer_stands : (z : Resizer) (a : Answer) → IsStandingResizer z → IsFit a → IsStandingResizer (after z a)
-resizer_stands z a stands fit = record { chunked = stands.chunked; initial = stands.initial; state = after_stands z.resize z.mode z.initial z.number a z.state stands.initial fit stands.state }
+resizer_stands z a stands fit = record {
+  chunked = stands.chunked;
+  initial = stands.initial;
+  state = after_stands z.resize z.mode z.initial z.number a
+      z.state stands.initial fit stands.state;
+}
 
 -- and asks for no other tables
 fits_in : (stage : State) → IsStandingIn stage → (ask : CopyAsk) → asks_in stage ≡ Some ask → IsFitCopyAsk ask

@@ -20,7 +20,9 @@ use Rattle.papaya_chain.specs.declared.resizer.Room.{Room}
 use Rattle.papaya_chain.specs.declared.resizer.State.{State}
 use Rattle.papaya_chain.specs.declared.resizer.State.TheVariants as stages
 use Rattle.papaya_chain.specs.Machine as machine
-use Rattle.papaya_chain.specs.Resizer.{after_in, asks_in, at_count, at_last, at_next, at_root, called, copied, copies, counted, judges, linked, makes, over, told_root}
+use Rattle.papaya_chain.specs.Resizer.{after_in, asks_in, at_count, at_last, at_next, at_root}
+use Rattle.papaya_chain.specs.Resizer.{called, copied, copies, counted, judges, linked, makes, over}
+use Rattle.papaya_chain.specs.Resizer.{told_root}
 use Rattle.papaya_chain.specs.Room.{room_of}
 use Rattle.papaya_call_law.specs.Copier.{link_in_copying}
 use Rattle.papaya_chain_law.specs.Resizers.{HasLink}
@@ -38,9 +40,11 @@ module _ (Made : (table chunks : ℕ) → Type 0) where
   IsMadeStage _ = Unit {0}
 
   -- in other words
-  pub stage_is : (stage : State) → ((t : ℕ) → stage ≡ stages.Opening t → Made t 0) → ((behind t chunks : ℕ) → HasLink stage (links.Linking behind t chunks) → Made t chunks) → IsMadeStage stage
+  pub stage_is : (stage : State) → ((t : ℕ) → stage ≡ stages.Opening t → Made t 0)
+      → ((behind t chunks : ℕ) → HasLink stage (links.Linking behind t chunks) → Made t chunks) → IsMadeStage stage
   stage_is (stages.Opening table) opens link = opens table refl
-  stage_is (stages.Linking made) opens link = made_is Made (Some made) (λ behind t chunks e. link behind t chunks (let f : made ≡ links.Linking behind t chunks = cc in f))
+  stage_is (stages.Linking made) opens link = made_is Made (Some made)
+      (λ behind t chunks e. link behind t chunks (let f : made ≡ links.Linking behind t chunks = cc in f))
   stage_is (stages.Copying from copying) opens link = made_is Made (link_in_copying copying) link
   stage_is stages.AtRoot opens link = tt
   stage_is (stages.Making room) opens link = tt
@@ -82,7 +86,8 @@ module _ (Made : (table chunks : ℕ) → Type 0) where
   next_made mode root len room next = cond_both (next == 0) (at_last mode root len room) (copies root) IsMadeStage (λ _. last_made mode root len room) (λ _. tt)
 
   root_made : (resize : Resize) (root : ℕ) → IsMadeStage (at_root resize root)
-  root_made (resizes.Reserve more) root = cond_both (root == 0) (makes (room_of more)) (stages.Sizing root) IsMadeStage (λ _. makes_made (room_of more)) (λ _. tt)
+  root_made (resizes.Reserve more) root = cond_both (root == 0) (makes (room_of more)) (stages.Sizing root) IsMadeStage
+      (λ _. makes_made (room_of more)) (λ _. tt)
   root_made resizes.Chunk root = cond_both (root == 0) stages.Done (stages.Looking root 0 None) IsMadeStage (λ _. tt) (λ _. tt)
   root_made resizes.CopyAll root = cond_both (root == 0) stages.Done (stages.Looking root 0 None) IsMadeStage (λ _. tt) (λ _. tt)
 
@@ -91,7 +96,9 @@ module _ (Made : (table chunks : ℕ) → Type 0) where
   count_made resizes.Chunk root len count = tt
   count_made resizes.CopyAll root len count = tt
 
-  told_made : (resize : Resize) (mode : ResizeMode) (stage : State) (a : Call_answer) → ((n slots limit chunks : ℕ) → a ≡ told.Made n → asks_in stage ≡ Some (MakeTable slots limit chunks) → Made n chunks) → IsMadeStage stage → IsMadeStage (told_root resize mode stage a)
+  told_made : (resize : Resize) (mode : ResizeMode) (stage : State) (a : Call_answer)
+      → ((n slots limit chunks : ℕ) → a ≡ told.Made n → asks_in stage ≡ Some (MakeTable slots limit chunks) → Made n chunks) → IsMadeStage stage
+      → IsMadeStage (told_root resize mode stage a)
   told_made resize mode stages.AtRoot (told.Word root) new h = root_made resize root
   told_made resize mode (stages.Making room) (told.Made table) new h = new table room.len room.limit 0 refl refl
   told_made resize mode (stages.Making room) (told.Refused refused) new h = tt
@@ -105,8 +112,11 @@ module _ (Made : (table chunks : ℕ) → Type 0) where
   counted_made resize (stages.Counting root len) count h = count_made resize root len count
   counted_made resize stage count h = h
 
-  called_made : (resize : Resize) (mode : ResizeMode) (stage : State) (a : Answer) → ((n slots limit chunks : ℕ) → a ≡ answers.Call (told.Made n) → asks_in stage ≡ Some (MakeTable slots limit chunks) → Made n chunks) → IsMadeStage stage → IsMadeStage (called resize mode stage a)
-  called_made resize mode stage (answers.Call a) new h = told_made resize mode stage a (λ n slots limit chunks e. new n slots limit chunks (ap answers.Call e)) h
+  called_made : (resize : Resize) (mode : ResizeMode) (stage : State) (a : Answer)
+      → ((n slots limit chunks : ℕ) → a ≡ answers.Call (told.Made n) → asks_in stage ≡ Some (MakeTable slots limit chunks) → Made n chunks)
+      → IsMadeStage stage → IsMadeStage (called resize mode stage a)
+  called_made resize mode stage (answers.Call a) new h = told_made resize mode stage a
+      (λ n slots limit chunks e. new n slots limit chunks (ap answers.Call e)) h
   called_made resize mode stage (answers.Count count) new h = counted_made resize stage count h
   called_made resize mode stage (answers.Hash hash) new h = h
 
@@ -121,7 +131,8 @@ module _ (Made : (table chunks : ℕ) → Type 0) where
   over_made resizes.CopyAll = tt
   over_made (resizes.Reserve more) = tt
 
-  copied_made : (resize : Resize) (from : ℕ) (end : Copied) → Copied_holds (IsMadeLink Made) (Told Made) (New Made) (stable Made) end → IsMadeStage (copied resize from end)
+  copied_made : (resize : Resize) (from : ℕ) (end : Copied) → Copied_holds (IsMadeLink Made) (Told Made) (New Made) (stable Made) end
+      → IsMadeStage (copied resize from end)
   copied_made resize from (copied_to.On copying) h = h
   copied_made resize from (copied_to.Refused refused) h = tt
   copied_made resize from (copied_to.Search table) h = over_made resize
@@ -133,20 +144,26 @@ module _ (Made : (table chunks : ℕ) → Type 0) where
   told_of_link None slots = tt
   told_of_link (Some link) slots = tt
 
-  new_of_link : (o : Option Link) (n : ℕ) → ((behind slots limit chunks : ℕ) → o ≡ Some (links.Making behind slots limit chunks) → Made n chunks) → Of (New Made) o n
+  new_of_link : (o : Option Link) (n : ℕ) → ((behind slots limit chunks : ℕ) → o ≡ Some (links.Making behind slots limit chunks) → Made n chunks)
+      → Of (New Made) o n
   new_of_link None n made = tt
   new_of_link (Some (links.Making behind slots limit chunks)) n made = made behind slots limit chunks refl
   new_of_link (Some other) n made = tt
 
-  pub stage_made : (resize : Resize) (mode : ResizeMode) (initial number : ℕ) (a : Answer) (stage : State) → ((n slots limit chunks : ℕ) → a ≡ answers.Call (told.Made n) → asks_in stage ≡ Some (MakeTable slots limit chunks) → Made n chunks) → IsMadeStage stage → IsMadeStage (after_in resize mode initial number a stage)
+  pub stage_made : (resize : Resize) (mode : ResizeMode) (initial number : ℕ) (a : Answer) (stage : State)
+      → ((n slots limit chunks : ℕ) → a ≡ answers.Call (told.Made n) → asks_in stage ≡ Some (MakeTable slots limit chunks) → Made n chunks)
+      → IsMadeStage stage → IsMadeStage (after_in resize mode initial number a stage)
   stage_made resize mode initial number a (stages.Linking link) new h =
       linked_made (follows link) (machine.link_after link mode initial a)
       (link_after (IsMadeLink Made) (Told Made) (New Made) (stable Made) link mode initial a (λ slots limit e. told_of_link (Some link) slots)
-      (λ n e. new_of_link (Some link) n (λ behind slots limit chunks making. new n slots limit chunks e (let is : link ≡ links.Making behind slots limit chunks = cc making in ap (λ y. Some (link_ask y)) is))) h)
+      (λ n e. new_of_link (Some link) n (λ behind slots limit chunks making.
+      new n slots limit chunks e (let is : link ≡ links.Making behind slots limit chunks = cc making in ap (λ y. Some (link_ask y)) is))) h)
   stage_made resize mode initial number a (stages.Copying from copying) new h =
       copied_made resize from (machine.copying_after copying mode initial number a)
-      (copying_after (IsMadeLink Made) (Told Made) (New Made) (stable Made) copying mode initial number a (λ slots limit e. told_of_link (link_in_copying copying) slots)
-      (λ n e. new_of_link (link_in_copying copying) n (λ behind slots limit chunks making. new n slots limit chunks e (ap (λ y. Some y) (copying_making copying behind slots limit chunks making)))) h)
+      (copying_after (IsMadeLink Made) (Told Made) (New Made) (stable Made) copying mode initial number a
+      (λ slots limit e. told_of_link (link_in_copying copying) slots)
+      (λ n e. new_of_link (link_in_copying copying) n
+      (λ behind slots limit chunks making. new n slots limit chunks e (ap (λ y. Some y) (copying_making copying behind slots limit chunks making)))) h)
   stage_made resize mode initial number a stages.AtRoot new h = called_made resize mode stages.AtRoot a new h
   stage_made resize mode initial number a (stages.Making room) new h = called_made resize mode (stages.Making room) a new h
   stage_made resize mode initial number a (stages.Opening table) new h = called_made resize mode (stages.Opening table) a new h

@@ -37,10 +37,13 @@ use Rattle.papaya_timeline.proofs.MadePairs.{MakesOver}
 use Rattle.papaya_timeline.proofs.MadeStands.{made_stands}
 
 -- What a call that made a pair stands on of it was answered just now to be stored, or before: then the pair has the value that was logged last.
-pub made_said : (m : Machine) (answer : Answer) (own : IsOwnStep m answer) (shown : Option ℕ) (n : ℕ) → MakesPair (calls.ask_of m.call) → own.told ≡ Made_number n → ShowsPairs m.call → StandsOn (after m answer).call (Makes shown n)
-    → StandsOn m.call (Inserts shown) ⊎ StandsOn m.call (Makes shown n) ⊎ ((i : ℕ) × (before : ℕ) × (shown ≡ Some i) × StandsOn m.call (Makes (Some i) before) × (IsAnswered m.call.state → ⊥))
+pub made_said : (m : Machine) (answer : Answer) (own : IsOwnStep m answer) (shown : Option ℕ) (n : ℕ) → MakesPair (calls.ask_of m.call)
+    → own.told ≡ Made_number n → ShowsPairs m.call → StandsOn (after m answer).call (Makes shown n)
+    → StandsOn m.call (Inserts shown) ⊎ StandsOn m.call (Makes shown n)
+    ⊎ ((i : ℕ) × (before : ℕ) × (shown ≡ Some i) × StandsOn m.call (Makes (Some i) before) × (IsAnswered m.call.state → ⊥))
 made_said m answer own shown n makes told shows stands =
-    made_stands m.call shown n makes shows (subst (λ y. StandsOn (calls.after m.call y) (Makes shown n)) told (subst (λ d. StandsOn d (Makes shown n)) own.call stands))
+    made_stands m.call shown n makes shows (subst (λ y. StandsOn (calls.after m.call y) (Makes shown n)) told
+    (subst (λ d. StandsOn d (Makes shown n)) own.call stands))
 
 -- it was answered a value but once
 stands_once : (m : Call_machine) (shown other : Option ℕ) → StandsOn m (Inserts shown) → calls.ask_of m ≡ show other → ⊥
@@ -61,11 +64,16 @@ inserting (ops.Insert v) e = (v, refl)
 inserting ops.Remove e = absurd cc
 inserting (ops.Abort t) e = absurd cc
 
-module _ {K V S A : Type 0} (eq : K → K → Bool) (says : Says K V A) (hash : S → K → ℕ) (refuse : Bool) (s : StoreState K V S) (r : Running K V A) (a : Answer) (s' : StoreState K V S) (r' : Running K V A) where
+module _ {K V S A : Type 0} (eq : K → K → Bool) (says : Says K V A) (hash : S → K → ℕ) (refuse : Bool) (s : StoreState K V S) (r : Running K V A)
+    (a : Answer) (s' : StoreState K V S) (r' : Running K V A) where
   -- A step of the call r, which answers what its machine asks; a pair that it makes is of the value at hand.
-  module _ (performs : PerformsAsk eq says hash refuse (ask_of r.machine) s r a s' r') (stay : KeepsPairs s s') (made : (n : ℕ) → MakesOver (ask_of r.machine) → a ≡ given.Call (Made_number n) → (q : Stored K V) × (pair_of s' n ≡ Some q) × (own_value s r ≡ Some q.value))
-      (again : (i n : ℕ) → StandsOn r.machine.call (Makes (Some i) n) → IsAnswered r.machine.call.state ⊎ ((p : Stored K V) × (pair_of s n ≡ Some p) × (own_value s r ≡ Some p.value))) (shows : ShowsPairs r.machine.call) where
-    module _ (turn c : ℕ) (event : Event) (is : event ≡ event_of (kind_of_ask r.machine) (ask_of r.machine) a) (h : History) (answers : Answered V) (answering : IsAnswering says s' r r' event) where
+  module _ (performs : PerformsAsk eq says hash refuse (ask_of r.machine) s r a s' r') (stay : KeepsPairs s s')
+      (made : (n : ℕ) → MakesOver (ask_of r.machine) → a ≡ given.Call (Made_number n) → (q : Stored K V) × (pair_of s' n ≡ Some q)
+      × (own_value s r ≡ Some q.value))
+      (again : (i n : ℕ) → StandsOn r.machine.call (Makes (Some i) n) → IsAnswered r.machine.call.state
+      ⊎ ((p : Stored K V) × (pair_of s n ≡ Some p) × (own_value s r ≡ Some p.value))) (shows : ShowsPairs r.machine.call) where
+    module _ (turn c : ℕ) (event : Event) (is : event ≡ event_of (kind_of_ask r.machine) (ask_of r.machine) a) (h : History) (answers : Answered V)
+        (answering : IsAnswering says s' r r' event) where
       abbrev o : Option (Operation V ℕ)
       o = answering.answered
 
@@ -74,29 +82,38 @@ module _ {K V S A : Type 0} (eq : K → K → Bool) (says : Says K V A) (hash : 
       later = record r' { machine = after r.machine a }
 
       -- what was answered before stays
-      answered_still : (shown : Option ℕ) (op : Operation V ℕ) → WasAnswered c shown op h answers → WasAnswered c shown op (entry turn c event ∷ h) (o ∷ answers)
+      answered_still : (shown : Option ℕ) (op : Operation V ℕ) → WasAnswered c shown op h answers
+          → WasAnswered c shown op (entry turn c event ∷ h) (o ∷ answers)
       answered_still shown op was = step_answered c turn shown op (kind_of_ask r.machine) (ask_of r.machine) a event h o answers is (inl was)
 
       -- what the closure answers now
-      operation : (shown : Option ℕ) (kind : OpKind) → ask_of r.machine ≡ asks.Call (show shown) → a ≡ given.Call (Op kind) → (op : Operation V ℕ) × (o ≡ Some op) × (op_kind op ≡ kind)
-      operation shown kind asks said = subst (λ e. IsAnsweredIn e o) (is ∙ event_shown shown kind (kind_of_ask r.machine) (ask_of r.machine) a asks said) answering.fits
+      operation : (shown : Option ℕ) (kind : OpKind) → ask_of r.machine ≡ asks.Call (show shown) → a ≡ given.Call (Op kind) → (op : Operation V ℕ)
+          × (o ≡ Some op) × (op_kind op ≡ kind)
+      operation shown kind asks said = subst (λ e. IsAnsweredIn e o)
+          (is ∙ event_shown shown kind (kind_of_ask r.machine) (ask_of r.machine) a asks said) answering.fits
 
-      answered_now : (shown : Option ℕ) (op : Operation V ℕ) → ask_of r.machine ≡ asks.Call (show shown) → a ≡ given.Call (Op (op_kind op)) → o ≡ Some op → WasAnswered c shown op (entry turn c event ∷ h) (o ∷ answers)
-      answered_now shown op asks said now = step_answered c turn shown op (kind_of_ask r.machine) (ask_of r.machine) a event h o answers is (inr (asks, said, now))
+      answered_now : (shown : Option ℕ) (op : Operation V ℕ) → ask_of r.machine ≡ asks.Call (show shown) → a ≡ given.Call (Op (op_kind op))
+          → o ≡ Some op → WasAnswered c shown op (entry turn c event ∷ h) (o ∷ answers)
+      answered_now shown op asks said now = step_answered c turn shown op (kind_of_ask r.machine) (ask_of r.machine) a event h o answers is
+          (inr (asks, said, now))
 
       -- what was said before and is stood on still
-      still_said : (said : Said) → StandsOn r.machine.call said → StandsOn (after r.machine a).call said → WasSaid s r c h answers said → WasSaid s' later c (entry turn c event ∷ h) (o ∷ answers) said
+      still_said : (said : Said) → StandsOn r.machine.call said → StandsOn (after r.machine a).call said → WasSaid s r c h answers said
+          → WasSaid s' later c (entry turn c event ∷ h) (o ∷ answers) said
       still_said (Agrees n agrees) before stands was = step_asked c turn n agrees (kind_of_ask r.machine) (ask_of r.machine) a event h is (inl was)
       still_said (Inserts shown) before stands (v, has, was) = (v, value, answered_still shown (ops.Insert v) was)
         where
           value : own_value s' later ≡ Some v
-          value = ⊎_elim (λ kept. kept.0 v has) (λ showing. absurd (one_value r.machine shown showing.0 before showing.2)) (at_hand eq says hash refuse s r a s' r' (ask_of r.machine) performs)
+          value = ⊎_elim (λ kept. kept.0 v has) (λ showing. absurd (one_value r.machine shown showing.0 before showing.2))
+              (at_hand eq says hash refuse s r a s' r' (ask_of r.machine) performs)
       still_said (Makes shown n) before stands (q, there, was) = (q, stay n q there, answered_still shown (ops.Insert q.value) was)
       still_said (Removes n) before stands was = answered_still (Some n) ops.Remove was
 
       -- what is said now
-      now_said : (said : Said) (own : IsOwnStep r.machine a) → IsSaidBy r.machine.call own.told said → StandsOn (after r.machine a).call said → ((said : Said) → StandsOn r.machine.call said → WasSaid s r c h answers said) → WasSaid s' later c (entry turn c event ∷ h) (o ∷ answers) said
-      now_said (Agrees n agrees) own (asking, answer) stands before = step_asked c turn n agrees (kind_of_ask r.machine) (ask_of r.machine) a event h is (inr (asks_own r.machine own.phase ∙ ap asks.Call asking, own.is ∙ ap given.Call answer))
+      now_said : (said : Said) (own : IsOwnStep r.machine a) → IsSaidBy r.machine.call own.told said → StandsOn (after r.machine a).call said
+          → ((said : Said) → StandsOn r.machine.call said → WasSaid s r c h answers said) → WasSaid s' later c (entry turn c event ∷ h) (o ∷ answers) said
+      now_said (Agrees n agrees) own (asking, answer) stands before = step_asked c turn n agrees (kind_of_ask r.machine) (ask_of r.machine) a event h
+          is (inr (asks_own r.machine own.phase ∙ ap asks.Call asking, own.is ∙ ap given.Call answer))
       now_said (Inserts shown) own (asking, answer) stands before =
           let asking' : ask_of r.machine ≡ asks.Call (show shown) = asks_own r.machine own.phase ∙ ap asks.Call asking in
           let answer' : a ≡ given.Call (Op kinds.Insert) = own.is ∙ ap given.Call answer in
@@ -118,8 +135,13 @@ module _ {K V S A : Type 0} (eq : K → K → Bool) (says : Says K V A) (hash : 
                   elim (again i m stood) [
                     | inl waits ↦ absurd (newest waits)
                     | inr (p', logged', value) ↦
-                        let same : p.value ≡ q.value = cc (logged, logged', value, of) in
-                        (q, there, answered_still shown (ops.Insert q.value) (subst (λ y. WasAnswered c y (ops.Insert q.value) h answers) (sym is_shown) (subst (λ y. WasAnswered c (Some i) (ops.Insert y) h answers) same was)))
+                        let same : p.value ≡ q.value = cc (logged, logged', value, of) in (
+                          q,
+                          there,
+                          answered_still shown (ops.Insert q.value)
+                              (subst (λ y. WasAnswered c y (ops.Insert q.value) h answers) (sym is_shown)
+                              (subst (λ y. WasAnswered c (Some i) (ops.Insert y) h answers) same was)),
+                        )
                   ]
             ]
           ]
@@ -130,7 +152,10 @@ module _ {K V S A : Type 0} (eq : K → K → Bool) (says : Says K V A) (hash : 
           answered_now (Some n) ops.Remove asking' answer' (now ∙ ap (λ y. Some y) (removing op kind))
 
       -- of any of it, where the machine stands on what it stood on or on what is said now
-      pub said_after : ((said : Said) → StandsOn (after r.machine a).call said → StandsOn r.machine.call said ⊎ ((own : IsOwnStep r.machine a) × IsSaidBy r.machine.call own.told said)) → ((said : Said) → StandsOn r.machine.call said → WasSaid s r c h answers said) → (said : Said) → StandsOn (after r.machine a).call said → WasSaid s' later c (entry turn c event ∷ h) (o ∷ answers) said
+      pub said_after : ((said : Said) → StandsOn (after r.machine a).call said → StandsOn r.machine.call said
+          ⊎ ((own : IsOwnStep r.machine a) × IsSaidBy r.machine.call own.told said))
+          → ((said : Said) → StandsOn r.machine.call said → WasSaid s r c h answers said) → (said : Said) → StandsOn (after r.machine a).call said
+          → WasSaid s' later c (entry turn c event ∷ h) (o ∷ answers) said
       said_after goes before said stands =
           ⊎_elim
           (λ was. still_said said was stands (before said was))
@@ -139,7 +164,10 @@ module _ {K V S A : Type 0} (eq : K → K → Bool) (says : Says K V A) (hash : 
 
 module _ {K V S A : Type 0} where
   -- A change is one to which the closure of the call has agreed, where the call has one.
-  pub change_agreed : (call : Call K V A) (s : StoreState K V S) (r : Running K V A) (c : ℕ) (h : History) (answers : Answered V) → ((said : Said) → StandsOn r.machine.call said → WasSaid s r c h answers said) → (old : Option ℕ) (came : Option (Stored K V)) → ((q : Stored K V) → came ≡ Some q → pair_of s q.number ≡ Some q) → IsSaidChange (the_task call) r.machine.call old (number_in came) → IsAgreed (Some call) c old came h answers
+  pub change_agreed : (call : Call K V A) (s : StoreState K V S) (r : Running K V A) (c : ℕ) (h : History) (answers : Answered V)
+      → ((said : Said) → StandsOn r.machine.call said → WasSaid s r c h answers said) → (old : Option ℕ) (came : Option (Stored K V))
+      → ((q : Stored K V) → came ≡ Some q → pair_of s q.number ≡ Some q) → IsSaidChange (the_task call) r.machine.call old (number_in came)
+      → IsAgreed (Some call) c old came h answers
   change_agreed (Get j) s r c h answers before old came logged said = tt
   change_agreed (Insert j v) s r c h answers before old came logged said = tt
   change_agreed (TryInsert j v) s r c h answers before old came logged said = tt

@@ -29,7 +29,8 @@ begun_none : (mode : ResizeMode) (behind t chunks : ℕ) → IsScanLink (begun_i
 begun_none (Incremental chunk) behind t chunks h = h
 begun_none Blocking behind t chunks h = h
 
-module _ {K V S A : Type 0} (eq : K → K → Bool) (hash : K → ℕ) (s : CoreState K V S A) (es : List (Exchange (Stored K V))) (scan : Scan) (initial number : ℕ) where
+module _ {K V S A : Type 0} (eq : K → K → Bool) (hash : K → ℕ) (s : CoreState K V S A) (es : List (Exchange (Stored K V))) (scan : Scan)
+    (initial number : ℕ) where
   abbrev g_now : Setting K (Stored K V)
   g_now = setting_of eq (low hash) s.mode s.store.words.tables
 
@@ -37,7 +38,8 @@ module _ {K V S A : Type 0} (eq : K → K → Bool) (hash : K → ℕ) (s : Core
   c_now = coding_of (low hash)
 
   -- it copies all first, or loads the root
-  state_begins : (mode : ResizeMode) → IsModeOf mode g_now.blocking → ReliesState g_now c_now (run es start) (map_left g_now es) [] scan nothing_loaded (begun_in mode)
+  state_begins : (mode : ResizeMode) → IsModeOf mode g_now.blocking
+      → ReliesState g_now c_now (run es start) (map_left g_now es) [] scan nothing_loaded (begun_in mode)
   state_begins (Incremental chunk) is = (refl, tt, tt)
   state_begins Blocking is = (refl, is)
 
@@ -47,15 +49,23 @@ module _ {K V S A : Type 0} (eq : K → K → Bool) (hash : K → ℕ) (s : Core
   gives_none Retain = refl
 
   -- so it relies on the exchanges as they are
-  pub scan_begins : (v : Scanning A) → v.scanner ≡ begun scan s.mode.resize initial number → HasAnswers scan v.answers → v.given ≡ [] → IsScanning eq hash s.mode s.store v es (record { begun = es; since = []; loaded = nothing_loaded })
+  pub scan_begins : (v : Scanning A) → v.scanner ≡ begun scan s.mode.resize initial number → HasAnswers scan v.answers → v.given ≡ []
+      → IsScanning eq hash s.mode s.store v es (record { begun = es; since = []; loaded = nothing_loaded })
   scan_begins v is answers none = record {
     split = append-nil es;
     relies = subst (λ w. ReliesScanner g_now c_now (run es start) (map_left g_now es) [] w nothing_loaded) (sym is)
-        (record { mode = mode_of s.mode.resize; cut = mode_cut s.mode.resize; gives = gives_none scan; state = state_begins s.mode.resize (mode_of s.mode.resize) });
+        (record {
+          mode = mode_of s.mode.resize;
+          cut = mode_cut s.mode.resize;
+          gives = gives_none scan;
+          state = state_begins s.mode.resize
+              (mode_of s.mode.resize);
+        });
     answers = subst (λ (w : Scanner). HasAnswers w.scan v.answers) (sym is) answers;
     given = none;
     last = λ p e. absurd cc;
     carried = λ p e. absurd cc;
     shown = λ p h. absurd h;
-    links = λ behind t chunks h. absurd (begun_none s.mode.resize behind t chunks (subst (λ (w : Scanner). IsScanLink w.state (links.Linking behind t chunks)) is h));
+    links = λ behind t chunks h. absurd (begun_none s.mode.resize behind t chunks
+        (subst (λ (w : Scanner). IsScanLink w.state (links.Linking behind t chunks)) is h));
   }

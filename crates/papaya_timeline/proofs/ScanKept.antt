@@ -1,5 +1,7 @@
 -- A step of a call that scans a table keeps a core's words to the law of exchanges.
-use Rattle.std.proofs.Common.{◌≡◌, ◌⊎◌, inl, inr, ⊎_elim, ℕ, ◌≤◌, ◌==◌, Bool, true, false, Option, None, Some, List, [], ◌∷◌, ◌++◌, cond, length, refl, sym, ap, ◌∙◌, subst, append_assoc}
+use Rattle.std.proofs.Common.{◌≡◌, ◌⊎◌, inl, inr, ⊎_elim, ℕ, ◌≤◌, ◌==◌, Bool, true, false, Option}
+use Rattle.std.proofs.Common.{None, Some, List, [], ◌∷◌, ◌++◌, cond, length, refl, sym, ap, ◌∙◌}
+use Rattle.std.proofs.Common.{subst, append_assoc}
 use Rattle.papaya_words.specs.declared.limits.TheConstants.{MAX_LOG_LEN, MAX_TABLES}
 use Rattle.papaya_ask.specs.declared.ask.At.{At}
 use Rattle.papaya_call.specs.Answers.{Says}
@@ -56,7 +58,8 @@ use Rattle.papaya_timeline.proofs.KeptHints.{KeepsHints}
 
 -- a caller that has no work has none put into its seat
 module _ {K V A : Type 0} (seat : Seat K V A) (seats : List (Seat K V A)) (caller : ℕ) where
-  seat_still : (mine : Bool) → cond mine seat.work (working seats caller) ≡ None → (working seats caller ≡ None → with_work seats caller None ≡ seats) → cond mine (record seat { work = None } ∷ seats) (seat ∷ with_work seats caller None) ≡ seat ∷ seats
+  seat_still : (mine : Bool) → cond mine seat.work (working seats caller) ≡ None → (working seats caller ≡ None → with_work seats caller None ≡ seats)
+      → cond mine (record seat { work = None } ∷ seats) (seat ∷ with_work seats caller None) ≡ seat ∷ seats
   seat_still true idle rest = ap (λ w. record seat { work = w } ∷ seats) (sym idle)
   seat_still false idle rest = ap (λ l. seat ∷ l) (rest idle)
 
@@ -64,9 +67,13 @@ no_work : {K V A : Type 0} (seats : List (Seat K V A)) (caller : ℕ) → workin
 no_work [] caller idle = refl
 no_work (seat ∷ seats) caller idle = seat_still seat seats caller (seat.caller == caller) idle (λ none. no_work seats caller none)
 
-module _ {K V S A : Type 0} (eq : K → K → Bool) (hash : K → ℕ) (law : IsLawfulKeys eq hash) (says : Says K V A) (hashes : S → K → ℕ) (refuse : Bool) (s : CoreState K V S A) (core : IsCore s.store s.callers s.mode) (hasher : hashes s.store.hasher ≡ hash) (caller : ℕ) (idle : work_of s caller ≡ None)
-    (call_trace : ScanTrace K V) (call_traces : ℕ → CallTrace K V) (kept : IsKept eq hash s.mode s.store s.callers (call_trace.begun ++ call_trace.since) call_traces) (v : Scanning A) (scanning : IsScanning eq hash s.mode s.store v (call_trace.begun ++ call_trace.since) call_trace)
-    (ask : ScanAsk) (asks : ask_of v.scanner ≡ Some ask) (a : Answer) (store' : StoreState K V S) (v' : Scanning A) (performs : PerformsScan eq says hashes refuse ask s.store v a store' v') where
+module _ {K V S A : Type 0} (eq : K → K → Bool) (hash : K → ℕ) (law : IsLawfulKeys eq hash) (says : Says K V A) (hashes : S → K → ℕ) (refuse : Bool)
+    (s : CoreState K V S A) (core : IsCore s.store s.callers s.mode) (hasher : hashes s.store.hasher ≡ hash) (caller : ℕ) (idle : work_of s caller ≡ None)
+    (call_trace : ScanTrace K V) (call_traces : ℕ → CallTrace K V)
+    (kept : IsKept eq hash s.mode s.store s.callers (call_trace.begun ++ call_trace.since) call_traces) (v : Scanning A)
+    (scanning : IsScanning eq hash s.mode s.store v (call_trace.begun ++ call_trace.since) call_trace)
+    (ask : ScanAsk) (asks : ask_of v.scanner ≡ Some ask) (a : Answer) (store' : StoreState K V S) (v' : Scanning A)
+    (performs : PerformsScan eq says hashes refuse ask s.store v a store' v') where
   -- the exchanges, the setting, the coding and the words
   abbrev es : List (Exchange (Stored K V))
   es = call_trace.begun ++ call_trace.since
@@ -103,11 +110,14 @@ module _ {K V S A : Type 0} (eq : K → K → Bool) (hash : K → ℕ) (law : Is
   s' = record s { store = store' }
 
   abbrev HasLeft : Type 0
-  HasLeft = left_by.IsScanLeft eq hash law says hashes refuse s core hasher call_trace.begun call_trace.since kept.allowed kept.coded kept.made kept.hints v call_trace.loaded scanning.relies scanning.answers scanning.last scanning.carried scanning.given scanning.links v.scanner.state a store' v'
+  HasLeft = left_by.IsScanLeft eq hash law says hashes refuse s core hasher call_trace.begun call_trace.since kept.allowed kept.coded kept.made
+      kept.hints v call_trace.loaded scanning.relies scanning.answers scanning.last scanning.carried scanning.given scanning.links v.scanner.state a store' v'
 
   -- what the answer leaves
   left_so : IsUnheard s.store v a store' ⊎ HasLeft
-  left_so = left_by.scan_left eq hash law says hashes refuse s core hasher call_trace.begun call_trace.since kept.allowed kept.coded kept.made kept.hints v call_trace.loaded scanning.relies scanning.answers scanning.last scanning.carried scanning.given scanning.links v.scanner.state refl scanning.relies.state ask asks a store' v' performs
+  left_so = left_by.scan_left eq hash law says hashes refuse s core hasher call_trace.begun call_trace.since kept.allowed kept.coded kept.made
+      kept.hints v call_trace.loaded scanning.relies scanning.answers scanning.last scanning.carried scanning.given scanning.links v.scanner.state refl
+      scanning.relies.state ask asks a store' v' performs
 
   module _ (l : HasLeft) where
     abbrev made : List (Exchange (Stored K V))
@@ -124,15 +134,20 @@ module _ {K V S A : Type 0} (eq : K → K → Bool) (hash : K → ℕ) (law : Is
     words : HasWords g (link_in_scan v.scanner.state)
     words = scan_words g s.store (λ t. refl) v.scanner.state scanning.links
 
-    learnt : AllAllowed g first (call_trace.since ++ made) × ReliesState g c first m (call_trace.since ++ made) v.scanner.scan l.loaded' (after v.scanner a).state
-    learnt = state_learns g c hashed first m keeps_first call_trace.since may_since v.scanner.scan v.scanner.mode scanning.relies.mode scanning.relies.cut v.scanner.initial v.scanner.number call_trace.loaded a made l.loaded' scanning.relies.gives v.scanner.state scanning.relies.state (λ _. words) told_first
+    learnt : AllAllowed g first (call_trace.since ++ made)
+        × ReliesState g c first m (call_trace.since ++ made) v.scanner.scan l.loaded' (after v.scanner a).state
+    learnt = state_learns g c hashed first m keeps_first call_trace.since may_since v.scanner.scan v.scanner.mode scanning.relies.mode
+        scanning.relies.cut v.scanner.initial v.scanner.number call_trace.loaded a made l.loaded' scanning.relies.gives v.scanner.state
+        scanning.relies.state (λ _. words) told_first
 
     -- so it relies on what it was told
     relies_then : ReliesScanner g c first m (call_trace.since ++ made) (after v.scanner a) l.loaded'
     relies_then = record {
       mode = scanning.relies.mode;
       cut = scanning.relies.cut;
-      gives = state_gives g c hashed first m keeps_first call_trace.since may_since v.scanner.scan v.scanner.mode scanning.relies.mode scanning.relies.cut v.scanner.initial v.scanner.number call_trace.loaded a made l.loaded' scanning.relies.gives v.scanner.state scanning.relies.state told_first;
+      gives = state_gives g c hashed first m keeps_first call_trace.since may_since v.scanner.scan v.scanner.mode scanning.relies.mode
+          scanning.relies.cut v.scanner.initial v.scanner.number call_trace.loaded a made l.loaded' scanning.relies.gives v.scanner.state
+          scanning.relies.state told_first;
       state = learnt.1;
     }
 
@@ -166,35 +181,43 @@ module _ {K V S A : Type 0} (eq : K → K → Bool) (hash : K → ℕ) (law : Is
     still_made = others.still_made eq hash law s caller s' refl es call_traces core kept made (call_traces caller).loaded leaving
 
     -- a table that it was told of was made as it asked
-    newly_made : (stage : Stage) → v.scanner.state ≡ Copying stage → (n slots limit chunks : ℕ) → a ≡ answers.Call (Made_number n) → resizers.asks_in stage ≡ Some (MakeTable slots limit chunks) → IsMadeFor store' n chunks
+    newly_made : (stage : Stage) → v.scanner.state ≡ Copying stage → (n slots limit chunks : ℕ) → a ≡ answers.Call (Made_number n)
+        → resizers.asks_in stage ≡ Some (MakeTable slots limit chunks) → IsMadeFor store' n chunks
     newly_made stage is n slots limit chunks told making =
         let (asked, at, one) = left_by.copy_asked (resizers.asks_in stage) ask (ap asks_in (sym is) ∙ asks) in
         let h = subst (λ q. PerformsScan eq says hashes refuse q s.store v a store' v') one performs in
-        copier_made eq hashes refuse s.store a store' slots limit chunks (subst (λ y. PerformsCopy eq hashes refuse y s.store a store') (same_item _ _ (sym at ∙ making)) h.0) n told
+        copier_made eq hashes refuse s.store a store' slots limit chunks
+        (subst (λ y. PerformsCopy eq hashes refuse y s.store a store') (same_item _ _ (sym at ∙ making)) h.0) n told
 
     -- the calls of all callers rely on what is told of them
-    kept_then : IsKept eq hash s.mode store' s.callers (es ++ made) (others.call_traces' eq hash law s caller s' refl es call_traces core kept made (call_traces caller).loaded)
-    kept_then = others.leaves_kept eq hash law s caller s' refl es call_traces core kept made (call_traces caller).loaded leaving None (sym (no_work s.callers caller idle)) (λ r e. absurd cc) (λ z e. absurd cc) (λ v e. absurd cc) (λ r e. absurd cc)
+    kept_then : IsKept eq hash s.mode store' s.callers (es ++ made)
+        (others.call_traces' eq hash law s caller s' refl es call_traces core kept made (call_traces caller).loaded)
+    kept_then = others.leaves_kept eq hash law s caller s' refl es call_traces core kept made (call_traces caller).loaded leaving None
+        (sym (no_work s.callers caller idle)) (λ r e. absurd cc) (λ z e. absurd cc) (λ v e. absurd cc) (λ r e. absurd cc)
 
     -- the setting has grown, and says of the tables that have come what it said
     same_then : run (call_trace.since ++ made) first ≡ run (es ++ made) start
     same_then = run-append call_trace.since made first ∙ ap (run made) same ∙ sym (run-append es made start)
 
     agrees : Agrees (IsOn (run (call_trace.since ++ made) first).first (run (call_trace.since ++ made) first).next) g g'
-    agrees = subst (λ (w : Words (Stored K V)). Agrees (IsOn w.first w.next) g g') (sym same_then) (others.agrees eq hash law s caller s' refl es call_traces core kept made (call_traces caller).loaded leaving)
+    agrees = subst (λ (w : Words (Stored K V)). Agrees (IsOn w.first w.next) g g') (sym same_then)
+        (others.agrees eq hash law s caller s' refl es call_traces core kept made (call_traces caller).loaded leaving)
 
     map_same : m ≡ map_left g' call_trace.begun
-    map_same = sym (map_of_carries g g' (IsOn (run (call_trace.since ++ made) first).first (run (call_trace.since ++ made) first).next) agrees call_trace.begun (λ k. None))
+    map_same = sym (map_of_carries g g' (IsOn (run (call_trace.since ++ made) first).first (run (call_trace.since ++ made) first).next) agrees
+        call_trace.begun (λ k. None))
 
     map_then : (k : K) → map_left g' (es ++ made) k ≡ map_left g (es ++ made) k
-    map_then k = ap (λ f. f k) (map_of_carries g g' (IsOn (run (call_trace.since ++ made) first).first (run (call_trace.since ++ made) first).next) agrees (es ++ made) (λ y. None))
+    map_then k = ap (λ f. f k) (map_of_carries g g' (IsOn (run (call_trace.since ++ made) first).first (run (call_trace.since ++ made) first).next)
+        agrees (es ++ made) (λ y. None))
 
     relies_grown : ReliesScanner g' c first (map_left g' call_trace.begun) (call_trace.since ++ made) (after v.scanner a) l.loaded'
     relies_grown = subst (λ f. ReliesScanner g' c first f (call_trace.since ++ made) (after v.scanner a) l.loaded') map_same (record {
       mode = relies_then.mode;
       cut = cut_carries agrees v.scanner.mode relies_then.cut;
       gives = gives_carries g g' c hashed first m keeps_first (call_trace.since ++ made) learnt.0 agrees v.scanner.scan l.loaded' relies_then.gives;
-      state = state_carries g g' c hashed first m keeps_first (call_trace.since ++ made) learnt.0 agrees v.scanner.scan l.loaded' (after v.scanner a).state relies_then.state;
+      state = state_carries g g' c hashed first m keeps_first (call_trace.since ++ made) learnt.0 agrees v.scanner.scan l.loaded'
+          (after v.scanner a).state relies_then.state;
     })
 
     -- a pair that it was told of is logged
@@ -219,7 +242,8 @@ module _ {K V S A : Type 0} (eq : K → K → Bool) (hash : K → ℕ) (law : Is
       last = λ p e. last_logged p (l.left.last p (ap (λ (y : copies.LoadedPairs (Stored K V)). y.call.last) (sym l.left.told.1) ∙ e));
       carried = λ p e. carried_logged p (l.left.carried p (ap (λ (y : copies.LoadedPairs (Stored K V)). y.kept) (sym l.left.told.1) ∙ e));
       shown = λ p h. shown_logged p (l.shown p h);
-      links = links_made (IsMadeFor store') v.scanner.scan v.scanner.mode v.scanner.initial v.scanner.number a v.scanner.state newly_made opens (λ behind t chunks e. still_made t chunks (scanning.links behind t chunks e));
+      links = links_made (IsMadeFor store') v.scanner.scan v.scanner.mode v.scanner.initial v.scanner.number a v.scanner.state newly_made opens
+          (λ behind t chunks e. still_made t chunks (scanning.links behind t chunks e));
     }
       where
         opens : (stage : Stage) → v.scanner.state ≡ Copying stage → (t : ℕ) → stage ≡ stages.Opening t → IsMadeFor store' t 0
@@ -227,11 +251,27 @@ module _ {K V S A : Type 0} (eq : K → K → Bool) (hash : K → ℕ) (law : Is
             let r = subst (ReliesState g c first m call_trace.since v.scanner.scan call_trace.loaded) is scanning.relies.state in
             absurd (subst (IsOfAll g c first m call_trace.since) e r.1)
 
-    others_stay : (u : Scanning A) (other : ScanTrace K V) → IsScanning eq hash s.mode s.store u es other → IsScanning eq hash s.mode store' u (es ++ made) (told_more other made other.loaded)
-    others_stay u other scans = others.other_scanner eq hash law s caller s' refl es call_traces core kept made (call_traces caller).loaded leaving u other scans
+    others_stay : (u : Scanning A) (other : ScanTrace K V) → IsScanning eq hash s.mode s.store u es other
+        → IsScanning eq hash s.mode store' u (es ++ made) (told_more other made other.loaded)
+    others_stay u other scans = others.other_scanner eq hash law s caller s' refl es call_traces core kept made (call_traces caller).loaded leaving u
+        other scans
 
     heard : IsHeard eq hash s caller es call_traces v call_trace a store' v'
-    heard = record { made = made; loaded = l.loaded'; told = l.left.told.0; kept = kept_then; scanning = own; others = others_stay; keeps = logged; hasher = of_store (λ y. y.hasher ≡ s.store.hasher) l.left.hasher_is; pairs = of_store (λ y. y.pairs ≡ s.store.pairs) l.left.pairs_are; allowed = leaving.allowed; map_same = map_then; coded = leaving.coded; sum = l.sum }
+    heard = record {
+      made = made;
+      loaded = l.loaded';
+      told = l.left.told.0;
+      kept = kept_then;
+      scanning = own;
+      others = others_stay;
+      keeps = logged;
+      hasher = of_store (λ y. y.hasher ≡ s.store.hasher) l.left.hasher_is;
+      pairs = of_store (λ y. y.pairs ≡ s.store.pairs) l.left.pairs_are;
+      allowed = leaving.allowed;
+      map_same = map_then;
+      coded = leaving.coded;
+      sum = l.sum;
+    }
 
   -- it was told nothing, or relies on what it was told, as all others do
   pub scan_heard : IsUnheard s.store v a store' ⊎ IsHeard eq hash s caller es call_traces v call_trace a store' v'

@@ -93,20 +93,28 @@ module _ (Made : (table chunks : ℕ) → Type 0) (scan : Scan) (mode : ResizeMo
   no_links : (state : State) → LinksNone state → LinksMade state
   no_links state none behind t chunks h = absurd (none (links.Linking behind t chunks) h)
 
-  copied_made : (stage : Stage) → ((n slots limit chunks : ℕ) → answer ≡ answers.Call (Made_number n) → resizers.asks_in stage ≡ Some (MakeTable slots limit chunks) → Made n chunks) → ((t : ℕ) → stage ≡ stages.Opening t → Made t 0) → LinksMade (Copying stage) → LinksMade (after_in scan mode initial number answer (Copying stage))
+  copied_made : (stage : Stage) → ((n slots limit chunks : ℕ) → answer ≡ answers.Call (Made_number n)
+      → resizers.asks_in stage ≡ Some (MakeTable slots limit chunks) → Made n chunks) → ((t : ℕ) → stage ≡ stages.Opening t → Made t 0)
+      → LinksMade (Copying stage) → LinksMade (after_in scan mode initial number answer (Copying stage))
   copied_made stage new opens links_are behind t chunks h =
       let to : Stage = resizers.after_in CopyAll mode initial number answer stage in
-      stage_links Made to (stage_made Made CopyAll mode initial number answer stage new (stage_is Made stage opens links_are)) behind t chunks (copied_link stage to (links.Linking behind t chunks) h)
+      stage_links Made to (stage_made Made CopyAll mode initial number answer stage new (stage_is Made stage opens links_are)) behind t chunks
+      (copied_link stage to (links.Linking behind t chunks) h)
 
-  pub links_made : (state : State) → ((stage : Stage) → state ≡ Copying stage → (n slots limit chunks : ℕ) → answer ≡ answers.Call (Made_number n) → resizers.asks_in stage ≡ Some (MakeTable slots limit chunks) → Made n chunks)
-      → ((stage : Stage) → state ≡ Copying stage → (t : ℕ) → stage ≡ stages.Opening t → Made t 0) → LinksMade state → LinksMade (after_in scan mode initial number answer state)
+  pub links_made : (state : State) → ((stage : Stage) → state ≡ Copying stage → (n slots limit chunks : ℕ) → answer ≡ answers.Call (Made_number n)
+      → resizers.asks_in stage ≡ Some (MakeTable slots limit chunks) → Made n chunks)
+      → ((stage : Stage) → state ≡ Copying stage → (t : ℕ) → stage ≡ stages.Opening t → Made t 0) → LinksMade state
+      → LinksMade (after_in scan mode initial number answer state)
   links_made (Copying stage) new opens links_are = copied_made stage (new stage refl) (opens stage refl) links_are
   links_made AtRoot new opens links_are = no_links (scanned scan AtRoot answer) (scanned_none scan AtRoot answer (λ link h. h))
   links_made (Sizing table) new opens links_are = no_links (scanned scan (Sizing table) answer) (scanned_none scan (Sizing table) answer (λ link h. h))
   links_made (Looking spot) new opens links_are = no_links (scanned scan (Looking spot) answer) (scanned_none scan (Looking spot) answer (λ link h. h))
-  links_made (Giving spot word) new opens links_are = no_links (scanned scan (Giving spot word) answer) (scanned_none scan (Giving spot word) answer (λ link h. h))
-  links_made (Showing spot word) new opens links_are = no_links (scanned scan (Showing spot word) answer) (scanned_none scan (Showing spot word) answer (λ link h. h))
-  links_made (Deleting spot word) new opens links_are = no_links (scanned scan (Deleting spot word) answer) (scanned_none scan (Deleting spot word) answer (λ link h. h))
+  links_made (Giving spot word) new opens links_are = no_links (scanned scan (Giving spot word) answer)
+      (scanned_none scan (Giving spot word) answer (λ link h. h))
+  links_made (Showing spot word) new opens links_are = no_links (scanned scan (Showing spot word) answer)
+      (scanned_none scan (Showing spot word) answer (λ link h. h))
+  links_made (Deleting spot word) new opens links_are = no_links (scanned scan (Deleting spot word) answer)
+      (scanned_none scan (Deleting spot word) answer (λ link h. h))
   links_made (Uncounting spot) new opens links_are = no_links (scanned scan (Uncounting spot) answer) (scanned_none scan (Uncounting spot) answer (λ link h. h))
   links_made Done new opens links_are = no_links (scanned scan Done answer) (scanned_none scan Done answer (λ link h. h))
   links_made (Refused refused) new opens links_are = no_links (scanned scan (Refused refused) answer) (scanned_none scan (Refused refused) answer (λ link h. h))

@@ -1,5 +1,7 @@
 -- What a scanner's step does to the map, and to the count of its pairs.
-use Rattle.std.proofs.Common.{◌≡◌, inl, inr, ⊎_elim, ℕ, ℤ, pos, negsuc, ◌+ℤ◌, ◌==◌, ◌≤◌, ◌^◌, Bool, true, false, Option, None, Some, List, [], ◌∷◌, ◌++◌, length, refl, sym, ap, ◌∙◌, subst, arith, eqb-true}
+use Rattle.std.proofs.Common.{◌≡◌, inl, inr, ⊎_elim, ℕ, ℤ, pos, negsuc, ◌+ℤ◌, ◌==◌, ◌≤◌, ◌^◌, Bool}
+use Rattle.std.proofs.Common.{true, false, Option, None, Some, List, [], ◌∷◌, ◌++◌, length, refl}
+use Rattle.std.proofs.Common.{sym, ap, ◌∙◌, subst, arith, eqb-true}
 use Rattle.std.proofs.lemmas.Bool.{cond-false, cond-true}
 use Rattle.std.proofs.lemmas.Int.{ints, int_wrap-add_same}
 use Rattle.std.specs.Int.{w64, int_wrap}
@@ -65,7 +67,8 @@ answered_shown (one ∷ older) p stays (inl (is, said)) = inl is
 answered_shown (one ∷ older) p stays (inr (other, h)) = inr (answered_shown older p stays h)
 
 -- what is loaded, and what a size is asked for, is no change
-pub quiet : (P : Event → Type 0) → P Other → (kind : Option StepKind) (ask : CopyAsk) → ((answer : Call_answer) → copy_event kind ask answer ≡ Other) → (a : Answer) → P (event_of_scan kind (Copy ask) a)
+pub quiet : (P : Event → Type 0) → P Other → (kind : Option StepKind) (ask : CopyAsk) → ((answer : Call_answer) → copy_event kind ask answer ≡ Other)
+    → (a : Answer) → P (event_of_scan kind (Copy ask) a)
 quiet P other kind ask none (answers.Call answer) = subst P (sym (none answer)) other
 quiet P other kind ask none (answers.Hash hash) = other
 quiet P other kind ask none (answers.Count count) = other
@@ -76,7 +79,8 @@ copied_event kind ask (answers.Call answer) = refl
 copied_event kind ask (answers.Hash hash) = refl
 copied_event kind ask (answers.Count count) = refl
 
-pub stage_quiet : (P : Event → Type 0) → P Other → ((kind : StepKind) → P (Moved kind)) → (stage : Stage) (o : Option CopyAsk) (ask : ScanAsk) → copy_asks o ≡ Some ask → (a : Answer) → P (event_of_scan (resizers.kind_in stage) ask a)
+pub stage_quiet : (P : Event → Type 0) → P Other → ((kind : StepKind) → P (Moved kind)) → (stage : Stage) (o : Option CopyAsk) (ask : ScanAsk)
+    → copy_asks o ≡ Some ask → (a : Answer) → P (event_of_scan (resizers.kind_in stage) ask a)
 stage_quiet P other moved stage None ask e a = let f : None ≡ Some ask = e in absurd cc
 stage_quiet P other moved stage (Some is) ask e a =
     subst (λ y. P (event_of_scan (resizers.kind_in stage) y a)) (same_item (Copy is) ask e)
@@ -105,9 +109,14 @@ owed_by Done false e = refl
 owed_by (Refused refused) true e = absurd cc
 owed_by (Refused refused) false e = refl
 
-module _ {K V S A : Type 0} (eq : K → K → Bool) (hash : K → ℕ) (law : IsLawfulKeys eq hash) (s : CoreState K V S A) (core : IsCore s.store s.callers s.mode) (caller : ℕ)
-    (call_trace : ScanTrace K V) (call_traces : ℕ → CallTrace K V) (kept : IsKept eq hash s.mode s.store s.callers (call_trace.begun ++ call_trace.since) call_traces) (v : Scanning A) (scanning : IsScanning eq hash s.mode s.store v (call_trace.begun ++ call_trace.since) call_trace)
-    (a : Answer) (store' : StoreState K V S) (v' : Scanning A) (heard : IsHeard eq hash s caller (call_trace.begun ++ call_trace.since) call_traces v call_trace a store' v') (core' : IsCore store' s.callers s.mode) where
+module _ {K V S A : Type 0} (eq : K → K → Bool) (hash : K → ℕ) (law : IsLawfulKeys eq hash) (s : CoreState K V S A)
+    (core : IsCore s.store s.callers s.mode) (caller : ℕ)
+    (call_trace : ScanTrace K V) (call_traces : ℕ → CallTrace K V)
+    (kept : IsKept eq hash s.mode s.store s.callers (call_trace.begun ++ call_trace.since) call_traces) (v : Scanning A)
+    (scanning : IsScanning eq hash s.mode s.store v (call_trace.begun ++ call_trace.since) call_trace)
+    (a : Answer) (store' : StoreState K V S) (v' : Scanning A)
+    (heard : IsHeard eq hash s caller (call_trace.begun ++ call_trace.since) call_traces v call_trace a store' v')
+    (core' : IsCore store' s.callers s.mode) where
   -- the exchanges, the setting before and after, the coding and the words
   abbrev es : List (Exchange (Stored K V))
   es = call_trace.begun ++ call_trace.since
@@ -150,7 +159,9 @@ module _ {K V S A : Type 0} (eq : K → K → Bool) (hash : K → ℕ) (law : Is
   was k = kept_map eq hash s.mode s.store hashed s.callers es call_traces kept k
 
   is_then : (k : K) → map_in eq store' k ≡ map_of g old_map heard.made k
-  is_then k = kept_map eq hash s.mode store' hashed_then s.callers (es ++ heard.made) (told_call_traces call_traces caller heard.made (call_traces caller).loaded) heard.kept k ∙ heard.map_same k ∙ ap (λ f. f k) (map_of-append g es heard.made (λ j. None))
+  is_then k = kept_map eq hash s.mode store' hashed_then s.callers (es ++ heard.made)
+      (told_call_traces call_traces caller heard.made (call_traces caller).loaded) heard.kept k ∙ heard.map_same k
+      ∙ ap (λ f. f k) (map_of-append g es heard.made (λ j. None))
 
   none_moved : heard.made ≡ [] → Same (map_in eq s.store) (map_in eq store')
   none_moved none k = is_then k ∙ ap (λ l. map_of g old_map l k) none ∙ sym (was k)
@@ -160,7 +171,8 @@ module _ {K V S A : Type 0} (eq : K → K → Bool) (hash : K → ℕ) (law : Is
 
   -- a pair that is deleted was the map's
   legal : (e : Exchange (Stored K V)) → heard.made ≡ e ∷ [] → IsLegal g old_map e
-  legal e one = (step_keeps g hashed.lawful now old_map (keeping g hashed.lawful es kept.allowed) e (subst (AllAllowed g now) one (allowed_rest g es heard.made start heard.allowed)).0).0
+  legal e one = (step_keeps g hashed.lawful now old_map (keeping g hashed.lawful es kept.allowed) e
+      (subst (AllAllowed g now) one (allowed_rest g es heard.made start heard.allowed)).0).0
 
   tombstone : (t x : ℕ) (p : Stored K V) → heard.made ≡ Delete t x p ∷ [] → IsUpdate eq p.key (Some p) None (map_in eq s.store) (map_in eq store')
   tombstone t x p one = record {
@@ -174,34 +186,45 @@ module _ {K V S A : Type 0} (eq : K → K → Bool) (hash : K → ℕ) (law : Is
   one_pair p q is_p is_q number = let both : Some p ≡ Some q = sym is_p ∙ ap (pair_of s.store) number ∙ is_q in cc
 
   -- a retain deletes what its closure answered no to
-  dropped : (spot : Spot) (word : ℕ) (p : Stored K V) → now.slot spot.table spot.slot ≡ Live p → code g c (now.slot spot.table spot.slot) ≡ word → (scan : Scan) → MayTake g c first m call_trace.since scan call_trace.loaded word → scan ≡ Retain → IsLastAnswer call_trace.loaded.shown p false
+  dropped : (spot : Spot) (word : ℕ) (p : Stored K V) → now.slot spot.table spot.slot ≡ Live p → code g c (now.slot spot.table spot.slot) ≡ word
+      → (scan : Scan) → MayTake g c first m call_trace.since scan call_trace.loaded word → scan ≡ Retain → IsLastAnswer call_trace.loaded.shown p false
   dropped spot word p live stands Walk takes is = absurd cc
   dropped spot word p live stands Clear takes is = absurd cc
   dropped spot word p live stands Retain (q, number, said) is =
       let of_word : number_in word ≡ p.number = ap number_in (sym stands ∙ ap (code g c) live) ∙ (code_pair g c hashed.coding (Live p) p refl) in
-      let one : q ≡ p = one_pair q p (scanning.shown q (answered_shown call_trace.loaded.shown q false said)) (kept.logged spot.table spot.slot p (ap named live)) (number ∙ of_word) in
+      let one : q ≡ p = one_pair q p (scanning.shown q (answered_shown call_trace.loaded.shown q false said))
+      (kept.logged spot.table spot.slot p (ap named live)) (number ∙ of_word) in
       subst (λ r. IsLastAnswer call_trace.loaded.shown r false) one said
 
   -- it deletes in one state alone
   abbrev Goes : State → State
   Goes = after_in v.scanner.scan v.scanner.mode v.scanner.initial v.scanner.number a
 
-  said_no : (t x : ℕ) (p : Stored K V) → heard.made ≡ Delete t x p ∷ [] → (state : State) → ReliesState g c first m call_trace.since v.scanner.scan call_trace.loaded state → IsScanTold g c (run call_trace.since first) call_trace.since state call_trace.loaded a heard.made heard.loaded → owes_in (Goes state) ≡ true → v.scanner.scan ≡ Retain → IsLastAnswer call_trace.loaded.shown p false
-  said_no t x p one (Copying stage) r h owes is = let no : false ≡ true = sym (copied_owes stage (resizers.after_in CopyAll v.scanner.mode v.scanner.initial v.scanner.number a stage)) ∙ owes in absurd cc
+  said_no : (t x : ℕ) (p : Stored K V) → heard.made ≡ Delete t x p ∷ [] → (state : State)
+      → ReliesState g c first m call_trace.since v.scanner.scan call_trace.loaded state
+      → IsScanTold g c (run call_trace.since first) call_trace.since state call_trace.loaded a heard.made heard.loaded → owes_in (Goes state) ≡ true
+      → v.scanner.scan ≡ Retain → IsLastAnswer call_trace.loaded.shown p false
+  said_no t x p one (Copying stage) r h owes is = let no : false ≡ true = sym
+      (copied_owes stage (resizers.after_in CopyAll v.scanner.mode v.scanner.initial v.scanner.number a stage)) ∙ owes in absurd cc
   said_no t x p one AtRoot r h owes is =
-      let none = (asked g c first m call_trace.since v.scanner call_trace.loaded a heard.made heard.loaded AtRoot (call_trace.since ++ heard.made) (Load words_at.Root) refl h).1 in
+      let none = (asked g c first m call_trace.since v.scanner call_trace.loaded a heard.made heard.loaded AtRoot (call_trace.since ++ heard.made)
+      (Load words_at.Root) refl h).1 in
       let no : [] ≡ Delete t x p ∷ [] = sym none ∙ one in absurd cc
   said_no t x p one (Sizing table) r h owes is =
-      let none = (asked g c first m call_trace.since v.scanner call_trace.loaded a heard.made heard.loaded (Sizing table) call_trace.loaded.before (SizeOf table) refl h).1.0 in
+      let none = (asked g c first m call_trace.since v.scanner call_trace.loaded a heard.made heard.loaded (Sizing table) call_trace.loaded.before
+      (SizeOf table) refl h).1.0 in
       let no : [] ≡ Delete t x p ∷ [] = sym none ∙ one in absurd cc
   said_no t x p one (Looking spot) r h owes is =
-      let none = (asked g c first m call_trace.since v.scanner call_trace.loaded a heard.made heard.loaded (Looking spot) call_trace.loaded.before (Load (words_at.Slot spot.table spot.slot)) refl h).1 in
+      let none = (asked g c first m call_trace.since v.scanner call_trace.loaded a heard.made heard.loaded (Looking spot) call_trace.loaded.before
+      (Load (words_at.Slot spot.table spot.slot)) refl h).1 in
       let no : [] ≡ Delete t x p ∷ [] = sym none ∙ one in absurd cc
   said_no t x p one (Giving spot word) r h owes is = let no : [] ≡ Delete t x p ∷ [] = sym h.none ∙ one in absurd cc
   said_no t x p one (Showing spot word) r h owes is = let no : [] ≡ Delete t x p ∷ [] = sym h.none ∙ one in absurd cc
   said_no t x p one (Deleting spot word) r h owes is =
       let there = (run call_trace.since first).slot spot.table spot.slot in
-      by_test (code g c there == word) (IsDeleted g c (run call_trace.since first) call_trace.since spot call_trace.loaded a heard.made heard.loaded) (IsFoundThere g c (run call_trace.since first) call_trace.since spot call_trace.loaded a heard.made heard.loaded) (IsLastAnswer call_trace.loaded.shown p false) h
+      by_test (code g c there == word) (IsDeleted g c (run call_trace.since first) call_trace.since spot call_trace.loaded a heard.made heard.loaded)
+      (IsFoundThere g c (run call_trace.since first) call_trace.since spot call_trace.loaded a heard.made heard.loaded)
+      (IsLastAnswer call_trace.loaded.shown p false) h
       (λ hit t'.
       let both : Delete spot.table spot.slot t'.pair ∷ [] ≡ Delete t x p ∷ [] = sym t'.one ∙ one in
       let is_it : t'.pair ≡ p = cc in
@@ -218,7 +241,8 @@ module _ {K V S A : Type 0} (eq : K → K → Bool) (hash : K → ℕ) (law : Is
   moves =
       ⊎_elim (λ none. inl (none_moved none.0))
       (⊎_elim (λ (kept_map : _). let (e, one, leaves, owes) = kept_map in inl (left_moved e one leaves))
-      (λ (lost : _). let (t, x, p, one, no_walk, owes) = lost in inr (p, tombstone t x p one, no_walk, said_no t x p one v.scanner.state scanning.relies.state told owes)))
+      (λ (lost : _). let (t, x, p, one, no_walk, owes) = lost in
+      inr (p, tombstone t x p one, no_walk, said_no t x p one v.scanner.state scanning.relies.state told owes)))
       done
 
   -- what the step's event tells of the map
@@ -237,22 +261,28 @@ module _ {K V S A : Type 0} (eq : K → K → Bool) (hash : K → ℕ) (law : Is
       ⊎_elim (λ none. none_moved none.0)
       (⊎_elim (λ (kept_map : _). let (e, one, leaves, owes) = kept_map in left_moved e one leaves)
       (λ (lost : _). let (t, x, p, one, no_walk, owes) = lost in
-      let no : false ≡ true = sym (copied_owes stage (resizers.after_in CopyAll v.scanner.mode v.scanner.initial v.scanner.number a stage)) ∙ ap (λ y. owes_in (Goes y)) (sym is) ∙ owes in absurd cc))
+      let no : false ≡ true = sym (copied_owes stage (resizers.after_in CopyAll v.scanner.mode v.scanner.initial v.scanner.number a stage))
+      ∙ ap (λ y. owes_in (Goes y)) (sym is) ∙ owes in absurd cc))
       done
 
-  state_moves : (state : State) → v.scanner.state ≡ state → ReliesState g c first m call_trace.since v.scanner.scan call_trace.loaded state → IsScanTold g c (run call_trace.since first) call_trace.since state call_trace.loaded a heard.made heard.loaded → (ask : ScanAsk) → asks_in state ≡ Some ask → ByEvent (event_of_scan (kind_in state) ask a)
+  state_moves : (state : State) → v.scanner.state ≡ state → ReliesState g c first m call_trace.since v.scanner.scan call_trace.loaded state
+      → IsScanTold g c (run call_trace.since first) call_trace.since state call_trace.loaded a heard.made heard.loaded → (ask : ScanAsk)
+      → asks_in state ≡ Some ask → ByEvent (event_of_scan (kind_in state) ask a)
   state_moves (Copying stage) is r h ask e =
       let stays = copied_stays stage is in
       stage_quiet ByEvent stays (λ kind. stays) stage (resizers.asks_in stage) ask e a
   state_moves AtRoot is r h ask e =
-      let stays = none_moved (asked g c first m call_trace.since v.scanner call_trace.loaded a heard.made heard.loaded AtRoot (call_trace.since ++ heard.made) (Load words_at.Root) refl h).1 in
+      let stays = none_moved (asked g c first m call_trace.since v.scanner call_trace.loaded a heard.made heard.loaded AtRoot
+      (call_trace.since ++ heard.made) (Load words_at.Root) refl h).1 in
       subst (λ y. ByEvent (event_of_scan None y a)) (same_item (Copy (Load words_at.Root)) ask e) (quiet ByEvent stays None (Load words_at.Root) (λ y. refl) a)
   state_moves (Sizing table) is r h ask e =
-      let stays = none_moved (asked g c first m call_trace.since v.scanner call_trace.loaded a heard.made heard.loaded (Sizing table) call_trace.loaded.before (SizeOf table) refl h).1.0 in
+      let stays = none_moved (asked g c first m call_trace.since v.scanner call_trace.loaded a heard.made heard.loaded (Sizing table)
+      call_trace.loaded.before (SizeOf table) refl h).1.0 in
       subst (λ y. ByEvent (event_of_scan None y a)) (same_item (Copy (SizeOf table)) ask e) (quiet ByEvent stays None (SizeOf table) (λ y. refl) a)
   state_moves (Looking spot) is r h ask e =
       let at = words_at.Slot spot.table spot.slot in
-      let stays = none_moved (asked g c first m call_trace.since v.scanner call_trace.loaded a heard.made heard.loaded (Looking spot) call_trace.loaded.before (Load at) refl h).1 in
+      let stays = none_moved (asked g c first m call_trace.since v.scanner call_trace.loaded a heard.made heard.loaded (Looking spot)
+      call_trace.loaded.before (Load at) refl h).1 in
       subst (λ y. ByEvent (event_of_scan None y a)) (same_item (Copy (Load at)) ask e) (quiet ByEvent stays None (Load at) (λ y. refl) a)
   state_moves (Giving spot word) is r h ask e =
       subst (λ y. ByEvent (event_of_scan None y a)) (same_item (Give (number_in word)) ask e)
@@ -263,13 +293,22 @@ module _ {K V S A : Type 0} (eq : K → K → Bool) (hash : K → ℕ) (law : Is
   state_moves (Deleting spot word) is r h ask e =
       let there = (run call_trace.since first).slot spot.table spot.slot in
       subst (λ y. ByEvent (event_of_scan (Some Kind_delete) y a)) (same_item (Copy (deletes spot word)) ask e)
-      (by_test (code g c there == word) (IsDeleted g c (run call_trace.since first) call_trace.since spot call_trace.loaded a heard.made heard.loaded) (IsFoundThere g c (run call_trace.since first) call_trace.since spot call_trace.loaded a heard.made heard.loaded) (ByEvent (event_of_scan (Some Kind_delete) (Copy (deletes spot word)) a)) h
+      (by_test (code g c there == word) (IsDeleted g c (run call_trace.since first) call_trace.since spot call_trace.loaded a heard.made heard.loaded)
+      (IsFoundThere g c (run call_trace.since first) call_trace.since spot call_trace.loaded a heard.made heard.loaded)
+      (ByEvent (event_of_scan (Some Kind_delete) (Copy (deletes spot word)) a)) h
       (λ hit t.
       let live = subst (λ (w : Words (Stored K V)). w.slot spot.table spot.slot ≡ Live t.pair) same t.live in
-      let stands : code g c (now.slot spot.table spot.slot) ≡ word = subst (λ (w : Words (Stored K V)). code g c (w.slot spot.table spot.slot) ≡ word) same (eqb-true (code g c there) word hit) in
+      let stands : code g c (now.slot spot.table spot.slot) ≡ word = subst (λ (w : Words (Stored K V)). code g c (w.slot spot.table spot.slot) ≡ word)
+      same (eqb-true (code g c there) word hit) in
       let of_word : number_in word ≡ t.pair.number = ap number_in (sym stands ∙ ap (code g c) live) ∙ (code_pair g c hashed.coding (Live t.pair) t.pair refl) in
-      subst (λ y. ByEvent (event_of_scan (Some Kind_delete) (Copy (deletes spot word)) y)) (sym t.is)
-      (t.pair, tombstone spot.table spot.slot t.pair t.one, no_walk word v.scanner.scan r.2, dropped spot word t.pair live stands v.scanner.scan r.2, ap (λ n. Some n) of_word, refl))
+      subst (λ y. ByEvent (event_of_scan (Some Kind_delete) (Copy (deletes spot word)) y)) (sym t.is) (
+        t.pair,
+        tombstone spot.table spot.slot t.pair t.one,
+        no_walk word v.scanner.scan r.2,
+        dropped spot word t.pair live stands v.scanner.scan r.2,
+        ap (λ n. Some n) of_word,
+        refl,
+      ))
       (λ miss t. subst (λ y. ByEvent (event_of_scan (Some Kind_delete) (Copy (deletes spot word)) y)) (sym t.is) (none_moved t.none)))
   state_moves (Uncounting spot) is r h ask e =
       subst (λ y. ByEvent (event_of_scan None y a)) (same_item (AddToShard (negsuc 0)) ask e)
@@ -277,7 +316,8 @@ module _ {K V S A : Type 0} (eq : K → K → Bool) (hash : K → ℕ) (law : Is
   state_moves Done is r h ask e = let f : None ≡ Some ask = e in absurd cc
   state_moves (Refused refused) is r h ask e = let f : None ≡ Some ask = e in absurd cc
 
-  pub moves_as : (ask : ScanAsk) → ask_of v.scanner ≡ Some ask → MovesByScan eq s.store store' v.scanner.scan call_trace.loaded.shown (event_of_scan (kind_of_ask v.scanner) ask a)
+  pub moves_as : (ask : ScanAsk) → ask_of v.scanner ≡ Some ask
+      → MovesByScan eq s.store store' v.scanner.scan call_trace.loaded.shown (event_of_scan (kind_of_ask v.scanner) ask a)
   moves_as ask e = state_moves v.scanner.state refl scanning.relies.state told ask e
 
   -- the pairs before and after the step
@@ -291,24 +331,29 @@ module _ {K V S A : Type 0} (eq : K → K → Bool) (hash : K → ℕ) (law : Is
   old_apart = content_apart eq hash s.mode s.store hashed s.callers es call_traces kept
 
   new_apart : AreApart eq (λ p. p.key) new
-  new_apart = content_apart eq hash s.mode store' hashed_then s.callers (es ++ heard.made) (told_call_traces call_traces caller heard.made (call_traces caller).loaded) heard.kept
+  new_apart = content_apart eq hash s.mode store' hashed_then s.callers (es ++ heard.made)
+      (told_call_traces call_traces caller heard.made (call_traces caller).loaded) heard.kept
 
   old_few : length old ≤ 2 ^ 48
   old_few = content_few eq hash s.mode s.store hashed s.callers es call_traces kept
 
   new_few : length new ≤ 2 ^ 48
-  new_few = content_few eq hash s.mode store' hashed_then s.callers (es ++ heard.made) (told_call_traces call_traces caller heard.made (call_traces caller).loaded) heard.kept
+  new_few = content_few eq hash s.mode store' hashed_then s.callers (es ++ heard.made)
+      (told_call_traces call_traces caller heard.made (call_traces caller).loaded) heard.kept
 
   -- the map grows by what is owed after the step
-  as_many : Same (map_in eq s.store) (map_in eq store') → owes_in (Goes v.scanner.state) ≡ false → pos (length new) ≡ pos (length old) +ℤ owed_scan (Goes v.scanner.state)
+  as_many : Same (map_in eq s.store) (map_in eq store') → owes_in (Goes v.scanner.state) ≡ false
+      → pos (length new) ≡ pos (length old) +ℤ owed_scan (Goes v.scanner.state)
   as_many stays owes =
       let many : length new ≡ length old = one_length g hashed.lawful new old new_apart old_apart stays in
       let none : owed_scan (Goes v.scanner.state) ≡ pos 0 = owed_by (Goes v.scanner.state) false owes in
       omega (arith, ints, many, none)
 
-  fewer : (t x : ℕ) (p : Stored K V) → heard.made ≡ Delete t x p ∷ [] → owes_in (Goes v.scanner.state) ≡ true → pos (length new) ≡ pos (length old) +ℤ owed_scan (Goes v.scanner.state)
+  fewer : (t x : ℕ) (p : Stored K V) → heard.made ≡ Delete t x p ∷ [] → owes_in (Goes v.scanner.state) ≡ true
+      → pos (length new) ≡ pos (length old) +ℤ owed_scan (Goes v.scanner.state)
   fewer t x p one owes =
-      let count = length_after g hashed.lawful old_map old new old_apart new_apart was (Delete t x p) (legal (Delete t x p) one) (λ k. is_then k ∙ ap (λ l. map_of g old_map l k) one) in
+      let count = length_after g hashed.lawful old_map old new old_apart new_apart was (Delete t x p) (legal (Delete t x p) one)
+      (λ k. is_then k ∙ ap (λ l. map_of g old_map l k) one) in
       let less : owed_scan (Goes v.scanner.state) ≡ negsuc 0 = owed_by (Goes v.scanner.state) true owes in
       omega (arith, ints, count, less)
 

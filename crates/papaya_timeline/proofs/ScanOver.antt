@@ -11,7 +11,8 @@ use Rattle.papaya_chain.specs.Scanner.{asks_in, reply_in}
 use Rattle.papaya_chain_law.specs.ScanTold.{LoadedPairs}
 use Rattle.papaya_chain_law.specs.Scans.{HasScanned, ReliesState}
 
-module _ {K P : Type 0} (g : Setting K P) (c : Coding K P) (s : Words P) (m : K → Option P) (since : List (Exchange P)) (scan : Scan) (loaded : LoadedPairs P) where
+module _ {K P : Type 0} (g : Setting K P) (c : Coding K P) (s : Words P) (m : K → Option P) (since : List (Exchange P)) (scan : Scan)
+    (loaded : LoadedPairs P) where
   -- it asks, unless it has replied
   pub scan_asks : (state : State) → ReliesState g c s m since scan loaded state → reply_in state ≡ None → IsSome (asks_in state)
   scan_asks (Copying stages.AtRoot) r going = refl

@@ -31,7 +31,10 @@ use Rattle.papaya_chain.specs.declared.scanner.State.TheVariants.{Copying, AtRoo
 use Rattle.papaya_chain.specs.declared.scanner.Scan.{Scan}
 use Rattle.papaya_chain.specs.declared.scanner.Scan.TheVariants.{Clear, Retain, Walk}
 use Rattle.papaya_chain.specs.declared.scanner.Scanner.{Scanner}
-use Rattle.papaya_chain.specs.Scanner.{IsStandingIn, IsStandingScanner, IsStandingSpot, after, after_in, ask_of, asks_in, at_root, copied, copy_asks, deletes, found_by, looks, meets, next, resizer_of, scanned, shown, told}
+use Rattle.papaya_chain.specs.Scanner.{IsStandingIn, IsStandingScanner, IsStandingSpot, after}
+use Rattle.papaya_chain.specs.Scanner.{after_in, ask_of, asks_in, at_root, copied, copy_asks}
+use Rattle.papaya_chain.specs.Scanner.{deletes, found_by, looks, meets, next, resizer_of, scanned}
+use Rattle.papaya_chain.specs.Scanner.{shown, told}
 use Rattle.papaya_store.specs.declared.scans.Scanning.{Scanning}
 use Rattle.papaya_store.specs.Scans.{PerformsScan}
 use Rattle.papaya_store.specs.declared.mode.Mode.{Mode}
@@ -94,7 +97,8 @@ copied_stands from (stages.Copying root copying) stands = stands
 
 module _ (scanner : Scanner) (stands : IsStandingScanner scanner) (answer : Answer) (fit : IsFit answer) where
   state_stands : (state : State) → IsStandingIn state → IsStandingIn (after_in scanner.scan scanner.mode scanner.initial scanner.number answer state)
-  state_stands (Copying stage) h = copied_stands stage (resizers.after_in CopyAll scanner.mode scanner.initial scanner.number answer stage) (resizer_stands (resizer_of scanner stage) answer (record { chunked = stands.chunked; initial = stands.initial; state = h }) fit).state
+  state_stands (Copying stage) h = copied_stands stage (resizers.after_in CopyAll scanner.mode scanner.initial scanner.number answer stage)
+      (resizer_stands (resizer_of scanner stage) answer (record { chunked = stands.chunked; initial = stands.initial; state = h }) fit).state
   state_stands AtRoot h = scanned_stands scanner.scan AtRoot answer h
   state_stands (Sizing table) h = scanned_stands scanner.scan (Sizing table) answer h
   state_stands (Looking spot) h = scanned_stands scanner.scan (Looking spot) answer h
@@ -110,7 +114,8 @@ module _ (scanner : Scanner) (stands : IsStandingScanner scanner) (answer : Answ
   scanner_stands = record { chunked = stands.chunked; initial = stands.initial; state = state_stands scanner.state stands.state }
 
 module _ (scanner : Scanner) (stands : IsStandingScanner scanner) where
-  copy_fits : (stage : Stage) → resizers.IsStandingIn stage → (o : Option CopyAsk) → resizers.asks_in stage ≡ o → (ask : CopyAsk) → copy_asks o ≡ Some (Copy ask) → IsFitCopyAsk ask
+  copy_fits : (stage : Stage) → resizers.IsStandingIn stage → (o : Option CopyAsk) → resizers.asks_in stage ≡ o → (ask : CopyAsk)
+      → copy_asks o ≡ Some (Copy ask) → IsFitCopyAsk ask
   copy_fits stage h None is ask e = absurd cc
   copy_fits stage h (Some a) is ask e =
       let one : a ≡ ask = cc e in
@@ -132,7 +137,9 @@ module _ (scanner : Scanner) (stands : IsStandingScanner scanner) where
   pub scanner_fits : (ask : CopyAsk) → ask_of scanner ≡ Some (Copy ask) → IsFitCopyAsk ask
   scanner_fits ask e = fits_in scanner.state stands.state ask e
 
-module _ {K V S A : Type 0} (eq : K → K → Bool) (says : Says K V A) (hash : S → K → ℕ) (refuse : Bool) (store : StoreState K V S) (callers : List (Seat K V A)) (mode : Mode) (core : IsCore store callers mode) (v : Scanning A) (stands : IsStandingScanner v.scanner) (a : Answer) (store' : StoreState K V S) (v' : Scanning A) where
+module _ {K V S A : Type 0} (eq : K → K → Bool) (says : Says K V A) (hash : S → K → ℕ) (refuse : Bool) (store : StoreState K V S)
+    (callers : List (Seat K V A)) (mode : Mode) (core : IsCore store callers mode) (v : Scanning A) (stands : IsStandingScanner v.scanner)
+    (a : Answer) (store' : StoreState K V S) (v' : Scanning A) where
   all_sized : AllSized store.words.tables
   all_sized = unnumbered store.words.tables core.sizes
 
@@ -153,7 +160,8 @@ module _ {K V S A : Type 0} (eq : K → K → Bool) (says : Says K V A) (hash : 
   kept_asked (AddToShard by) asks (is, counted, same) = same_words (ap (λ (y : StoreState K V S). y.words) counted.1) (subst IsFit (sym is) tt)
 
   -- so the core stays in order, and the scanner within its table
-  pub scan_core : (ask : ScanAsk) → ask_of v.scanner ≡ Some ask → PerformsScan eq says hash refuse ask store v a store' v' → IsCore store' callers mode × IsFit a × IsStandingScanner (after v.scanner a)
+  pub scan_core : (ask : ScanAsk) → ask_of v.scanner ≡ Some ask → PerformsScan eq says hash refuse ask store v a store' v'
+      → IsCore store' callers mode × IsFit a × IsStandingScanner (after v.scanner a)
   scan_core ask asks performs =
       let kept = kept_asked ask asks performs in (
         record {

@@ -84,7 +84,8 @@ module _ {K V A : Type 0} where
   begun_value call task is = begins_with call task (task_is_own call task is)
 
 -- and is to make no pair of what its closure answered, for it answered nothing
-begun_unpaired : (task : Task) (hash : ℕ) (mode : ResizeMode) (initial number : ℕ) (limit : Option ℕ) → IsToPair (started task hash mode initial number limit).call → ⊥
+begun_unpaired : (task : Task) (hash : ℕ) (mode : ResizeMode) (initial number : ℕ) (limit : Option ℕ)
+    → IsToPair (started task hash mode initial number limit).call → ⊥
 begun_unpaired task hash mode initial number limit (inl (purpose, e)) = cc
 begun_unpaired task hash mode initial number limit (inr (old, new, e)) = cc
 
@@ -95,17 +96,23 @@ begun_number (Some most) words = tt
 
 module _ {K V S A : Type 0} (eq : K → K → Bool) (hash : S → K → ℕ) (s : CoreState K V S A) (law : IsLawfulKeys eq (hash s.store.hasher)) where
   -- a call that begins alone is so
-  pub lone_begin : (call : Call K V A) (s' : CoreState K V S A) → s.callers ≡ [] → IsLawfulCore eq (hash s.store.hasher) s.store s.callers s.mode → (x : Begins (hash s.store.hasher) s 0 call s') → IsLoneWork eq hash s' (begun_work (hash s.store.hasher) s.mode s.initial x.number call)
+  pub lone_begin : (call : Call K V A) (s' : CoreState K V S A) → s.callers ≡ [] → IsLawfulCore eq (hash s.store.hasher) s.store s.callers s.mode
+      → (x : Begins (hash s.store.hasher) s 0 call s') → IsLoneWork eq hash s' (begun_work (hash s.store.hasher) s.mode s.initial x.number call)
   lone_begin call s' idle lawful x = by_work (begun_work (hash s.store.hasher) s.mode s.initial x.number call) refl
     where
       f : Follows eq hash s law whatever s'
       f = follows_begin eq hash s law whatever call s' idle lawful.core lawful.law.0 lawful.law.1.0 lawful.law.1.1 x
 
       alone : (work : Work K V A) → begun_work (hash s.store.hasher) s.mode s.initial x.number call ≡ work → s'.callers ≡ one_seat (Some work)
-      alone work e = x.callers ∙ ap (λ (l : List (Seat K V A)). with_work (with_seat l 0) 0 (Some (begun_work (hash s.store.hasher) s.mode s.initial x.number call))) idle ∙ ap (λ w. one_seat (Some w)) e
+      alone work e = x.callers ∙ ap (λ (l : List (Seat K V A)).
+          with_work (with_seat l 0) 0 (Some (begun_work (hash s.store.hasher) s.mode s.initial x.number call))) idle ∙ ap (λ w. one_seat (Some w)) e
 
       in_order' : IsLawfulCore eq (hash s'.store.hasher) s'.store s'.callers s'.mode
-      in_order' = record { core = f.core; law = subst (λ y. (es : _) × ((call_traces : _) × IsKept eq (hash y) s'.mode s'.store s'.callers es call_traces)) (sym f.hasher_is) (f.es, (f.call_traces, f.kept)) }
+      in_order' = record {
+        core = f.core;
+        law = subst (λ y. (es : _)
+            × ((call_traces : _) × IsKept eq (hash y) s'.mode s'.store s'.callers es call_traces)) (sym f.hasher_is) (f.es, (f.call_traces, f.kept));
+      }
 
       scan_read : (mode : ResizeMode) (scan : Scan) → IsScannerRead (word_at s'.store.words) (begun scan mode s.initial x.number)
       scan_read (Incremental chunk) scan = tt
@@ -117,8 +124,14 @@ module _ {K V S A : Type 0} (eq : K → K → Bool) (hash : S → K → ℕ) (s 
           record {
             callers = alone (works.Call r) e;
             lawful = in_order';
-            maker = subst (λ (y : Running K V A). IsMaker y) (sym is.is) (record { value = begun_value call is.task is.task_is; answered = λ pairs. absurd (begun_unpaired is.task (hash s.store.hasher is.key) s.mode.resize s.initial x.number s.mode.limit pairs) });
-            current = subst (λ (y : Running K V A). IsCurrent (word_at s'.store.words) y.machine) (sym is.is) (record { number = begun_number s.mode.limit (word_at s'.store.words); read = (tt, tt) });
+            maker = subst (λ (y : Running K V A). IsMaker y) (sym is.is)
+                (record {
+                  value = begun_value call is.task is.task_is;
+                  answered = λ pairs.
+                      absurd (begun_unpaired is.task (hash s.store.hasher is.key) s.mode.resize s.initial x.number s.mode.limit pairs);
+                });
+            current = subst (λ (y : Running K V A). IsCurrent (word_at s'.store.words) y.machine) (sym is.is)
+                (record { number = begun_number s.mode.limit (word_at s'.store.words); read = (tt, tt) });
           }
       by_work (works.Resize z) e =
           let is = resizer_begun_is (hash s.store.hasher) s.mode s.initial x.number call z e in
@@ -135,8 +148,11 @@ module _ {K V S A : Type 0} (eq : K → K → Bool) (hash : S → K → ℕ) (s 
             read = subst (λ (y : Scanning A). IsScannerRead (word_at s'.store.words) y.scanner) (sym is.is) (scan_read s.mode.resize is.scan);
           }
 
-  module _ (says : Says K V A) (refuse : Bool) (s' : CoreState K V S A) (event : Event) (x : Advances eq says hash refuse s 0 s' event None) (core : IsCore s.store s.callers s.mode) (es : List (Exchange (Stored K V))) (call_traces : ℕ → CallTrace K V) (kept : IsKept eq (hash s.store.hasher) s.mode s.store s.callers es call_traces)
-      (alone : s.callers ≡ one_seat (Some (works.Call x.before))) (maker : IsMaker x.before) (current : IsCurrent (word_at s.store.words) x.before.machine) where
+  module _ (says : Says K V A) (refuse : Bool) (s' : CoreState K V S A) (event : Event) (x : Advances eq says hash refuse s 0 s' event None)
+      (core : IsCore s.store s.callers s.mode) (es : List (Exchange (Stored K V))) (call_traces : ℕ → CallTrace K V)
+      (kept : IsKept eq (hash s.store.hasher) s.mode s.store s.callers es call_traces)
+      (alone : s.callers ≡ one_seat (Some (works.Call x.before))) (maker : IsMaker x.before)
+      (current : IsCurrent (word_at s.store.words) x.before.machine) where
     -- the setting and the coding
     abbrev g : Setting K (Stored K V)
     g = setting_of eq (low (hash s.store.hasher)) s.mode s.store.words.tables
@@ -179,8 +195,10 @@ module _ {K V S A : Type 0} (eq : K → K → Bool) (hash : S → K → ℕ) (s 
     words'_are = fun_ext (λ at. ap (λ l. word_of g c (run l start) at) step.own.split ∙ step.kept.coded at)
 
     -- the answer is told of them
-    told : IsTold g c call.key then (kind_of_ask x.before.machine) (follows_of x.before.machine) call_trace.loaded (ask_of x.before.machine) x.answer step.made step.loaded
-    told = subst (λ l. IsTold g c call.key (run l start) (kind_of_ask x.before.machine) (follows_of x.before.machine) call_trace.loaded (ask_of x.before.machine) x.answer step.made step.loaded) (sym call.split) step.told
+    told : IsTold g c call.key then (kind_of_ask x.before.machine) (follows_of x.before.machine) call_trace.loaded (ask_of x.before.machine) x.answer
+        step.made step.loaded
+    told = subst (λ l. IsTold g c call.key (run l start) (kind_of_ask x.before.machine) (follows_of x.before.machine) call_trace.loaded
+        (ask_of x.before.machine) x.answer step.made step.loaded) (sym call.split) step.told
 
     hashed : IsHashed g c
     hashed = hashed_setting eq (hash s.store.hasher) law s core
@@ -189,23 +207,27 @@ module _ {K V S A : Type 0} (eq : K → K → Bool) (hash : S → K → ℕ) (s 
     may = subst (AllAllowed g start) (sym call.split) kept.allowed
 
     bounded : IsBounded g then
-    bounded = subst (λ l. IsBounded g (run l start)) (sym call.split) (kept_bounded eq (hash s.store.hasher) law s.mode s.store s.callers core es call_traces kept)
+    bounded = subst (λ l. IsBounded g (run l start)) (sym call.split)
+        (kept_bounded eq (hash s.store.hasher) law s.mode s.store s.callers core es call_traces kept)
 
     -- a pair that a closure is shown is in the log
     shows : (n : ℕ) → ask_of x.before.machine ≡ asks.Call (ShowPair n) → (p : Stored K V) × (pair_of s.store n ≡ Some p)
     shows n e =
-        let (p, last, number, same, moment) = machine_shows g c call_trace.begun call_trace.since call.key hashed x.before.machine.call call_trace.loaded.call call.relies.call n (call_asks x.before.machine (ShowPair n) e).1 in
+        let (p, last, number, same, moment) = machine_shows g c call_trace.begun call_trace.since call.key hashed x.before.machine.call
+        call_trace.loaded.call call.relies.call n (call_asks x.before.machine (ShowPair n) e).1 in
         (p, subst (λ m. pair_of s.store m ≡ Some p) number (call.last p last))
 
     -- and so is one of whose key a pair is to be made
     as_loaded : (n : ℕ) → ask_of x.before.machine ≡ asks.Call (MakePairOf n) → (p : Stored K V) × (pair_of s.store n ≡ Some p)
     as_loaded n e =
-        let (p, last, number, same) = machine_copied g c hashed call_trace.begun call_trace.since call.key call_trace.loaded.call x.before.machine.call call.relies.call n (call_asks x.before.machine (MakePairOf n) e).1 in
+        let (p, last, number, same) = machine_copied g c hashed call_trace.begun call_trace.since call.key call_trace.loaded.call
+        x.before.machine.call call.relies.call n (call_asks x.before.machine (MakePairOf n) e).1 in
         (p, subst (λ m. pair_of s.store m ≡ Some p) number (call.last p last))
 
     -- what is asked is served
     served : IsServedAsk x.before.machine.call.task (ask_of x.before.machine) x.answer
-    served = ask_served eq says hash refuse s.store x.before x.answer s'.store x.later x.performs (core.standing 0 x.before x.was).call.state maker call.answers shows as_loaded (core.going 0 x.before x.was)
+    served = ask_served eq says hash refuse s.store x.before x.answer s'.store x.later x.performs (core.standing 0 x.before x.was).call.state maker
+        call.answers shows as_loaded (core.going 0 x.before x.was)
 
     -- the table that it is about to link has its words
     words : HasWords g (link_in x.before.machine.phase)
@@ -216,10 +238,12 @@ module _ {K V S A : Type 0} (eq : K → K → Bool) (hash : S → K → ℕ) (s 
     read = subst (λ words. IsCurrent words x.before.machine) (sym words_are) current
 
     spends : Spends (kind_of_ask x.before.machine) (ask_of x.before.machine) x.answer (budget_of s.store) (budget_of s'.store)
-    spends = performs_spends eq (hash s.store.hasher) law s.mode s.store s.callers core es call_traces kept 0 x.before x.was says refuse s'.store x.later hash (ask_of x.before.machine) refl x.answer x.performs
+    spends = performs_spends eq (hash s.store.hasher) law s.mode s.store s.callers core es call_traces kept 0 x.before x.was says refuse s'.store
+        x.later hash (ask_of x.before.machine) refl x.answer x.performs
 
     few : (budget_of s'.store).exchanges < 2 ^ 128
-    few = budget_bounded eq (hash s.store.hasher) law s'.mode s'.store s'.callers core' (es ++ step.made) (told_call_traces call_traces 0 step.made step.loaded) step.kept
+    few = budget_bounded eq (hash s.store.hasher) law s'.mode s'.store s'.callers core' (es ++ step.made)
+        (told_call_traces call_traces 0 step.made step.loaded) step.kept
 
     runs : running s'.callers 0 ≡ Some later
     runs = ap (λ (l : List (Seat K V A)). running l 0) still_alone
@@ -228,8 +252,10 @@ module _ {K V S A : Type 0} (eq : K → K → Bool) (hash : S → K → ℕ) (s 
     falls : lone_measure s' later < lone_measure s x.before
     falls =
         subst (λ n. measure (budget_of s'.store) n (after x.before.machine x.answer) < lone_measure s x.before) (ap (λ f. f Root) words'_are)
-        (subst (λ n. measure (budget_of s'.store) then'.root (after x.before.machine x.answer) < measure (budget_of s.store) n x.before.machine) (ap (λ f. f Root) words_are)
-        (call_nears g c hashed call_trace.begun call_trace.since may bounded call.key x.before.machine call_trace.loaded call.relies words read x.answer step.made step.loaded told served (budget_of s.store) (budget_of s'.store) spends few (core'.standing 0 later runs)))
+        (subst (λ n. measure (budget_of s'.store) then'.root (after x.before.machine x.answer) < measure (budget_of s.store) n x.before.machine)
+        (ap (λ f. f Root) words_are)
+        (call_nears g c hashed call_trace.begun call_trace.since may bounded call.key x.before.machine call_trace.loaded call.relies words read
+        x.answer step.made step.loaded told served (budget_of s.store) (budget_of s'.store) spends few (core'.standing 0 later runs)))
 
     -- the call is alone still, and nearer its end
     pub nearer_from : IsNearer eq hash s x.before s'
@@ -239,27 +265,40 @@ module _ {K V S A : Type 0} (eq : K → K → Bool) (hash : S → K → ℕ) (s 
         callers = still_alone;
         lawful = record {
           core = core';
-          law = subst (λ y. (es : _) × ((call_traces : _) × IsKept eq (hash y) s'.mode s'.store s'.callers es call_traces)) (sym (performs-hasher eq says hash refuse (ask_of x.before.machine) s.store x.before x.answer s'.store x.later x.performs)) (es ++ step.made, (told_call_traces call_traces 0 step.made step.loaded, step.kept));
+          law = subst (λ y. (es : _) × ((call_traces : _) × IsKept eq (hash y) s'.mode s'.store s'.callers es call_traces))
+              (sym (performs-hasher eq says hash refuse (ask_of x.before.machine) s.store x.before x.answer s'.store x.later x.performs))
+              (es ++ step.made, (told_call_traces call_traces 0 step.made step.loaded, step.kept));
         };
         maker = next_maker eq says hash refuse s.store x.before x.answer s'.store x.later x.performs (core.standing 0 x.before x.was).call.state maker
             (in_order g c call_trace.begun call_trace.since call.key x.before.machine call_trace.loaded then x.answer step.made step.loaded call.relies told);
-        current = subst (λ words. IsCurrent words (after x.before.machine x.answer)) words'_are (call_current g c hashed call_trace.begun call_trace.since may bounded call.key x.before.machine call_trace.loaded call.relies words read x.answer step.made step.loaded told served);
+        current = subst (λ words. IsCurrent words (after x.before.machine x.answer)) words'_are
+            (call_current g c hashed call_trace.begun call_trace.since may bounded call.key x.before.machine call_trace.loaded call.relies words read
+            x.answer step.made step.loaded told served);
       };
       less = falls;
     }
 
   -- a step of a call that is alone
-  pub lone_step : (says : Says K V A) (refuse : Bool) (r : Running K V A) (s' : CoreState K V S A) (event : Event) → IsLone eq hash s r → Advances eq says hash refuse s 0 s' event None → IsNearer eq hash s r s'
+  pub lone_step : (says : Says K V A) (refuse : Bool) (r : Running K V A) (s' : CoreState K V S A) (event : Event) → IsLone eq hash s r
+      → Advances eq says hash refuse s 0 s' event None → IsNearer eq hash s r s'
   lone_step says refuse r s' event lone x =
       let same : r ≡ x.before = same_item r x.before (sym (ap (λ (l : List (Seat K V A)). running l 0) lone.callers) ∙ x.was) in
       subst (λ y. IsNearer eq hash s y s') (sym same)
-      (nearer_from says refuse s' event x lone.lawful.core lone.lawful.law.0 lone.lawful.law.1.0 lone.lawful.law.1.1 (lone.callers ∙ ap (λ y. one_seat (Some (works.Call y))) same) (subst IsMaker same lone.maker) (subst (λ (y : Running K V A). IsCurrent (word_at s.store.words) y.machine) same lone.current))
+      (nearer_from says refuse s' event x lone.lawful.core lone.lawful.law.0 lone.lawful.law.1.0 lone.lawful.law.1.1
+      (lone.callers ∙ ap (λ y. one_seat (Some (works.Call y))) same) (subst IsMaker same lone.maker)
+      (subst (λ (y : Running K V A). IsCurrent (word_at s.store.words) y.machine) same lone.current))
 
-module _ {K V S A H : Type 0} (eq : K → K → Bool) (input : K → List (List ℕ)) (build : S → H) (write : H → List ℕ → H) (finish : H → ℕ) (classes : IsEquivalence eq) (respects : (x y : K) → eq x y ≡ true → input x ≡ input y) (s s' : CoreState K V S A) where
+module _ {K V S A H : Type 0} (eq : K → K → Bool) (input : K → List (List ℕ)) (build : S → H) (write : H → List ℕ → H) (finish : H → ℕ)
+    (classes : IsEquivalence eq) (respects : (x y : K) → eq x y ≡ true → input x ≡ input y) (s s' : CoreState K V S A) where
   -- a call that begins alone, with keys hashed as they are
-  pub alone_begins : (call : Call K V A) → s.callers ≡ [] → IsLawfulCore eq (hash_of input build write finish s.store.hasher) s.store s.callers s.mode → (x : Begins (hash_of input build write finish s.store.hasher) s 0 call s') → IsLoneWork eq (hash_of input build write finish) s' (begun_work (hash_of input build write finish s.store.hasher) s.mode s.initial x.number call)
-  alone_begins call idle lawful x = lone_begin eq (hash_of input build write finish) s (keys_lawful eq input build write finish classes respects s.store.hasher) call s' idle lawful x
+  pub alone_begins : (call : Call K V A) → s.callers ≡ [] → IsLawfulCore eq (hash_of input build write finish s.store.hasher) s.store s.callers s.mode
+      → (x : Begins (hash_of input build write finish s.store.hasher) s 0 call s')
+      → IsLoneWork eq (hash_of input build write finish) s' (begun_work (hash_of input build write finish s.store.hasher) s.mode s.initial x.number call)
+  alone_begins call idle lawful x = lone_begin eq (hash_of input build write finish) s
+      (keys_lawful eq input build write finish classes respects s.store.hasher) call s' idle lawful x
 
   -- and its steps
-  pub alone_nears : (says : Says K V A) (refuse : Bool) (r : Running K V A) (event : Event) → IsLone eq (hash_of input build write finish) s r → Advances eq says (hash_of input build write finish) refuse s 0 s' event None → IsNearer eq (hash_of input build write finish) s r s'
-  alone_nears says refuse r event lone x = lone_step eq (hash_of input build write finish) s (keys_lawful eq input build write finish classes respects s.store.hasher) says refuse r s' event lone x
+  pub alone_nears : (says : Says K V A) (refuse : Bool) (r : Running K V A) (event : Event) → IsLone eq (hash_of input build write finish) s r
+      → Advances eq says (hash_of input build write finish) refuse s 0 s' event None → IsNearer eq (hash_of input build write finish) s r s'
+  alone_nears says refuse r event lone x = lone_step eq (hash_of input build write finish) s
+      (keys_lawful eq input build write finish classes respects s.store.hasher) says refuse r s' event lone x

@@ -25,7 +25,9 @@ use Rattle.papaya_chain.specs.Scanner.{after}
 use Rattle.papaya_alone.specs.Scanners.{IsScannerRead, scanner_measure}
 use Rattle.papaya_store.specs.declared.scans.Scanning.{Scanning}
 
-module _ {K V S A H : Type 0} (eq : K → K → Bool) (input : K → List (List ℕ)) (build : S → H) (write : H → List ℕ → H) (finish : H → ℕ) (classes : IsEquivalence eq) (respects : (x y : K) → eq x y ≡ true → input x ≡ input y) (says : Says K V A) (refuse : Bool) (s s' : CoreState K V S A) (event : Event) where
+module _ {K V S A H : Type 0} (eq : K → K → Bool) (input : K → List (List ℕ)) (build : S → H) (write : H → List ℕ → H) (finish : H → ℕ)
+    (classes : IsEquivalence eq) (respects : (x y : K) → eq x y ≡ true → input x ≡ input y) (says : Says K V A) (refuse : Bool)
+    (s s' : CoreState K V S A) (event : Event) where
   -- keys are hashed so, and the law of them
   abbrev hashes : S → K → ℕ
   hashes = hash_of input build write finish
@@ -37,18 +39,23 @@ module _ {K V S A H : Type 0} (eq : K → K → Bool) (input : K → List (List 
   is_before : (v : Scanning A) → IsLoneScanner eq hashes s v → (x : Scans eq says hashes refuse s 0 s' event None) → v ≡ x.before
   is_before v lone x = same_item v x.before (sym (ap (λ (l : List (Seat K V A)). scanning l 0) lone.callers) ∙ x.was)
 
-  module _ (x : Scans eq says hashes refuse s 0 s' event None) (lawful : IsLawfulCore eq (hashes s.store.hasher) s.store s.callers s.mode) (read : IsScannerRead (word_at s.store.words) x.before.scanner) where
+  module _ (x : Scans eq says hashes refuse s 0 s' event None) (lawful : IsLawfulCore eq (hashes s.store.hasher) s.store s.callers s.mode)
+      (read : IsScannerRead (word_at s.store.words) x.before.scanner) where
     -- What it has read stands there still, and the measure has fallen: it relies on what is told of
     -- it beside the core with its own call taken out. Where it was told nothing it has replied.
-    nearer : IsScannerRead (word_at s'.store.words) (after x.before.scanner x.answer) × (scanner_measure (budget_of s'.store) (word_at s'.store.words) (after x.before.scanner x.answer) < scanner_measure (budget_of s.store) (word_at s.store.words) x.before.scanner)
+    nearer : IsScannerRead (word_at s'.store.words) (after x.before.scanner x.answer)
+        × (scanner_measure (budget_of s'.store) (word_at s'.store.words) (after x.before.scanner x.answer) < scanner_measure (budget_of s.store)
+        (word_at s.store.words) x.before.scanner)
     nearer =
         let (es, (call_traces, kept)) = lawful.law in
         elim (step.heard_so eq (hashes s.store.hasher) law says hashes refuse s 0 s' event None x refl es call_traces lawful.core kept) [
-          | inl u ↦ let none : None ≡ Some (Reply_refused Memory) = step.unheard_reply eq (hashes s.store.hasher) law says hashes refuse s 0 s' event None x refl es call_traces lawful.core kept u in absurd cc
+          | inl u ↦ let none : None ≡ Some (Reply_refused Memory) = step.unheard_reply eq (hashes s.store.hasher) law says hashes refuse s 0 s' event
+              None x refl es call_traces lawful.core kept u in absurd cc
           | inr h ↦
               nears eq hashes says refuse (step.bare eq (hashes s.store.hasher) law says hashes refuse s 0 s' event None x) law
               (step.bare_core eq (hashes s.store.hasher) law says hashes refuse s 0 s' event None x refl es call_traces lawful.core kept)
-              call_traces x.before (scan_trace (call_traces 0)) (lawful.core.scanners 0 x.before x.was).0 read x.ask x.asked x.answer s'.store x.later x.performs 0 es
+              call_traces x.before (scan_trace (call_traces 0)) (lawful.core.scanners 0 x.before x.was).0 read x.ask x.asked x.answer s'.store x.later
+              x.performs 0 es
               (step.bare_kept eq (hashes s.store.hasher) law says hashes refuse s 0 s' event None x refl es call_traces lawful.core kept)
               (step.before_scanning eq (hashes s.store.hasher) law says hashes refuse s 0 s' event None x refl es call_traces lawful.core kept) h
         ]

@@ -18,13 +18,17 @@ use Rattle.papaya_timeline.specs.Maps.{Map, Does, IsUpdate, IsUpdateBy, Same, at
 use Rattle.papaya_timeline.specs.Runs.{History, with_event}
 use Rattle.papaya_timeline.specs.Solo.{CallDoes, IsAnswered, IsDoneBy, IsLeftBy}
 use Rattle.papaya_store.specs.Store.{Stored}
-use Rattle.papaya_timeline.specs.Timeline.{Answered, AtSomeMoment, Fits, FitsDone, FitsOpen, IsChange, IsLegal, IsUnchanged, MayChange, Timeline, WasLastShown, change_of, number_in, open_call}
+use Rattle.papaya_timeline.specs.Timeline.{Answered, AtSomeMoment, Fits, FitsDone, FitsOpen}
+use Rattle.papaya_timeline.specs.Timeline.{IsChange, IsLegal, IsUnchanged, MayChange, Timeline}
+use Rattle.papaya_timeline.specs.Timeline.{WasLastShown, change_of, number_in, open_call}
 
 -- equal keys have one pair in a list
-pub lookup_alike : {K P : Type 0} (eq : K → K → Bool) (classes : IsEquivalence eq) (key : P → K) (ps : List P) (j k : K) → eq j k ≡ true → lookup eq key ps j ≡ lookup eq key ps k
+pub lookup_alike : {K P : Type 0} (eq : K → K → Bool) (classes : IsEquivalence eq) (key : P → K) (ps : List P) (j k : K) → eq j k ≡ true
+    → lookup eq key ps j ≡ lookup eq key ps k
 lookup_alike eq classes key [] j k e = refl
 lookup_alike eq classes key (p ∷ ps) j k e =
-    ap (λ b. cond b (Some p) (lookup eq key ps j)) (classes.congr j k (key p) e) ∙ ap (λ o. cond (eq k (key p)) (Some p) o) (lookup_alike eq classes key ps j k e)
+    ap (λ b. cond b (Some p) (lookup eq key ps j)) (classes.congr j k (key p) e)
+    ∙ ap (λ o. cond (eq k (key p)) (Some p) o) (lookup_alike eq classes key ps j k e)
 
 -- an event of a step: no begin, and no reply
 abbrev pub IsOfStep : Event → Type 0
@@ -78,14 +82,16 @@ module _ {K V : Type 0} where
   AllSame start (m ∷ maps) = Same start m × AllSame start maps
 
   -- what held of one of them held of a map that is this one
-  at_same : (start : Map K V) (P : Map K V → Type 0) (c : ℕ) (h : History) (maps : List (Map K V)) → AllSame start maps → AtSomeMoment P c h maps → (m : Map K V) × Same start m × P m
+  at_same : (start : Map K V) (P : Map K V → Type 0) (c : ℕ) (h : History) (maps : List (Map K V)) → AllSame start maps → AtSomeMoment P c h maps
+      → (m : Map K V) × Same start m × P m
   at_same start P c [] maps same x = elim x [ ]
   at_same start P c (e ∷ h) [] same x = elim x [ ]
   at_same start P c (e ∷ h) (m ∷ maps) same (inl x) = (m, same.0, x)
   at_same start P c (e ∷ h) (m ∷ maps) same (inr x) = at_same start P c h maps same.1 x.1
 
   -- an update stays one where the maps before and after it are others that are the same
-  update_same : (eq : K → K → Bool) (k : K) (went came : Option (Stored K V)) (start m m' m'' : Map K V) → Same start m → IsUpdate eq k went came m m' → Same m' m'' → IsUpdate eq k went came start m''
+  update_same : (eq : K → K → Bool) (k : K) (went came : Option (Stored K V)) (start m m' m'' : Map K V) → Same start m → IsUpdate eq k went came m m'
+      → Same m' m'' → IsUpdate eq k went came start m''
   update_same eq k went came start m m' m'' first update next = record {
     before = sym (first k) ∙ update.before;
     class = λ j e. next j ∙ update.class j e;
@@ -93,7 +99,8 @@ module _ {K V : Type 0} where
   }
 
   -- so it is of the class of a call's key
-  update_same_by : (eq : K → K → Bool) (k : Option K) (went came : Option (Stored K V)) (start m m' m'' : Map K V) → Same start m → IsUpdateBy eq k went came m m' → Same m' m'' → IsUpdateBy eq k went came start m''
+  update_same_by : (eq : K → K → Bool) (k : Option K) (went came : Option (Stored K V)) (start m m' m'' : Map K V) → Same start m
+      → IsUpdateBy eq k went came m m' → Same m' m'' → IsUpdateBy eq k went came start m''
   update_same_by eq None went came start m m' m'' first update next = update
   update_same_by eq (Some k) went came start m m' m'' first update next = update_same eq k went came start m m' m'' first update next
 
@@ -103,7 +110,8 @@ module _ {K V : Type 0} where
   at_same_key m m' same (Some k) = same k
 
 -- a call that does something has a key
-does_keyed : {K V A : Type 0} (call : Call K V A) (here : Option (Stored K V)) (reply : Reply) (next : Option (Stored K V)) → Does call here reply next → (k : K) × (key_of call ≡ Some k)
+does_keyed : {K V A : Type 0} (call : Call K V A) (here : Option (Stored K V)) (reply : Reply) (next : Option (Stored K V))
+    → Does call here reply next → (k : K) × (key_of call ≡ Some k)
 does_keyed (Get k) here reply next does = (k, refl)
 does_keyed (Insert k v) here reply next does = (k, refl)
 does_keyed (TryInsert k v) here reply next does = (k, refl)
@@ -123,7 +131,9 @@ IsSingle call = Unit {0}
 
 -- what is said of such a call
 module _ {K V A : Type 0} (eq : K → K → Bool) where
-  single_changes : (call : Call K V A) → IsSingle call → (made : Change) (k : K) (old new : Option (Stored K V)) → MayChange eq (Some call) made k old new → (key_of call ≡ Some k) × (made ≡ None) × ((reply : Reply) × Does call old reply new × (change_of_reply reply ≡ Some (number_in old, number_in new)))
+  single_changes : (call : Call K V A) → IsSingle call → (made : Change) (k : K) (old new : Option (Stored K V))
+      → MayChange eq (Some call) made k old new → (key_of call ≡ Some k) × (made ≡ None)
+      × ((reply : Reply) × Does call old reply new × (change_of_reply reply ≡ Some (number_in old, number_in new)))
   single_changes (Get j) one made k old new may = may
   single_changes (Insert j v) one made k old new may = may
   single_changes (TryInsert j v) one made k old new may = may
@@ -147,7 +157,8 @@ module _ {K V A : Type 0} (eq : K → K → Bool) where
   single_unchanged (Retain a) one made none = absurd one
   single_unchanged Walk one made none = none
 
-  single_done : (call : Call K V A) → IsSingle call → (c : ℕ) (h : History) (maps : List (Map K V)) → FitsDone eq call c h maps → (key_of call ≡ None) × (change_of c h ≡ None)
+  single_done : (call : Call K V A) → IsSingle call → (c : ℕ) (h : History) (maps : List (Map K V)) → FitsDone eq call c h maps → (key_of call ≡ None)
+      × (change_of c h ≡ None)
   single_done (Get j) one c h maps done = done
   single_done (Insert j v) one c h maps done = done
   single_done (TryInsert j v) one c h maps done = done
@@ -221,16 +232,20 @@ module _ {K V A : Type 0} (eq : K → K → Bool) (call : Call K V A) (one : IsS
   })
 
   -- a change is the only one
-  changes_once : (caller : ℕ) (h : History) (made : Change) (m' m : Map K V) (maps : List (Map K V)) (said : Answered V) (old new : Option ℕ) → open_call schedule caller h ≡ Some call → change_of caller h ≡ made → IsChange eq schedule caller h m maps m' said old new → Stands made m maps → Stands (Some (old, new)) m' (m ∷ maps)
+  changes_once : (caller : ℕ) (h : History) (made : Change) (m' m : Map K V) (maps : List (Map K V)) (said : Answered V) (old new : Option ℕ)
+      → open_call schedule caller h ≡ Some call → change_of caller h ≡ made → IsChange eq schedule caller h m maps m' said old new → Stands made m maps
+      → Stands (Some (old, new)) m' (m ∷ maps)
   changes_once caller h made m' m maps said old new opened is x stands =
-      let (key, none, (reply, does, changes)) = single_changes eq call one (change_of caller h) x.key x.went x.came (subst (λ o. MayChange eq o (change_of caller h) x.key x.went x.came) opened x.may) in
+      let (key, none, (reply, does, changes)) = single_changes eq call one (change_of caller h) x.key x.went x.came
+      (subst (λ o. MayChange eq o (change_of caller h) x.key x.went x.came) opened x.may) in
       elim stands [
         | inl (unmade, all) ↦ inr (record {
           went = x.went;
           came = x.came;
           reply = reply;
           made_is = ap (λ o. Some (o, new)) (sym x.went_is) ∙ ap (λ o. Some (number_in x.went, o)) (sym x.came_is);
-          update = update_same_by eq (key_of call) x.went x.came start m m' m' all.0 (subst (λ k. IsUpdateBy eq k x.went x.came m m') (sym key) x.update) (λ j. refl);
+          update = update_same_by eq (key_of call) x.went x.came start m m' m' all.0
+              (subst (λ k. IsUpdateBy eq k x.went x.came m m') (sym key) x.update) (λ j. refl);
           does = does;
           changes = changes;
         })
@@ -238,7 +253,8 @@ module _ {K V A : Type 0} (eq : K → K → Bool) (call : Call K V A) (one : IsS
       ]
 
   -- how it stands after each of them
-  stands : (events : List Event) → AreOfSteps events → (m : Map K V) (maps : List (Map K V)) (said : Answered V) → Timeline eq schedule start (open_history events) (m ∷ maps) said → Stands (change_of 0 (open_history events)) m maps
+  stands : (events : List Event) → AreOfSteps events → (m : Map K V) (maps : List (Map K V)) (said : Answered V)
+      → Timeline eq schedule start (open_history events) (m ∷ maps) said → Stands (change_of 0 (open_history events)) m maps
   stands [] are m [] said x = elim x [ ]
   stands [] are m (m0 ∷ maps) [] x = elim x [ ]
   stands [] are m (m0 ∷ []) (answered ∷ []) x = inl (refl, (λ j. x.0 j ∙ x.2 j, (x.2, tt)))
@@ -248,9 +264,11 @@ module _ {K V A : Type 0} (eq : K → K → Bool) (call : Call K V A) (one : IsS
   stands (event ∷ events) are m (m0 ∷ maps) [] x = elim x [ ]
   stands (event ∷ events) are m (m0 ∷ maps) (answered ∷ said) x = after event are.0 said x.0 (stands events are.1 m0 maps said x.2)
     where
-      after : (event : Event) → IsOfStep event → (said : Answered V) → IsLegal eq event schedule 0 (open_history events) m0 maps m said → Stands (change_of 0 (open_history events)) m0 maps → Stands (change_of 0 (open_history (event ∷ events))) m (m0 ∷ maps)
+      after : (event : Event) → IsOfStep event → (said : Answered V) → IsLegal eq event schedule 0 (open_history events) m0 maps m said
+          → Stands (change_of 0 (open_history events)) m0 maps → Stands (change_of 0 (open_history (event ∷ events))) m (m0 ∷ maps)
       after Begun of_step said legal so_far = absurd of_step
-      after (Changed kind old new) of_step said legal so_far = changes_once 0 (open_history events) (change_of 0 (open_history events)) m m0 maps said old new (opened call steps events are.1) refl legal so_far
+      after (Changed kind old new) of_step said legal so_far = changes_once 0 (open_history events) (change_of 0 (open_history events)) m m0 maps said
+          old new (opened call steps events are.1) refl legal so_far
       after (Moved kind) of_step said legal so_far = stays (change_of 0 (open_history events)) m m0 maps legal so_far
       after (Asked n agrees) of_step said legal so_far = stays (change_of 0 (open_history events)) m m0 maps legal.0 so_far
       after (Shown n kind) of_step said legal so_far = stays (change_of 0 (open_history events)) m m0 maps legal.0 so_far
@@ -258,7 +276,8 @@ module _ {K V A : Type 0} (eq : K → K → Bool) (call : Call K V A) (one : IsS
       after Other of_step said legal so_far = stays (change_of 0 (open_history events)) m m0 maps legal so_far
       after (Replied reply) of_step said legal so_far = absurd of_step
 
-  module _ (alike : (j k : K) → eq j k ≡ true → start j ≡ start k) (h : History) (m m' : Map K V) (maps : List (Map K V)) (stood : Stands (change_of 0 h) m maps) (same : Same m m') where
+  module _ (alike : (j k : K) → eq j k ≡ true → start j ≡ start k) (h : History) (m m' : Map K V) (maps : List (Map K V))
+      (stood : Stands (change_of 0 h) m maps) (same : Same m m') where
     -- a reply with a change is the change's
     changed : (reply : Reply) (x : Option ℕ × Option ℕ) → change_of_reply reply ≡ Some x → change_of 0 h ≡ Some x → CallDoes eq call start reply m'
     changed reply x changes made = elim stood [
@@ -267,7 +286,8 @@ module _ {K V A : Type 0} (eq : K → K → Bool) (call : Call K V A) (one : IsS
         went = once.went;
         came = once.came;
         update = update_same_by eq (key_of call) once.went once.came start start m m' (λ j. refl) once.update same;
-        does = subst (λ r. Does call once.went r once.came) (sym (by_change once.reply x (once.changes ∙ sym once.made_is ∙ made)) ∙ by_change reply x changes) once.does;
+        does = subst (λ r. Does call once.went r once.came)
+            (sym (by_change once.reply x (once.changes ∙ sym once.made_is ∙ made)) ∙ by_change reply x changes) once.does;
       }
     ]
 
@@ -290,7 +310,8 @@ module _ {K V A : Type 0} (eq : K → K → Bool) (call : Call K V A) (one : IsS
     at_start P none at = at_same start P 0 h (m ∷ maps) (all_same none) at
 
     -- what the call does where the class of its key has this, it does at the start
-    does_at_start : (reply : Reply) (m0 : Map K V) → Same start m0 → Does call (at_key m0 (key_of call)) reply (at_key m0 (key_of call)) → Does call (at_key start (key_of call)) reply (at_key start (key_of call))
+    does_at_start : (reply : Reply) (m0 : Map K V) → Same start m0 → Does call (at_key m0 (key_of call)) reply (at_key m0 (key_of call))
+        → Does call (at_key start (key_of call)) reply (at_key start (key_of call))
     does_at_start reply m0 first does = subst (λ o. Does call o reply o) (at_same_key start m0 first (key_of call)) does
 
     -- a reply for which the map stays is the map's
@@ -300,20 +321,24 @@ module _ {K V A : Type 0} (eq : K → K → Bool) (call : Call K V A) (one : IsS
       came = at_key start (key_of call);
       update =
           let (k, is) = does_keyed call (at_key start (key_of call)) reply (at_key start (key_of call)) does in
-          subst (λ o. IsUpdateBy eq o (at_key start o) (at_key start o) start m') (sym is) (record { before = refl; class = λ j e. unchanged none j ∙ alike j k e; others = λ j e. unchanged none j });
+          subst (λ o. IsUpdateBy eq o (at_key start o) (at_key start o) start m') (sym is)
+          (record { before = refl; class = λ j e. unchanged none j ∙ alike j k e; others = λ j e. unchanged none j });
       does = does;
     }
 
     -- a reply without a change is the map's
-    answered : (reply : Reply) → change_of 0 h ≡ None → AtSomeMoment (λ m. Does call (at_key m (key_of call)) reply (at_key m (key_of call))) 0 h (m ∷ maps) → CallDoes eq call start reply m'
+    answered : (reply : Reply) → change_of 0 h ≡ None
+        → AtSomeMoment (λ m. Does call (at_key m (key_of call)) reply (at_key m (key_of call))) 0 h (m ∷ maps) → CallDoes eq call start reply m'
     answered reply none at =
         let (m0, first, does) = at_start (λ m. Does call (at_key m (key_of call)) reply (at_key m (key_of call))) none at in
         kept reply none (does_at_start reply m0 first does)
 
     -- what a closure ends when it is shown what stands there, the call does where that stands
-    does_as_shown : (reply : Reply) (shown : Option ℕ) (kind : OpKind) → change_of 0 h ≡ None → WasLastShown eq call reply shown kind 0 h (m ∷ maps) → Does call (at_key start (key_of call)) reply (at_key start (key_of call))
+    does_as_shown : (reply : Reply) (shown : Option ℕ) (kind : OpKind) → change_of 0 h ≡ None → WasLastShown eq call reply shown kind 0 h (m ∷ maps)
+        → Does call (at_key start (key_of call)) reply (at_key start (key_of call))
     does_as_shown reply shown kind none last =
-        let (m0, first, (is, does)) = at_start (λ m. (number_in (at_key m (key_of call)) ≡ shown) × Does call (at_key m (key_of call)) reply (at_key m (key_of call))) none last.1 in
+        let (m0, first, (is, does)) = at_start (λ m. (number_in (at_key m (key_of call)) ≡ shown)
+        × Does call (at_key m (key_of call)) reply (at_key m (key_of call))) none last.1 in
         does_at_start reply m0 first does
 
     -- a reply that fits is the finite map's
@@ -336,7 +361,9 @@ module _ {K V A : Type 0} (eq : K → K → Bool) (call : Call K V A) (one : IsS
     fits_answered (Kept n) fits = answered (Kept n) fits.0.0 fits.0.1
 
   -- the timeline of the whole call says so
-  pub single_answered : ((j k : K) → eq j k ≡ true → start j ≡ start k) → (events : List Event) → AreOfSteps events → (reply : Reply) (last m' : Map K V) (maps : List (Map K V)) (said : Answered V) → Timeline eq schedule start (with_event 1 0 (Replied reply) (open_history events)) (last ∷ maps) said → Same last m' → IsAnswered eq call start reply m'
+  pub single_answered : ((j k : K) → eq j k ≡ true → start j ≡ start k) → (events : List Event) → AreOfSteps events
+      → (reply : Reply) (last m' : Map K V) (maps : List (Map K V)) (said : Answered V)
+      → Timeline eq schedule start (with_event 1 0 (Replied reply) (open_history events)) (last ∷ maps) said → Same last m' → IsAnswered eq call start reply m'
   single_answered alike events are reply last m' [] said x same = elim x [ ]
   single_answered alike events are reply last m' (m ∷ maps) [] x same = elim x [ ]
   single_answered alike events are reply last m' (m ∷ maps) (o ∷ said) x same =

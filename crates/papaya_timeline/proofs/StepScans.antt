@@ -1,5 +1,6 @@
 -- What the event of a scanner's step is: that a pair was given, shown or deleted, or one that changes no pair of the map.
-use Rattle.std.proofs.Common.{◌≡◌, ◌⊎◌, inl, inr, ℕ, negsuc, ◌==◌, Bool, true, false, Option, None, Some, List, [], ◌∷◌, ◌++◌, refl, sym, ◌∙◌, ap, subst, eqb-true}
+use Rattle.std.proofs.Common.{◌≡◌, ◌⊎◌, inl, inr, ℕ, negsuc, ◌==◌, Bool, true, false, Option, None}
+use Rattle.std.proofs.Common.{Some, List, [], ◌∷◌, ◌++◌, refl, sym, ◌∙◌, ap, subst, eqb-true}
 use Rattle.papaya_words.specs.Word.{pair_of as number_of}
 use Rattle.papaya_ask.specs.declared.ask.Answer.TheVariants.{Ok}
 use Rattle.papaya_ask.specs.declared.ask.StepKind.{StepKind}
@@ -46,7 +47,9 @@ IsWithout (Copying stage) = Unit {0}
 IsWithout AtRoot = Unit {0}
 IsWithout state = ⊥
 
-module _ {K V : Type 0} (eq : K → K → Bool) (g : Setting K (Stored K V)) (c : Coding K (Stored K V)) (hashed : IsHashed g c) (s : Words (Stored K V)) (since : List (Exchange (Stored K V))) (state : State) (loaded : LoadedPairs (Stored K V)) (event : Event) (es : List (Exchange (Stored K V))) (loaded' : LoadedPairs (Stored K V)) where
+module _ {K V : Type 0} (eq : K → K → Bool) (g : Setting K (Stored K V)) (c : Coding K (Stored K V)) (hashed : IsHashed g c) (s : Words (Stored K V))
+    (since : List (Exchange (Stored K V))) (state : State) (loaded : LoadedPairs (Stored K V)) (event : Event) (es : List (Exchange (Stored K V)))
+    (loaded' : LoadedPairs (Stored K V)) where
   -- the map stays, and nothing is given or shown
   pub record IsStill : Type 0 where
     pub quiet : IsQuiet event
@@ -93,11 +96,14 @@ module _ {K V : Type 0} (eq : K → K → Bool) (g : Setting K (Stored K V)) (c 
   abbrev pub IsScanStep : Type 0
   IsScanStep = IsStill ⊎ IsGift ⊎ IsShowing ⊎ IsDeletion
 
-module _ {K V : Type 0} (eq : K → K → Bool) (g : Setting K (Stored K V)) (c : Coding K (Stored K V)) (hashed : IsHashed g c) (number_is : (p : Stored K V) → c.number p ≡ p.number) (s : Words (Stored K V)) (since : List (Exchange (Stored K V))) (loaded : LoadedPairs (Stored K V)) (answer : Answer) (es : List (Exchange (Stored K V))) (loaded' : LoadedPairs (Stored K V)) where
+module _ {K V : Type 0} (eq : K → K → Bool) (g : Setting K (Stored K V)) (c : Coding K (Stored K V)) (hashed : IsHashed g c)
+    (number_is : (p : Stored K V) → c.number p ≡ p.number) (s : Words (Stored K V)) (since : List (Exchange (Stored K V)))
+    (loaded : LoadedPairs (Stored K V)) (answer : Answer) (es : List (Exchange (Stored K V))) (loaded' : LoadedPairs (Stored K V)) where
   abbrev Step : State → ScanAsk → Type 0
   Step state ask = IsScanStep eq g c hashed s since state loaded (event_of_scan (kind_in state) ask answer) es loaded'
 
-  copy_stills : (stage : Stage) → (o : Option CopyAsk) → resizers.asks_in stage ≡ o → (ask : ScanAsk) → copy_asks o ≡ Some ask → IsScanTold g c s since (Copying stage) loaded answer es loaded' → Step (Copying stage) ask
+  copy_stills : (stage : Stage) → (o : Option CopyAsk) → resizers.asks_in stage ≡ o → (ask : ScanAsk) → copy_asks o ≡ Some ask
+      → IsScanTold g c s since (Copying stage) loaded answer es loaded' → Step (Copying stage) ask
   copy_stills stage None is ask e told = absurd cc
   copy_stills stage (Some asked) is ask e told = subst (Step (Copying stage)) (same_item (Copy asked) ask e) (inl (record {
     quiet = subst IsQuiet (sym (copied_event (resizers.kind_in stage) asked answer)) (stage_moves IsQuiet tt (λ kind. tt) stage asked answer);
@@ -162,9 +168,12 @@ module _ {K V : Type 0} (eq : K → K → Bool) (g : Setting K (Stored K V)) (c 
   })))
   scan_step (Deleting spot word) ask e told =
       subst (Step (Deleting spot word)) (same_item (Copy (deletes spot word)) ask e)
-      (matched (Step (Deleting spot word) (Copy (deletes spot word))) (code g c (s.slot spot.table spot.slot) == word) (IsDeleted g c s since spot loaded answer es loaded') (IsFoundThere g c s since spot loaded answer es loaded') told
+      (matched (Step (Deleting spot word) (Copy (deletes spot word))) (code g c (s.slot spot.table spot.slot) == word)
+      (IsDeleted g c s since spot loaded answer es loaded') (IsFoundThere g c s since spot loaded answer es loaded') told
       (λ hit t.
-      let number : number_of word ≡ t.pair.number = ap number_of (sym (eqb-true (code g c (s.slot spot.table spot.slot)) word hit) ∙ ap (code g c) t.live) ∙ (code_pair g c hashed.coding (Live t.pair) t.pair refl) ∙ number_is t.pair in
+      let number : number_of word ≡ t.pair.number = ap number_of
+      (sym (eqb-true (code g c (s.slot spot.table spot.slot)) word hit) ∙ ap (code g c) t.live)
+      ∙ (code_pair g c hashed.coding (Live t.pair) t.pair refl) ∙ number_is t.pair in
       inr (inr (inr (record {
         spot = spot;
         word = word;
@@ -184,7 +193,8 @@ module _ {K V : Type 0} (eq : K → K → Bool) (g : Setting K (Stored K V)) (c 
         before = inl (ap (λ (h : LoadedPairs (Stored K V)). h.before) t.handed);
       })))
   scan_step (Uncounting spot) ask e told = inl (record {
-    quiet = subst IsQuiet (ap (event_of_scan None (AddToShard (negsuc 0))) (sym told.0) ∙ ap (λ a. event_of_scan None a answer) (same_item (AddToShard (negsuc 0)) ask e)) tt;
+    quiet = subst IsQuiet (ap (event_of_scan None (AddToShard (negsuc 0))) (sym told.0)
+        ∙ ap (λ a. event_of_scan None a answer) (same_item (AddToShard (negsuc 0)) ask e)) tt;
     one = none_one eq g c s loaded.copy answer es loaded.copy told.1;
     given = ap (λ (h : LoadedPairs (Stored K V)). h.given) told.2;
     shown = ap (λ (h : LoadedPairs (Stored K V)). h.shown) told.2;
@@ -197,9 +207,11 @@ module _ {K V S A : Type 0} (says : Says K V A) (s : StoreState K V S) (v v' : S
     pub left : (a' : A) → v'.answers ≡ Some a' → (a : A) × (v.answers ≡ Some a) × GivesIn says s event None a a'
     pub gave : asks_closure event ≡ true → (a' : A) × (v'.answers ≡ Some a')
 
-module _ {K V S A : Type 0} (eq : K → K → Bool) (says : Says K V A) (hash : S → K → ℕ) (refuse : Bool) (s : StoreState K V S) (v : Scanning A) (answer : Answer) (s' : StoreState K V S) (v' : Scanning A) (kind : Option StepKind) where
+module _ {K V S A : Type 0} (eq : K → K → Bool) (says : Says K V A) (hash : S → K → ℕ) (refuse : Bool) (s : StoreState K V S) (v : Scanning A)
+    (answer : Answer) (s' : StoreState K V S) (v' : Scanning A) (kind : Option StepKind) where
   -- an event that asks nothing leaves the answers as they are
-  unasked : (event : Event) → v'.answers ≡ v.answers → ((a : A) → GivesIn says s' event None a a) → asks_closure event ≡ false → IsScanAnswering says s' v v' event
+  unasked : (event : Event) → v'.answers ≡ v.answers → ((a : A) → GivesIn says s' event None a a) → asks_closure event ≡ false
+      → IsScanAnswering says s' v v' event
   unasked event same gives none = record {
     left = λ a had. (a, sym same ∙ had, gives a);
     gave = λ asks. let f : false ≡ true = sym none ∙ asks in absurd cc;
@@ -208,9 +220,12 @@ module _ {K V S A : Type 0} (eq : K → K → Bool) (says : Says K V A) (hash : 
   pub scan_answering : (ask : ScanAsk) → PerformsScan eq says hash refuse ask s v answer s' v' → IsScanAnswering says s' v v' (event_of_scan kind ask answer)
   scan_answering (Copy ask) (performs, same) =
       subst (IsScanAnswering says s' v v') (sym (copied_event kind ask answer))
-      (unasked (event_of kind (asks.Copy ask) answer) (ap (λ (y : Scanning A). y.answers) same) (λ a. copy_cases (λ e. GivesIn says s' e None a a) refl (λ kind old new. refl) (λ kind. refl) kind ask answer) (copy_cases (λ e. asks_closure e ≡ false) refl (λ kind old new. refl) (λ kind. refl) kind ask answer))
+      (unasked (event_of kind (asks.Copy ask) answer) (ap (λ (y : Scanning A). y.answers) same)
+      (λ a. copy_cases (λ e. GivesIn says s' e None a a) refl (λ kind old new. refl) (λ kind. refl) kind ask answer)
+      (copy_cases (λ e. asks_closure e ≡ false) refl (λ kind old new. refl) (λ kind. refl) kind ask answer))
   scan_answering (Show n) ((told, is, inl (nothing, ok, as_was)), same) =
-      subst (IsScanAnswering says s' v v') (ap (event_of_scan kind (Show n)) (sym (is ∙ ap answers.Call ok))) (unasked Other (ap (λ (y : Scanning A). y.answers) as_was) (λ a. refl) refl)
+      subst (IsScanAnswering says s' v v') (ap (event_of_scan kind (Show n)) (sym (is ∙ ap answers.Call ok)))
+      (unasked Other (ap (λ (y : Scanning A). y.answers) as_was) (λ a. refl) refl)
   scan_answering (Show n) ((told, is, inr (a, p, stays, a', had, there, said, told_so, later)), same) =
       subst (IsScanAnswering says s' v v') (ap (event_of_scan kind (Show n)) (sym (is ∙ ap answers.Call told_so))) (record {
         left = λ b has.
@@ -223,4 +238,5 @@ module _ {K V S A : Type 0} (eq : K → K → Bool) (says : Says K V A) (hash : 
   scan_answering (Give n) ((told, is, inr (refused, as_was, left, given)), same) =
       subst (IsScanAnswering says s' v v') (ap (event_of_scan kind (Give n)) (sym (is ∙ ap answers.Call refused))) (unasked Other left (λ a. refl) refl)
   scan_answering (AddToShard by) (is, counted, same) =
-      subst (IsScanAnswering says s' v v') (ap (event_of_scan kind (AddToShard by)) (sym is)) (unasked Other (ap (λ (y : Scanning A). y.answers) same) (λ a. refl) refl)
+      subst (IsScanAnswering says s' v v') (ap (event_of_scan kind (AddToShard by)) (sym is))
+      (unasked Other (ap (λ (y : Scanning A). y.answers) same) (λ a. refl) refl)

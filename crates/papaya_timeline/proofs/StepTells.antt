@@ -55,7 +55,8 @@ of_call events.Begun ask told h = absurd h
 of_call (events.Gave n) ask told h = absurd h
 of_call (events.Replied reply) ask told h = absurd h
 
-tells : (kind : Option StepKind) (ask : Ask) (answer : Answer) → ((asked : CopyAsk) → ask ≡ asks.Copy asked → IsCopyKind kind) → Tells (event_of kind ask answer) ask answer
+tells : (kind : Option StepKind) (ask : Ask) (answer : Answer) → ((asked : CopyAsk) → ask ≡ asks.Copy asked → IsCopyKind kind)
+    → Tells (event_of kind ask answer) ask answer
 tells kind (asks.Call ask) (answers.Call told) copies = of_call (call_event kind ask told) ask told (calls.event_tells kind ask told)
 tells kind (asks.Call ask) (answers.Hash hash) copies = tt
 tells kind (asks.Call ask) (answers.Count count) copies = tt
@@ -70,29 +71,37 @@ unasked kind ask answer = copy_cases (λ e. asks_closure e ≡ false) refl (λ k
 
 module _ {K V S A : Type 0} (eq : K → K → Bool) (says : Says K V A) (hash : S → K → ℕ) (refuse : Bool) where
   -- what a closure answered in a step
-  pub answering : (kind : Option StepKind) (s : StoreState K V S) (r : Running K V A) (a : Answer) (s' : StoreState K V S) (r' : Running K V A) (ask : Ask) → PerformsAsk eq says hash refuse ask s r a s' r' → IsAnswering says s' r r' (event_of kind ask a)
-  answering kind s r a s' r' (asks.Call ask) (told, is, performs) = subst (λ y. IsAnswering says s' r r' (event_of kind (asks.Call ask) y)) (sym is) (calls.answering eq says refuse kind s r told s' r' ask performs)
+  pub answering : (kind : Option StepKind) (s : StoreState K V S) (r : Running K V A) (a : Answer) (s' : StoreState K V S) (r' : Running K V A)
+      (ask : Ask) → PerformsAsk eq says hash refuse ask s r a s' r' → IsAnswering says s' r r' (event_of kind ask a)
+  answering kind s r a s' r' (asks.Call ask) (told, is, performs) = subst (λ y. IsAnswering says s' r r' (event_of kind (asks.Call ask) y)) (sym is)
+      (calls.answering eq says refuse kind s r told s' r' ask performs)
   answering kind s r a s' r' (asks.Copy ask) (performs, as_was) =
-      silent eq says refuse kind s r (Yes false) s' r' (event_of kind (asks.Copy ask) a) (λ asking. let f : false ≡ true = sym (unasked kind ask a) ∙ asking in absurd cc) (ap (λ (z : Running K V A). z.answers) as_was)
+      silent eq says refuse kind s r (Yes false) s' r' (event_of kind (asks.Copy ask) a)
+      (λ asking. let f : false ≡ true = sym (unasked kind ask a) ∙ asking in absurd cc) (ap (λ (z : Running K V A). z.answers) as_was)
 
   module _ (s : StoreState K V S) (r : Running K V A) (a : Answer) (s' : StoreState K V S) (r' : Running K V A) where
     -- the value of the call is that of before, or a closure answered
     abbrev pub AtHand : Ask → Type 0
-    AtHand ask = calls.SameValue eq says refuse s r (Yes false) s' r' ⊎ ((shown : Option ℕ) × (op : OpKind) × (ask ≡ asks.Call (show shown)) × (a ≡ answers.Call (Op op)))
+    AtHand ask = calls.SameValue eq says refuse s r (Yes false) s' r'
+        ⊎ ((shown : Option ℕ) × (op : OpKind) × (ask ≡ asks.Call (show shown)) × (a ≡ answers.Call (Op op)))
 
     pub at_hand : (ask : Ask) → PerformsAsk eq says hash refuse ask s r a s' r' → AtHand ask
     at_hand (asks.Call ask) (told, is, performs) =
         ⊎_elim
         (λ (kept : calls.SameValue eq says refuse s r told s' r'). inl kept)
-        (λ (showing : (shown : Option ℕ) × (op : OpKind) × (ask ≡ show shown) × (told ≡ Op op)). inr (showing.0, showing.1, ap asks.Call showing.2, is ∙ ap answers.Call showing.3))
+        (λ (showing : (shown : Option ℕ) × (op : OpKind) × (ask ≡ show shown) × (told ≡ Op op)).
+        inr (showing.0, showing.1, ap asks.Call showing.2, is ∙ ap answers.Call showing.3))
         (calls.at_hand eq says refuse s r told s' r' ask performs)
     at_hand (asks.Copy ask) (performs, as_was) =
-        let same : own_value s' r' ≡ own_value s r = ap (λ l. value_at l r'.value) (copy_pairs eq hash refuse ask s a s' performs) ∙ ap (λ (y : Running K V A). value_at s.pairs y.value) as_was in
+        let same : own_value s' r' ≡ own_value s r = ap (λ l. value_at l r'.value) (copy_pairs eq hash refuse ask s a s' performs)
+        ∙ ap (λ (y : Running K V A). value_at s.pairs y.value) as_was in
         inl (λ v h. same ∙ h, λ valued v h. sym same ∙ h)
 
 module _ {K P : Type 0} (g : Setting K P) (c : Coding K P) (k : K) (s : State P) (kind : Option StepKind) (follows : ℕ) (loaded : LoadedPairs P) where
   -- a pair that was made is at the head of those that the machine was told of
-  pub told_made : (asked : Call_ask) (ask : Ask) (a : Answer) (es : List (Exchange P)) (loaded' : LoadedPairs P) (n : ℕ) → ask ≡ asks.Call asked → MakesPair asked → a ≡ answers.Call (Made_number n) → IsTold g c k s kind follows loaded ask a es loaded' → (q : P) × (c.number q ≡ n) × (loaded'.call.made ≡ q ∷ loaded.call.made)
+  pub told_made : (asked : Call_ask) (ask : Ask) (a : Answer) (es : List (Exchange P)) (loaded' : LoadedPairs P) (n : ℕ) → ask ≡ asks.Call asked
+      → MakesPair asked → a ≡ answers.Call (Made_number n) → IsTold g c k s kind follows loaded ask a es loaded' → (q : P) × (c.number q ≡ n)
+      × (loaded'.call.made ≡ q ∷ loaded.call.made)
   told_made asked ask a es loaded' n asking makes is told =
       let h = subst (λ y. IsTold g c k s kind follows loaded y a es loaded') asking told in
       let same : h.told ≡ Made_number n = cc (h.is, is) in

@@ -4,9 +4,16 @@ use Rattle.papaya_call.specs.Answers.{Says, op_kind}
 use Rattle.papaya_call.specs.declared.answers.Operation.{Operation}
 use Rattle.papaya_ask.specs.declared.ask.At.{At}
 use Rattle.papaya_ask.specs.declared.ask.Ask.{Ask}
-use Rattle.papaya_ask.specs.declared.ask.Ask.TheVariants.{Load, Exchange as Ask_exchange, SameKey, ShowNone, ShowPair, SizeOf, MakeKey, MakeValue, MakePair, MakePairOf, MakeTable, AddToShard, Done as Ask_done, LoadHint, WriteHint}
+use Rattle.papaya_ask.specs.declared.ask.Ask.TheVariants.{Load, Exchange as Ask_exchange, SameKey}
+use Rattle.papaya_ask.specs.declared.ask.Ask.TheVariants.{ShowNone, ShowPair, SizeOf, MakeKey}
+use Rattle.papaya_ask.specs.declared.ask.Ask.TheVariants.{MakeValue, MakePair, MakePairOf}
+use Rattle.papaya_ask.specs.declared.ask.Ask.TheVariants.{MakeTable, AddToShard, Done as Ask_done}
+use Rattle.papaya_ask.specs.declared.ask.Ask.TheVariants.{LoadHint, WriteHint}
 use Rattle.papaya_ask.specs.declared.ask.Answer.{Answer}
-use Rattle.papaya_ask.specs.declared.ask.Answer.TheVariants.{Word as Word_read, Exchanged, Found as Found_instead, Yes, Op, Size, Made as Made_number, Ok as Ok_done, Refused as Was_refused}
+use Rattle.papaya_ask.specs.declared.ask.Answer.TheVariants.{Word as Word_read, Exchanged}
+use Rattle.papaya_ask.specs.declared.ask.Answer.TheVariants.{Found as Found_instead, Yes, Op, Size}
+use Rattle.papaya_ask.specs.declared.ask.Answer.TheVariants.{Made as Made_number, Ok as Ok_done}
+use Rattle.papaya_ask.specs.declared.ask.Answer.TheVariants.{Refused as Was_refused}
 use Rattle.papaya_ask.specs.declared.ask.OpKind.{OpKind}
 use Rattle.papaya_ask.specs.declared.ask.StepKind.{StepKind}
 use Rattle.papaya_ask.specs.declared.ask.StepKind.TheVariants as kinds
@@ -143,7 +150,8 @@ unanswered V (events.Gave n) none = refl
 unanswered V (events.Replied reply) none = refl
 
 -- an event at which a closure is asked tells that it was shown something, and what it answered
-asked : (e : Event) (ask : Ask) (answer : Answer) → Tells e ask answer → asks_closure e ≡ true → (is_showing ask ≡ true) × (((agrees : Bool) × (answer ≡ Yes agrees)) ⊎ ((op : OpKind) × (answer ≡ Op op)))
+asked : (e : Event) (ask : Ask) (answer : Answer) → Tells e ask answer → asks_closure e ≡ true → (is_showing ask ≡ true)
+    × (((agrees : Bool) × (answer ≡ Yes agrees)) ⊎ ((op : OpKind) × (answer ≡ Op op)))
 asked events.Begun ask answer told asks = absurd told
 asked (events.Changed kind old new) ask answer told asks = absurd cc
 asked (events.Moved kind) ask answer told asks = absurd cc
@@ -186,7 +194,8 @@ module _ {K V S A : Type 0} (eq : K → K → Bool) (says : Says K V A) (refuse 
     }
 
     -- the closure of a compute was
-    decided : (shown : Option ℕ) (pair : Option (K × V)) → (s' ≡ s → IsEntryOf says s' shown pair) → Decides says pair s r a s' r' → IsAnswering says s' r r' (call_event kind (show shown) a)
+    decided : (shown : Option ℕ) (pair : Option (K × V)) → (s' ≡ s → IsEntryOf says s' shown pair) → Decides says pair s r a s' r'
+        → IsAnswering says s' r r' (call_event kind (show shown) a)
     decided shown pair entry (x, op, y, has, gives, is, same, later) =
         let event_is : call_event kind (show shown) a ≡ events.Shown shown (op_kind op) = event_shown shown (op_kind op) kind (show shown) a refl is in
         let answers_are : r'.answers ≡ Some y = ap (λ (z : Running K V A). z.answers) later in
@@ -194,19 +203,34 @@ module _ {K V S A : Type 0} (eq : K → K → Bool) (says : Says K V A) (refuse 
           answered = Some op;
           fits = subst (λ e. IsAnsweredIn e (Some op)) (sym event_is) (op, refl, refl);
           value = λ o e. let f : op ≡ o = cc in ap (λ (y : Running K V A). y.value) later ∙ ap (λ (o : Operation V ℕ). value_answered o r.value) f;
-          left = λ a' had. (x, has, subst (λ e. GivesIn says s' e (Some op) x a') (sym event_is) (pair, op, entry same, refl, subst (λ (z : A). says.op x pair op z) (same_item y a' (sym answers_are ∙ had)) gives));
+          left = λ a' had. (
+            x,
+            has,
+            subst (λ e. GivesIn says s' e (Some op) x a') (sym event_is)
+                (pair, op, entry same, refl, subst (λ (z : A). says.op x pair op z) (same_item y a' (sym answers_are ∙ had)) gives),
+          );
           gave = λ asks. (y, answers_are);
         }
 
     -- the closure of a removal was
-    judged : (n : ℕ) (x : A) (p : Stored K V) (agrees : Bool) (y : A) → r.answers ≡ Some x → pair_of s n ≡ Some p → says.yes x p.key p.value agrees y → a ≡ Yes agrees → s' ≡ s → r'.answers ≡ Some y → IsAnswering says s' r r' (call_event kind (ShowPair n) a)
+    judged : (n : ℕ) (x : A) (p : Stored K V) (agrees : Bool) (y : A) → r.answers ≡ Some x → pair_of s n ≡ Some p → says.yes x p.key p.value agrees y
+        → a ≡ Yes agrees → s' ≡ s → r'.answers ≡ Some y → IsAnswering says s' r r' (call_event kind (ShowPair n) a)
     judged n x p agrees y has there gives is same answers_are =
         let event_is : call_event kind (ShowPair n) a ≡ events.Asked n agrees = ap (λ z. shown_event (Some n) z) is in
         record {
           answered = None;
           fits = subst (λ e. IsAnsweredIn {V = V} e None) (sym event_is) refl;
           value = λ op e. let f : None ≡ Some op = e in absurd cc;
-          left = λ a' had. (x, has, subst (λ e. GivesIn says s' e None x a') (sym event_is) (p, ap (λ (z : StoreState K V S). pair_of z n) same ∙ there, subst (λ (z : A). says.yes x p.key p.value agrees z) (same_item y a' (sym answers_are ∙ had)) gives));
+          left = λ a' had. (
+            x,
+            has,
+            subst (λ e. GivesIn says s' e None x a') (sym event_is) (
+              p,
+              ap (λ (z : StoreState K V S). pair_of z n) same
+                  ∙ there,
+              subst (λ (z : A). says.yes x p.key p.value agrees z) (same_item y a' (sym answers_are ∙ had)) gives,
+            ),
+          );
           gave = λ asks. (y, answers_are);
         }
 
@@ -220,7 +244,8 @@ module _ {K V S A : Type 0} (eq : K → K → Bool) (says : Says K V A) (refuse 
             (asked (call_event kind ask a) ask a (event_tells kind ask a) asks).1
 
     not_shown : (ask : Ask) → is_showing ask ≡ false → r'.answers ≡ r.answers → IsAnswering says s' r r' (call_event kind ask a)
-    not_shown ask unshown stays = silent (call_event kind ask a) (λ asks. let f : false ≡ true = sym unshown ∙ (asked (call_event kind ask a) ask a (event_tells kind ask a) asks).0 in cc) stays
+    not_shown ask unshown stays = silent (call_event kind ask a)
+        (λ asks. let f : false ≡ true = sym unshown ∙ (asked (call_event kind ask a) ask a (event_tells kind ask a) asks).0 in cc) stays
 
     -- what is made leaves the answers
     as_was : r' ≡ r → r'.answers ≡ r.answers
@@ -240,9 +265,11 @@ module _ {K V S A : Type 0} (eq : K → K → Bool) (says : Says K V A) (refuse 
       where
         by_task : (task : Task) → ShowsPair task says n s r a s' r' → IsAnswering says s' r r' (call_event kind (ShowPair n) a)
         by_task tasks.RemoveIf (inl (none, stays)) = nothing (ShowPair n) stays
-        by_task tasks.RemoveIf (inr (x, p, agrees, y, has, there, gives, is, same, later)) = judged n x p agrees y has there gives is same (ap (λ (z : Running K V A). z.answers) later)
+        by_task tasks.RemoveIf (inr (x, p, agrees, y, has, there, gives, is, same, later)) = judged n x p agrees y has there gives is same
+            (ap (λ (z : Running K V A). z.answers) later)
         by_task tasks.Compute (inl (none, stays)) = nothing (ShowPair n) stays
-        by_task tasks.Compute (inr (p, there, decides)) = decided (Some n) (Some (p.key, p.value)) (λ same. (p, ap (λ (z : StoreState K V S). pair_of z n) same ∙ there, refl)) decides
+        by_task tasks.Compute (inr (p, there, decides)) = decided (Some n) (Some (p.key, p.value))
+            (λ same. (p, ap (λ (z : StoreState K V S). pair_of z n) same ∙ there, refl)) decides
         by_task tasks.Get stays = nothing (ShowPair n) stays
         by_task (tasks.Insert replace) stays = nothing (ShowPair n) stays
     answering (Load at) h = not_shown (Load at) refl (as_was h.1.1)
@@ -270,7 +297,8 @@ module _ {K V S A : Type 0} (eq : K → K → Bool) (says : Says K V A) (refuse 
 
     -- where the log is the same, or longer
     kept : (ask : Ask) → s'.pairs ≡ s.pairs → r'.value ≡ r.value → AtHand ask
-    kept ask log value = let same : own_value s' r' ≡ own_value s r = ap (λ l. value_at l r'.value) log ∙ ap (value_at s.pairs) value in inl (λ v h. same ∙ h, λ valued v h. sym same ∙ h)
+    kept ask log value = let same : own_value s' r' ≡ own_value s r = ap (λ l. value_at l r'.value) log ∙ ap (value_at s.pairs) value in
+        inl (λ v h. same ∙ h, λ valued v h. sym same ∙ h)
 
     stayed : (ask : Ask) → Stays s r s' r' → AtHand ask
     stayed ask stays = kept ask (ap (λ (y : StoreState K V S). y.pairs) stays.0) (ap (λ (y : Running K V A). y.value) stays.1)
@@ -298,13 +326,15 @@ module _ {K V S A : Type 0} (eq : K → K → Bool) (says : Says K V A) (refuse 
       where
         by_task : (task : Task) → ShowsPair task says n s r a s' r' → AtHand (ShowPair n)
         by_task tasks.RemoveIf (inl (none, (e, stays))) = stayed (ShowPair n) stays
-        by_task tasks.RemoveIf (inr (x, p, agrees, y, has, there, gives, answer_is, same, later)) = kept (ShowPair n) (ap (λ (y : StoreState K V S). y.pairs) same) (ap (λ (y : Running K V A). y.value) later)
+        by_task tasks.RemoveIf (inr (x, p, agrees, y, has, there, gives, answer_is, same, later)) = kept (ShowPair n)
+            (ap (λ (y : StoreState K V S). y.pairs) same) (ap (λ (y : Running K V A). y.value) later)
         by_task tasks.Compute (inl (none, (e, stays))) = stayed (ShowPair n) stays
         by_task tasks.Compute (inr (p, there, (x, op, y, has, gives, answer_is, same, later))) = inr (Some n, op_kind op, refl, answer_is)
         by_task tasks.Get (e, stays) = stayed (ShowPair n) stays
         by_task (tasks.Insert replace) (e, stays) = stayed (ShowPair n) stays
     at_hand (LoadHint t x) (e, stays) = stayed (LoadHint t x) stays
-    at_hand (WriteHint t x hint) (e, same, as_was) = kept (WriteHint t x hint) (ap (λ (y : StoreState K V S). y.pairs) same) (ap (λ (y : Running K V A). y.value) as_was)
+    at_hand (WriteHint t x hint) (e, same, as_was) = kept (WriteHint t x hint) (ap (λ (y : StoreState K V S). y.pairs) same)
+        (ap (λ (y : Running K V A). y.value) as_was)
     at_hand (SizeOf n) (e, stays) = stayed (SizeOf n) stays
     at_hand MakeKey h = made MakeKey (part_logs s r a s' r' refuse h)
     at_hand MakeValue h = made MakeValue (part_logs s r a s' r' refuse h)
@@ -313,8 +343,14 @@ module _ {K V S A : Type 0} (eq : K → K → Bool) (says : Says K V A) (refuse 
     at_hand (MakeTable slots limit chunks) h =
         matched (AtHand (MakeTable slots limit chunks)) refuse _ _ h
         (λ _ none. stayed (MakeTable slots limit chunks) none.1)
-        (λ _ makes. kept (MakeTable slots limit chunks) (elim makes.0 [ inl refused ↦ ap (λ (y : StoreState K V S). y.pairs) refused.1 | inr (is, few, same) ↦ ap (λ (y : StoreState K V S). y.pairs) same ]) (ap (λ (y : Running K V A). y.value) makes.1))
-    at_hand (AddToShard by) (e, (number, same), as_was) = kept (AddToShard by) (ap (λ (y : StoreState K V S). y.pairs) same) (ap (λ (y : Running K V A). y.value) as_was)
+        (λ _ makes. kept (MakeTable slots limit chunks)
+        (elim makes.0 [
+          | inl refused ↦ ap (λ (y : StoreState K V S). y.pairs) refused.1
+          | inr (is, few, same) ↦ ap
+              (λ (y : StoreState K V S). y.pairs) same
+        ]) (ap (λ (y : Running K V A). y.value) makes.1))
+    at_hand (AddToShard by) (e, (number, same), as_was) = kept (AddToShard by) (ap (λ (y : StoreState K V S). y.pairs) same)
+        (ap (λ (y : Running K V A). y.value) as_was)
     at_hand (Ask_done reply) (e, stays) = stayed (Ask_done reply) stays
 
 module _ {K P : Type 0} (g : Setting K P) (c : Coding K P) (k : K) (s : State P) (kind : Option StepKind) (loaded : LoadedPairs P) where
@@ -322,7 +358,8 @@ module _ {K P : Type 0} (g : Setting K P) (c : Coding K P) (k : K) (s : State P)
   number_made q n e = cc
 
   -- a pair that was made is at the head of those that the machine was told of
-  pub told_made : (ask : Ask) (a : Answer) (es : List (Exchange P)) (loaded' : LoadedPairs P) (n : ℕ) → MakesPair ask → a ≡ Made_number n → IsTold g c k s kind loaded ask a es loaded' → (q : P) × (c.number q ≡ n) × (loaded'.made ≡ q ∷ loaded.made)
+  pub told_made : (ask : Ask) (a : Answer) (es : List (Exchange P)) (loaded' : LoadedPairs P) (n : ℕ) → MakesPair ask → a ≡ Made_number n
+      → IsTold g c k s kind loaded ask a es loaded' → (q : P) × (c.number q ≡ n) × (loaded'.made ≡ q ∷ loaded.made)
   told_made MakePair a es loaded' n makes is (inl (inl (why, e), quiet)) = let f = sym is ∙ e in absurd cc
   told_made MakePair a es loaded' n makes is (inl (inr e, quiet)) = let f = sym is ∙ e in absurd cc
   told_made MakePair a es loaded' n makes is (inr (q, own, (e, none, same))) = (q, number_made q n (sym e ∙ is), ap (λ (y : LoadedPairs P). y.made) same)

@@ -11,7 +11,10 @@ use Rattle.papaya_timeline.specs.Headline.{AreLogged}
 use Rattle.papaya_timeline.specs.Maps.{Map}
 use Rattle.papaya_timeline.specs.Runs.{History}
 use Rattle.papaya_store.specs.Store.{StoreState, Stored, pair_of}
-use Rattle.papaya_timeline.specs.Timeline.{Answered, begun_by, open_call, open_after, change_of, change_by, is_begin, begins, last_shown, shown_by, was_shown_none, none_by, WasAnswered, WasAsked, WasShown, AtSomeMoment, IsUnused}
+use Rattle.papaya_timeline.specs.Timeline.{Answered, begun_by, open_call, open_after, change_of}
+use Rattle.papaya_timeline.specs.Timeline.{change_by, is_begin, begins, last_shown, shown_by}
+use Rattle.papaya_timeline.specs.Timeline.{was_shown_none, none_by, WasAnswered, WasAsked, WasShown}
+use Rattle.papaya_timeline.specs.Timeline.{AtSomeMoment, IsUnused}
 use Rattle.papaya_timeline.proofs.CallersLemmas.{differs}
 use Rattle.papaya_store.proofs.Logs.{pair_below}
 
@@ -21,11 +24,15 @@ entry turn caller event = record { turn = turn; caller = caller; event = event }
 
 module _ {K V A : Type 0} (schedule : List (Turn K V A)) where
   -- another caller's entry leaves the call that a caller has open
-  pub open_call-other : (c d turn : ℕ) (event : Event) (before : History) → c ≢ d → open_call schedule d (entry turn c event ∷ before) ≡ open_call schedule d before
-  open_call-other c d turn event before h = ap (λ b. cond b (open_after event (begun_by (slice_get schedule turn)) (open_call schedule d before)) (open_call schedule d before)) (differs c d h)
+  pub open_call-other : (c d turn : ℕ) (event : Event) (before : History) → c ≢ d
+      → open_call schedule d (entry turn c event ∷ before) ≡ open_call schedule d before
+  open_call-other c d turn event before h = ap
+      (λ b. cond b (open_after event (begun_by (slice_get schedule turn)) (open_call schedule d before)) (open_call schedule d before)) (differs c d h)
 
-  pub open_call-own : (c turn : ℕ) (event : Event) (before : History) → open_call schedule c (entry turn c event ∷ before) ≡ open_after event (begun_by (slice_get schedule turn)) (open_call schedule c before)
-  open_call-own c turn event before = ap (λ b. cond b (open_after event (begun_by (slice_get schedule turn)) (open_call schedule c before)) (open_call schedule c before)) (eq-eqb c c refl)
+  pub open_call-own : (c turn : ℕ) (event : Event) (before : History)
+      → open_call schedule c (entry turn c event ∷ before) ≡ open_after event (begun_by (slice_get schedule turn)) (open_call schedule c before)
+  open_call-own c turn event before = ap (λ b.
+      cond b (open_after event (begun_by (slice_get schedule turn)) (open_call schedule c before)) (open_call schedule c before)) (eq-eqb c c refl)
 
 -- and its change
 pub change_of-other : (c d turn : ℕ) (event : Event) (before : History) → c ≢ d → change_of d (entry turn c event ∷ before) ≡ change_of d before
@@ -46,11 +53,13 @@ not_begin-own c d turn event h = elim (cases_Bool (c == d)) [
 ]
 
 -- a showing that was answered so stays, whatever another caller does
-pub asked-other : (c d turn n : ℕ) (agrees : Bool) (event : Event) (before : History) → c ≢ d → WasAsked d n agrees before → WasAsked d n agrees (entry turn c event ∷ before)
+pub asked-other : (c d turn n : ℕ) (agrees : Bool) (event : Event) (before : History) → c ≢ d → WasAsked d n agrees before
+    → WasAsked d n agrees (entry turn c event ∷ before)
 asked-other c d turn n agrees event before differ was = inr (not_begin-other c d turn event differ, was)
 
 -- and whatever its own caller does but begin a call
-pub asked-own : (c d turn n : ℕ) (agrees : Bool) (event : Event) (before : History) → begins event ≡ false → WasAsked d n agrees before → WasAsked d n agrees (entry turn c event ∷ before)
+pub asked-own : (c d turn n : ℕ) (agrees : Bool) (event : Event) (before : History) → begins event ≡ false → WasAsked d n agrees before
+    → WasAsked d n agrees (entry turn c event ∷ before)
 asked-own c d turn n agrees event before no_begin was = inr (not_begin-own c d turn event no_begin, was)
 
 -- it was just now
@@ -68,24 +77,29 @@ last_shown-own c turn event before = ap (λ b. cond b (shown_by event (last_show
 pub was_shown_none-other : (c d turn : ℕ) (event : Event) (before : History) → c ≢ d → was_shown_none d (entry turn c event ∷ before) ≡ was_shown_none d before
 was_shown_none-other c d turn event before h = ap (λ b. cond b (none_by event (was_shown_none d before)) (was_shown_none d before)) (differs c d h)
 
-pub was_shown_none-own : (c turn : ℕ) (event : Event) (before : History) → was_shown_none c (entry turn c event ∷ before) ≡ none_by event (was_shown_none c before)
+pub was_shown_none-own : (c turn : ℕ) (event : Event) (before : History)
+    → was_shown_none c (entry turn c event ∷ before) ≡ none_by event (was_shown_none c before)
 was_shown_none-own c turn event before = ap (λ b. cond b (none_by event (was_shown_none c before)) (was_shown_none c before)) (eq-eqb c c refl)
 
 module _ {V : Type 0} where
   -- what a closure answered stays, whatever another caller does
-  pub answered-other : (c d turn : ℕ) (shown : Option ℕ) (op : Operation V ℕ) (event : Event) (before : History) (o : Option (Operation V ℕ)) (said : Answered V) → c ≢ d → WasAnswered d shown op before said → WasAnswered d shown op (entry turn c event ∷ before) (o ∷ said)
+  pub answered-other : (c d turn : ℕ) (shown : Option ℕ) (op : Operation V ℕ) (event : Event) (before : History) (o : Option (Operation V ℕ))
+      (said : Answered V) → c ≢ d → WasAnswered d shown op before said → WasAnswered d shown op (entry turn c event ∷ before) (o ∷ said)
   answered-other c d turn shown op event before o said differ was = inr (not_begin-other c d turn event differ, was)
 
   -- and whatever its own caller does but begin a call
-  pub answered-own : (c d turn : ℕ) (shown : Option ℕ) (op : Operation V ℕ) (event : Event) (before : History) (o : Option (Operation V ℕ)) (said : Answered V) → begins event ≡ false → WasAnswered d shown op before said → WasAnswered d shown op (entry turn c event ∷ before) (o ∷ said)
+  pub answered-own : (c d turn : ℕ) (shown : Option ℕ) (op : Operation V ℕ) (event : Event) (before : History) (o : Option (Operation V ℕ))
+      (said : Answered V) → begins event ≡ false → WasAnswered d shown op before said → WasAnswered d shown op (entry turn c event ∷ before) (o ∷ said)
   answered-own c d turn shown op event before o said no_begin was = inr (not_begin-own c d turn event no_begin, was)
 
   -- it did just now
-  pub answered-now : (c turn : ℕ) (shown : Option ℕ) (op : Operation V ℕ) (event : Event) (before : History) (o : Option (Operation V ℕ)) (said : Answered V) → event ≡ Shown shown (op_kind op) → o ≡ Some op → WasAnswered c shown op (entry turn c event ∷ before) (o ∷ said)
+  pub answered-now : (c turn : ℕ) (shown : Option ℕ) (op : Operation V ℕ) (event : Event) (before : History) (o : Option (Operation V ℕ))
+      (said : Answered V) → event ≡ Shown shown (op_kind op) → o ≡ Some op → WasAnswered c shown op (entry turn c event ∷ before) (o ∷ said)
   answered-now c turn shown op event before o said is given = inl (refl, is, given)
 
   -- what it answered it was shown
-  pub answered_shown : (c : ℕ) (shown : Option ℕ) (op : Operation V ℕ) (h : History) (said : Answered V) → WasAnswered c shown op h said → WasShown c shown (op_kind op) h
+  pub answered_shown : (c : ℕ) (shown : Option ℕ) (op : Operation V ℕ) (h : History) (said : Answered V) → WasAnswered c shown op h said
+      → WasShown c shown (op_kind op) h
   answered_shown c shown op [] said was = elim was [ ]
   answered_shown c shown op (e ∷ h) [] was = elim was [ ]
   answered_shown c shown op (e ∷ h) (o ∷ said) (inl (own, is, given)) = inl (own, is)
@@ -93,7 +107,8 @@ module _ {V : Type 0} where
 
 module _ {K V : Type 0} where
   -- what held at a moment, and what follows from it
-  pub at_weaker : (P Q : Map K V → Type 0) (c : ℕ) (h : History) (maps : List (Map K V)) → ((m : Map K V) → P m → Q m) → AtSomeMoment P c h maps → AtSomeMoment Q c h maps
+  pub at_weaker : (P Q : Map K V → Type 0) (c : ℕ) (h : History) (maps : List (Map K V)) → ((m : Map K V) → P m → Q m) → AtSomeMoment P c h maps
+      → AtSomeMoment Q c h maps
   at_weaker P Q c [] maps f x = elim x [ ]
   at_weaker P Q c (e ∷ h) [] f x = elim x [ ]
   at_weaker P Q c (e ∷ h) (m ∷ maps) f (inl p) = inl (f m p)
@@ -101,11 +116,16 @@ module _ {K V : Type 0} where
 
 module _ {K V S : Type 0} where
   -- pairs that stay in the log are its pairs still
-  pub logged_more : (store store' : StoreState K V S) (maps : List (Map K V)) → ((n : ℕ) (p : Stored K V) → pair_of store n ≡ Some p → pair_of store' n ≡ Some p) → AreLogged store maps → AreLogged store' maps
+  pub logged_more : (store store' : StoreState K V S) (maps : List (Map K V))
+      → ((n : ℕ) (p : Stored K V) → pair_of store n ≡ Some p → pair_of store' n ≡ Some p) → AreLogged store maps → AreLogged store' maps
   logged_more store store' [] stay x = tt
   logged_more store store' (m ∷ maps) stay x = (λ j p e. stay p.number p (x.0 j p e), logged_more store store' maps stay x.1)
 
   -- and the number after all of them is unused
   pub logged_unused : (store : StoreState K V S) (maps : List (Map K V)) → AreLogged store maps → IsUnused (length store.pairs) maps
   logged_unused store [] x = tt
-  logged_unused store (m ∷ maps) x = (λ j p e same. let lt : p.number < length store.pairs = pair_below store p.number p (x.0 j p e) in absurd (omega arith), logged_unused store maps x.1)
+  logged_unused store (m ∷ maps) x = (
+    λ j p e same. let lt : p.number < length store.pairs = pair_below store p.number p (x.0 j p e) in
+        absurd (omega arith),
+    logged_unused store maps x.1,
+  )

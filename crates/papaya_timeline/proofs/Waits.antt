@@ -3,13 +3,20 @@ use Rattle.std.proofs.Common.{rules, ◌≡◌, ℕ, Option, None, Some, ◌⊎�
 use Rattle.papaya_ask.specs.declared.ask.Ask.{Ask as Call_ask}
 use Rattle.papaya_ask.specs.declared.ask.Ask.TheVariants.{Load, ShowNone, ShowPair}
 use Rattle.papaya_ask.specs.declared.ask.Answer.{Answer as Call_answer}
-use Rattle.papaya_ask.specs.declared.ask.Answer.TheVariants.{Word as Word_read, Exchanged, Found as Found_instead, Yes, Op, Size, Made as Made_number, Ok as Ok_done, Refused as Was_refused}
+use Rattle.papaya_ask.specs.declared.ask.Answer.TheVariants.{Word as Word_read, Exchanged}
+use Rattle.papaya_ask.specs.declared.ask.Answer.TheVariants.{Found as Found_instead, Yes, Op, Size}
+use Rattle.papaya_ask.specs.declared.ask.Answer.TheVariants.{Made as Made_number, Ok as Ok_done}
+use Rattle.papaya_ask.specs.declared.ask.Answer.TheVariants.{Refused as Was_refused}
 use Rattle.papaya_ask.specs.declared.ask.At.TheVariants.{Next}
 use Rattle.papaya_ask.specs.declared.ask.OpKind.TheVariants as op_kinds
 use Rattle.papaya_ask.specs.declared.call.Task.TheVariants as tasks
 use Rattle.papaya_call.specs.declared.machine.Machine.{Machine as Call_machine}
 use Rattle.papaya_call.specs.declared.machine.State.{State as Stage}
-use Rattle.papaya_call.specs.declared.machine.State.TheVariants.{AtRoot, Making, Opening, Searching, Writing, Offering, Showing, Pairing, Putting, Deleting, Counting, Noting, Uncounting, Leaving, Growing, Ended}
+use Rattle.papaya_call.specs.declared.machine.State.TheVariants.{AtRoot, Making, Opening, Searching}
+use Rattle.papaya_call.specs.declared.machine.State.TheVariants.{Writing, Offering, Showing}
+use Rattle.papaya_call.specs.declared.machine.State.TheVariants.{Pairing, Putting, Deleting}
+use Rattle.papaya_call.specs.declared.machine.State.TheVariants.{Counting, Noting, Uncounting}
+use Rattle.papaya_call.specs.declared.machine.State.TheVariants.{Leaving, Growing, Ended}
 use Rattle.papaya_ask.specs.declared.call.Reply.{Reply}
 use Rattle.papaya_call.specs.declared.compute.Gap.TheVariants.{NoRoot, At, After}
 use Rattle.papaya_call.specs.declared.compute.Purpose.{Purpose}
@@ -34,7 +41,8 @@ use Rattle.papaya_call_law.specs.Says.{IsAnswered, Makes, MakesPair, StandsOn, s
 use Rattle.papaya_timeline.proofs.MadePairs.{MakesOver}
 
 -- the stages of a call that waits for a value's pair, or is over
-waiting : (Holds : Stage → Type 0) → ((purpose : Purpose) → IsAnswered (Pairing purpose) → Holds (Pairing purpose)) → ((reply : Reply) → Holds (Ended reply)) → (s : Stage) → IsAnswered s → Holds s
+waiting : (Holds : Stage → Type 0) → ((purpose : Purpose) → IsAnswered (Pairing purpose) → Holds (Pairing purpose))
+    → ((reply : Reply) → Holds (Ended reply)) → (s : Stage) → IsAnswered s → Holds s
 waiting Holds pairing ended (Pairing purpose) waits = pairing purpose waits
 waiting Holds pairing ended (Ended reply) waits = ended reply
 waiting Holds pairing ended AtRoot waits = absurd waits
@@ -59,7 +67,8 @@ module _ (m : Call_machine) (i n : ℕ) where
 
   -- it waits on, or makes the pair
   abbrev WaitsOn : Call_answer → Stage → Type 0
-  WaitsOn a s = StandsOn (calls.after (at_stage s) a) (Makes (Some i) n) → IsAnswered (calls.after (at_stage s) a).state ⊎ (MakesPair (calls.ask_of (at_stage s)) × (a ≡ Made_number n))
+  WaitsOn a s = StandsOn (calls.after (at_stage s) a) (Makes (Some i) n) → IsAnswered (calls.after (at_stage s) a).state
+      ⊎ (MakesPair (calls.ask_of (at_stage s)) × (a ≡ Made_number n))
 
   ended_waits : (a : Call_answer) (reply : Reply) → WaitsOn a (Ended reply)
   ended_waits (Word_read word) reply stands = inl tt
@@ -73,7 +82,9 @@ module _ (m : Call_machine) (i n : ℕ) where
   ended_waits (Was_refused refused) reply stands = inl tt
 
   -- the pair for an absent key was answered to no pair, and the other is the newest
-  new_pair : (purpose : Purpose) → IsAnswered (Pairing purpose) → (l : ℕ) → (said_in m.task (provides purpose l) ≡ Some (Makes (Some i) n)) ⊎ (said_to_fill (with_pair m.remembered purpose l).fill ≡ Some (Makes (Some i) n)) ⊎ (said_to_choose (with_pair m.remembered purpose l).choice ≡ Some (Makes (Some i) n)) → l ≡ n
+  new_pair : (purpose : Purpose) → IsAnswered (Pairing purpose) → (l : ℕ) → (said_in m.task (provides purpose l) ≡ Some (Makes (Some i) n))
+      ⊎ (said_to_fill (with_pair m.remembered purpose l).fill ≡ Some (Makes (Some i) n))
+      ⊎ (said_to_choose (with_pair m.remembered purpose l).choice ≡ Some (Makes (Some i) n)) → l ≡ n
   new_pair (Fill NoRoot) waits l (inl e) = absurd cc
   new_pair (Fill (At place)) waits l (inl e) = absurd cc
   new_pair (Fill (After t)) waits l (inl e) = absurd cc
@@ -89,7 +100,9 @@ module _ (m : Call_machine) (i n : ℕ) where
   new_pair (Again write) waits l e = absurd waits
 
   made_waits : (purpose : Purpose) → IsAnswered (Pairing purpose) → (l : ℕ) (G : Grown) → grown m.made (in_place_of purpose) ≡ G
-      → (said_in m.task (paired G purpose l) ≡ Some (Makes (Some i) n)) ⊎ (said_to_fill (paired_held G m.remembered purpose l).fill ≡ Some (Makes (Some i) n)) ⊎ (said_to_choose (paired_held G m.remembered purpose l).choice ≡ Some (Makes (Some i) n))
+      → (said_in m.task (paired G purpose l) ≡ Some (Makes (Some i) n))
+      ⊎ (said_to_fill (paired_held G m.remembered purpose l).fill ≡ Some (Makes (Some i) n))
+      ⊎ (said_to_choose (paired_held G m.remembered purpose l).choice ≡ Some (Makes (Some i) n))
       → IsAnswered (paired G purpose l) ⊎ (MakesPair (pair_ask m.made (in_place_of purpose)) × (Made_number l ≡ Made_number n))
   made_waits purpose waits l (On made) is stands = inl waits
   made_waits purpose waits l (Pair made) is stands = inr (makes_pair m.made (in_place_of purpose) made is, ap Made_number (new_pair purpose waits l stands))
@@ -105,7 +118,8 @@ module _ (m : Call_machine) (i n : ℕ) where
   pairing_waits Ok_done purpose waits stands = inl waits
   pairing_waits (Was_refused refused) purpose waits stands = inl tt
 
-waits_after : (m : Call_machine) (a : Call_answer) (i n : ℕ) → IsAnswered m.state → StandsOn (calls.after m a) (Makes (Some i) n) → IsAnswered (calls.after m a).state ⊎ (MakesPair (calls.ask_of m) × (a ≡ Made_number n))
+waits_after : (m : Call_machine) (a : Call_answer) (i n : ℕ) → IsAnswered m.state → StandsOn (calls.after m a) (Makes (Some i) n)
+    → IsAnswered (calls.after m a).state ⊎ (MakesPair (calls.ask_of m) × (a ≡ Made_number n))
 waits_after m a i n waits stands = waiting (WaitsOn m i n a) (pairing_waits m i n a) (ended_waits m i n a) m.state waits stands
 
 -- it is not set aside
@@ -120,7 +134,9 @@ answered_pair : (m : Call_machine) (n : ℕ) → m.task ≡ tasks.Compute → ca
 answered_pair m n computes e = search rules
 
 -- the same over a chain of tables
-pub chain_waits : (m : Machine) (answer : Answer) → Goes m answer → IsAnswered m.call.state → (i n : ℕ) → StandsOn (after m answer).call (Makes (Some i) n) → IsAnswered (after m answer).call.state ⊎ (MakesOver (ask_of m) × (answer ≡ answers.Call (Made_number n)))
+pub chain_waits : (m : Machine) (answer : Answer) → Goes m answer → IsAnswered m.call.state → (i n : ℕ)
+    → StandsOn (after m answer).call (Makes (Some i) n) → IsAnswered (after m answer).call.state
+    ⊎ (MakesOver (ask_of m) × (answer ≡ answers.Call (Made_number n)))
 chain_waits m answer (inl waits) answered i n stands = inl (subst (λ (d : Call_machine). IsAnswered d.state) (sym waits.call) answered)
 chain_waits m answer (inr (inl own)) answered i n stands =
     elim (waits_after m.call own.told i n answered (subst (λ (d : Call_machine). StandsOn d (Makes (Some i) n)) own.call stands)) [
@@ -135,7 +151,8 @@ chain_waits m answer (inr (inr (inr (inr ends)))) answered i n stands = absurd (
 unshown : (m : Machine) (t : ℕ) → left_by m.call.state ≡ Some t → (ask : Call_ask) → ask_of m ≡ asks.Call ask → ask ≡ Load (Next t)
 unshown m t left ask e = sym (call_asks m ask e).1 ∙ aside_asks m.call.made m.call.hash m.call.state t left
 
-pub chain_answered : (m : Machine) (answer : Answer) → Goes m answer → answer ≡ answers.Call (Op op_kinds.Insert) → (ask_of m ≡ asks.Call ShowNone) ⊎ ((n : ℕ) × (ask_of m ≡ asks.Call (ShowPair n)) × (m.call.task ≡ tasks.Compute)) → IsAnswered (after m answer).call.state
+pub chain_answered : (m : Machine) (answer : Answer) → Goes m answer → answer ≡ answers.Call (Op op_kinds.Insert) → (ask_of m ≡ asks.Call ShowNone)
+    ⊎ ((n : ℕ) × (ask_of m ≡ asks.Call (ShowPair n)) × (m.call.task ≡ tasks.Compute)) → IsAnswered (after m answer).call.state
 chain_answered m answer goes is shown = by_goes goes
   where
     set_aside : (t : ℕ) → left_by m.call.state ≡ Some t → ⊥
@@ -145,7 +162,11 @@ chain_answered m answer goes is shown = by_goes goes
     by_own own =
         let told : own.told ≡ Op op_kinds.Insert = (let f : answers.Call own.told ≡ answers.Call (Op op_kinds.Insert) = sym own.is ∙ is in cc) in
         subst (λ (d : Call_machine). IsAnswered d.state) (sym own.call) (subst (λ y. IsAnswered (calls.after m.call y).state) (sym told)
-        (elim shown [ inl none ↦ answered_none m.call (call_asks m ShowNone none).1 | inr (n, pair, computes) ↦ answered_pair m.call n computes (call_asks m (ShowPair n) pair).1 ]))
+        (elim shown [
+          | inl none ↦ answered_none m.call (call_asks m ShowNone none).1
+          | inr (n, pair, computes) ↦ answered_pair m.call n computes
+              (call_asks m (ShowPair n) pair).1
+        ]))
 
     by_goes : Goes m answer → IsAnswered (after m answer).call.state
     by_goes (inl waits) = absurd (set_aside waits.from waits.left)

@@ -107,10 +107,10 @@ pub record AddsToShard {K V S A : Type 0} (s : CoreState K V S A) (caller : ℕ)
       → s'.store.count ≡ added s.store.count caller by
 
 -- Just one ask of the caller's machine is answered, a load or an exchange by the word that stands
--- there. A reply is the one in the machine's Done. No other caller's call changes. A call is refused
--- where what it asked to be made was refused, where no number was left for its pair, where its
--- closure would remove a pair and there is none, or where the next table was refused or would be
--- longer than a table may be.
+-- there. A reply is the one in the machine's Done. No other caller's call changes. A call is
+-- refused where what it asked to be made was refused, where no number was left for its pair, where
+-- its closure would remove a pair and there is none, or where the next table was refused or would
+-- be longer than a table may be.
 pub record Advances {K V S A : Type 0} (eq : K → K → Bool) (says : Says K V A) (hash : S → K → ℕ)
     (refuse : Bool) (s : CoreState K V S A) (caller : ℕ) (s' : CoreState K V S A) (event : Event)
     (reply : Option Reply) : Type 0 where

@@ -30,8 +30,8 @@ module _ {K V S : Type 0} (store : StoreState K V S) where
       words
 
 module _ {K V S : Type 0} (eq : K → K → Bool) (store : StoreState K V S) where
-  -- The pairs of the tables from this one on, over n tables at most. Where two tables have a pair of
-  -- a key, the earlier one's is the map's.
+  -- The pairs of the tables from this one on, over n tables at most. Where two tables have a pair
+  -- of a key, the earlier one's is the map's.
   abbrev pub pairs_from : ℕ → Option TableWords → List (Stored K V)
   pairs_from zero from = []
   pairs_from (suc n) None = []

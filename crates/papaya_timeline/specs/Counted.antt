@@ -12,8 +12,8 @@ use Rattle.papaya_store.specs.Store.{StoreState}
 use Rattle.papaya_chain.specs.declared.scanner.State.{State}
 use Rattle.papaya_chain.specs.declared.scanner.State.TheVariants.{Uncounting}
 
--- what a call that scans a table has yet to add to the count: it takes 1 for a pair that it has
--- deleted
+-- what a call that scans a table has yet to add to the count: it takes 1 for a pair that it
+-- has deleted
 abbrev pub owed_scan : State → ℤ
 owed_scan (Uncounting spot) = negsuc 0
 owed_scan state = pos 0

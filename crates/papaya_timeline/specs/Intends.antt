@@ -39,8 +39,8 @@ abbrev pub HasValue : {K V S : Type 0} → StoreState K V S → ℕ → V → Ty
 HasValue {K = K} {V = V} store n v = (p : Stored K V) × (pair_of store n ≡ Some p) × (p.value ≡ v)
 
 module _ {K V S A : Type 0} (store : StoreState K V S) where
-  -- An insertion would store the value that it was handed. It has that, and so has each pair that it
-  -- made.
+  -- An insertion would store the value that it was handed. It has that, and so has each pair that
+  -- it made.
   abbrev pub WouldStore : Running K V A → V → Type 0
   WouldStore r v = (own_value store r ≡ Some v)
       ⊎ ((n : ℕ) × HasMade r.machine.call.made n × HasValue store n v)

@@ -30,8 +30,8 @@ use Rattle.papaya_chain_law.specs.ScanTold.{IsLastAnswer, IsScanTold, LoadedPair
 use Rattle.papaya_chain_law.specs.Scans.{HasScanned}
 use Rattle.papaya_store.specs.declared.scans.Scanning.{Scanning}
 
--- The sum of the shards, with what it and all calls beside it have yet to add, is the number of
--- pairs.
+-- The sum of the shards, with what it and all calls beside it have yet to add, is the number
+-- of pairs.
 abbrev pub IsCountedBeside : {K V S A : Type 0} → (K → K → Bool) → StoreState K V S
     → List (Seat K V A) → State → Type 0
 IsCountedBeside eq store callers state =
@@ -39,8 +39,8 @@ IsCountedBeside eq store callers state =
     (length (content eq store))
 
 -- Each slot was scanned: since a moment of the call, a walk's list has each key that was in the map
--- all the time once, and nothing that was not there; of the pairs that the map had as the call began
--- a clear has left none, and a retain just those of which the last answer was that they stay.
+-- all the time once, and nothing that was not there; of the pairs that the map had as the call
+-- began a clear has left none, and a retain just those of which the last answer was that they stay.
 pub record HasScannedIn {K V S A : Type 0} (eq : K → K → Bool) (hash : K → ℕ) (mode : Mode)
     (store : StoreState K V S) (v : Scanning A) (call_trace : ScanTrace K V) : Type 0 where
   pub scanned : HasScanned (setting_of eq (low hash) mode store.words.tables)

@@ -65,9 +65,8 @@ abbrev pub is_begin : ℕ → Entry → Bool
 is_begin caller e = if e.caller == caller then begins e.event else false
 
 -- P held of the map at some moment since the caller's call began: after the begin itself, or after
--- a later entry.
--- The maps are those after each entry of the history, the newest first, and at last the one before
--- it.
+-- a later entry. The maps are those after each entry of the history, the newest first, and at last
+-- the one before it.
 abbrev pub AtSomeMoment : {K V : Type 0} → (Map K V → Type 0) → ℕ → History → List (Map K V)
     → Type 0
 AtSomeMoment P caller [] maps = ⊥
@@ -367,8 +366,8 @@ module _ {K V A : Type 0} (eq : K → K → Bool) where
       AtSomeMoment (λ m. number_in (at_key m (key_of call)) ≡ shown) caller before maps
       × IsShownOnce shown (was_shown_none caller before)
 
-  -- a retain shows pairs that some class had at a moment since it began; for other calls that is the
-  -- class of their key
+  -- a retain shows pairs that some class had at a moment since it began; for other calls that is
+  -- the class of their key
   abbrev pub FitsAsked : Option (Call K V A) → ℕ → ℕ → History → List (Map K V) → Type 0
   FitsAsked (Some (Retain a)) n caller before maps = AtSomeMoment (HasNumber n) caller before maps
   FitsAsked call n caller before maps = FitsShown call (Some n) caller before maps
@@ -408,8 +407,8 @@ module _ {K V A : Type 0} (eq : K → K → Bool) where
       × FitsOpen (open_call schedule caller before) reply caller before (m ∷ maps)
   IsLegal _ schedule caller before m maps m' said = Same m m'
 
-  -- the maps, one a moment, and the answers, one an entry, the newest first, from the map at the
-  -- start
+  -- the maps, one a moment, and the answers, one an entry, the newest first, from the map at
+  -- the start
   abbrev pub Timeline : List (Turn K V A) → Map K V → History → List (Map K V) → Answered V → Type 0
   Timeline schedule start [] [] said = ⊥
   Timeline schedule start [] (m ∷ []) [] = Same start m

@@ -49,10 +49,10 @@ pub fn one_call<K: Hash + Eq, V, S: BuildHasher, A, B>()
         S.Hasher.finish s.store.hasher) s.store [] s.mode }
 {}
 
-/// A call that is made alone comes to its end: until it replies, each of its steps lowers a measure,
-/// which the words and what is under way give, whatever its closure answers. So a map for one
-/// caller may step it until it replies. When a call that resizes the map is done, what was wanted is
-/// so: nothing is left to copy, or there is room.
+/// A call that is made alone comes to its end: until it replies, each of its steps lowers a
+/// measure, which the words and what is under way give, whatever its closure answers. So a map for
+/// one caller may step it until it replies. When a call that resizes the map is done, what was
+/// wanted is so: nothing is left to copy, or there is room.
 pub fn one_call_ends<K: Hash + Eq, V, S: BuildHasher, A>()
     ensures begins { (s s' : CoreState K V S A) (call : Call K V A) → s.callers ≡ []
         → IsLawfulCore K.eq (hash_of K.hash_input S.build_hasher S.Hasher.write S.Hasher.finish

@@ -22,15 +22,21 @@ module _ (cache : Generations) (n : ℕ) (r : Option (Bor (String Global))) (is 
   in_young v was = ap (λ t. first_of t (text_in cache.elder n)) (text_found cache.young n r is ∙ ap (option_map (λ v. string_bytes v.now)) was)
 
   -- and one that it has not
-  pub in_elder : r ≡ None → (q : Option (Bor (String Global))) → Finds cache.elder n q → (t : Option (Bor (String Global))) → q ≡ t → text_of cache n ≡ option_map (λ v. string_bytes v.now) t
-  in_elder was q so t shows = ap (λ t. first_of t (text_in cache.elder n)) (text_found cache.young n r is ∙ ap (option_map (λ v. string_bytes v.now)) was) ∙ text_found cache.elder n q so ∙ ap (option_map (λ v. string_bytes v.now)) shows
+  pub in_elder : r ≡ None → (q : Option (Bor (String Global))) → Finds cache.elder n q → (t : Option (Bor (String Global))) → q ≡ t
+      → text_of cache n ≡ option_map (λ v. string_bytes v.now) t
+  in_elder was q so t shows = ap (λ t. first_of t (text_in cache.elder n))
+      (text_found cache.young n r is ∙ ap (option_map (λ v. string_bytes v.now)) was) ∙ text_found cache.elder n q so
+      ∙ ap (option_map (λ v. string_bytes v.now)) shows
 
 -- clones have the texts
-cloned_text : (held now : Option (Stored ℕ (String Global))) → MatchOption held (now ≡ None) (λ p. (q : Stored ℕ (String Global)) × (now ≡ Some q) × ((q.key ≡ p.key) × (string_bytes q.value ≡ string_bytes p.value))) → option_map string_bytes (value_of now) ≡ option_map string_bytes (value_of held)
+cloned_text : (held now : Option (Stored ℕ (String Global)))
+    → MatchOption held (now ≡ None) (λ p. (q : Stored ℕ (String Global)) × (now ≡ Some q)
+    × ((q.key ≡ p.key) × (string_bytes q.value ≡ string_bytes p.value))) → option_map string_bytes (value_of now) ≡ option_map string_bytes (value_of held)
 cloned_text None now none = ap (λ held. option_map string_bytes (value_of held)) none
 cloned_text (Some p) now (q, is, (key, text)) = ap (λ held. option_map string_bytes (value_of held)) is ∙ ap Some text
 
-pub clones_at : (from to : Texts) → IsCloned (λ a b. a == b) (λ k l. l ≡ k) (λ s t. string_bytes t ≡ string_bytes s) from.store to.store → (n : ℕ) → text_in to n ≡ text_in from n
+pub clones_at : (from to : Texts) → IsCloned (λ a b. a == b) (λ k l. l ≡ k) (λ s t. string_bytes t ≡ string_bytes s) from.store to.store → (n : ℕ)
+    → text_in to n ≡ text_in from n
 clones_at from to cloned n = cloned_text (map_in (λ a b. a == b) from.store n) (map_in (λ a b. a == b) to.store n) (cloned n)
 
 -- a put leaves the texts of all other pages, and one that was refused those of all
@@ -46,9 +52,12 @@ other_than n k (inl other) = other
 other_than n k (inr never) = absurd (false≢true never)
 
 -- so the page stays, or it was dropped before
-pub still_goes : (old mid : Generations) (young elder young' : Texts) (stored limit stored' : ℕ) (n : ℕ) → StaysOrGoes old mid n → record { young = young; elder = elder; stored = stored; limit = limit } ≡ mid → text_in young' n ≡ text_in young n → StaysOrGoes old (record { young = young'; elder = elder; stored = stored'; limit = limit }) n
+pub still_goes : (old mid : Generations) (young elder young' : Texts) (stored limit stored' : ℕ) (n : ℕ) → StaysOrGoes old mid n
+    → record { young = young; elder = elder; stored = stored; limit = limit } ≡ mid → text_in young' n ≡ text_in young n
+    → StaysOrGoes old (record { young = young'; elder = elder; stored = stored'; limit = limit }) n
 still_goes old mid young elder young' stored limit stored' n way is same =
-    let after : text_of (record { young = young'; elder = elder; stored = stored'; limit = limit }) n ≡ text_of mid n = ap (λ t. first_of t (text_in elder n)) same ∙ ap (λ cache. text_of cache n) is in
+    let after : text_of (record { young = young'; elder = elder; stored = stored'; limit = limit }) n ≡ text_of mid n = ap
+    (λ t. first_of t (text_in elder n)) same ∙ ap (λ cache. text_of cache n) is in
     elim way [
       | inl stays ↦ inl (after ∙ stays)
       | inr (full, none, gone) ↦ inr (full, none, after ∙ gone)

@@ -29,18 +29,23 @@ abbrev answer_to : ℕ → Option (Stored ℕ ℕ) → Operation ℕ (Unit {0})
 answer_to by held = Insert (next_count by (option_map (λ p. p.value.value) held))
 
 -- the same by references
-answer_by : (by : ℕ) (shown : Option (Bor ℕ × Bor ℕ)) (held : Option (Stored ℕ ℕ)) → AreShown shown held → Insert (next_count by (option_map (λ p. p.1.now) shown)) ≡ answer_to by held
+answer_by : (by : ℕ) (shown : Option (Bor ℕ × Bor ℕ)) (held : Option (Stored ℕ ℕ)) → AreShown shown held
+    → Insert (next_count by (option_map (λ p. p.1.now) shown)) ≡ answer_to by held
 answer_by by None None are = refl
 answer_by by (Some entry) (Some p) are = ap (λ v. Insert (next_count by (Some v))) are.1
 answer_by by None (Some p) are = absurd are
 answer_by by (Some entry) None are = absurd are
 
 -- a compute whose closure adds so much
-module _ {F : Type 0} (called : Mut F (Option (Bor ℕ × Bor ℕ) × Unit {0}) (Operation ℕ (Unit {0}))) (k by : ℕ) (old new : Seen) (first : F) (answer : Result (Compute ℕ ℕ (Unit {0})) Refused) (h : IsComputeBy (λ a b. a == b) k old new (Operates called) first answer)
+module _ {F : Type 0} (called : Mut F (Option (Bor ℕ × Bor ℕ) × Unit {0}) (Operation ℕ (Unit {0}))) (k by : ℕ) (old new : Seen) (first : F)
+    (answer : Result (Compute ℕ ℕ (Unit {0})) Refused) (h : IsComputeBy (λ a b. a == b) k old new (Operates called) first answer)
     (holds : F → Type 0) (at_first : holds first)
-    (adds : (f : F) (shown : Option (Bor ℕ × Bor ℕ)) (done : Operation ℕ (Unit {0})) (g : F) → holds f → Called called f (shown, tt) done g → holds g × (done ≡ Insert (next_count by (option_map (λ p. p.1.now) shown)))) where
+    (adds : (f : F) (shown : Option (Bor ℕ × Bor ℕ)) (done : Operation ℕ (Unit {0})) (g : F) → holds f → Called called f (shown, tt) done g → holds g
+    × (done ≡ Insert (next_count by (option_map (λ p. p.1.now) shown)))) where
   said_so : (held : Option (Stored ℕ ℕ)) (done : Operation ℕ (Unit {0})) → Member (held, done) h.said → done ≡ answer_to by held
-  said_so = said_each (Operates called) holds (λ held done. done ≡ answer_to by held) (λ f held done g is says. let next = adds f says.0 done g is says.2 in (next.0, next.1 ∙ answer_by by says.0 held says.1)) first at_first h.said h.left h.has_said
+  said_so = said_each (Operates called) holds (λ held done. done ≡ answer_to by held)
+      (λ f held done g is says. let next = adds f says.0 done g is says.2 in (next.0, next.1 ∙ answer_by by says.0 held says.1)) first at_first h.said
+      h.left h.has_said
 
   abbrev Operated : Result (Compute ℕ ℕ (Unit {0})) Refused → Type 0
   Operated r = IsOperated (λ a b. a == b) k old new h.said r
@@ -51,7 +56,8 @@ module _ {F : Type 0} (called : Mut F (Option (Bor ℕ × Bor ℕ) × Unit {0}) 
       let (p, change, (shown, same, member), of) : Operated (Ok (Removed key value)) = subst Operated is h.operated in
       let e : 1 ≡ 0 = ap kind (said_so (Some shown) Remove member) in omega (arith, e)
 
-  last_said : (held : Option (Stored ℕ ℕ)) (done : Operation ℕ (Unit {0})) (said : List (Option (Stored ℕ ℕ) × Operation ℕ (Unit {0}))) → WasLast held done said → Member (held, done) said
+  last_said : (held : Option (Stored ℕ ℕ)) (done : Operation ℕ (Unit {0})) (said : List (Option (Stored ℕ ℕ) × Operation ℕ (Unit {0})))
+      → WasLast held done said → Member (held, done) said
   last_said held done [] was = absurd was
   last_said held done (last ∷ before) was = inl (sym was)
 
@@ -69,7 +75,8 @@ module _ {F : Type 0} (called : Mut F (Option (Bor ℕ × Bor ℕ) × Unit {0}) 
       (None, q, change, key_is, sym of.1, of.1 ∙ next)
 
   -- else it is the sum
-  pub added : IsLegalHistory (λ a b. a == b) key_of new → (before after : Bor ℕ × Bor ℕ) → answer ≡ Ok (Updated before after) → HasAdded k by old new after.1.now
+  pub added : IsLegalHistory (λ a b. a == b) key_of new → (before after : Bor ℕ × Bor ℕ) → answer ≡ Ok (Updated before after)
+      → HasAdded k by old new after.1.now
   added legal before after is =
       let (p, q, change, key_is, (shown, same, member), of_old, of_new) : Operated (Ok (Updated before after)) = subst Operated is h.operated in
       let next : q.value.value ≡ next_count by (Some shown.value.value) = ap inserted (said_so (Some shown) (Insert q.value.value) member) in

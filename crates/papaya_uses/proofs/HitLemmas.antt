@@ -9,13 +9,23 @@ use Rattle.papaya_uses.specs.Hits.{HasCounted, Seen}
 use Rattle.papaya_uses.proofs.PutLemmas.{put_at}
 
 -- an update by a closure that counts one more, or a first count of 1
-module _ {F : Type 0} (g : Shared F (Bor ℕ × Unit {0}) ℕ) (f : F) (more : (shown : Bor ℕ) (n : ℕ) → g.post f (shown, tt) n → n ≡ min (shown.now + 1) (2 ^ 64 - 1)) (page : ℕ) where
+module _ {F : Type 0} (g : Shared F (Bor ℕ × Unit {0}) ℕ) (f : F)
+    (more : (shown : Bor ℕ) (n : ℕ) → g.post f (shown, tt) n → n ≡ min (shown.now + 1) (2 ^ 64 - 1)) (page : ℕ) where
   abbrev HasStored : Seen → Seen → Bor ℕ → Type 0
   HasStored old new v = IsUpserted (λ a b. a == b) page old new (FnReturnsAt g f) (λ w. w ≡ 1) v
 
   counts : (old new : Seen) (v : Bor ℕ) → IsLegalHistory (λ a b. a == b) key_of new → HasStored old new v → HasCounted page old new v.now
-  counts old new v legal (inl (p, q, change, key_is, says, is)) = (Some p, q, change, put_at page old new (Some p) q change legal, sym is, is ∙ more says.shown q.value.value says.says.met ∙ ap (λ n. min (n + 1) (2 ^ 64 - 1)) says.shows)
+  counts old new v legal (inl (p, q, change, key_is, says, is)) = (
+    Some p,
+    q,
+    change,
+    put_at page old new (Some p) q change legal,
+    sym is,
+    is
+        ∙ more says.shown q.value.value says.says.met ∙ ap (λ n. min (n + 1) (2 ^ 64 - 1)) says.shows,
+  )
   counts old new v legal (inr (q, change, key_is, first, is)) = (None, q, change, key_is, sym is, is ∙ first)
 
-  pub counted : (old new : Seen) (r : Result (Bor ℕ) Refused) → IsLegalHistory (λ a b. a == b) key_of new → IfOk r (HasStored old new) → (v : Bor ℕ) → r ≡ Ok v → HasCounted page old new v.now
+  pub counted : (old new : Seen) (r : Result (Bor ℕ) Refused) → IsLegalHistory (λ a b. a == b) key_of new → IfOk r (HasStored old new) → (v : Bor ℕ)
+      → r ≡ Ok v → HasCounted page old new v.now
   counted old new r legal stored v is = counts old new v legal (subst (λ z. IfOk z (HasStored old new)) is stored)

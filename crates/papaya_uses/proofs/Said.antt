@@ -2,7 +2,8 @@
 use Rattle.std.proofs.Common.{List, [], ◌∷◌, inl, inr, sym, subst}
 use Rattle.papaya.specs.Threads.{HasSaid, Member}
 
-module _ {F X A : Type 0} (says : F → X → A → F → Type 0) (holds : F → Type 0) (P : X → A → Type 0) (step : (f : F) (x : X) (a : A) (g : F) → holds f → says f x a g → holds g × P x a) (first : F) (at_first : holds first) where
+module _ {F X A : Type 0} (says : F → X → A → F → Type 0) (holds : F → Type 0) (P : X → A → Type 0)
+    (step : (f : F) (x : X) (a : A) (g : F) → holds f → says f x a g → holds g × P x a) (first : F) (at_first : holds first) where
   -- what each call of the closure leaves so, holds after all of them
   holds_then : (said : List (X × A)) (g : F) → HasSaid says first said g → holds g
   holds_then [] g h = subst holds (sym h) at_first
@@ -11,5 +12,6 @@ module _ {F X A : Type 0} (says : F → X → A → F → Type 0) (holds : F →
   -- what holds then of each answer that the closure may give holds of those that it gave
   pub said_each : (said : List (X × A)) (g : F) → HasSaid says first said g → (x : X) (a : A) → Member (x, a) said → P x a
   said_each [] g h x a m = absurd m
-  said_each (last ∷ before) g h x a (inl is) = let Q : _ × _ → Type 0 = λ z. P z.0 z.1 in subst Q (sym is) (step h.0 last.0 last.1 g (holds_then before h.0 h.1) h.2).1
+  said_each (last ∷ before) g h x a (inl is) = let Q : _ × _ → Type 0 = λ z. P z.0 z.1 in
+      subst Q (sym is) (step h.0 last.0 last.1 g (holds_then before h.0 h.1) h.2).1
   said_each (last ∷ before) g h x a (inr m) = said_each before h.0 h.1 x a m

@@ -23,7 +23,8 @@ module _ {A : Type 0} where
   one_first (z ∷ xs) (w ∷ ys) rs ss x y e = further z w xs ys x y (cc e) (one_first xs ys rs ss x y (cc e))
 
   -- an element after the one place and before the other
-  spans : (xs b a s ys one other : List A) (x c y : A) → one ≡ xs ++ x ∷ [] → ys ≡ xs ++ x ∷ s → other ≡ ys ++ y ∷ [] → s ≡ b ++ c ∷ a → ((one ++ b) ++ c ∷ []) ++ (a ++ y ∷ []) ≡ other
+  spans : (xs b a s ys one other : List A) (x c y : A) → one ≡ xs ++ x ∷ [] → ys ≡ xs ++ x ∷ s → other ≡ ys ++ y ∷ [] → s ≡ b ++ c ∷ a
+      → ((one ++ b) ++ c ∷ []) ++ (a ++ y ∷ []) ≡ other
   spans xs b a s ys one other x c y is e is' at =
       let t : List A = a ++ y ∷ [] in
       let tail : b ++ c ∷ t ≡ s ++ y ∷ [] = sym (append_assoc b (c ∷ a) (y ∷ [])) ∙ ap (λ (z : List A). z ++ y ∷ []) (sym at) in
@@ -45,7 +46,8 @@ replay_on m [] after k = refl
 replay_on m (c ∷ before) after k = replay_on (changed same m c) before after k
 
 -- a legal change takes out what the replay has
-taken_at : (m : ℕ → Option Item) (before : Seen) (c : Step) (after : Seen) → AllLegalChanges same key_of m (before ++ c ∷ after) → replay_from same m before c.class ≡ c.taken
+taken_at : (m : ℕ → Option Item) (before : Seen) (c : Step) (after : Seen) → AllLegalChanges same key_of m (before ++ c ∷ after)
+    → replay_from same m before c.class ≡ c.taken
 taken_at m [] c after legal = legal.0.taken_is
 taken_at m (d ∷ before) c after legal = taken_at (changed same m d) before c after legal.1
 
@@ -98,9 +100,12 @@ module _ (item : ℕ) where
     module _ (legal : IsLegalHistory same key_of all) where
       between : (one other : Seen) (f : IsFirst one) (g : IsFirst other) (s : Seen) → g.before ≡ f.before ++ f.change ∷ s → WasForgotten item one other
       between one other f g s e =
-          let was : replay same g.before item ≡ None = ap (λ (k : ℕ). replay same g.before k) (sym g.of_item) ∙ (taken_at (λ k. None) g.before g.change g.rest (subst (λ (z : Seen). AllLegalChanges same key_of (λ k. None) z) (sym g.whole) legal) ∙ g.none) in
-          let gone : replay_from same (changed same (replay same f.before) f.change) s item ≡ None = sym (replay_on (λ k. None) f.before (f.change ∷ s) item) ∙ (ap (λ (z : Seen). replay same z item) (sym e) ∙ was) in
-          let there : changed same (replay same f.before) f.change item ≡ Some f.put.0 = cond-true (item == f.change.class) f.change.put (replay same f.before item) (eq-eqb item f.change.class (sym f.of_item)) ∙ f.put.1 in
+          let was : replay same g.before item ≡ None = ap (λ (k : ℕ). replay same g.before k) (sym g.of_item)
+          ∙ (taken_at (λ k. None) g.before g.change g.rest (subst (λ (z : Seen). AllLegalChanges same key_of (λ k. None) z) (sym g.whole) legal) ∙ g.none) in
+          let gone : replay_from same (changed same (replay same f.before) f.change) s item ≡ None = sym
+          (replay_on (λ k. None) f.before (f.change ∷ s) item) ∙ (ap (λ (z : Seen). replay same z item) (sym e) ∙ was) in
+          let there : changed same (replay same f.before) f.change item ≡ Some f.put.0 = cond-true (item == f.change.class) f.change.put
+          (replay same f.before item) (eq-eqb item f.change.class (sym f.of_item)) ∙ f.put.1 in
           let (b, c, a, at, class, put) : Lost s = lost (changed same (replay same f.before) f.change) s f.put.0 there gone in
           record {
             before = one ++ b;
@@ -111,7 +116,8 @@ module _ (item : ℕ) where
             is = put;
           }
 
-      pub once : (old one old' other : Seen) → IsMet item old one true → IsPrefix one all → IsMet item old' other true → IsPrefix other all → (one ≡ other) ⊎ (WasForgotten item one other ⊎ WasForgotten item other one)
+      pub once : (old one old' other : Seen) → IsMet item old one true → IsPrefix one all → IsMet item old' other true → IsPrefix other all
+          → (one ≡ other) ⊎ (WasForgotten item one other ⊎ WasForgotten item other one)
       once old one old' other met pre met' pre' = by (one_first f.before g.before f.rest g.rest f.change g.change (f.whole ∙ sym g.whole))
         where
           f : IsFirst one

@@ -9,12 +9,17 @@ use Rattle.papaya.specs.Threads.{IsJudged, IsRemovalBy, Judges, Member, Stored}
 use Rattle.papaya_uses.specs.Sessions.{IsSignedOut, Seen}
 use Rattle.papaya_uses.proofs.Said.{said_each}
 
-module _ {F : Type 0} (called : Mut F (Bor ℕ × (Bor ℕ × Unit {0})) Bool) (token user : ℕ) (old new : Seen) (first : F) (answer : Result (Result (Option (Bor ℕ × Bor ℕ)) (Bor ℕ × Bor ℕ)) Refused) (h : IsRemovalBy (λ a b. a == b) (λ key. token == key) old new (Judges called) first answer)
+module _ {F : Type 0} (called : Mut F (Bor ℕ × (Bor ℕ × Unit {0})) Bool) (token user : ℕ) (old new : Seen) (first : F)
+    (answer : Result (Result (Option (Bor ℕ × Bor ℕ)) (Bor ℕ × Bor ℕ)) Refused)
+    (h : IsRemovalBy (λ a b. a == b) (λ key. token == key) old new (Judges called) first answer)
     (holds : F → Type 0) (at_first : holds first)
-    (judges : (f : F) (key value : Bor ℕ) (agrees : Bool) (g : F) → holds f → Called called f (key, (value, tt)) agrees g → holds g × (agrees ≡ (value.now == user))) where
+    (judges : (f : F) (key value : Bor ℕ) (agrees : Bool) (g : F) → holds f → Called called f (key, (value, tt)) agrees g → holds g
+    × (agrees ≡ (value.now == user))) where
   -- it agreed to a pair of that user
   said_so : (p : Stored ℕ ℕ) (agrees : Bool) → Member (p, agrees) h.said → agrees ≡ (p.value.value == user)
-  said_so = said_each (Judges called) holds (λ p agrees. agrees ≡ (p.value.value == user)) (λ f p agrees g is says. let next = judges f says.0 says.1 agrees g is says.3 in (next.0, next.1 ∙ ap (λ v. v == user) says.2.1)) first at_first h.said h.left h.has_said
+  said_so = said_each (Judges called) holds (λ p agrees. agrees ≡ (p.value.value == user))
+      (λ f p agrees g is says. let next = judges f says.0 says.1 agrees g is says.3 in (next.0, next.1 ∙ ap (λ v. v == user) says.2.1)) first at_first
+      h.said h.left h.has_said
 
   abbrev Judged : Result (Result (Option (Bor ℕ × Bor ℕ)) (Bor ℕ × Bor ℕ)) Refused → Type 0
   Judged r = IsJudged (λ a b. a == b) (λ key. token == key) old new h.said r

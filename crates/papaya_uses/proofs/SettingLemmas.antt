@@ -20,7 +20,8 @@ same_between xs ys zs p q e =
     sym p.1 ∙ (ap (λ (w : List _). xs ++ w) none ∙ append-nil xs)
 
 -- a replay ends with the last change
-replay_last : {K P : Type 0} (same : K → K → Bool) (m : K → Option P) (before : List (Change K P)) (c : Change K P) (k : K) → replay_from same m (before ++ c ∷ []) k ≡ changed same (replay_from same m before) c k
+replay_last : {K P : Type 0} (same : K → K → Bool) (m : K → Option P) (before : List (Change K P)) (c : Change K P) (k : K)
+    → replay_from same m (before ++ c ∷ []) k ≡ changed same (replay_from same m before) c k
 replay_last same m [] c k = refl
 replay_last same m (d ∷ before) c k = replay_last same (changed same m d) before c k
 
@@ -29,15 +30,22 @@ module _ (setting value : ℕ) (old own : Seen) (before : Option (Bor ℕ)) (put
   stored : (k : ℕ) → k ≡ setting → (q : Stored ℕ ℕ) × (replay (λ a b. a == b) own k ≡ Some q) × (q.value.value ≡ value)
   stored k is =
       let (q, put_is, key_is, value_is) = put.put_is in
-      let class : k ≡ put.change.class = is ∙ sym (eqb-true put.change.class setting put.class_is) in
-      (q, ap (λ h. replay (λ a b. a == b) h k) put.is ∙ (replay_last (λ a b. a == b) (λ _. None) put.before put.change k ∙ (cond-true (k == put.change.class) put.change.put (replay (λ a b. a == b) put.before k) (eq-eqb k put.change.class class) ∙ put_is)), value_is)
+      let class : k ≡ put.change.class = is ∙ sym (eqb-true put.change.class setting put.class_is) in (
+        q,
+        ap (λ h. replay (λ a b. a == b) h k) put.is
+            ∙ (replay_last (λ a b. a == b) (λ _. None) put.before put.change k
+            ∙ (cond-true (k == put.change.class) put.change.put (replay (λ a b. a == b) put.before k) (eq-eqb k put.change.class class) ∙ put_is)),
+        value_is,
+      )
 
   -- so it has where nothing was changed since
-  pub read_alone : (new : Seen) (found : Option (Bor ℕ)) → IsAnsweredBetween (λ a b. a == b) (λ key. setting == key) own new found → own ≡ new → option_map (λ v. v.now) found ≡ Some value
+  pub read_alone : (new : Seen) (found : Option (Bor ℕ)) → IsAnsweredBetween (λ a b. a == b) (λ key. setting == key) own new found → own ≡ new
+      → option_map (λ v. v.now) found ≡ Some value
   read_alone new None answered e =
       let seen : answered.seen ≡ own = same_between own answered.seen new answered.since answered.until e in
       let (q, has, value_is) = stored setting refl in
-      let none : replay (λ a b. a == b) own setting ≡ None = ap (λ h. replay (λ a b. a == b) h setting) (sym seen) ∙ answered.is setting (eq-eqb setting setting refl) in
+      let none : replay (λ a b. a == b) own setting ≡ None = ap (λ h. replay (λ a b. a == b) h setting) (sym seen)
+      ∙ answered.is setting (eq-eqb setting setting refl) in
       absurd (let e : None ≡ Some q = sym none ∙ has in cc e)
   read_alone new (Some v) answered e =
       let seen : answered.seen ≡ own = same_between own answered.seen new answered.since answered.until e in

@@ -29,7 +29,8 @@ first_of (Some a) second = Some a
 abbrev pub text_of : Generations → ℕ → Option (List ℕ)
 text_of cache page = first_of (text_in cache.young page) (text_in cache.elder page)
 
--- A page is there as it was, or it was dropped, since the young generation was full and had none of it.
+-- A page is there as it was, or it was dropped, since the young generation was full and had none
+-- of it.
 abbrev pub StaysOrGoes : Generations → Generations → ℕ → Type 0
 StaysOrGoes old new page = (text_of new page ≡ text_of old page)
     ⊎ ((old.stored ≡ old.limit) × (text_in old.young page ≡ None) × (text_of new page ≡ None))

@@ -1,5 +1,5 @@
--- What the calls on a table of reads do: a count by the histories that its session has seen before and
--- after, and what is only asked by some history of the map.
+-- What the calls on a table of reads do: a count by the histories that its session has seen before
+-- and after, and what is only asked by some history of the map.
 use Rattle.std.specs.Prelude.{◌≡◌, ◌==◌, ◌+◌, ◌-◌, ◌^◌, ℕ, min, Option, None, Some, List, [], option_map}
 use Rattle.std.specs.Borrow.{Bor}
 use Rattle.papaya.specs.Threads.{Change, IsAnsweredBetween, IsChangeOf, IsOfHistory, Stored, key_of}

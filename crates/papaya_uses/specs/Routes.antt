@@ -1,4 +1,5 @@
--- What the calls on a table of routes do, by the histories that a session has seen before and after.
+-- What the calls on a table of routes do, by the histories that a session has seen before
+-- and after.
 use Rattle.std.specs.Prelude.{◌≡◌, ℕ, Option, List, String, option_map, bytes_eq, string_bytes, string_eq}
 use Rattle.std.specs.Borrow.{Bor}
 use Rattle.std.specs.declared.alloc.Global.{Global}

@@ -7,8 +7,8 @@ use Rattle.papaya.specs.Threads.{Change, IsAnsweredBetween, IsChangeOf, IsPut, S
 abbrev pub Seen : Type 0
 Seen = List (Change ℕ (Stored ℕ ℕ))
 
--- The last change that was seen gave the token to the user; the answer is the user whose session it
--- ended.
+-- The last change that was seen gave the token to the user; the answer is the user whose session
+-- it ended.
 abbrev pub IsSignedIn : (token user : ℕ) → Seen → Seen → Option ℕ → Type 0
 IsSignedIn token user old new before = (answer : Option (Bor ℕ))
     × (option_map (λ v. v.now) answer ≡ before) × IsPut (λ a b. a == b) token user old new answer

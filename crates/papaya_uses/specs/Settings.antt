@@ -7,8 +7,8 @@ use Rattle.papaya.specs.Threads.{Change, IsAnsweredBetween, IsPut, Stored}
 abbrev pub Seen : Type 0
 Seen = List (Change ℕ (Stored ℕ ℕ))
 
--- The thread's own change gave the setting this value. What was read is the map's at a moment after it,
--- and where nobody made a change since then, it is this value.
+-- The thread's own change gave the setting this value. What was read is the map's at a moment after
+-- it, and where nobody made a change since then, it is this value.
 pub record IsReadBack (setting value : ℕ) (old new : Seen) (read : Option ℕ) : Type 0 where
   pub own : Seen
   pub before : Option (Bor ℕ)

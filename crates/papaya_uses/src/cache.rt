@@ -1,6 +1,7 @@
-//! A cache with a limit, for one owner: the texts of pages, by their numbers. It has two generations, and
-//! a page that is put in goes to the young one. When that is full, the pages that were replaced in it are
-//! freed by `reclaim`, where they are half of it. Else it becomes the elder one, whose pages are dropped.
+//! A cache with a limit, for one owner: the texts of pages, by their numbers. It has two
+//! generations, and a page that is put in goes to the young one. When that is full, the pages that
+//! were replaced in it are freed by `reclaim`, where they are half of it. Else it becomes the elder
+//! one, whose pages are dropped.
 ghost use Rattle.std.specs.Prelude.{◌≡◌, ◌≢◌, ◌⊎◌, ◌+◌, ◌<◌, ◌≤◌, None, Some};
 ghost use Rattle.std.specs.Prelude.{IfOk, IsErr, OnOk, option_map, string_bytes};
 ghost use Rattle.papaya_uses.specs.Cache.{StaysOrGoes, stored_in, text_of};
@@ -68,9 +69,10 @@ impl Cache {
         }
     }
 
-    /// Puts the text of a page in. Each other page stays, but for those of the elder generation alone, where
-    /// the young one is full. No more pages are stored than twice the limit, those that were replaced
-    /// included. Refused, the page itself has the text that it had, or was dropped so.
+    /// Puts the text of a page in. Each other page stays, but for those of the elder generation
+    /// alone, where the young one is full. No more pages are stored than twice the limit, those
+    /// that were replaced included. Refused, the page itself has the text that it had, or was
+    /// dropped so.
     pub fn put(&mut self, page: u64, text: String) -> Result<(), Refused>
         ensures there { OnOk result (text_of self.new page ≡ Some (string_bytes text)) }
         ensures others { (other : _) → (other ≢ page) ⊎ IsErr result

@@ -28,8 +28,8 @@ impl Interner {
         })
     }
 
-    /// The number of a text, which gets one where it has none. Where threads bring one text at once, all
-    /// get the number of the first; a number that another has drawn for it stays unused.
+    /// The number of a text, which gets one where it has none. Where threads bring one text at
+    /// once, all get the number of the first; a number that another has drawn for it stays unused.
     #[tactic(auto, using(crate::proofs::LimitLemmas::unlimited))]
     pub fn number<R: Wait>(&self, rt: &R, alloc: Global, text: &str) -> Result<u64, Refused>
         ensures { IfErr result IsMemoryOrCapacity }

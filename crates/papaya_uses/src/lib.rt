@@ -1,6 +1,7 @@
-//! Ten small callers of `papaya`, proved and run, to copy from. For one owner: a word count, and a cache with
-//! a limit. By sessions: settings and hits that threads share, a table of who is signed in, registries of
-//! counters and of metrics, texts by numbers, a table of routes, and a set of items that were met.
+//! Ten small callers of `papaya`, proved and run, to copy from. For one owner: a word count, and a
+//! cache with a limit. By sessions: settings and hits that threads share, a table of who is signed
+//! in, registries of counters and of metrics, texts by numbers, a table of routes, and a set of
+//! items that were met.
 #![tactic(auto)]
 
 pub mod cache;

@@ -1,6 +1,6 @@
-//! A registry of metrics: a counter for each name, to which threads add at once. A name gets its counter
-//! once. An addition is one atomic step on that counter: no pair of the map is replaced, so none is left
-//! in the logs.
+//! A registry of metrics: a counter for each name, to which threads add at once. A name gets its
+//! counter once. An addition is one atomic step on that counter: no pair of the map is replaced, so
+//! none is left in the logs.
 ghost use Rattle.std.specs.Prelude.{IfErr};
 ghost use mathlib.Core.List.{IsPrefix};
 ghost use Rattle.papaya.specs.Threads.{IsWriteRefusal};
@@ -14,8 +14,8 @@ use std::sync::atomic::{AtomicU64, Ordering};
 /// The counters, by their names. A thread makes its session by `Session::new(&metrics)`.
 pub type Metrics = HashMap<String, AtomicU64, BuildHasherDefault<FoldHasher>>;
 
-/// Adds to the counter of a name, which begins at 0, and answers what it was before. A name that has a
-/// counter is not copied, and its counter waits for nobody.
+/// Adds to the counter of a name, which begins at 0, and answers what it was before. A name that
+/// has a counter is not copied, and its counter waits for nobody.
 #[tactic(auto, using(crate::proofs::MetricLemmas::seen_on))]
 pub fn add<R: Wait>(
     rt: &R,

@@ -1,5 +1,5 @@
-//! A table of routes: many threads look paths up, and now and then one adds a route or turns it elsewhere.
-//! A path is looked up as a text, with no copy of it.
+//! A table of routes: many threads look paths up, and now and then one adds a route or turns it
+//! elsewhere. A path is looked up as a text, with no copy of it.
 ghost use Rattle.std.specs.Prelude.{IfErr, IfOk};
 ghost use mathlib.Core.List.{IsPrefix};
 ghost use Rattle.papaya.specs.Threads.{IsWriteRefusal};
@@ -20,8 +20,8 @@ pub fn handler(routes: &mut Session<'_, String, u64>, path: &str) -> Option<u64>
     routes.get(&TextKey(path)).copied()
 }
 
-/// Leads a path to a handler, and answers which one it had. Threads that look it up meanwhile get the
-/// one or the other.
+/// Leads a path to a handler, and answers which one it had. Threads that look it up meanwhile get
+/// the one or the other.
 pub fn lead<R: Wait>(
     rt: &R,
     routes: &mut Session<'_, String, u64>,

@@ -1,6 +1,6 @@
-//! Which items were met before: threads that work on one list of items leave out what another has met.
-//! A set that threads share has the items. Each thread goes to it by a session of the set's map, so that
-//! what one was told can be set beside what another was.
+//! Which items were met before: threads that work on one list of items leave out what another has
+//! met. A set that threads share has the items. Each thread goes to it by a session of the set's
+//! map, so that what one was told can be set beside what another was.
 ghost use Rattle.std.specs.Prelude.{◌≡◌, ◌==◌, ◌⊎◌, ℕ, [], true, IfErr, IfOk};
 ghost use mathlib.Core.List.{IsPrefix};
 ghost use Rattle.papaya.specs.Threads.{IsLegalHistory, IsMemoryOrCapacity, IsWriteRefusal, key_of};
@@ -42,8 +42,8 @@ impl<'a> Finder<'a> {
         }
     }
 
-    /// Notes that an item was met, and answers whether it is new: true for just one of the threads that
-    /// meet it.
+    /// Notes that an item was met, and answers whether it is new: true for just one of the threads
+    /// that meet it.
     pub fn meet<R: Wait>(&mut self, rt: &R, item: u64) -> Result<bool, Refused>
         ensures map { self.new.map ≡ self.old.map }
         ensures seen { IsPrefix self.old.history self.new.history }
@@ -68,8 +68,8 @@ impl<'a> Finder<'a> {
         }
     }
 
-    /// Tells each of two finders what the other has seen. What either was told stands in one history
-    /// then, of which [`told_once`] speaks.
+    /// Tells each of two finders what the other has seen. What either was told stands in one
+    /// history then, of which [`told_once`] speaks.
     pub fn compare(&mut self, other: &mut Finder<'_>)
         requires { other.old.map.book ≡ self.old.map.book }
         ensures one { self.new.history ≡ other.new.history }
@@ -81,8 +81,8 @@ impl<'a> Finder<'a> {
 }
 
 /// An item was new to two finders at moments of one history, as that is which both have seen after
-/// [`Finder::compare`]. Then it was one moment, or the item was forgotten between the two. So of threads
-/// that meet an item which nobody forgets, just one is told that it is new.
+/// [`Finder::compare`]. Then it was one moment, or the item was forgotten between the two. So of
+/// threads that meet an item which nobody forgets, just one is told that it is new.
 ///
 /// The function does nothing: its contract is the law.
 pub fn told_once()

@@ -6,7 +6,8 @@ use papaya::{HashMap, Refused, Session};
 use std::hash::{BuildHasherDefault, FoldHasher};
 use std::sync::Wait;
 
-/// The value of each setting, by their numbers. A thread makes its session by `Session::new(&settings)`.
+/// The value of each setting, by their numbers. A thread makes its session by
+/// `Session::new(&settings)`.
 pub type Settings = HashMap<u64, u64, BuildHasherDefault<FoldHasher>>;
 
 /// Gives a setting a value, and reads it back: at a moment after this thread's own change.

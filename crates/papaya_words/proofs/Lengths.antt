@@ -1,5 +1,7 @@
 -- The lengths of tables that follow one another, and their limits.
-use Rattle.std.proofs.Common.{◌≡◌, ◌⊎◌, inl, inr, ⊎_elim, ℕ, zero, suc, ◌*◌, ◌/◌, ◌^◌, ◌<◌, ◌≤◌, nat_le, le-leb, Bool, cond, max, ◌||◌, refl, sym, ap, ◌∙◌, subst, arith}
+use Rattle.std.proofs.Common.{◌≡◌, ◌⊎◌, inl, inr, ⊎_elim, ℕ, zero, suc, ◌*◌, ◌/◌, ◌^◌, ◌<◌, ◌≤◌}
+use Rattle.std.proofs.Common.{nat_le, le-leb, Bool, cond, max, ◌||◌, refl, sym, ap, ◌∙◌, subst}
+use Rattle.std.proofs.Common.{arith}
 use Rattle.std.proofs.Math.Nat.{pow-succ'}
 use Rattle.std.proofs.Math.Pow.{pow_mono}
 use Rattle.std.proofs.lemmas.Bool.{cases_lt, cond_both, cond-true, cond-false, lt-leb}
@@ -14,10 +16,12 @@ log_is zero log n le below above = omega (arith, le)
 log_is (suc most) log n le below above =
     ⊎_elim
     (λ (over : n < 2 ^ suc most).
-    let lt : log ≤ most = ⊎_elim (λ (a : log < suc most). omega (arith, a)) (λ (b : suc most ≤ log). let up : 2 ^ suc most ≤ 2 ^ log = pow_mono b in absurd (omega (arith, up, over, below))) (cases_lt log (suc most)) in
+    let lt : log ≤ most = ⊎_elim (λ (a : log < suc most). omega (arith, a))
+    (λ (b : suc most ≤ log). let up : 2 ^ suc most ≤ 2 ^ log = pow_mono b in absurd (omega (arith, up, over, below))) (cases_lt log (suc most)) in
     cond-false (nat_le (2 ^ suc most) n) (suc most) (log_upto most n) (lt-leb (2 ^ suc most) n over) ∙ log_is most log n lt below above)
     (λ (fits : 2 ^ suc most ≤ n).
-    let is : suc most ≡ log = ⊎_elim (λ (lt : log < suc most). let up : 2 ^ suc log ≤ 2 ^ suc most = pow_mono lt in let double = pow-succ' 2 log in absurd (omega (arith, up, double, fits, above))) (λ (ge : suc most ≤ log). omega (arith, ge, le)) (cases_lt log (suc most)) in
+    let is : suc most ≡ log = ⊎_elim (λ (lt : log < suc most). let up : 2 ^ suc log ≤ 2 ^ suc most = pow_mono lt in let double = pow-succ' 2 log in
+    absurd (omega (arith, up, double, fits, above))) (λ (ge : suc most ≤ log). omega (arith, ge, le)) (cases_lt log (suc most)) in
     cond-true (nat_le (2 ^ suc most) n) (suc most) (log_upto most n) (le-leb (2 ^ suc most) n fits) ∙ is)
     (cases_lt n (2 ^ suc most))
 
@@ -44,7 +48,8 @@ next_power len count initial unfit p q =
     (λ e. twice len p)
     (λ e.
     cond_both (nat_le count (len / 8)) (max initial (len / 2)) len IsPowerOfTwo
-    (λ f. ⊎_elim (λ (z : len / 2 ≡ 0). subst IsPowerOfTwo (let is : initial ≡ max initial (len / 2) = omega (arith, z) in is) q) (λ h. powers initial (len / 2) q h) (half len p))
+    (λ f. ⊎_elim (λ (z : len / 2 ≡ 0). subst IsPowerOfTwo (let is : initial ≡ max initial (len / 2) = omega (arith, z) in is) q)
+    (λ h. powers initial (len / 2) q h) (half len p))
     (λ f. p))
 
 -- no table is shorter than 8 slots

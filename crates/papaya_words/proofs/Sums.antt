@@ -1,5 +1,7 @@
 -- The wrapped sum of shards.
-use Rattle.std.proofs.Common.{◌≡◌, ℕ, zero, suc, ◌+◌, ◌<◌, List, [], ◌∷◌, length, ℤ, pos, ◌+ℤ◌, replicate, fold, take, slice_set, slice_index_or, refl, sym, ◌∙◌, ap, arith}
+use Rattle.std.proofs.Common.{◌≡◌, ℕ, zero, suc, ◌+◌, ◌<◌, List, [], ◌∷◌, length, ℤ, pos, ◌+ℤ◌}
+use Rattle.std.proofs.Common.{replicate, fold, take, slice_set, slice_index_or, refl, sym, ◌∙◌, ap}
+use Rattle.std.proofs.Common.{arith}
 use Rattle.std.proofs.Math.ListN.{length-set}
 use Rattle.std.proofs.lemmas.Int.{ints, int_wrap-add_left, int_wrap-add_right, int_wrap-add_same}
 use Rattle.std.proofs.lemmas.List.Sums.{fold_more}
@@ -60,4 +62,5 @@ count_is m n y z xs ys e f h = ap (λ x. count_from x y xs) e ∙ ap (λ x. coun
 pub added : (by : ℤ) (xs ys : List ℤ) (i : ℕ) → i < length xs → ys ≡ slice_set xs i (int_wrap w64 (slice_index_or xs i (pos 0) +ℤ by)) →
     count_from (length ys) (sum_of ys) ys ≡ added_at (count_from (length xs) (sum_of xs) xs) i by
 added by xs ys i h e =
-    count_is (length ys) (length xs) (sum_of ys) (int_wrap w64 (sum_of xs +ℤ by)) ys (slice_set xs i (int_wrap w64 (slice_index_or xs i (pos 0) +ℤ by))) (ap length e ∙ length-set xs i _) (ap sum_of e ∙ sum_of-set by xs i h) e
+    count_is (length ys) (length xs) (sum_of ys) (int_wrap w64 (sum_of xs +ℤ by)) ys
+    (slice_set xs i (int_wrap w64 (slice_index_or xs i (pos 0) +ℤ by))) (ap length e ∙ length-set xs i _) (ap sum_of e ∙ sum_of-set by xs i h) e

@@ -20,8 +20,8 @@ added_at c place by = record {
   each = slice_set c.each place (int_wrap w64 (slice_index_or c.each place (pos 0) +ℤ by));
 }
 
--- the place of the shard that a number picks: the number modulo that of shards, which is a power of
--- two
+-- the place of the shard that a number picks: the number modulo that of shards, which is a power
+-- of two
 abbrev pub shard_of : Count → ℕ → ℕ
 shard_of c number = bit_and number (c.shards - 1)
 

@@ -145,8 +145,7 @@ pub fn h2(hash: u64) -> u8
     (hash / 0x200_0000_0000_0000) as u8
 }
 
-/// The hint of a slot that a key with this hash has filled. A hint of 0 says
-/// nothing.
+/// The hint of a slot that a key with this hash has filled. A hint of 0 says nothing.
 ///
 /// It stands in place of 0.2.5's byte of metadata.
 #[inline(always)]

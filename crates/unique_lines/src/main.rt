@@ -1,5 +1,5 @@
-//! `unique-lines`: reads lines, and prints each different one once, in the order of their bytes. Four
-//! threads bring the lines into one set.
+//! `unique-lines`: reads lines, and prints each different one once, in the order of their bytes.
+//! Four threads bring the lines into one set.
 #![tactic(auto)]
 
 use papaya::{HashSet, Refused, TextKey};

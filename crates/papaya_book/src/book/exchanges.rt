@@ -17,8 +17,7 @@ use std::hash::{BuildHasher, Hash};
 
 impl<K: Hash + Eq, V, S: BuildHasher> Book<K, V, S> {
     /// One atomic exchange of a slot, with which nothing comes: the word found there, and the token
-    /// of
-    /// the pair that it names.
+    /// of the pair that it names.
     pub(crate) fn exchange_slot(
         &self,
         table: &Table<K, V, S>,
@@ -49,8 +48,7 @@ impl<K: Hash + Eq, V, S: BuildHasher> Book<K, V, S> {
     }
 
     /// One atomic exchange of a slot, with which the pair comes that the call has made: the word
-    /// found
-    /// there, and the token of the pair that it names.
+    /// found there, and the token of the pair that it names.
     pub(crate) fn put_slot(
         &self,
         table: &Table<K, V, S>,

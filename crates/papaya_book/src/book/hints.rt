@@ -11,7 +11,8 @@ use crate::table::Table;
 use std::hash::{BuildHasher, Hash};
 
 impl<K: Hash + Eq, V, S: BuildHasher> Book<K, V, S> {
-    /// One atomic load of the hint of a table's slot: 0, which says nothing, where none was written.
+    /// One atomic load of the hint of a table's slot: 0, which says nothing, where none
+    /// was written.
     #[inline(always)]
     pub fn hint(
         &self,
@@ -33,8 +34,8 @@ impl<K: Hash + Eq, V, S: BuildHasher> Book<K, V, S> {
         hint
     }
 
-    /// One atomic exchange: a slot without a hint has this one from then on. Nothing tells whether it
-    /// was written, and nothing further is seen.
+    /// One atomic exchange: a slot without a hint has this one from then on. Nothing tells whether
+    /// it was written, and nothing further is seen.
     #[inline(always)]
     pub fn write_hint(
         &self,

@@ -76,8 +76,8 @@ impl<K: Hash + Eq, V, S: BuildHasher> Book<K, V, S> {
         Ok(slots)
     }
 
-    /// A table of so many slots, all Empty, to which a table of so many chunks is copied, with the pen
-    /// of its seal. It draws its words once there is room for them.
+    /// A table of so many slots, all Empty, to which a table of so many chunks is copied, with the
+    /// pen of its seal. It draws its words once there is room for them.
     fn lay_table<R: Wait>(
         &self,
         rt: &R,
@@ -128,8 +128,8 @@ impl<K: Hash + Eq, V, S: BuildHasher> Book<K, V, S> {
         OwnSteps::only(&number)
     }
 
-    /// A table of so many slots, all Empty, to which a table of so many chunks is copied, in the log
-    /// of tables, with the pen of its seal.
+    /// A table of so many slots, all Empty, to which a table of so many chunks is copied, in the
+    /// log of tables, with the pen of its seal.
     ///
     /// `Refused::Memory` where a growth was refused, and `Refused::Capacity` where the number that
     /// the log gave it would pass [`MAX_TABLES`]: then `given` tells that number.
@@ -171,8 +171,7 @@ impl<K: Hash + Eq, V, S: BuildHasher> Book<K, V, S> {
     }
 
     /// One atomic exchange: the table becomes the root, if there is none. The number found, and
-    /// what
-    /// gains the table that was first.
+    /// what gains the table that was first.
     pub fn open(
         &self,
         table: &Pushed<Table<K, V, S>>,
@@ -230,8 +229,8 @@ impl<K: Hash + Eq, V, S: BuildHasher> Book<K, V, S> {
     /// table has come.
     ///
     /// `Refused::Memory` where a growth was refused. The same where the table got a number past its
-    /// limit, or another one was opened first: a new map's is neither so, though no clause of its logs
-    /// tells it.
+    /// limit, or another one was opened first: a new map's is neither so, though no clause of its
+    /// logs tells it.
     pub fn open_first<R: Wait>(
         &self,
         rt: &R,

@@ -1,10 +1,10 @@
 //! Making a book, and the words of its tables.
 //!
-//! A book opens with a row of words, which hold 0. Whoever makes a table draws as many as it needs, all
-//! by one exchange of the makers' word, which counts them. The same exchange adds one word more, the
-//! table's seal, which says whether the table was given up. Its pen is kept until the exchange that
-//! opens or links the table. The log says for which seal a word was dealt, so no two tables that have
-//! come share a word.
+//! A book opens with a row of words, which hold 0. Whoever makes a table draws as many as it needs,
+//! all by one exchange of the makers' word, which counts them. The same exchange adds one word
+//! more, the table's seal, which says whether the table was given up. Its pen is kept until the
+//! exchange that opens or links the table. The log says for which seal a word was dealt, so no two
+//! tables that have come share a word.
 ghost use Rattle.papaya_book.specs.Books.{Brings, CanBring, IsIn, IsLeft, Seals};
 ghost use Rattle.std.specs.Prelude.{◌≡◌, ◌≢◌, ◌+◌, ◌-◌, ◌<◌, ◌==◌, false, Some, IfOk, IfErr, IfSome};
 ghost use mathlib.Core.List.{IsPrefix};
@@ -32,8 +32,8 @@ use std::sync::Wait;
 const ROW_LEN: u64 = 1 << 62;
 
 impl<K: Hash + Eq, V, S: BuildHasher> Book<K, V, S> {
-    /// A new book. The parts come back where it got another name first, which no thread could give
-    /// it.
+    /// A new book. The parts come back where it got another name first, which no thread could
+    /// give it.
     pub fn begin(parts: Parts<K, V, S>) -> Result<Book<K, V, S>, Parts<K, V, S>>
         requires { IsChunked parts.mode }
         ensures ok { IfOk result (λ book. book.parts ≡ parts) }
@@ -69,8 +69,8 @@ impl<K: Hash + Eq, V, S: BuildHasher> Book<K, V, S> {
         })
     }
 
-    /// The seal of a new table, with the pen that the table's opening takes, and the rights to make so
-    /// many words, which are of the row. There are none where the row has fewer left.
+    /// The seal of a new table, with the pen that the table's opening takes, and the rights to make
+    /// so many words, which are of the row. There are none where the row has fewer left.
     pub(crate) fn deal<R: Wait>(
         &self,
         rt: &R,
@@ -118,8 +118,8 @@ impl<K: Hash + Eq, V, S: BuildHasher> Book<K, V, S> {
         Word::tracked(0, &mut pen)
     }
 
-    /// One atomic exchange with which a table comes, which is opened or linked by it: the word found
-    /// there. It takes the pen of the table's seal, unless it is lost.
+    /// One atomic exchange with which a table comes, which is opened or linked by it: the word
+    /// found there. It takes the pen of the table's seal, unless it is lost.
     pub fn bring(
         &self,
         word: &Cell<K, V, S>,

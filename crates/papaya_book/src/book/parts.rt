@@ -7,8 +7,8 @@ use papaya_log::log::Log;
 use papaya_words::probe::ResizeMode;
 use std::hash::{BuildHasher, Hash};
 
-/// The hasher, how the map resizes, how many pairs it may log, where there is a limit, and the logs of
-/// pairs and of tables. A pair or a table stays where it was logged.
+/// The hasher, how the map resizes, how many pairs it may log, where there is a limit, and the logs
+/// of pairs and of tables. A pair or a table stays where it was logged.
 #[derive(Drop)]
 pub struct Parts<K: Hash + Eq, V, S: BuildHasher> {
     pub hasher: S,

@@ -86,8 +86,8 @@ pub enum Named<K, V> {
     Table(Laid),
 }
 
-/// What the book was opened with: the hasher, how the map resizes, how many pairs it may log, and the
-/// logs of pairs and of tables.
+/// What the book was opened with: the hasher, how the map resizes, how many pairs it may log, and
+/// the logs of pairs and of tables.
 pub struct Begun<K, V, S> {
     pub hasher: S,
     pub mode: ResizeMode,
@@ -99,8 +99,7 @@ pub struct Begun<K, V, S> {
 /// An entry of the log.
 pub enum Event<K, V, S> {
     /// What a load or an exchange asks for: a word, the kind of the exchange, the pair that the
-    /// call
-    /// has made, and what comes with the step. No log has it.
+    /// call has made, and what comes with the step. No log has it.
     Wish(At, Option<StepKind>, Option<Stored<K, V>>, Named<K, V>),
     /// What a maker of a table asks for: from this word on, so many words of the book's row. No log
     /// has it.

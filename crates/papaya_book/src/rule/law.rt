@@ -5,9 +5,10 @@ use papaya_hint::hint::Hinting;
 use std::hash::{BuildHasher, Hash};
 use std::marker::PhantomData;
 
-/// The rule: the log's exchanges are allowed, the words are those that they leave, each hint was one
-/// of its slot, and the book keeps the tokens of all pairs and tables that came, and the rights to
-/// make words for tables. Hints stand beside words of slots; the book has no other words that it does not track.
+/// The rule: the log's exchanges are allowed, the words are those that they leave, each hint was
+/// one of its slot, and the book keeps the tokens of all pairs and tables that came, and the rights
+/// to make words for tables. Hints stand beside words of slots; the book has no other words that it
+/// does not track.
 pub struct Law<K, V, S> {
     of: PhantomData<(K, V, S)>,
 }

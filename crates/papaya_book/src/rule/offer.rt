@@ -1,6 +1,5 @@
 //! What passes between a step and the book: tokens go to the book with what comes, and whoever
-//! finds
-//! a name in a word has its token.
+//! finds a name in a word has its token.
 ghost use Rattle.std.specs.Prelude.{◌≡◌, [], ◌∷◌, None};
 ghost use Rattle.papaya_book.specs.declared.rule.entry.Named.TheVariants.{Nothing, Pair as PairNamed, Table as TableNamed};
 ghost use Rattle.papaya_book.specs.declared.rule.entry.Event.TheVariants.{Begin, Called, Draw};

@@ -1,5 +1,5 @@
-//! What a caller did by its own steps, and what it was given. Only contracts see it: it has no
-//! bytes.
+//! What a caller did by its own steps, and what it was given. Only contracts see it: it has
+//! no bytes.
 ghost use Rattle.std.specs.Prelude.{◌≡◌, List, [], ◌∷◌, ◌++◌};
 ghost use base.Fml.{ftrue};
 ghost use base.Stored.{coded_list};
@@ -10,8 +10,8 @@ use crate::rule::offer::Seen;
 use std::hash::{BuildHasher, Hash};
 use std::marker::{Model, PhantomData};
 
-/// A number that a map gave to a call: one of its logs to what was put into it, or the sum of its
-/// count.
+/// A number that a map gave to a call: one of its logs to what was put into it, or the sum of
+/// its count.
 #[derive(Clone, Copy)]
 pub enum CapacityCause {
     Pair(usize),

@@ -1,9 +1,9 @@
 //! Pairs, as the arena of pairs keeps them.
 //!
 //! A pair's key lies beside its value, so that a lookup that has found the pair has its key at
-//! hand. But keys and values are logged once: a pair that replaces another has that one's key, and a
-//! call may make several pairs of one value. So a pair brings its key, or names the pair that brought
-//! it, and so with its value. No name leads to another name.
+//! hand. But keys and values are logged once: a pair that replaces another has that one's key, and
+//! a call may make several pairs of one value. So a pair brings its key, or names the pair that
+//! brought it, and so with its value. No name leads to another name.
 ghost use Rattle.std.specs.Prelude.{◌≡◌, None, Some};
 ghost use Rattle.papaya_book.specs.Pairs.{Pair as PairSeen, pair_coded};
 

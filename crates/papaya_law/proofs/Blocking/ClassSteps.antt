@@ -17,7 +17,8 @@ module _ {P : Type 0} where
     root_found None k j p lt h = absurd (k.tied j lt (held_of (V r j) p h))
     root_found (Some q) k j p lt h =
         let o : IsRootOwner n V r q = k.tied in
-        let s : V r j ≡ V r o.at = same_active On n S V k.base r j o.at lt o.within (held-active (V r j) (held_of (V r j) p h)) (held-active (V r o.at) (held_of (V r o.at) q o.has)) in
+        let s : V r j ≡ V r o.at = same_active On n S V k.base r j o.at lt o.within (held-active (V r j) (held_of (V r j) p h))
+        (held-active (V r o.at) (held_of (V r o.at) q o.has)) in
         ⊎_elim
         (λ (x : V r j ≡ Here p). ⊎_elim (λ (y : V r o.at ≡ Here q). cc) (λ (y : V r o.at ≡ Leaving q). cc) o.has)
         (λ (x : V r j ≡ Leaving p). ⊎_elim (λ (y : V r o.at ≡ Here q). cc) (λ (y : V r o.at ≡ Leaving q). cc) o.has)
@@ -29,17 +30,27 @@ module _ {P : Type 0} where
     root_none (Some q) k none = let o : IsRootOwner n V r q = k.tied in absurd (none o.at o.within (held_of (V r o.at) q o.has))
 
     -- at an Empty place that a search comes to, the map has none
-    pub root_empty : (m : Option P) → IsBlockingClass On Was ab r n S V m → (j : ℕ) → j < n r → ((i : ℕ) → i < j → beyond (V r i) ≡ true) → V r j ≡ Free → m ≡ None
+    pub root_empty : (m : Option P) → IsBlockingClass On Was ab r n S V m → (j : ℕ) → j < n r → ((i : ℕ) → i < j → beyond (V r i) ≡ true)
+        → V r j ≡ Free → m ≡ None
     root_empty m k j lt before free = root_none m k (λ i l h. free_not_active On n S V k.base r j i free before l (held-active (V r i) h))
 
     module _ (V' : ℕ → ℕ → View P) (t x : ℕ) (m : Option P) (k : IsBlockingClass On Was ab r n S V m) where
       -- a turn by which nothing leaves or comes behind the root
-      plain_ahead : (a b : View P) → IsTurn S V V' t x a b → ((p : P) → a ≡ Leaving p → ⊥) → (own b ≡ true → r < t → ⊥) → (u j : ℕ) → r < u → j < n u → own (V' u j) ≡ true → IsRootCopy On ab n V' r u (V' u j)
+      plain_ahead : (a b : View P) → IsTurn S V V' t x a b → ((p : P) → a ≡ Leaving p → ⊥) → (own b ≡ true → r < t → ⊥) → (u j : ℕ) → r < u → j < n u
+          → own (V' u j) ≡ true → IsRootCopy On ab n V' r u (V' u j)
       plain_ahead a b turn never here u j lt l h =
           ⊎_elim
           (λ e.
           let c = k.ahead u j lt l (ap own (sym e.0) ∙ h) in
-          record { at = c.at; pair = c.pair; within = c.within; leaving = unturned S V V' t x a b turn r c.at (λ q. never c.pair (sym q ∙ c.leaving)) ∙ c.leaving; copy = e.0 ∙ c.copy; between = c.between })
+          record {
+            at = c.at;
+            pair = c.pair;
+            within = c.within;
+            leaving = unturned S V V' t x a b turn r c.at (λ q. never c.pair (sym q ∙ c.leaving))
+                ∙ c.leaving;
+            copy = e.0 ∙ c.copy;
+            between = c.between;
+          })
           (λ e. absurd (here (ap own (sym e.3) ∙ h) (subst (λ y. r < y) e.0 lt)))
           (turn.each u j)
 
@@ -57,7 +68,8 @@ module _ {P : Type 0} where
           (turn.each l i)
 
       -- no word of the class in the root turns that has the pair
-      stays_tied : (a b : View P) → IsTurn S V V' t x a b → (held a ≡ true → ⊥) → (held b ≡ true → t ≡ r → ⊥) → (v : Option P) → IsRootTied n V r v → IsRootTied n V' r v
+      stays_tied : (a b : View P) → IsTurn S V V' t x a b → (held a ≡ true → ⊥) → (held b ≡ true → t ≡ r → ⊥) → (v : Option P) → IsRootTied n V r v
+          → IsRootTied n V' r v
       stays_tied a b turn ha hb None h = λ j lt e. ⊎_elim (λ q. h j lt (ap held (sym q.0) ∙ e)) (λ q. hb (ap held (sym q.3) ∙ e) (sym q.0)) (turn.each r j)
       stays_tied a b turn ha hb (Some p) o =
           let e : V' r o.at ≡ V r o.at = unturned S V V' t x a b turn r o.at (λ q. ha (ap held (sym q) ∙ held_of (V r o.at) p o.has)) in
@@ -66,7 +78,8 @@ module _ {P : Type 0} where
       -- another key's pair is put at an Empty place of it, or the place is closed
       pub fill_kept_blocking : IsTurn S V V' t x Free Foreign → IsBlockingClass On Was ab r n S V' m
       fill_kept_blocking turn = record {
-        base = base_after On n S V V' t x Free Foreign turn k.base (record { fills = λ e. cc; on = λ e. absurd cc; filled = λ e. absurd cc; lone = λ e. absurd cc });
+        base = base_after On n S V V' t x Free Foreign turn k.base
+            (record { fills = λ e. cc; on = λ e. absurd cc; filled = λ e. absurd cc; lone = λ e. absurd cc });
         ahead = plain_ahead Free Foreign turn (λ p e. cc) (λ e. absurd cc);
         handed = plain_handed Free Foreign turn (λ e. absurd cc) (λ p e. absurd cc);
         tied = stays_tied Free Foreign turn (λ e. cc) (λ e. absurd cc) m k.tied;
@@ -78,7 +91,8 @@ module _ {P : Type 0} where
         within-r = subst (λ y. at < n y) root within
 
         -- a claim
-        pub claim_kept_blocking : (p : P) → IsTurn S V V' t x Free (Here p) → ((i : ℕ) → i < at → beyond (V t i) ≡ true) → (m ≡ None) × IsBlockingClass On Was ab r n S V' (Some p)
+        pub claim_kept_blocking : (p : P) → IsTurn S V V' t x Free (Here p) → ((i : ℕ) → i < at → beyond (V t i) ≡ true) → (m ≡ None)
+            × IsBlockingClass On Was ab r n S V' (Some p)
         claim_kept_blocking p turn before =
             let old : V t at ≡ Free = (turned S V V' t x Free (Here p) turn at is).0 in
             let new : V' t at ≡ Here p = (turned S V V' t x Free (Here p) turn at is).1 in
@@ -86,7 +100,8 @@ module _ {P : Type 0} where
             let fil : IsFilled n S V t x = record { at = at; within = within; is = is; before = λ i lt e. let h = before i lt in cc (h, e) } in (
               root_empty m k at within-r (subst (λ y. (i : ℕ) → i < at → beyond (V y i) ≡ true) root before) (subst (λ y. V y at ≡ Free) root old),
               record {
-                base = base_after On n S V V' t x Free (Here p) turn k.base (record { fills = λ e. cc; on = λ e. on; filled = λ e. inr fil; lone = λ e. inr lone });
+                base = base_after On n S V V' t x Free (Here p) turn k.base
+                    (record { fills = λ e. cc; on = λ e. on; filled = λ e. inr fil; lone = λ e. inr lone });
                 ahead = plain_ahead Free (Here p) turn (λ q e. cc) (λ e lt. omega arith);
                 handed = plain_handed Free (Here p) turn (λ e. refl) (λ q e. absurd cc);
                 tied = record { at = at; within = within-r; has = inl (subst (λ y. V' y at ≡ Here p) root new) };
@@ -100,7 +115,8 @@ module _ {P : Type 0} where
             let new : V' t at ≡ Here q = (turned S V V' t x (Here p) (Here q) turn at is).1 in (
               root_found m k at p within-r (inl (subst (λ y. V y at ≡ Here p) root old)),
               record {
-                base = base_after On n S V V' t x (Here p) (Here q) turn k.base (record { fills = λ e. cc; on = λ e. on; filled = λ e. inl refl; lone = λ e. inl refl });
+                base = base_after On n S V V' t x (Here p) (Here q) turn k.base
+                    (record { fills = λ e. cc; on = λ e. on; filled = λ e. inl refl; lone = λ e. inl refl });
                 ahead = plain_ahead (Here p) (Here q) turn (λ l e. cc) (λ e lt. omega arith);
                 handed = plain_handed (Here p) (Here q) turn (λ e. refl) (λ l e. absurd cc);
                 tied = record { at = at; within = within-r; has = inl (subst (λ y. V' y at ≡ Here q) root new) };
@@ -115,7 +131,8 @@ module _ {P : Type 0} where
             let it : m ≡ Some p = root_found m k at p within-r (inl (subst (λ y. V y at ≡ Here p) root old)) in
             let own' : IsRootOwner n V' r p = record { at = at; within = within-r; has = inr (subst (λ y. V' y at ≡ Leaving p) root new) } in
             record {
-              base = base_after On n S V V' t x (Here p) (Leaving p) turn k.base (record { fills = λ e. cc; on = λ e. on; filled = λ e. inl refl; lone = λ e. inl refl });
+              base = base_after On n S V V' t x (Here p) (Leaving p) turn k.base
+                  (record { fills = λ e. cc; on = λ e. on; filled = λ e. inl refl; lone = λ e. inl refl });
               ahead = plain_ahead (Here p) (Leaving p) turn (λ l e. cc) (λ e lt. omega arith);
               handed = plain_handed (Here p) (Leaving p) turn (λ e. refl) (λ l e. root);
               tied = subst (IsRootTied n V' r) (sym it) own';
@@ -129,7 +146,8 @@ module _ {P : Type 0} where
             let is-r : S r at ≡ x = subst (λ y. S y at ≡ x) root is in (
               root_found m k at p within-r (inl old-r),
               record {
-                base = base_after On n S V V' t x (Here p) (Grave p) turn k.base (record { fills = λ e. cc; on = λ e. on; filled = λ e. inl refl; lone = λ e. absurd cc });
+                base = base_after On n S V V' t x (Here p) (Grave p) turn k.base
+                    (record { fills = λ e. cc; on = λ e. on; filled = λ e. inl refl; lone = λ e. absurd cc });
                 ahead = plain_ahead (Here p) (Grave p) turn (λ l e. cc) (λ e lt. omega arith);
                 handed = plain_handed (Here p) (Grave p) turn (λ e. refl) (λ l e. absurd cc);
                 tied = λ j lt e. ⊎_elim
@@ -141,7 +159,8 @@ module _ {P : Type 0} where
 
       -- a copy of p is placed in t, of a word that leaves table u; the tables between are aborted
       pub place_kept_blocking : (on : On t) (at : ℕ) (within : at < n t) (is : S t at ≡ x) (before : (i : ℕ) → i < at → foreign (V t i) ≡ true)
-          → (u i : ℕ) (p : P) → Was u ≡ true → u ≤ r → u < t → i < n u → V u i ≡ Leaving p → AllAborted On ab u t → On r → ab r ≡ false → IsTurn S V V' t x Free (Here p) → IsBlockingClass On Was ab r n S V' m
+          → (u i : ℕ) (p : P) → Was u ≡ true → u ≤ r → u < t → i < n u → V u i ≡ Leaving p → AllAborted On ab u t → On r → ab r ≡ false
+          → IsTurn S V V' t x Free (Here p) → IsBlockingClass On Was ab r n S V' m
       place_kept_blocking on at within is before u i p was low later within-u leaving all on-r root turn =
           let old : V t at ≡ Free = (turned S V V' t x Free (Here p) turn at is).0 in
           let fil : IsFilled n S V t x = record { at = at; within = within; is = is; before = λ l lt e. let h = before l lt in cc (h, e) } in
@@ -154,7 +173,15 @@ module _ {P : Type 0} where
             ahead = λ w j lt l h. ⊎_elim
                 (λ e.
                 let c = k.ahead w j lt l (ap own (sym e.0) ∙ h) in
-                record { at = c.at; pair = c.pair; within = c.within; leaving = unturned S V V' t x Free (Here p) turn r c.at (λ q. let f = c.leaving in cc (q, f)) ∙ c.leaving; copy = e.0 ∙ c.copy; between = c.between })
+                record {
+                  at = c.at;
+                  pair = c.pair;
+                  within = c.within;
+                  leaving = unturned S V V' t x Free (Here p) turn r c.at
+                      (λ q. let f = c.leaving in cc (q, f)) ∙ c.leaving;
+                  copy = e.0 ∙ c.copy;
+                  between = c.between;
+                })
                 (λ e.
                 let lt' : r < t = subst (λ y. r < y) e.0 lt in
                 let same : u ≡ r = source_is_root lt' in
@@ -176,7 +203,8 @@ module _ {P : Type 0} where
           source_is_root lt = ⊎_elim (λ (c : u < r). absurd (let h = all r on-r c lt in cc (h, root))) (λ (c : r ≤ u). omega arith) (cases_lt u r)
 
   -- the root is promoted: r' is not aborted, all between r and it is, and what the root holds stands in it
-  pub promote_kept_blocking : (On : ℕ → Type 0) (Was Was' ab : ℕ → Bool) (r r' : ℕ) (n : ℕ → ℕ) (S : ℕ → ℕ → ℕ) (V : ℕ → ℕ → View P) (m : Option P) → IsBlockingClass On Was ab r n S V m
+  pub promote_kept_blocking : (On : ℕ → Type 0) (Was Was' ab : ℕ → Bool) (r r' : ℕ) (n : ℕ → ℕ) (S : ℕ → ℕ → ℕ) (V : ℕ → ℕ → View P) (m : Option P)
+      → IsBlockingClass On Was ab r n S V m
       → On r → ab r ≡ false → On r' → ab r' ≡ false → r < r' → AllAborted On ab r r'
       → ((t : ℕ) → Was t ≡ true → t ≤ r) → ((t : ℕ) → Was' t ≡ true → (t ≡ r') ⊎ (Was t ≡ true))
       → ((i : ℕ) (p : P) → i < n r → V r i ≡ Here p → ⊥) → ((i : ℕ) (p : P) → i < n r → V r i ≡ Leaving p → HasWord n V r')
@@ -224,26 +252,42 @@ module _ {P : Type 0} where
           record { at = w.0; within = w.1; has = inl (cc (s, f, g, leaving)) }
 
   -- a table behind the root is aborted
-  pub abort_kept_blocking : (On : ℕ → Type 0) (Was ab ab' : ℕ → Bool) (r : ℕ) (n : ℕ → ℕ) (S : ℕ → ℕ → ℕ) (V : ℕ → ℕ → View P) (m : Option P) → IsBlockingClass On Was ab r n S V m
+  pub abort_kept_blocking : (On : ℕ → Type 0) (Was ab ab' : ℕ → Bool) (r : ℕ) (n : ℕ → ℕ) (S : ℕ → ℕ → ℕ) (V : ℕ → ℕ → View P) (m : Option P)
+      → IsBlockingClass On Was ab r n S V m
       → ((l : ℕ) → ab l ≡ true → ab' l ≡ true) → ((l : ℕ) → l ≤ r → ab' l ≡ ab l) → IsBlockingClass On Was ab' r n S V m
   abort_kept_blocking On Was ab ab' r n S V m k more same = record {
     base = k.base;
-    ahead = λ u j lt l h. let c = k.ahead u j lt l h in record { at = c.at; pair = c.pair; within = c.within; leaving = c.leaving; copy = c.copy; between = λ w on lo hi. more w (c.between w on lo hi) };
-    handed = λ t u i p was on lo hi between free lt e. k.handed t u i p was on lo hi (λ w onw low high. sym (same w (omega arith)) ∙ between w onw low high) (sym (same u hi) ∙ free) lt e;
+    ahead = λ u j lt l h. let c = k.ahead u j lt l h in
+        record { at = c.at; pair = c.pair; within = c.within; leaving = c.leaving; copy = c.copy; between = λ w on lo hi. more w (c.between w on lo hi) };
+    handed = λ t u i p was on lo hi between free lt e.
+        k.handed t u i p was on lo hi (λ w onw low high. sym (same w (omega arith)) ∙ between w onw low high) (sym (same u hi) ∙ free) lt e;
     tied = k.tied;
   }
 
   -- the chain grows at its end
-  pub longer_kept_blocking : (On On' : ℕ → Type 0) (Was ab : ℕ → Bool) (r : ℕ) (n : ℕ → ℕ) (S : ℕ → ℕ → ℕ) (V : ℕ → ℕ → View P) (m : Option P) → ((t : ℕ) → On t → On' t) → ((l u : ℕ) → On' l → On u → l < u → On l) → On r
+  pub longer_kept_blocking : (On On' : ℕ → Type 0) (Was ab : ℕ → Bool) (r : ℕ) (n : ℕ → ℕ) (S : ℕ → ℕ → ℕ) (V : ℕ → ℕ → View P) (m : Option P)
+      → ((t : ℕ) → On t → On' t) → ((l u : ℕ) → On' l → On u → l < u → On l) → On r
       → IsBlockingClass On Was ab r n S V m → IsBlockingClass On' Was ab r n S V m
   longer_kept_blocking On On' Was ab r n S V m more older on-r k = record {
     base = longer_base On On' n S V more k.base;
-    ahead = λ u j lt l h. let c = k.ahead u j lt l h in record { at = c.at; pair = c.pair; within = c.within; leaving = c.leaving; copy = c.copy; between = λ w on lo hi. c.between w (older w u on (k.base.on u j h) hi) lo hi };
-    handed = λ t u i p was on lo hi between free lt e. k.handed t u i p was (⊎_elim (λ (c : u < r). older u r on on-r c) (λ (c : r ≤ u). let q : r ≡ u = omega arith in subst On q on-r) (cases_lt u r)) lo hi (λ w onw. between w (more w onw)) free lt e;
+    ahead = λ u j lt l h. let c = k.ahead u j lt l h in
+        record {
+          at = c.at;
+          pair = c.pair;
+          within = c.within;
+          leaving = c.leaving;
+          copy = c.copy;
+          between = λ w on lo hi.
+              c.between w (older w u on (k.base.on u j h) hi) lo hi;
+        };
+    handed = λ t u i p was on lo hi between free lt e.
+        k.handed t u i p was (⊎_elim (λ (c : u < r). older u r on on-r c) (λ (c : r ≤ u). let q : r ≡ u = omega arith in subst On q on-r)
+        (cases_lt u r)) lo hi (λ w onw. between w (more w onw)) free lt e;
     tied = k.tied;
   }
 
   -- another key's word turned into another
-  pub same_kept_blocking : (On : ℕ → Type 0) (Was ab : ℕ → Bool) (r : ℕ) (n : ℕ → ℕ) (S : ℕ → ℕ → ℕ) (V V' : ℕ → ℕ → View P) (t x : ℕ) (m : Option P) → IsBlockingClass On Was ab r n S V m → IsTurn S V V' t x Foreign Foreign → IsBlockingClass On Was ab r n S V' m
+  pub same_kept_blocking : (On : ℕ → Type 0) (Was ab : ℕ → Bool) (r : ℕ) (n : ℕ → ℕ) (S : ℕ → ℕ → ℕ) (V V' : ℕ → ℕ → View P) (t x : ℕ) (m : Option P)
+      → IsBlockingClass On Was ab r n S V m → IsTurn S V V' t x Foreign Foreign → IsBlockingClass On Was ab r n S V' m
   same_kept_blocking On Was ab r n S V V' t x m k turn =
       subst (λ W. IsBlockingClass On Was ab r n S W m) (fun_ext (λ u. fun_ext (λ j. ⊎_elim (λ h. sym h.0) (λ h. h.2 ∙ sym h.3) (turn.each u j)))) k

@@ -12,7 +12,8 @@ use Rattle.papaya_law.proofs.Base.{link_more}
 use Rattle.papaya_law.proofs.Blocking.States.{root_alive, root_on, target_aborted}
 
 -- to what a table is copied depends on links and on tables that are given up alone
-pub same_target : {K P : Type 0} (g : Setting K P) (s s' : State P) → s'.next ≡ s.next → s'.aborted ≡ s.aborted → (t n : ℕ) → IsTarget g s' t n → IsTarget g s t n
+pub same_target : {K P : Type 0} (g : Setting K P) (s s' : State P) → s'.next ≡ s.next → s'.aborted ≡ s.aborted → (t n : ℕ) → IsTarget g s' t n
+    → IsTarget g s t n
 same_target g s s' e f t n r = record {
   links = r.links;
   is = subst (λ y. walk y (suc r.links) t ≡ n) e r.is;
@@ -28,7 +29,8 @@ module _ (next : ℕ → ℕ) (rises : Rises next) (t n : ℕ) (none : next t �
   walk_before (suc k) u h le =
       let rises' = link_rises next rises t n none some up in
       let back : 0 < walk (at_put next t n) k u = pos_before (at_put next t n) rises' k (suc k) u (omega arith) h in
-      let low : walk (at_put next t n) k u < walk (at_put next t n) (suc k) u = ⊎_elim (λ z. absurd (omega (arith, h))) (λ r. r.1) (rises' (walk (at_put next t n) k u)) in
+      let low : walk (at_put next t n) k u < walk (at_put next t n) (suc k) u =
+      ⊎_elim (λ z. absurd (omega (arith, h))) (λ r. r.1) (rises' (walk (at_put next t n) k u)) in
       ap next (walk_before k u back (omega arith)) ∙ ⊎_elim
       (λ (q : (walk (at_put next t n) k u == t) ≡ true). absurd (let e = eqb-true (walk (at_put next t n) k u) t q in omega arith))
       (λ (q : (walk (at_put next t n) k u == t) ≡ false). sym (cond-false (walk (at_put next t n) k u == t) n (next (walk (at_put next t n) k u)) q))
@@ -59,7 +61,8 @@ module _ {K P : Type 0} (g : Setting K P) (s : State P) (m : K → Option P) (ho
     last_new : at_put s.next t n n ≡ 0
     last_new = ⊎_elim
         (λ (q : (n == t) ≡ true). absurd (let e = eqb-true n t q in let l = may.rises in omega arith))
-        (λ (q : (n == t) ≡ false). cond-false (n == t) n (s.next n) q ∙ ⊎_elim (λ (c : 0 < s.next n). absurd (last n (holds.linked n c) may.rises)) (λ (c : s.next n ≤ 0). omega arith) (cases_lt 0 (s.next n)))
+        (λ (q : (n == t) ≡ false). cond-false (n == t) n (s.next n) q ∙
+        ⊎_elim (λ (c : 0 < s.next n). absurd (last n (holds.linked n c) may.rises)) (λ (c : s.next n ≤ 0). omega arith) (cases_lt 0 (s.next n)))
         (cases_Bool (n == t))
 
     -- a root that is copied to t, which was given up, is copied to the new table
@@ -69,7 +72,9 @@ module _ {K P : Type 0} (g : Setting K P) (s : State P) (m : K → Option P) (ho
         let on-root : IsOn s.first s.next s.root = root_on g s m holds u w.0 w.1 in
         let live : s.aborted s.root ≡ false = root_alive g s m holds u w.0 w.1 in
         from_root u t was
-        (⊎_elim (λ (c : s.root < t). c) (λ rest. absurd (⊎_elim (λ (c : t < s.root). last s.root on-root c) (λ (e : s.root ≡ t). let f = ap s.aborted e in cc (f, live, gone)) rest)) (ordered s.root t))
+        (⊎_elim (λ (c : s.root < t). c) (λ rest.
+        absurd (⊎_elim (λ (c : t < s.root). last s.root on-root c) (λ (e : s.root ≡ t). let f = ap s.aborted e in cc (f, live, gone)) rest))
+        (ordered s.root t))
         (target_aborted g s holds.sound u t w.0 target).2
       where
         ordered : (a b : ℕ) → (a < b) ⊎ ((b < a) ⊎ (a ≡ b))
@@ -135,14 +140,17 @@ module _ {K P : Type 0} (g : Setting K P) (s : State P) (m : K → Option P) (ho
                 (λ e. e)
                 (⊎_elim
                 (λ (c : l < n). absurd (none_between next' rises' s.first t l on-t on-l lt (subst (λ y. l < y) (sym here) c)))
-                (λ (c : n < l). absurd (let h = has_next next' rises' s.first n l (subst (IsOn s.first next') here (next_on next' rises' s.first t on-t (subst (λ y. 0 < y) (sym here) (omega (arith, may.rises))))) on-l c in let z = last_new in omega arith)))
+                (λ (c : n < l). absurd (let h = has_next next' rises' s.first n l
+                (subst (IsOn s.first next') here (next_on next' rises' s.first t on-t (subst (λ y. 0 < y) (sym here) (omega (arith, may.rises)))))
+                on-l c in let z = last_new in omega arith)))
                 (cases_order l n)
 
             source : (k : ℕ) → r.links ≡ k → (u ≡ t) ⊎ (IsTarget g s u t × (s.aborted t ≡ true))
             source k e =
                 let before : 0 < walk next' k u = pos_before next' rises' k (suc r.links) u (omega arith) ends in
                 let to-n : next' (walk next' k u) ≡ n = subst (λ y. next' (walk next' y u) ≡ l) e r.is ∙ is-new in
-                let at-t : walk next' k u ≡ t = same_before next' rises' s.first (walk next' k u) t (walk_on next' rises' s.first u k on' before) on-t (to-n ∙ sym here) (subst (λ y. 0 < y) (sym here) (omega (arith, may.rises))) in
+                let at-t : walk next' k u ≡ t = same_before next' rises' s.first (walk next' k u) t (walk_on next' rises' s.first u k on' before) on-t
+                (to-n ∙ sym here) (subst (λ y. 0 < y) (sym here) (omega (arith, may.rises))) in
                 by_links k e at-t
               where
                 by_links : (k : ℕ) → r.links ≡ k → walk next' k u ≡ t → (u ≡ t) ⊎ (IsTarget g s u t × (s.aborted t ≡ true))

@@ -1,5 +1,6 @@
 -- The exchanges of the root and of the words of a table keep what is to be kept, with blocking.
-use Rattle.std.proofs.Common.{◌≡◌, ◌⊎◌, inl, inr, ⊎_elim, ℕ, suc, ◌<◌, ◌≤◌, Bool, true, false, ◌==◌, Option, None, Some, refl, sym, ap, ◌∙◌, subst, arith, eqb-true}
+use Rattle.std.proofs.Common.{◌≡◌, ◌⊎◌, inl, inr, ⊎_elim, ℕ, suc, ◌<◌, ◌≤◌, Bool, true, false, ◌==◌}
+use Rattle.std.proofs.Common.{Option, None, Some, refl, sym, ap, ◌∙◌, subst, arith, eqb-true}
 use Rattle.std.proofs.lemmas.Bool.{cases_lt, cases_Bool, cond-true, cond-false}
 use Rattle.papaya_law.specs.Exchange.{Marked, Setting, State, Open, Link, Advance, Promote, Abort, start, after, at_put, walk}
 use Rattle.papaya_law.specs.View.{View, Foreign, Here, Leaving, view, look, own, HasWord}
@@ -21,7 +22,8 @@ use Rattle.papaya_law.proofs.Blocking.States.{was_root_of, taker_aborted, target
 
 -- what isn't true with n wasn't without
 put_false : (f : ℕ → Bool) (n u : ℕ) → at_put f n true u ≡ false → f u ≡ false
-put_false f n u h = ⊎_elim (λ q. absurd (let e = cond-true (u == n) true (f u) q in cc (e, h))) (λ q. sym (cond-false (u == n) true (f u) q) ∙ h) (cases_Bool (u == n))
+put_false f n u h = ⊎_elim (λ q. absurd (let e = cond-true (u == n) true (f u) q in cc (e, h))) (λ q. sym (cond-false (u == n) true (f u) q) ∙ h)
+    (cases_Bool (u == n))
 
 -- what is true with n is n, or was true
 put_cases : (f : ℕ → Bool) (n u : ℕ) → at_put f n true u ≡ true → (u ≡ n) ⊎ (f u ≡ true)
@@ -32,7 +34,8 @@ put_same : {Y : Type 0} (f : ℕ → Y) (n : ℕ) (y : Y) (u : ℕ) → (u ≡ n
 put_same f n y u h = ⊎_elim (λ q. absurd (h (eqb-true u n q))) (λ q. cond-false (u == n) y (f u) q) (cases_Bool (u == n))
 
 -- where no table is in the chain, what is tied to one root is tied to another
-none_tied : {P : Type 0} → (n : ℕ → ℕ) (V : ℕ → ℕ → View P) (r r' : ℕ) → ((u j : ℕ) → own (V u j) ≡ true → ⊥) → (v : Option P) → IsRootTied n V r v → IsRootTied n V r' v
+none_tied : {P : Type 0} → (n : ℕ → ℕ) (V : ℕ → ℕ → View P) (r r' : ℕ) → ((u j : ℕ) → own (V u j) ≡ true → ⊥) → (v : Option P) → IsRootTied n V r v
+    → IsRootTied n V r' v
 none_tied n V r r' none None h = λ j lt e. none r' j (active-own (V r' j) (held-active (V r' j) e))
 none_tied n V r r' none (Some p) o = absurd (none r o.at (active-own (V r o.at) (held-active (V r o.at) (held_of (V r o.at) p o.has))))
 
@@ -63,7 +66,8 @@ module _ {K P : Type 0} (g : Setting K P) where
     none_own e k u j h = no_root g s holds.sound e u ((holds.class k).base.on u j h)
 
     -- where there is no root all classes are kept
-    rootless : (On' : ℕ → Type 0) (Was' ab' : ℕ → Bool) (r' : ℕ) → s.root ≡ 0 → (k : K) → IsBlockingClass On' Was' ab' r' g.places (g.place k) (look g s k) (m k)
+    rootless : (On' : ℕ → Type 0) (Was' ab' : ℕ → Bool) (r' : ℕ) → s.root ≡ 0 → (k : K)
+        → IsBlockingClass On' Was' ab' r' g.places (g.place k) (look g s k) (m k)
     rootless On' Was' ab' r' e k = record {
       base = longer_base (IsOn s.first s.next) On' g.places (g.place k) (look g s k) (λ u on. absurd (no_root g s holds.sound e u on)) (holds.class k).base;
       ahead = λ u j lt l h. absurd (none_own e k u j h);
@@ -85,7 +89,8 @@ module _ {K P : Type 0} (g : Setting K P) where
       given_up = λ u a lt. absurd (no_root g s holds.sound e u (holds.given_up u a (omega arith)).on);
       done_to = λ u c lt h. absurd (no_root g s holds.sound e u (holds.done_on u c h));
       linked_by = λ u h. absurd (no_root g s holds.sound e u (holds.linked u h));
-      covered = λ u n h r. absurd (no_root g s holds.sound e u (holds.linked u (pos_before s.next holds.rises 1 (suc r.links) u (omega arith) (subst (λ y. 0 < y) (sym r.is) r.made))));
+      covered = λ u n h r. absurd (no_root g s holds.sound e u
+          (holds.linked u (pos_before s.next holds.rises 1 (suc r.links) u (omega arith) (subst (λ y. 0 < y) (sym r.is) r.made))));
       class = rootless (IsOn t s.next) (at_put s.was_root t true) s.aborted t e;
     }
       where
@@ -100,7 +105,8 @@ module _ {K P : Type 0} (g : Setting K P) where
       frozen = holds.frozen;
       fresh = holds.fresh;
       copied = holds.copied;
-      given_up = λ u a lt. let v = holds.given_up u a lt in record { on = more u v.on; between = between u v.on v.between; slot = v.slot; pair = v.pair; marked = v.marked; full = v.full };
+      given_up = λ u a lt. let v = holds.given_up u a lt in
+          record { on = more u v.on; between = between u v.on v.between; slot = v.slot; pair = v.pair; marked = v.marked; full = v.full };
       done_to = λ u c lt h. let v = holds.done_to u c lt h in record { between = between u (holds.done_on u c h) v.between; settled = v.settled };
       linked_by = λ u h. ⊎_elim
           (λ (q : (u == t) ≡ true). let e = eqb-true u t q in ⊎_elim (λ l. inl (ap s.was_root e ∙ l.1 blocks)) (λ l. inr (ap s.aborted e ∙ l.3)) may.linking)
@@ -109,7 +115,8 @@ module _ {K P : Type 0} (g : Setting K P) where
       covered = link_covered g s m holds blocks t n may;
       class = λ k. ⊎_elim
           (λ r. rootless (IsOn s.first (at_put s.next t n)) s.was_root s.aborted s.root r.0 k)
-          (λ on. longer_kept_blocking (IsOn s.first s.next) (IsOn s.first (at_put s.next t n)) s.was_root s.aborted s.root g.places (g.place k) (look g s k) (m k) more older on (holds.class k))
+          (λ on. longer_kept_blocking (IsOn s.first s.next) (IsOn s.first (at_put s.next t n)) s.was_root s.aborted s.root g.places (g.place k)
+          (look g s k) (m k) more older on (holds.class k))
           holds.root;
     }
       where
@@ -119,7 +126,8 @@ module _ {K P : Type 0} (g : Setting K P) where
         older : (l u : ℕ) → IsOn s.first (at_put s.next t n) l → IsOn s.first s.next u → l < u → IsOn s.first s.next l
         older = link_old g s holds.sound t n may.last may.on.0 may.rises
 
-        between : (u : ℕ) → IsOn s.first s.next u → AllAborted (IsOn s.first s.next) s.aborted s.root u → AllAborted (IsOn s.first (at_put s.next t n)) s.aborted s.root u
+        between : (u : ℕ) → IsOn s.first s.next u → AllAborted (IsOn s.first s.next) s.aborted s.root u
+            → AllAborted (IsOn s.first (at_put s.next t n)) s.aborted s.root u
         between u on all l onl lo hi = all l (older l u onl on hi) lo hi
 
     -- a chunk is done
@@ -130,7 +138,8 @@ module _ {K P : Type 0} (g : Setting K P) where
       frozen = holds.frozen;
       fresh = holds.fresh;
       copied = holds.copied;
-      given_up = λ u a lt. let v = holds.given_up u a lt in record { on = v.on; between = v.between; slot = v.slot; pair = v.pair; marked = v.marked; full = v.full };
+      given_up = λ u a lt. let v = holds.given_up u a lt in
+          record { on = v.on; between = v.between; slot = v.slot; pair = v.pair; marked = v.marked; full = v.full };
       done_to = λ u d lt h. record {
         between = ⊎_elim
             (λ r. subst (AllAborted (IsOn s.first s.next) s.aborted s.root) (sym r.0) (between (subst (λ y. s.root < y) r.0 lt)))
@@ -139,7 +148,8 @@ module _ {K P : Type 0} (g : Setting K P) where
         settled = λ x e i. ⊎_elim
             (λ r.
             let same : may.from ≡ s.root = from_root g s m holds may.from n was (subst (λ y. s.root < y) r.0 lt) target.2 in
-            subst (λ y. IsSettled g s y (s.slot s.root x)) (sym r.0) (subst (λ y. IsSettled g s n (s.slot y x)) same (may.settled x (subst (λ y. x < g.size y) (sym same) i) r.1)))
+            subst (λ y. IsSettled g s y (s.slot s.root x)) (sym r.0)
+            (subst (λ y. IsSettled g s n (s.slot y x)) same (may.settled x (subst (λ y. x < g.size y) (sym same) i) r.1)))
             (λ old. (holds.done_to u (g.chunk_of x) lt old).settled x old i)
             (done_cases s.done n c u (g.chunk_of x) e);
       };
@@ -149,7 +159,8 @@ module _ {K P : Type 0} (g : Setting K P) where
     }
       where
         was : s.was_root may.from ≡ true
-        was = was_root_of g s m holds may.from may.slot (s.slot may.from may.slot) refl (settled_not_plain g s n (s.slot may.from may.slot) (may.settled may.slot may.within may.in_chunk))
+        was = was_root_of g s m holds may.from may.slot (s.slot may.from may.slot) refl
+            (settled_not_plain g s n (s.slot may.from may.slot) (may.settled may.slot may.within may.in_chunk))
 
         target : IsOn s.first s.next n × (may.from < n) × AllAborted (IsOn s.first s.next) s.aborted may.from n
         target = target_aborted g s holds.sound may.from n (holds.was may.from was).0 may.target
@@ -176,8 +187,10 @@ module _ {K P : Type 0} (g : Setting K P) where
             (put_cases s.was_root n u h);
         fresh = λ u x h. holds.fresh u x (put_false s.was_root n u h);
         copied = holds.copied;
-        given_up = λ u a lt. let up : s.root < u = omega (arith, target.1) in absurd (let v = (holds.given_up u a up).between n target.0 target.1 lt in cc (v, live));
-        done_to = λ u c lt h. let up : s.root < u = omega (arith, target.1) in absurd (let v = (holds.done_to u c up h).between n target.0 target.1 lt in cc (v, live));
+        given_up = λ u a lt. let up : s.root < u = omega (arith, target.1) in
+            absurd (let v = (holds.given_up u a up).between n target.0 target.1 lt in cc (v, live));
+        done_to = λ u c lt h. let up : s.root < u = omega (arith, target.1) in
+            absurd (let v = (holds.done_to u c up h).between n target.0 target.1 lt in cc (v, live));
         linked_by = λ u h. ⊎_elim (λ w. inl (put_on s.was_root n u w)) (λ a. inr a) (holds.linked_by u h);
         covered = λ u l h r.
             let old : IsTarget g s u l = same_target g s (after s (Promote t n)) refl refl u l r in
@@ -187,7 +200,8 @@ module _ {K P : Type 0} (g : Setting K P) where
             (λ w. holds.covered u l w old)
             (put_cases s.was_root n u h);
         class = λ k.
-            promote_kept_blocking (IsOn s.first s.next) s.was_root (at_put s.was_root n true) s.aborted s.root n g.places (g.place k) (look g s k) (m k) (holds.class k)
+            promote_kept_blocking (IsOn s.first s.next) s.was_root (at_put s.was_root n true) s.aborted s.root n g.places (g.place k) (look g s k)
+            (m k) (holds.class k)
             on-root (holds.alive s.root was) target.0 live target.1 target.2 (λ u w. (holds.was u w).1) (put_cases s.was_root n) (none k) (copies k);
       }
         where
@@ -215,7 +229,8 @@ module _ {K P : Type 0} (g : Setting K P) where
               subst (λ V. HasWord g.places V n) (sym (look_same g law s k (g.key p) w.1)) q.1
 
           none : (k : K) (i : ℕ) (p : P) → i < g.places s.root → look g s k s.root i ≡ Here p → ⊥
-          none k i p lt e = subst (IsSettled g s n) (view_here g k (s.slot s.root (g.place k s.root i)) p e) (settled (g.place k s.root i) (law.within k s.root i lt))
+          none k i p lt e = subst (IsSettled g s n) (view_here g k (s.slot s.root (g.place k s.root i)) p e)
+              (settled (g.place k s.root i) (law.within k s.root i lt))
 
           live : s.aborted n ≡ false
           live = ⊎_elim (λ a. absurd (lost a)) (λ a. a) (cases_Bool (s.aborted n))
@@ -232,7 +247,17 @@ module _ {K P : Type 0} (g : Setting K P) where
       -- a table is aborted
       pub abort_blocking : (n : ℕ) → MayAbort g s n → IsBlockingState g (after s (Abort n)) m
       abort_blocking n may = record {
-        sound = record { rises = holds.rises; root = holds.root; was = holds.was; root_was = holds.root_was; done_on = holds.done_on; slots_on = holds.slots_on; placed = holds.placed; further = holds.further; linked = holds.linked };
+        sound = record {
+          rises = holds.rises;
+          root = holds.root;
+          was = holds.was;
+          root_was = holds.root_was;
+          done_on = holds.done_on;
+          slots_on = holds.slots_on;
+          placed = holds.placed;
+          further = holds.further;
+          linked = holds.linked;
+        };
         alive = λ u w. put_same s.aborted n true u (λ (e : u ≡ n). let l = (holds.was u w).1 in omega (arith, behind)) ∙ holds.alive u w;
         frozen = holds.frozen;
         fresh = holds.fresh;
@@ -246,12 +271,22 @@ module _ {K P : Type 0} (g : Setting K P) where
               marked = subst (λ y. s.slot y may.source.slot ≡ Marked p) same marked;
               full = may.full;
             }))
-            (λ b. let v = holds.given_up u b lt in record { on = v.on; between = λ l on lo hi. put_on s.aborted n l (v.between l on lo hi); slot = v.slot; pair = v.pair; marked = v.marked; full = v.full })
+            (λ b. let v = holds.given_up u b lt in record {
+              on = v.on;
+              between = λ l on lo hi.
+                  put_on s.aborted n l (v.between l on lo hi);
+              slot = v.slot;
+              pair = v.pair;
+              marked = v.marked;
+              full = v.full;
+            })
             (put_cases s.aborted n u a);
-        done_to = λ u c lt h. let v = holds.done_to u c lt h in record { between = λ l on lo hi. put_on s.aborted n l (v.between l on lo hi); settled = v.settled };
+        done_to = λ u c lt h. let v = holds.done_to u c lt h in
+            record { between = λ l on lo hi. put_on s.aborted n l (v.between l on lo hi); settled = v.settled };
         linked_by = λ u h. ⊎_elim (λ w. inl w) (λ a. inr (put_on s.aborted n u a)) (holds.linked_by u h);
         covered = λ u l w r. holds.covered u l w (target_kept u l r);
-        class = λ k. abort_kept_blocking (IsOn s.first s.next) s.was_root s.aborted (at_put s.aborted n true) s.root g.places (g.place k) (look g s k) (m k) (holds.class k) (put_on s.aborted n) (λ l le. put_same s.aborted n true l (λ e. omega (arith, behind)));
+        class = λ k. abort_kept_blocking (IsOn s.first s.next) s.was_root s.aborted (at_put s.aborted n true) s.root g.places (g.place k) (look g s k)
+            (m k) (holds.class k) (put_on s.aborted n) (λ l le. put_same s.aborted n true l (λ e. omega (arith, behind)));
       }
         where
           p : P
@@ -275,7 +310,8 @@ module _ {K P : Type 0} (g : Setting K P) where
               (λ c. c)
               (λ (c : n ≤ s.root).
               let o = own_place g s holds.sound law (g.key p) from may.source.slot p (law.itself (g.key p)) (ap named marked) in
-              let leaving : look g s (g.key p) from o.0 ≡ Leaving p = ap (λ y. view g (g.key p) (s.slot from y)) o.2 ∙ (ap (view g (g.key p)) marked ∙ cond-true (g.same (g.key p) (g.key p)) (Leaving p) Foreign (law.itself (g.key p))) in
+              let leaving : look g s (g.key p) from o.0 ≡ Leaving p = ap (λ y. view g (g.key p) (s.slot from y)) o.2
+              ∙ (ap (view g (g.key p)) marked ∙ cond-true (g.same (g.key p) (g.key p)) (Leaving p) Foreign (law.itself (g.key p))) in
               let w = (holds.class (g.key p)).handed from n o.0 p was taker.0 taker.1 c taker.2 may.before o.1 leaving in
               absurd (foreign_not_own (look g s (g.key p) n w.0) (may.full w.0 w.1) w.2))
               (cases_lt s.root n)
@@ -289,8 +325,10 @@ module _ {K P : Type 0} (g : Setting K P) where
             mode = r.mode;
             over = λ i lt. ⊎_elim
                 (λ (e : walk s.next (suc i) u ≡ n).
-                let further : 0 < s.next n = subst (λ y. 0 < s.next y) e (pos_before s.next holds.rises (suc (suc i)) (suc r.links) u (omega arith) (subst (λ y. 0 < y) (sym r.is) r.made)) in
-                absurd (⊎_elim (λ w. let le = (holds.was n w).1 in let h = behind in omega arith) (λ a. let b = may.before in cc (a, b)) (holds.linked_by n further)))
+                let further : 0 < s.next n = subst (λ y. 0 < s.next y) e
+                (pos_before s.next holds.rises (suc (suc i)) (suc r.links) u (omega arith) (subst (λ y. 0 < y) (sym r.is) r.made)) in
+                absurd (⊎_elim (λ w. let le = (holds.was n w).1 in let h = behind in omega arith) (λ a. let b = may.before in cc (a, b))
+                (holds.linked_by n further)))
                 (λ a. a)
                 (put_cases s.aborted n (walk s.next (suc i) u) (r.over i lt));
           }

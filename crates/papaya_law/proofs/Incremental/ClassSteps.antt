@@ -4,7 +4,9 @@ use Rattle.std.proofs.lemmas.Bool.{cases_order}
 use Rattle.papaya_law.specs.View.{View, Free, Foreign, Here, Leaving, Gone, Grave, own, active, held, beyond, foreign, IsPassed}
 use Rattle.papaya_law.specs.Class.{AllFull, IsFront, IsCopy, IsGoneTo, IsOwner, IsTied, IsFilled, IsIncrementalClass}
 use Rattle.papaya_law.proofs.Views.{unfinished, held-active, active-own, foreign-beyond, foreign_not_own}
-use Rattle.papaya_law.proofs.Class.{IsTurn, IsSafe, same_active, passed_not_held, free_not_active, free_not_own, passed_or_copy, found_is, empty_is, front_on, passed_on, kept_after}
+use Rattle.papaya_law.proofs.Class.{IsTurn, IsSafe, same_active, passed_not_held, free_not_active}
+use Rattle.papaya_law.proofs.Class.{free_not_own, passed_or_copy, found_is, empty_is, front_on}
+use Rattle.papaya_law.proofs.Class.{passed_on, kept_after}
 
 module _ {P : Type 0} where
   -- at the slot that turns
@@ -50,7 +52,8 @@ module _ {P : Type 0} where
 
     module _ (on : On t) (front : IsFront On n V t) (at : ℕ) (within : at < n t) (is : S t at ≡ x) where
       -- a claim
-      pub claim_kept : (p : P) → IsTurn S V V' t x Free (Here p) → ((i : ℕ) → i < at → beyond (V t i) ≡ true) → (m ≡ None) × IsIncrementalClass On n S V' (Some p)
+      pub claim_kept : (p : P) → IsTurn S V V' t x Free (Here p) → ((i : ℕ) → i < at → beyond (V t i) ≡ true) → (m ≡ None)
+          × IsIncrementalClass On n S V' (Some p)
       claim_kept p turn before =
           let old : V t at ≡ Free = (turned S V V' t x Free (Here p) turn at is).0 in
           let new : V' t at ≡ Here p = (turned S V V' t x Free (Here p) turn at is).1 in
@@ -65,7 +68,8 @@ module _ {P : Type 0} where
             gone = λ q e. absurd cc;
           } in (
             empty_is On n S V m k t at on front within before old,
-            kept_after On n S V V' t x Free (Here p) turn m k safe (Some p) (record { table = t; at = at; on = on; within = within; has = inl new; front = front_on On n S V V' t x Free (Here p) turn refl t front }),
+            kept_after On n S V V' t x Free (Here p) turn m k safe (Some p)
+                (record { table = t; at = at; on = on; within = within; has = inl new; front = front_on On n S V V' t x Free (Here p) turn refl t front }),
           )
 
       -- a replacement
@@ -82,7 +86,8 @@ module _ {P : Type 0} where
             gone = λ r e. absurd cc;
           } in (
             found_is On n S V m k t at p on front within (inl old),
-            kept_after On n S V V' t x (Here p) (Here q) turn m k safe (Some q) (record { table = t; at = at; on = on; within = within; has = inl new; front = front_on On n S V V' t x (Here p) (Here q) turn refl t front }),
+            kept_after On n S V V' t x (Here p) (Here q) turn m k safe (Some q)
+                (record { table = t; at = at; on = on; within = within; has = inl new; front = front_on On n S V V' t x (Here p) (Here q) turn refl t front }),
           )
 
       -- a mark
@@ -99,7 +104,15 @@ module _ {P : Type 0} where
             gone = λ r e. absurd cc;
           } in
           let it : m ≡ Some p = found_is On n S V m k t at p on front within (inl old) in
-          let own' : IsOwner On n V' p = record { table = t; at = at; on = on; within = within; has = inr new; front = front_on On n S V V' t x (Here p) (Leaving p) turn refl t front } in
+          let own' : IsOwner On n V' p = record {
+            table = t;
+            at = at;
+            on = on;
+            within = within;
+            has = inr new;
+            front = front_on On n S V V' t x
+                (Here p) (Leaving p) turn refl t front;
+          } in
           kept_after On n S V V' t x (Here p) (Leaving p) turn m k safe m (subst (IsTied On n V') (sym it) own')
 
       -- a deletion
@@ -115,7 +128,8 @@ module _ {P : Type 0} where
             order = λ e l o lt. inl (front l o lt);
             gone = λ r e. absurd cc;
           } in
-          let tied : IsTied On n V' None = λ u j lt h. ⊎_elim (λ r. gone_all old u j lt (ap held (sym r.0) ∙ h) r.1) (λ r. let q = r.3 in cc (q, h)) (turn.each u j) in
+          let tied : IsTied On n V' None = λ u j lt h.
+          ⊎_elim (λ r. gone_all old u j lt (ap held (sym r.0) ∙ h) r.1) (λ r. let q = r.3 in cc (q, h)) (turn.each u j) in
           (found_is On n S V m k t at p on front within (inl old), kept_after On n S V V' t x (Here p) (Grave p) turn m k safe None tied)
         where
           gone_all : V t at ≡ Here p → (u j : ℕ) → j < n u → held (V u j) ≡ true → ((u ≡ t) × (S u j ≡ x) → ⊥) → ⊥
@@ -163,7 +177,8 @@ module _ {P : Type 0} where
           let lone : (j : ℕ) → j < n t → active (V t j) ≡ true → ⊥ = λ j lt h. free_not_own On n S V k.base t at j old before lt (active-own (V t j) h) in
           let order : (l : ℕ) → On l → l < t → IsPassed n V l ⊎ IsCopy On n V l t (Here p) = λ l o lt.
           ⊎_elim
-          (λ (e : l ≡ u). inr (subst (λ w. IsCopy On n V w t (Here p)) (sym e) (record { at = i; pair = p; within = within-u; leaving = leaving; copy = refl; full = full })))
+          (λ (e : l ≡ u). inr (subst (λ w. IsCopy On n V w t (Here p)) (sym e)
+          (record { at = i; pair = p; within = within-u; leaving = leaving; copy = refl; full = full })))
           (⊎_elim
           (λ (r : l < u). inl (passed_or_copy On n S V m k l u i p o r within-u leaving))
           (λ (r : u < l). inl (inr (λ j lj. foreign-beyond (V l j) (full l o r lt j lj)))))
@@ -183,7 +198,8 @@ module _ {P : Type 0} where
           tied leaving (Some q) o = owner_on On n S V V' t x Free (Here p) turn refl q o (λ e. ⊎_elim (λ r. cc (r, e)) (λ r. cc (r, e)) o.has)
 
     -- the marked word of p in t is finished, and a word of the key stands where its copy goes
-    pub finish_kept : (at : ℕ) (p : P) → On t → at < n t → S t at ≡ x → IsTurn S V V' t x (Leaving p) (Gone p) → IsGoneTo On n V t → IsIncrementalClass On n S V' m
+    pub finish_kept : (at : ℕ) (p : P) → On t → at < n t → S t at ≡ x → IsTurn S V V' t x (Leaving p) (Gone p) → IsGoneTo On n V t
+        → IsIncrementalClass On n S V' m
     finish_kept at p on within is turn to =
         let old : V t at ≡ Leaving p = (turned S V V' t x (Leaving p) (Gone p) turn at is).0 in
         let new : V' t at ≡ Gone p = (turned S V V' t x (Leaving p) (Gone p) turn at is).1 in
@@ -196,7 +212,8 @@ module _ {P : Type 0} where
           order = λ e l o lt. inl (front l o lt);
           gone = λ q e. to;
         } in
-        kept_after On n S V V' t x (Leaving p) (Gone p) turn m k safe m (subst (IsTied On n V') (sym (found_is On n S V m k t at p on front within (inr old))) (owner old new front))
+        kept_after On n S V V' t x (Leaving p) (Gone p) turn m k safe m
+        (subst (IsTied On n V') (sym (found_is On n S V m k t at p on front within (inr old))) (owner old new front))
       where
         owner : V t at ≡ Leaving p → V' t at ≡ Gone p → IsFront On n V t → IsOwner On n V' p
         owner old new front =

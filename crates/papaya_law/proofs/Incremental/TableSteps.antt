@@ -1,7 +1,9 @@
 -- The exchanges of the root and of the words of a table keep what is to be kept, without blocking.
 use Rattle.std.proofs.Common.{◌≡◌, ⊎_elim, ℕ, suc, ◌<◌, ◌≤◌, true, false, ◌==◌, Option, None, refl, sym, ap, ◌∙◌, subst, arith, eqb-true}
 use Rattle.std.proofs.lemmas.Bool.{cases_order, cases_Bool, cond-true, cond-false}
-use Rattle.papaya_law.specs.Exchange.{Word, Empty, Closed, Live, Marked, Copied, Tombstone, Setting, State, Open, Link, Advance, Promote, start, after, at_put, walk}
+use Rattle.papaya_law.specs.Exchange.{Word, Empty, Closed, Live, Marked, Copied, Tombstone, Setting}
+use Rattle.papaya_law.specs.Exchange.{State, Open, Link, Advance, Promote, start, after, at_put}
+use Rattle.papaya_law.specs.Exchange.{walk}
 use Rattle.papaya_law.specs.View.{look}
 use Rattle.papaya_law.specs.Copying.{IsTarget, IsSettled, Covers}
 use Rattle.papaya_law.specs.Allows.{MayAdvance, MayLink, MayPromote}
@@ -35,11 +37,13 @@ module _ {K P : Type 0} (g : Setting K P) (inc : g.blocking ≡ false) where
       settled = λ u x on lt h. absurd (early u on lt);
       done = λ u x on lt h. absurd (no_root g s holds.sound e (s.next u) (holds.done_on (s.next u) (g.chunk_of x) lt));
       covered = holds.covered;
-      class = λ k. longer_kept (IsOn s.first s.next) (IsOn t s.next) g.places (g.place k) (look g s k) (m k) (λ u on. absurd (no_root g s holds.sound e u on)) (λ l u on onu lt. absurd (no_root g s holds.sound e u onu)) (holds.class k);
+      class = λ k. longer_kept (IsOn s.first s.next) (IsOn t s.next) g.places (g.place k) (look g s k) (m k)
+          (λ u on. absurd (no_root g s holds.sound e u on)) (λ l u on onu lt. absurd (no_root g s holds.sound e u onu)) (holds.class k);
     }
       where
         early : (u : ℕ) → IsOn t s.next u → u < t → ⊥
-        early u (h, (k, w)) lt = let q : walk s.next 0 t ≤ walk s.next k t = walk_le s.next holds.rises 0 k t (omega arith) (subst (λ y. 0 < y) (sym w) h) in omega arith
+        early u (h, (k, w)) lt = let q : walk s.next 0 t ≤ walk s.next k t = walk_le s.next holds.rises 0 k t (omega arith)
+            (subst (λ y. 0 < y) (sym w) h) in omega arith
 
     -- a link is made
     pub link_incremental : (t n : ℕ) → MayLink g s t n → IsIncrementalState g (after s (Link t n)) m
@@ -60,9 +64,11 @@ module _ {K P : Type 0} (g : Setting K P) (inc : g.blocking ≡ false) where
           (cases_Bool (u == t));
       covered = λ u h. ⊎_elim
           (λ (q : (u == t) ≡ true). subst (Covers g u) (sym (cond-true (u == t) n (s.next u) q)) (subst (λ y. Covers g y n) (sym (eqb-true u t q)) covers))
-          (λ (q : (u == t) ≡ false). subst (Covers g u) (sym (cond-false (u == t) n (s.next u) q)) (holds.covered u (subst (λ y. 0 < y) (cond-false (u == t) n (s.next u) q) h)))
+          (λ (q : (u == t) ≡ false). subst (Covers g u) (sym (cond-false (u == t) n (s.next u) q))
+          (holds.covered u (subst (λ y. 0 < y) (cond-false (u == t) n (s.next u) q) h)))
           (cases_Bool (u == t));
-      class = λ k. longer_kept (IsOn s.first s.next) (IsOn s.first (at_put s.next t n)) g.places (g.place k) (look g s k) (m k) (link_more g s holds.sound t n may.last may.on.0 may.rises) older (holds.class k);
+      class = λ k. longer_kept (IsOn s.first s.next) (IsOn s.first (at_put s.next t n)) g.places (g.place k) (look g s k) (m k)
+          (link_more g s holds.sound t n may.last may.on.0 may.rises) older (holds.class k);
     }
       where
         covers : Covers g t n
@@ -117,7 +123,8 @@ module _ {K P : Type 0} (g : Setting K P) (inc : g.blocking ≡ false) where
     promote_incremental t n may = record {
       sound = promote_sound g s holds.sound t n on-n (let r = may.root in let w = up in omega arith);
       settled = λ u x on lt h. ⊎_elim
-          (λ (e : u ≡ t). holds.done u x on (subst (λ y. s.done y (g.chunk_of x) ≡ true) (sym is ∙ ap s.next (sym e)) (may.whole x (subst (λ y. x < g.size y) e h))) h)
+          (λ (e : u ≡ t). holds.done u x on (subst (λ y. s.done y (g.chunk_of x) ≡ true) (sym is ∙ ap s.next (sym e))
+          (may.whole x (subst (λ y. x < g.size y) e h))) h)
           (⊎_elim
           (λ (c : u < t). holds.settled u x on (subst (λ y. u < y) (sym may.root) c) h)
           (λ (c : t < u). absurd (none_between s.next holds.rises s.first t u on-t on c (subst (λ y. u < y) (sym is) lt))))

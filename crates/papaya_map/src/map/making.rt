@@ -21,7 +21,8 @@ use std::alloc::Global;
 use std::hash::{BuildHasher, BuildHasherDefault, FoldHasher, Hash};
 use std::sync::Wait;
 
-/// What is seen of the book of a new map, which has its first table then, where pairs are asked for.
+/// What is seen of the book of a new map, which has its first table then, where pairs are
+/// asked for.
 fn first_table<R: Wait, K: Hash + Eq, V, S: BuildHasher>(
     rt: &R,
     alloc: Global,
@@ -46,9 +47,9 @@ fn first_table<R: Wait, K: Hash + Eq, V, S: BuildHasher>(
 
 impl<K: Hash + Eq + Drop, V: Drop, S: BuildHasher + Drop> HashMap<K, V, S> {
     /// A map of all its parts. `capacity` is for how many pairs its first table is made at once;
-    /// with 0 the first change makes one. `shards` is rounded up to a power of two. `limit` is how many
-    /// pairs it may log, those replaced or removed among them, if there is a limit. Its collector has
-    /// number 0.
+    /// with 0 the first change makes one. `shards` is rounded up to a power of two. `limit` is how
+    /// many pairs it may log, those replaced or removed among them, if there is a limit. Its
+    /// collector has number 0.
     ///
     /// `Refused::ZeroChunk` for chunks of no slots. `Refused::Capacity` for more shards than
     /// [`papaya_words::limits::MAX_SHARDS`], and for a table past
@@ -115,9 +116,9 @@ impl<K: Hash + Eq + Drop, V: Drop, S: BuildHasher + Drop> HashMap<K, V, S> {
         })
     }
 
-    /// A map for so many pairs, with this hasher: `with_capacity_and_hasher` of 0.2.5. It resizes as
-    /// [`ResizeMode::default`] says, and counts its pairs over [`DEFAULT_SHARDS`] shards. Refused as
-    /// [`HashMap::with_parts`].
+    /// A map for so many pairs, with this hasher: `with_capacity_and_hasher` of 0.2.5. It resizes
+    /// as [`ResizeMode::default`] says, and counts its pairs over [`DEFAULT_SHARDS`] shards.
+    /// Refused as [`HashMap::with_parts`].
     pub fn with_capacity_and_hasher<R: Wait>(
         rt: &R,
         alloc: Global,
@@ -160,9 +161,9 @@ impl<K: Hash + Eq + Drop, V: Drop, S: BuildHasher + Drop> HashMap<K, V, S> {
 }
 
 impl<K: Hash + Eq + Drop, V: Drop, S: BuildHasher + Clone + Drop> HashMap<K, V, S> {
-    /// A map of no pairs with the settings of this one: its mode, its limit, its initial capacity, the
-    /// number of its collector, a clone of its hasher, and as many shards. It has room for as many pairs as this one
-    /// counts.
+    /// A map of no pairs with the settings of this one: its mode, its limit, its initial capacity,
+    /// the number of its collector, a clone of its hasher, and as many shards. It has room for as
+    /// many pairs as this one counts.
     pub(crate) fn anew<R: Wait>(&self, rt: &R) -> Result<HashMap<K, V, S>, Refused>
         ensures settings { IfOk result (HasSettingsOf self.now) }
         ensures hasher { IfOk result (λ map. S.is_clone self.now.begun.hasher map.begun.hasher) }
@@ -211,9 +212,9 @@ impl<K: Hash + Eq + Drop, V: Drop> HashMap<K, V, BuildHasherDefault<FoldHasher>>
         HashMap::with_capacity(rt, alloc, 0)
     }
 
-    /// A map for so many pairs: `with_capacity` of 0.2.5. It resizes as [`ResizeMode::default`]
-    /// says,
-    /// and counts its pairs over [`DEFAULT_SHARDS`] shards. Refused as [`HashMap::with_parts`].
+    /// A map for so many pairs: `with_capacity` of 0.2.5. It resizes as
+    /// [`ResizeMode::default`] says, and counts its pairs over [`DEFAULT_SHARDS`] shards.
+    /// Refused as [`HashMap::with_parts`].
     pub fn with_capacity<R: Wait>(
         rt: &R,
         alloc: Global,

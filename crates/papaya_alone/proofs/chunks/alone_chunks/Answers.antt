@@ -14,13 +14,17 @@ pub returns-clause-goes_on : goal.returns-clause-goes_on
 returns-clause-goes_on g c = λ h d hashed s m keeps bounded resizer loaded r made read from to slots due will answer es loaded' told.
     let as_moded = subst (λ y. IsModeOf y h.blocking) will.mode r.mode in
     let as_cut = subst (λ y. IsCutAs y h.chunk_of) will.mode r.cut in
-    let as_read = subst (λ y. IsStageRead (Incremental slots) (word_of h d s) y resizer.state) will.resize (subst (λ y. IsStageRead y (word_of h d s) resizer.resize resizer.state) will.mode read) in
-    let leads = stage_copies h d hashed s m keeps bounded slots resizer.initial resizer.number loaded as_moded as_cut from to due resizer.state r.stage made as_read will.stage answer es loaded' told in
+    let as_read = subst (λ y. IsStageRead (Incremental slots) (word_of h d s) y resizer.state) will.resize
+    (subst (λ y. IsStageRead y (word_of h d s) resizer.resize resizer.state) will.mode read) in
+    let leads = stage_copies h d hashed s m keeps bounded slots resizer.initial resizer.number loaded as_moded as_cut from to due resizer.state
+    r.stage made as_read will.stage answer es loaded' told in
     record {
       mode = will.mode;
       resize = will.resize;
-      stage = subst (λ y. WillCopyIn (word_of h d (run es s)) from to (chunks_of (h.size from) slots) due (after_in y resizer.mode resizer.initial resizer.number answer resizer.state)) (sym will.resize)
-          (subst (λ y. WillCopyIn (word_of h d (run es s)) from to (chunks_of (h.size from) slots) due (after_in Chunk y resizer.initial resizer.number answer resizer.state)) (sym will.mode) leads);
+      stage = subst (λ y. WillCopyIn (word_of h d (run es s)) from to (chunks_of (h.size from) slots) due
+          (after_in y resizer.mode resizer.initial resizer.number answer resizer.state)) (sym will.resize)
+          (subst (λ y. WillCopyIn (word_of h d (run es s)) from to (chunks_of (h.size from) slots) due
+          (after_in Chunk y resizer.initial resizer.number answer resizer.state)) (sym will.mode) leads);
     }
 
 pub returns-clause-rounded_up : goal.returns-clause-rounded_up

@@ -5,4 +5,6 @@ use Rattle.papaya_backends.proofs.RunLemmas.{SoFar}
 use Rattle.papaya_backends.proofs.line_by_line.obey_lines.Given as goal
 
 abbrev pub invariant-loop-number : goal.invariant-loop-number
-invariant-loop-number g l = IfSome (reader_remaining g.R.Read.remaining l.fn.reader) (SoFar g.B.Obey.does l.fn.backend l.backend (Appends (g.W.Write.contents l.fn.output) (g.W.Write.contents l.output)) l.number (reader_remaining g.R.Read.remaining l.reader))
+invariant-loop-number g l = IfSome (reader_remaining g.R.Read.remaining l.fn.reader)
+    (SoFar g.B.Obey.does l.fn.backend l.backend (Appends (g.W.Write.contents l.fn.output) (g.W.Write.contents l.output)) l.number
+    (reader_remaining g.R.Read.remaining l.reader))

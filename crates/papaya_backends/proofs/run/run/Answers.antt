@@ -11,10 +11,14 @@ returns-in-Zero-clause-bad_arguments g c h = absurd (h c.in-Some.arguments c.in-
 
 pub returns-in-Identity-clause-ran : goal.returns-in-Identity-clause-ran
 returns-in-Identity-clause-ran g c =
-    by_arguments (map string_bytes c.args.args.now) c.in-Some.arguments (Appends (g.W.Write.contents c.args.output.now) (g.W.Write.contents c.run_by.new.output)) c.run_by.result (g.R.Read.remaining c.args.input.now) c.in-Some.ensures
+    by_arguments (map string_bytes c.args.args.now) c.in-Some.arguments
+    (Appends (g.W.Write.contents c.args.output.now) (g.W.Write.contents c.run_by.new.output)) c.run_by.result (g.R.Read.remaining c.args.input.now)
+    c.in-Some.ensures
     (rw c.in-Identity.is c.run_by.ensures)
 
 pub returns-in-Zero-clause-ran : goal.returns-in-Zero-clause-ran
 returns-in-Zero-clause-ran g c =
-    by_arguments (map string_bytes c.args.args.now) c.in-Some.arguments (Appends (g.W.Write.contents c.args.output.now) (g.W.Write.contents c.run_by-in-Zero.new.output)) c.run_by-in-Zero.result (g.R.Read.remaining c.args.input.now) c.in-Some.ensures
+    by_arguments (map string_bytes c.args.args.now) c.in-Some.arguments
+    (Appends (g.W.Write.contents c.args.output.now) (g.W.Write.contents c.run_by-in-Zero.new.output)) c.run_by-in-Zero.result
+    (g.R.Read.remaining c.args.input.now) c.in-Some.ensures
     (rw c.in-Zero.is c.run_by-in-Zero.ensures)

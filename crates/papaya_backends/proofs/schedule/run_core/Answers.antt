@@ -24,11 +24,17 @@ returns-in-Some g c =
     let first = g.W.Write.contents c.args.output.now in
     let printed = g.W.Write.contents c.print_trace.new.output in
     let last = g.W.Write.contents c.flush.new.self in
-    let new = ok_kept c.new.result _ core (λ k. IsAllowed c.args.mode 0 1 × IsNew c.args.mode 0 1 c.args.hasher k) _ refl c.in_ok-core.ensures.cases (λ e no. no) c.new.ensures.ok in
-    let runs = ok_kept c.run.result _ trace (λ t. TurnsRun (λ a b. a == b) script_says hash script.turns.items (length script.turns.items) core after (reverse t.entries.items)) _ refl c.in_ok-trace.ensures.cases (λ e no. no) c.run.ensures.ok in
+    let new = ok_kept c.new.result _ core (λ k. IsAllowed c.args.mode 0 1 × IsNew c.args.mode 0 1 c.args.hasher k) _ refl c.in_ok-core.ensures.cases
+    (λ e no. no) c.new.ensures.ok in
+    let runs = ok_kept c.run.result _ trace (λ t.
+    TurnsRun (λ a b. a == b) script_says hash script.turns.items (length script.turns.items) core after (reverse t.entries.items)) _ refl
+    c.in_ok-trace.ensures.cases (λ e no. no) c.run.ensures.ok in
     let told = c.in_ok-passed_over.ensures.told in
-    let tells = subst (λ (rows : List Line). Tells after.store trace.entries.items no_calls rows 0 trace.entries.items told.0 passed) c.as_slice.ensures.value told.1 in
-    ran_to hash (IsNew c.args.mode 0 1 c.args.hasher) (Appends first last) script.turns.items script.lines.items script.bad_line passed core after trace.entries.items new.1 runs (told.0, tells, keeps_then first printed last told.0 told.2 c.flush.ensures.bytes) (g.R.Read.remaining c.args.input.now) c.in-Some.number c.in_ok-turns.ensures.read (sym c.in-Some.is ∙ c.or.ensures)
+    let tells = subst (λ (rows : List Line). Tells after.store trace.entries.items no_calls rows 0 trace.entries.items told.0 passed)
+    c.as_slice.ensures.value told.1 in
+    ran_to hash (IsNew c.args.mode 0 1 c.args.hasher) (Appends first last) script.turns.items script.lines.items script.bad_line passed core after
+    trace.entries.items new.1 runs (told.0, tells, keeps_then first printed last told.0 told.2 c.flush.ensures.bytes)
+    (g.R.Read.remaining c.args.input.now) c.in-Some.number c.in_ok-turns.ensures.read (sym c.in-Some.is ∙ c.or.ensures)
 
 pub returns : goal.returns
 returns g c =
@@ -41,8 +47,14 @@ returns g c =
     let first = g.W.Write.contents c.args.output.now in
     let printed = g.W.Write.contents c.print_trace.new.output in
     let last = g.W.Write.contents c.flush.new.self in
-    let new = ok_kept c.new.result _ core (λ k. IsAllowed c.args.mode 0 1 × IsNew c.args.mode 0 1 c.args.hasher k) _ refl c.in_ok-core.ensures.cases (λ e no. no) c.new.ensures.ok in
-    let runs = ok_kept c.run.result _ trace (λ t. TurnsRun (λ a b. a == b) script_says hash script.turns.items (length script.turns.items) core after (reverse t.entries.items)) _ refl c.in_ok-trace.ensures.cases (λ e no. no) c.run.ensures.ok in
+    let new = ok_kept c.new.result _ core (λ k. IsAllowed c.args.mode 0 1 × IsNew c.args.mode 0 1 c.args.hasher k) _ refl c.in_ok-core.ensures.cases
+    (λ e no. no) c.new.ensures.ok in
+    let runs = ok_kept c.run.result _ trace (λ t.
+    TurnsRun (λ a b. a == b) script_says hash script.turns.items (length script.turns.items) core after (reverse t.entries.items)) _ refl
+    c.in_ok-trace.ensures.cases (λ e no. no) c.run.ensures.ok in
     let told = c.in_ok-passed_over.ensures.told in
-    let tells = subst (λ (rows : List Line). Tells after.store trace.entries.items no_calls rows 0 trace.entries.items told.0 passed) c.as_slice.ensures.value told.1 in
-    ran_all hash (IsNew c.args.mode 0 1 c.args.hasher) (Appends first last) script.turns.items script.lines.items script.bad_line passed core after trace.entries.items new.1 runs (told.0, tells, keeps_then first printed last told.0 told.2 c.flush.ensures.bytes) (g.R.Read.remaining c.args.input.now) c.in_ok-turns.ensures.read (sym c.in-None.is ∙ c.or.ensures)
+    let tells = subst (λ (rows : List Line). Tells after.store trace.entries.items no_calls rows 0 trace.entries.items told.0 passed)
+    c.as_slice.ensures.value told.1 in
+    ran_all hash (IsNew c.args.mode 0 1 c.args.hasher) (Appends first last) script.turns.items script.lines.items script.bad_line passed core after
+    trace.entries.items new.1 runs (told.0, tells, keeps_then first printed last told.0 told.2 c.flush.ensures.bytes)
+    (g.R.Read.remaining c.args.input.now) c.in_ok-turns.ensures.read (sym c.in-None.is ∙ c.or.ensures)

@@ -13,5 +13,7 @@ returns-clause-read g c =
     let empty = ok_kept c.new.result _ reader (λ r. reader_buffer r ≡ []) _ refl c.in_ok-reader.ensures.cases (λ e no. no) c.new.ensures.empty in
     let capacity = ok_kept c.new.result _ reader (λ r. reader_capacity r ≡ 8192) _ refl c.in_ok-reader.ensures.cases (λ e no. no) c.new.ensures.capacity in
     let known : reader_remaining (λ r. g.R.Read.remaining r.now) reader ≡ g.R.Read.remaining c.args.input.now =
-    behind_buffer (reader_capacity reader) (reader_buffer reader) (g.R.Read.remaining c.args.input.now) (g.R.Read.remaining (reader_inner reader).now) capacity empty (ap (λ r. g.R.Read.remaining r.now) inner) in
-    subst (λ k. IfOk c.read.result (λ script. IfSome k (λ text. IsScript (lines_of text) 1 script.turns.items script.lines.items script.bad_line))) known c.read.ensures.read
+    behind_buffer (reader_capacity reader) (reader_buffer reader) (g.R.Read.remaining c.args.input.now) (g.R.Read.remaining (reader_inner reader).now)
+    capacity empty (ap (λ r. g.R.Read.remaining r.now) inner) in
+    subst (λ k. IfOk c.read.result (λ script. IfSome k (λ text. IsScript (lines_of text) 1 script.turns.items script.lines.items script.bad_line)))
+    known c.read.ensures.read

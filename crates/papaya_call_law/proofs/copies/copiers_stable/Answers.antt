@@ -9,7 +9,8 @@ use Rattle.papaya_call_law.proofs.copies.copiers_stable.Goals as goal
 
 pub returns-clause-exchanges : goal.returns-clause-exchanges
 returns-clause-exchanges g c = λ h d hashed s m keeps es may last kept copying r.
-    copying_stable h d hashed s (run es s) (next_zero s.next (keeping_sound h s m keeps).rises) (later_run h hashed.lawful es s may) (on_run h hashed.lawful es s m keeps may) last kept copying r
+    copying_stable h d hashed s (run es s) (next_zero s.next (keeping_sound h s m keeps).rises) (later_run h hashed.lawful es s may)
+    (on_run h hashed.lawful es s m keeps may) last kept copying r
 
 pub returns-clause-tables : goal.returns-clause-tables
 returns-clause-tables g c = λ h h' d s m keeps agrees last kept copying r. copying_carries h h' d s (keeping_sound h s m keeps) agrees last kept copying r

@@ -7,16 +7,20 @@ use Rattle.papaya_call_law.proofs.ReliesNames.{IsNamed, ask_named, hint_named, s
 use Rattle.papaya_call_law.proofs.ReliesOpened.{machine_opened}
 
 pub returns-clause-size : goal.returns-clause-size
-returns-clause-size g c = λ s c' hashed begun since may k m loaded relies t e. subst (IsNamed s c' hashed begun since may k) e (ask_named s c' hashed begun since may k loaded m.task m.hash m.made m.state relies.stage)
+returns-clause-size g c = λ s c' hashed begun since may k m loaded relies t e.
+    subst (IsNamed s c' hashed begun since may k) e (ask_named s c' hashed begun since may k loaded m.task m.hash m.made m.state relies.stage)
 
 pub returns-clause-next : goal.returns-clause-next
-returns-clause-next g c = λ s c' hashed begun since may k m loaded relies t e. subst (IsNamed s c' hashed begun since may k) e (ask_named s c' hashed begun since may k loaded m.task m.hash m.made m.state relies.stage)
+returns-clause-next g c = λ s c' hashed begun since may k m loaded relies t e.
+    subst (IsNamed s c' hashed begun since may k) e (ask_named s c' hashed begun since may k loaded m.task m.hash m.made m.state relies.stage)
 
 pub returns-clause-slot : goal.returns-clause-slot
-returns-clause-slot g c = λ s c' hashed begun since may k m loaded relies t x e. slot_named s c' hashed begun since may k (ask_of m) (ask_named s c' hashed begun since may k loaded m.task m.hash m.made m.state relies.stage) t x e
+returns-clause-slot g c = λ s c' hashed begun since may k m loaded relies t x e.
+    slot_named s c' hashed begun since may k (ask_of m) (ask_named s c' hashed begun since may k loaded m.task m.hash m.made m.state relies.stage) t x e
 
 pub returns-clause-hint : goal.returns-clause-hint
-returns-clause-hint g c = λ s c' hashed begun since may k m loaded relies t x e. hint_named s c' hashed begun since may k (ask_of m) (ask_named s c' hashed begun since may k loaded m.task m.hash m.made m.state relies.stage) t x e
+returns-clause-hint g c = λ s c' hashed begun since may k m loaded relies t x e.
+    hint_named s c' hashed begun since may k (ask_of m) (ask_named s c' hashed begun since may k loaded m.task m.hash m.made m.state relies.stage) t x e
 
 pub returns-clause-opened : goal.returns-clause-opened
 returns-clause-opened g c = λ m answer t e. machine_opened m t answer e

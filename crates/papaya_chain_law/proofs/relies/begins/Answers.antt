@@ -8,7 +8,15 @@ returns g c = λ s c' begun k task mode initial number limit resizes most cut. r
   call = record {
     hash = refl;
     mode = resizes;
-    made = record { keys = λ q one. absurd one; limit = most; number_is = wanted_relies s c' begun [] k limit; own_is = tt; of_is = tt; fill_is = tt; choice_is = tt };
+    made = record {
+      keys = λ q one. absurd one;
+      limit = most;
+      number_is = wanted_relies s c' begun [] k limit;
+      own_is = tt;
+      of_is = tt;
+      fill_is = tt;
+      choice_is = tt;
+    };
     stage = tt;
   };
   phase = tt;

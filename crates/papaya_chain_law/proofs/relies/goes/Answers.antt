@@ -6,21 +6,27 @@ use Rattle.papaya_chain_law.proofs.Replies.{chain_changes, chain_owes, chain_sai
 use Rattle.papaya_chain_law.proofs.relies.goes.Goals as goal
 
 pub returns-clause-leaves : goal.returns-clause-leaves
-returns-clause-leaves g c = λ h d begun since k m loaded r answer es loaded' told. machine_goes m answer (in_order h d begun since k m loaded (run (begun ++ since) start) answer es loaded' r told)
+returns-clause-leaves g c = λ h d begun since k m loaded r answer es loaded' told.
+    machine_goes m answer (in_order h d begun since k m loaded (run (begun ++ since) start) answer es loaded' r told)
 
 pub returns-clause-changes : goal.returns-clause-changes
 returns-clause-changes g c = λ h d hashed begun since k m loaded r answer es loaded' told.
-    chain_changes h d k (run (begun ++ since) start) m loaded answer es loaded' (in_order h d begun since k m loaded (run (begun ++ since) start) answer es loaded' r told) told hashed r.call.hash
+    chain_changes h d k (run (begun ++ since) start) m loaded answer es loaded'
+    (in_order h d begun since k m loaded (run (begun ++ since) start) answer es loaded' r told) told hashed r.call.hash
 
 pub returns-clause-counts : goal.returns-clause-counts
 returns-clause-counts g c = λ h d begun since k m loaded r answer es loaded' told.
-    chain_owes h d k (run (begun ++ since) start) m loaded answer es loaded' (in_order h d begun since k m loaded (run (begun ++ since) start) answer es loaded' r told) told
+    chain_owes h d k (run (begun ++ since) start) m loaded answer es loaded'
+    (in_order h d begun since k m loaded (run (begun ++ since) start) answer es loaded' r told) told
 
 pub returns-clause-task : goal.returns-clause-task
-returns-clause-task g c = λ h d begun since k m loaded r answer es loaded' told. chain_task m answer (in_order h d begun since k m loaded (run (begun ++ since) start) answer es loaded' r told)
+returns-clause-task g c = λ h d begun since k m loaded r answer es loaded' told.
+    chain_task m answer (in_order h d begun since k m loaded (run (begun ++ since) start) answer es loaded' r told)
 
 pub returns-clause-words : goal.returns-clause-words
-returns-clause-words g c = λ h d begun since k m loaded r answer es loaded' told. chain_shows m answer (in_order h d begun since k m loaded (run (begun ++ since) start) answer es loaded' r told)
+returns-clause-words g c = λ h d begun since k m loaded r answer es loaded' told.
+    chain_shows m answer (in_order h d begun since k m loaded (run (begun ++ since) start) answer es loaded' r told)
 
 pub returns-clause-says : goal.returns-clause-says
-returns-clause-says g c = λ h d begun since k m loaded r answer es loaded' told standing shows said stands. chain_said m answer (in_order h d begun since k m loaded (run (begun ++ since) start) answer es loaded' r told) standing shows said stands
+returns-clause-says g c = λ h d begun since k m loaded r answer es loaded' told standing shows said stands.
+    chain_said m answer (in_order h d begun since k m loaded (run (begun ++ since) start) answer es loaded' r told) standing shows said stands

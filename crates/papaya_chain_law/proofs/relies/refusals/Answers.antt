@@ -6,4 +6,5 @@ use Rattle.papaya_chain_law.proofs.relies.refusals.Goals as goal
 
 pub returns : goal.returns
 returns g c = λ h d begun since k m loaded r answer es loaded' told refused open_still ends.
-    chain_refused h d k (run (begun ++ since) start) m answer refused loaded es loaded' told (in_order h d begun since k m loaded (run (begun ++ since) start) answer es loaded' r told) open_still ends
+    chain_refused h d k (run (begun ++ since) start) m answer refused loaded es loaded' told
+    (in_order h d begun since k m loaded (run (begun ++ since) start) answer es loaded' r told) open_still ends

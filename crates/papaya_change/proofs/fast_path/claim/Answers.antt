@@ -22,71 +22,95 @@ use Rattle.papaya_change.proofs.fast_path.claim.Goals as goal
 
 pub put_slot-found-requires-clause-place : goal.put_slot-found-requires-clause-place
 put_slot-found-requires-clause-place g c =
-    let w = c.args.window.now.book.now in let b = begun_of w.parts in let log = c.args.window.now.sight.log in let key = c.args.key in let at = c.args.at in let q = c.in-Ok.pair in
+    let w = c.args.window.now.book.now in let b = begun_of w.parts in let log = c.args.window.now.sight.log in let key = c.args.key in
+    let at = c.args.at in let q = c.in-Ok.pair in
     let key_is : key_of q ≡ key = c.in-Ok.ensures.key in
     let hash = (hash_of g.K.Hash.hash_input g.S.BuildHasher.build_hasher g.S.Hasher.Hasher.write g.S.Hasher.Hasher.finish) in
-    let st = c.requires.stands in let led : Some (Writing (record { place = at; old = 0 })) ≡ Some st.0 = st.1 in let to : Writing (record { place = at; old = 0 }) ≡ st.0 = cc led in
+    let st = c.requires.stands in let led : Some (Writing (record { place = at; old = 0 })) ≡ Some st.0 = st.1 in
+    let to : Writing (record { place = at; old = 0 }) ≡ st.0 = cc led in
     let r = subst (λ (z : State). IsInsertingAt g.K.PartialEq.eq hash b w.begun.book key st.2.0 log z None c.args.table.now) (sym to) st.2.1 in
-    (slot_there g.K.PartialEq.eq g.K.Hash.hash_input g.S.BuildHasher.build_hasher g.S.Hasher.Hasher.write g.S.Hasher.Hasher.finish g.met.K.Eq.laws g.met.K.Hash.respects_eq b w.begun.book key st.2.0 log at c.args.table.now c.requires.limit r q key_is c.in-Ok.ensures.placed).1
+    (slot_there g.K.PartialEq.eq g.K.Hash.hash_input g.S.BuildHasher.build_hasher g.S.Hasher.Hasher.write g.S.Hasher.Hasher.finish g.met.K.Eq.laws
+    g.met.K.Hash.respects_eq b w.begun.book key st.2.0 log at c.args.table.now c.requires.limit r q key_is c.in-Ok.ensures.placed).1
 
 pub put_slot-found-requires-clause-can : goal.put_slot-found-requires-clause-can
 put_slot-found-requires-clause-can g c =
-    let w = c.args.window.now.book.now in let b = begun_of w.parts in let log = c.args.window.now.sight.log in let key = c.args.key in let at = c.args.at in let q = c.in-Ok.pair in
+    let w = c.args.window.now.book.now in let b = begun_of w.parts in let log = c.args.window.now.sight.log in let key = c.args.key in
+    let at = c.args.at in let q = c.in-Ok.pair in
     let key_is : key_of q ≡ key = c.in-Ok.ensures.key in
     let hash = (hash_of g.K.Hash.hash_input g.S.BuildHasher.build_hasher g.S.Hasher.Hasher.write g.S.Hasher.Hasher.finish) in
     let word : c.live.result.0 ≡ live_word q.index = c.live.ensures ∙ ap live_word c.index-2.ensures in
-    let st = c.requires.stands in let led : Some (Writing (record { place = at; old = 0 })) ≡ Some st.0 = st.1 in let to : Writing (record { place = at; old = 0 }) ≡ st.0 = cc led in
+    let st = c.requires.stands in let led : Some (Writing (record { place = at; old = 0 })) ≡ Some st.0 = st.1 in
+    let to : Writing (record { place = at; old = 0 }) ≡ st.0 = cc led in
     let r = subst (λ (z : State). IsInsertingAt g.K.PartialEq.eq hash b w.begun.book key st.2.0 log z None c.args.table.now) (sym to) st.2.1 in
-    rw word (put_can g.K.PartialEq.eq g.K.Hash.hash_input g.S.BuildHasher.build_hasher g.S.Hasher.Hasher.write g.S.Hasher.Hasher.finish g.met.K.Eq.laws g.met.K.Hash.respects_eq b w.begun.book key st.2.0 log at c.args.table.now c.requires.limit r q key_is c.in-Ok.ensures.placed (pair_of-live_word q.index))
+    rw word (put_can g.K.PartialEq.eq g.K.Hash.hash_input g.S.BuildHasher.build_hasher g.S.Hasher.Hasher.write g.S.Hasher.Hasher.finish
+    g.met.K.Eq.laws g.met.K.Hash.respects_eq b w.begun.book key st.2.0 log at c.args.table.now c.requires.limit r q key_is c.in-Ok.ensures.placed
+    (pair_of-live_word q.index))
 
 pub write_hint-requires-clause-table : goal.write_hint-requires-clause-table
 write_hint-requires-clause-table g c =
-    let w = c.args.window.now.book.now in let b = begun_of w.parts in let log = c.args.window.now.sight.log in let key = c.args.key in let at = c.args.at in let q = c.in-Ok.pair in
+    let w = c.args.window.now.book.now in let b = begun_of w.parts in let log = c.args.window.now.sight.log in let key = c.args.key in
+    let at = c.args.at in let q = c.in-Ok.pair in
     let key_is : key_of q ≡ key = c.in-Ok.ensures.key in
     let hash = (hash_of g.K.Hash.hash_input g.S.BuildHasher.build_hasher g.S.Hasher.Hasher.write g.S.Hasher.Hasher.finish) in
-    let st = c.requires.stands in let led : Some (Writing (record { place = at; old = 0 })) ≡ Some st.0 = st.1 in let to : Writing (record { place = at; old = 0 }) ≡ st.0 = cc led in
+    let st = c.requires.stands in let led : Some (Writing (record { place = at; old = 0 })) ≡ Some st.0 = st.1 in
+    let to : Writing (record { place = at; old = 0 }) ≡ st.0 = cc led in
     let r = subst (λ (z : State). IsInsertingAt g.K.PartialEq.eq hash b w.begun.book key st.2.0 log z None c.args.table.now) (sym to) st.2.1 in
     let put = c.put_slot-found in
-    table_since log put.new.self.sight.log at.table c.args.table.now put.ensures.sees.log (slot_there g.K.PartialEq.eq g.K.Hash.hash_input g.S.BuildHasher.build_hasher g.S.Hasher.Hasher.write g.S.Hasher.Hasher.finish g.met.K.Eq.laws g.met.K.Hash.respects_eq b w.begun.book key st.2.0 log at c.args.table.now c.requires.limit r q key_is c.in-Ok.ensures.placed).0
+    table_since log put.new.self.sight.log at.table c.args.table.now put.ensures.sees.log
+    (slot_there g.K.PartialEq.eq g.K.Hash.hash_input g.S.BuildHasher.build_hasher g.S.Hasher.Hasher.write g.S.Hasher.Hasher.finish g.met.K.Eq.laws
+    g.met.K.Hash.respects_eq b w.begun.book key st.2.0 log at c.args.table.now c.requires.limit r q key_is c.in-Ok.ensures.placed).0
 
 pub write_hint-requires-clause-place : goal.write_hint-requires-clause-place
 write_hint-requires-clause-place g c =
-    let w = c.args.window.now.book.now in let b = begun_of w.parts in let log = c.args.window.now.sight.log in let key = c.args.key in let at = c.args.at in let q = c.in-Ok.pair in
+    let w = c.args.window.now.book.now in let b = begun_of w.parts in let log = c.args.window.now.sight.log in let key = c.args.key in
+    let at = c.args.at in let q = c.in-Ok.pair in
     let key_is : key_of q ≡ key = c.in-Ok.ensures.key in
     let hash = (hash_of g.K.Hash.hash_input g.S.BuildHasher.build_hasher g.S.Hasher.Hasher.write g.S.Hasher.Hasher.finish) in
-    let st = c.requires.stands in let led : Some (Writing (record { place = at; old = 0 })) ≡ Some st.0 = st.1 in let to : Writing (record { place = at; old = 0 }) ≡ st.0 = cc led in
+    let st = c.requires.stands in let led : Some (Writing (record { place = at; old = 0 })) ≡ Some st.0 = st.1 in
+    let to : Writing (record { place = at; old = 0 }) ≡ st.0 = cc led in
     let r = subst (λ (z : State). IsInsertingAt g.K.PartialEq.eq hash b w.begun.book key st.2.0 log z None c.args.table.now) (sym to) st.2.1 in
-    (slot_there g.K.PartialEq.eq g.K.Hash.hash_input g.S.BuildHasher.build_hasher g.S.Hasher.Hasher.write g.S.Hasher.Hasher.finish g.met.K.Eq.laws g.met.K.Hash.respects_eq b w.begun.book key st.2.0 log at c.args.table.now c.requires.limit r q key_is c.in-Ok.ensures.placed).1
+    (slot_there g.K.PartialEq.eq g.K.Hash.hash_input g.S.BuildHasher.build_hasher g.S.Hasher.Hasher.write g.S.Hasher.Hasher.finish g.met.K.Eq.laws
+    g.met.K.Hash.respects_eq b w.begun.book key st.2.0 log at c.args.table.now c.requires.limit r q key_is c.in-Ok.ensures.placed).1
 
 pub write_hint-requires-clause-hint : goal.write_hint-requires-clause-hint
 write_hint-requires-clause-hint g c =
-    let w = c.args.window.now.book.now in let b = begun_of w.parts in let log = c.args.window.now.sight.log in let key = c.args.key in let at = c.args.at in let q = c.in-Ok.pair in
+    let w = c.args.window.now.book.now in let b = begun_of w.parts in let log = c.args.window.now.sight.log in let key = c.args.key in
+    let at = c.args.at in let q = c.in-Ok.pair in
     let key_is : key_of q ≡ key = c.in-Ok.ensures.key in
     let hash = (hash_of g.K.Hash.hash_input g.S.BuildHasher.build_hasher g.S.Hasher.Hasher.write g.S.Hasher.Hasher.finish) in
     let word : c.live.result.0 ≡ live_word q.index = c.live.ensures ∙ ap live_word c.index-2.ensures in
-    let st = c.requires.stands in let led : Some (Writing (record { place = at; old = 0 })) ≡ Some st.0 = st.1 in let to : Writing (record { place = at; old = 0 }) ≡ st.0 = cc led in
+    let st = c.requires.stands in let led : Some (Writing (record { place = at; old = 0 })) ≡ Some st.0 = st.1 in
+    let to : Writing (record { place = at; old = 0 }) ≡ st.0 = cc led in
     let r = subst (λ (z : State). IsInsertingAt g.K.PartialEq.eq hash b w.begun.book key st.2.0 log z None c.args.table.now) (sym to) st.2.1 in
     let put = c.put_slot-found in let mid = put.new.self.sight.log in
-    let tried = subst (λ (z : ℕ). IsSlotTried g.K.PartialEq.eq hash b w.begun.book at.table at.probe.i (Some steps.Claim) 0 z (Some q) (names.Pair q) log put.result.0 mid put.result.1) word put.ensures.tried in
+    let tried = subst (λ (z : ℕ). IsSlotTried g.K.PartialEq.eq hash b w.begun.book at.table at.probe.i (Some steps.Claim) 0 z (Some q) (names.Pair q)
+    log put.result.0 mid put.result.1) word put.ensures.tried in
     let is : (put.result.0 == 0) ≡ true = search rules in
-    rw (put.ensures.sees.book, c.hint.ensures, c.requires.hashed) (claim_hint g.K.PartialEq.eq g.K.Hash.hash_input g.S.BuildHasher.build_hasher g.S.Hasher.Hasher.write g.S.Hasher.Hasher.finish g.met.K.Eq.laws g.met.K.Hash.respects_eq b w.begun.book key st.2.0 log at c.args.table.now c.requires.limit r q key_is c.in-Ok.ensures.placed mid put.result.0 put.result.1 tried is)
+    rw (put.ensures.sees.book, c.hint.ensures, c.requires.hashed)
+    (claim_hint g.K.PartialEq.eq g.K.Hash.hash_input g.S.BuildHasher.build_hasher g.S.Hasher.Hasher.write g.S.Hasher.Hasher.finish g.met.K.Eq.laws
+    g.met.K.Hash.respects_eq b w.begun.book key st.2.0 log at c.args.table.now c.requires.limit r q key_is c.in-Ok.ensures.placed mid put.result.0
+    put.result.1 tried is)
 
 pub returns-clause-put : goal.returns-clause-put
 returns-clause-put g c = λ z e begun state led stands.
-    let w = c.args.window.now.book.now in let b = begun_of w.parts in let log = c.args.window.now.sight.log in let key = c.args.key in let at = c.args.at in let q = c.in-Ok.pair in
+    let w = c.args.window.now.book.now in let b = begun_of w.parts in let log = c.args.window.now.sight.log in let key = c.args.key in
+    let at = c.args.at in let q = c.in-Ok.pair in
     let key_is : key_of q ≡ key = c.in-Ok.ensures.key in
     let hash = (hash_of g.K.Hash.hash_input g.S.BuildHasher.build_hasher g.S.Hasher.Hasher.write g.S.Hasher.Hasher.finish) in
     let word : c.live.result.0 ≡ live_word q.index = c.live.ensures ∙ ap live_word c.index-2.ensures in
     let to : Writing (record { place = at; old = 0 }) ≡ state = cc led in
     let r = subst (λ (z : State). IsInsertingAt g.K.PartialEq.eq hash b w.begun.book key begun log z None c.args.table.now) (sym to) stands in
     let put = c.put_slot-found in let mid = put.new.self.sight.log in
-    let tried = subst (λ (z : ℕ). IsSlotTried g.K.PartialEq.eq hash b w.begun.book at.table at.probe.i (Some steps.Claim) 0 z (Some q) (names.Pair q) log put.result.0 mid put.result.1) word put.ensures.tried in
+    let tried = subst (λ (z : ℕ). IsSlotTried g.K.PartialEq.eq hash b w.begun.book at.table at.probe.i (Some steps.Claim) 0 z (Some q) (names.Pair q)
+    log put.result.0 mid put.result.1) word put.ensures.tried in
     let is : (put.result.0 == 0) ≡ true = search rules in
     let one : q ≡ z = cc e in (
       None,
       refl,
       subst (λ (o : Stored _ _). IsChangeOf (g.K.PartialEq.eq key) (history_of begun) (past put.new.self) None (Some o)) one
-          (claim_traded g.K.PartialEq.eq g.K.Hash.hash_input g.S.BuildHasher.build_hasher g.S.Hasher.Hasher.write g.S.Hasher.Hasher.finish g.met.K.Eq.laws g.met.K.Hash.respects_eq b w.begun.book key begun log at c.args.table.now c.requires.limit r q key_is c.in-Ok.ensures.placed mid put.result.0 put.result.1 tried is),
+          (claim_traded g.K.PartialEq.eq g.K.Hash.hash_input g.S.BuildHasher.build_hasher g.S.Hasher.Hasher.write g.S.Hasher.Hasher.finish
+          g.met.K.Eq.laws g.met.K.Hash.respects_eq b w.begun.book key begun log at c.args.table.now c.requires.limit r q key_is
+          c.in-Ok.ensures.placed mid put.result.0 put.result.1 tried is),
     )
 
 pub returns-clause-does : goal.returns-clause-does
@@ -109,14 +133,23 @@ returns-then-found-ne0-clause-made g c =
 
 pub returns-clause-made : goal.returns-clause-made
 returns-clause-made g c =
-    let w = c.args.window.now.book.now in let b = begun_of w.parts in let log = c.args.window.now.sight.log in let key = c.args.key in let at = c.args.at in let q = c.in-Ok.pair in
+    let w = c.args.window.now.book.now in let b = begun_of w.parts in let log = c.args.window.now.sight.log in let key = c.args.key in
+    let at = c.args.at in let q = c.in-Ok.pair in
     let key_is : key_of q ≡ key = c.in-Ok.ensures.key in
     let hash = (hash_of g.K.Hash.hash_input g.S.BuildHasher.build_hasher g.S.Hasher.Hasher.write g.S.Hasher.Hasher.finish) in
     let word : c.live.result.0 ≡ live_word q.index = c.live.ensures ∙ ap live_word c.index-2.ensures in
-    let st = c.requires.stands in let led : Some (Writing (record { place = at; old = 0 })) ≡ Some st.0 = st.1 in let to : Writing (record { place = at; old = 0 }) ≡ st.0 = cc led in
+    let st = c.requires.stands in let led : Some (Writing (record { place = at; old = 0 })) ≡ Some st.0 = st.1 in
+    let to : Writing (record { place = at; old = 0 }) ≡ st.0 = cc led in
     let r = subst (λ (z : State). IsInsertingAt g.K.PartialEq.eq hash b w.begun.book key st.2.0 log z None c.args.table.now) (sym to) st.2.1 in
     let put = c.put_slot-found in let mid = put.new.self.sight.log in
-    let tried = subst (λ (z : ℕ). IsSlotTried g.K.PartialEq.eq hash b w.begun.book at.table at.probe.i (Some steps.Claim) 0 z (Some q) (names.Pair q) log put.result.0 mid put.result.1) word put.ensures.tried in
+    let tried = subst (λ (z : ℕ). IsSlotTried g.K.PartialEq.eq hash b w.begun.book at.table at.probe.i (Some steps.Claim) 0 z (Some q) (names.Pair q)
+    log put.result.0 mid put.result.1) word put.ensures.tried in
     let is : (put.result.0 == 0) ≡ true = search rules in
     let does = subst (λ (z : Bool). Does z c.args.window.now put.new.self) is put.ensures.does in
-    makes g.K.PartialEq.eq (Some key) st.2.0 put.result.1 (Some q) (counts g.K.PartialEq.eq g.K.Hash.hash_input g.S.BuildHasher.build_hasher g.S.Hasher.Hasher.write g.S.Hasher.Hasher.finish g.met.K.Eq.laws g.met.K.Hash.respects_eq b w.begun.book key st.2.0 log at c.args.table.now c.requires.limit r q key_is c.in-Ok.ensures.placed mid put.result.0 put.result.1 tried is) c.args.window.now put.new.self (ended g.K.PartialEq.eq g.K.Hash.hash_input g.S.BuildHasher.build_hasher g.S.Hasher.Hasher.write g.S.Hasher.Hasher.finish g.met.K.Eq.laws g.met.K.Hash.respects_eq b w.begun.book key st.2.0 log at c.args.table.now c.requires.limit r q key_is c.in-Ok.ensures.placed mid put.result.0 put.result.1 tried is).changed does
+    makes g.K.PartialEq.eq (Some key) st.2.0 put.result.1 (Some q)
+    (counts g.K.PartialEq.eq g.K.Hash.hash_input g.S.BuildHasher.build_hasher g.S.Hasher.Hasher.write g.S.Hasher.Hasher.finish g.met.K.Eq.laws
+    g.met.K.Hash.respects_eq b w.begun.book key st.2.0 log at c.args.table.now c.requires.limit r q key_is c.in-Ok.ensures.placed mid put.result.0
+    put.result.1 tried is) c.args.window.now put.new.self
+    (ended g.K.PartialEq.eq g.K.Hash.hash_input g.S.BuildHasher.build_hasher g.S.Hasher.Hasher.write g.S.Hasher.Hasher.finish g.met.K.Eq.laws
+    g.met.K.Hash.respects_eq b w.begun.book key st.2.0 log at c.args.table.now c.requires.limit r q key_is c.in-Ok.ensures.placed mid put.result.0
+    put.result.1 tried is).changed does

@@ -25,5 +25,6 @@ returns-in-Ok-Lost-clause-put g c =
     let l = subst (λ (z : Result (Tried _ _) _). IfOk z (λ t. IsLoggedAs c.claim.new.window c.args.key c.args.value (pair_in t))) is c.claim.ensures.logged in
     let log = c.args.window.now.sight.log in let mid = c.claim.new.window.sight.log in
     if_ok _ _ c.insert_logged.result c.insert_logged.ensures.put (λ a h begun state led r.
-    put_since g.K.PartialEq.eq c.args.key c.args.value begun mid c.insert_logged.new.window.sight.log a (prefix_trans begun log mid r.4.seen c.claim.ensures.sees.log)
+    put_since g.K.PartialEq.eq c.args.key c.args.value begun mid c.insert_logged.new.window.sight.log a
+    (prefix_trans begun log mid r.4.seen c.claim.ensures.sees.log)
     (subst (λ (z : _ × _). IsPut g.K.PartialEq.eq z.0 z.1 (past c.claim.new.window) (past c.insert_logged.new.window) a) (λ i. (l.key_is i, l.value_is i)) h))

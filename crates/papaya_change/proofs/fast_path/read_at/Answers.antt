@@ -14,13 +14,16 @@ use Rattle.papaya_change.proofs.fast_path.read_at.Goals as goal
 pub slot_word-word-requires-clause-place : goal.slot_word-word-requires-clause-place
 slot_word-word-requires-clause-place g c =
     let w = c.args.window.now.book.now in let st = c.requires.stands in
-    (place_there g.K.PartialEq.eq g.K.Hash.hash_input g.S.BuildHasher.build_hasher g.S.Hasher.Hasher.write g.S.Hasher.Hasher.finish g.met.K.Eq.laws g.met.K.Hash.respects_eq (begun_of w.parts) w.begun.book c.args.key.now st.0 Inserts c.args.window.now.sight.log c.args.at c.args.table.now st.1).1
+    (place_there g.K.PartialEq.eq g.K.Hash.hash_input g.S.BuildHasher.build_hasher g.S.Hasher.Hasher.write g.S.Hasher.Hasher.finish g.met.K.Eq.laws
+    g.met.K.Hash.respects_eq (begun_of w.parts) w.begun.book c.args.key.now st.0 Inserts c.args.window.now.sight.log c.args.at c.args.table.now st.1).1
 
 pub named_pair-stored-requires : goal.named_pair-stored-requires
 named_pair-stored-requires g c =
     let w = c.args.window.now.book.now in let st = c.requires.stands in let s = c.slot_word-word in
     let looks : look c.args.at s.result.0 ≡ On (Comparing c.in-On-Comparing.field-0-0 c.in-On-Comparing.field-0-1) = search rules in
-    pair_there g.K.PartialEq.eq g.K.Hash.hash_input g.S.BuildHasher.build_hasher g.S.Hasher.Hasher.write g.S.Hasher.Hasher.finish g.met.K.Eq.laws g.met.K.Hash.respects_eq (begun_of w.parts) w.begun.book c.args.key.now st.0 Inserts c.args.window.now.sight.log s.new.self.sight.log s.ensures.sees.log c.args.at c.args.table.now st.1 s.result.0 s.result.1.state s.ensures.slot
+    pair_there g.K.PartialEq.eq g.K.Hash.hash_input g.S.BuildHasher.build_hasher g.S.Hasher.Hasher.write g.S.Hasher.Hasher.finish g.met.K.Eq.laws
+    g.met.K.Hash.respects_eq (begun_of w.parts) w.begun.book c.args.key.now st.0 Inserts c.args.window.now.sight.log s.new.self.sight.log
+    s.ensures.sees.log c.args.at c.args.table.now st.1 s.result.0 s.result.1.state s.ensures.slot
     c.in-On-Comparing.field-0-0 c.in-On-Comparing.field-0-1 looks
 
 pub returns-in-Here-clause-turns : goal.returns-in-Here-clause-turns
@@ -32,8 +35,12 @@ returns-in-Here-clause-turns g c =
     let live : kind_of s.result.0 ≡ Live = search rules in
     rw s.ensures.sees.book (λ who begun state e r.
     let is : at_live who c.args.at s.result.0 ≡ state = cc e in
-    subst (λ (z : State). IsSeekingAt who g.K.PartialEq.eq (hash_of g.K.Hash.hash_input g.S.BuildHasher.build_hasher g.S.Hasher.Hasher.write g.S.Hasher.Hasher.finish) (begun_of w.parts) w.begun.book c.args.key.now begun s.new.self.sight.log z (Some p) c.args.table.now) is
-    (met_live g.K.PartialEq.eq g.K.Hash.hash_input g.S.BuildHasher.build_hasher g.S.Hasher.Hasher.write g.S.Hasher.Hasher.finish g.met.K.Eq.laws g.met.K.Hash.respects_eq (begun_of w.parts) w.begun.book c.args.key.now begun who c.args.window.now.sight.log s.new.self.sight.log s.ensures.sees.log c.args.at c.args.table.now r s.result.0 s.result.1.state s.ensures.slot
+    subst (λ (z : State). IsSeekingAt who g.K.PartialEq.eq
+    (hash_of g.K.Hash.hash_input g.S.BuildHasher.build_hasher g.S.Hasher.Hasher.write g.S.Hasher.Hasher.finish) (begun_of w.parts) w.begun.book
+    c.args.key.now begun s.new.self.sight.log z (Some p) c.args.table.now) is
+    (met_live g.K.PartialEq.eq g.K.Hash.hash_input g.S.BuildHasher.build_hasher g.S.Hasher.Hasher.write g.S.Hasher.Hasher.finish g.met.K.Eq.laws
+    g.met.K.Hash.respects_eq (begun_of w.parts) w.begun.book c.args.key.now begun who c.args.window.now.sight.log s.new.self.sight.log
+    s.ensures.sees.log c.args.at c.args.table.now r s.result.0 s.result.1.state s.ensures.slot
     c.in-On-Comparing.field-0-0 c.in-On-Comparing.field-0-1 looks p c.named_pair-stored.ensures c.eq-same.result same is_same live))
 
 pub returns-in_default-compared-clause-turns : goal.returns-in_default-compared-clause-turns
@@ -41,10 +48,15 @@ returns-in_default-compared-clause-turns g c =
     let w = c.args.window.now.book.now in let s = c.slot_word-word in
     let looks : look c.args.at s.result.0 ≡ On (Comparing c.in-On-Comparing.field-0-0 c.in-On-Comparing.field-0-1) = search rules in
     let same = c.eq-same.ensures ∙ ap (g.K.PartialEq.eq c.args.key.now) (c.key.ensures ∙ ap (λ z. z.key.value) c.pair-pair.ensures) in
-    let to : c.without.result ≡ turn_of (at_yes (Comparing c.args.at s.result.0) c.eq-same.result) = c.without.ensures ∙ ap (λ z. turn_of z) c.at_yes-compared.ensures.value in
+    let to : c.without.result ≡ turn_of (at_yes (Comparing c.args.at s.result.0) c.eq-same.result) = c.without.ensures
+    ∙ ap (λ z. turn_of z) c.at_yes-compared.ensures.value in
     rw (s.ensures.sees.book, to) (λ who begun state e r.
-    turned g.K.PartialEq.eq g.K.Hash.hash_input g.S.BuildHasher.build_hasher g.S.Hasher.Hasher.write g.S.Hasher.Hasher.finish g.met.K.Eq.laws g.met.K.Hash.respects_eq (begun_of w.parts) w.begun.book c.args.key.now begun who s.new.self.sight.log (at_yes (Comparing c.args.at s.result.0) c.eq-same.result) c.args.table.now
-    (matched g.K.PartialEq.eq g.K.Hash.hash_input g.S.BuildHasher.build_hasher g.S.Hasher.Hasher.write g.S.Hasher.Hasher.finish g.met.K.Eq.laws g.met.K.Hash.respects_eq (begun_of w.parts) w.begun.book c.args.key.now begun who c.args.window.now.sight.log s.new.self.sight.log s.ensures.sees.log c.args.at c.args.table.now r s.result.0 s.result.1.state s.ensures.slot
+    turned g.K.PartialEq.eq g.K.Hash.hash_input g.S.BuildHasher.build_hasher g.S.Hasher.Hasher.write g.S.Hasher.Hasher.finish g.met.K.Eq.laws
+    g.met.K.Hash.respects_eq (begun_of w.parts) w.begun.book c.args.key.now begun who s.new.self.sight.log
+    (at_yes (Comparing c.args.at s.result.0) c.eq-same.result) c.args.table.now
+    (matched g.K.PartialEq.eq g.K.Hash.hash_input g.S.BuildHasher.build_hasher g.S.Hasher.Hasher.write g.S.Hasher.Hasher.finish g.met.K.Eq.laws
+    g.met.K.Hash.respects_eq (begun_of w.parts) w.begun.book c.args.key.now begun who c.args.window.now.sight.log s.new.self.sight.log
+    s.ensures.sees.log c.args.at c.args.table.now r s.result.0 s.result.1.state s.ensures.slot
     c.in-On-Comparing.field-0-0 c.in-On-Comparing.field-0-1 looks c.named_pair-stored.result c.named_pair-stored.ensures c.eq-same.result same) state e)
 
 pub returns-in_default-clause-turns : goal.returns-in_default-clause-turns
@@ -52,5 +64,8 @@ returns-in_default-clause-turns g c =
     let w = c.args.window.now.book.now in let s = c.slot_word-word in
     let to : c.without-in_default.result ≡ turn_of (look c.args.at s.result.0) = c.without-in_default.ensures ∙ ap (λ z. turn_of z) c.look-seen.ensures.value in
     rw (s.ensures.sees.book, to) (λ who begun state e r.
-    turned g.K.PartialEq.eq g.K.Hash.hash_input g.S.BuildHasher.build_hasher g.S.Hasher.Hasher.write g.S.Hasher.Hasher.finish g.met.K.Eq.laws g.met.K.Hash.respects_eq (begun_of w.parts) w.begun.book c.args.key.now begun who s.new.self.sight.log (look c.args.at s.result.0) c.args.table.now
-    (looked g.K.PartialEq.eq g.K.Hash.hash_input g.S.BuildHasher.build_hasher g.S.Hasher.Hasher.write g.S.Hasher.Hasher.finish g.met.K.Eq.laws g.met.K.Hash.respects_eq (begun_of w.parts) w.begun.book c.args.key.now begun who c.args.window.now.sight.log s.new.self.sight.log s.ensures.sees.log c.args.at c.args.table.now r s.result.0 s.result.1.state s.ensures.slot) state e)
+    turned g.K.PartialEq.eq g.K.Hash.hash_input g.S.BuildHasher.build_hasher g.S.Hasher.Hasher.write g.S.Hasher.Hasher.finish g.met.K.Eq.laws
+    g.met.K.Hash.respects_eq (begun_of w.parts) w.begun.book c.args.key.now begun who s.new.self.sight.log (look c.args.at s.result.0) c.args.table.now
+    (looked g.K.PartialEq.eq g.K.Hash.hash_input g.S.BuildHasher.build_hasher g.S.Hasher.Hasher.write g.S.Hasher.Hasher.finish g.met.K.Eq.laws
+    g.met.K.Hash.respects_eq (begun_of w.parts) w.begun.book c.args.key.now begun who c.args.window.now.sight.log s.new.self.sight.log
+    s.ensures.sees.log c.args.at c.args.table.now r s.result.0 s.result.1.state s.ensures.slot) state e)

@@ -22,57 +22,82 @@ use Rattle.papaya_change.proofs.fast_path.replace.Goals as goal
 
 pub put_slot-found-requires-clause-place : goal.put_slot-found-requires-clause-place
 put_slot-found-requires-clause-place g c =
-    let w = c.args.window.now.book.now in let b = begun_of w.parts in let log = c.args.window.now.sight.log in let key = c.requires.stands.0 in let met = c.args.met.now in let p = met.stored in let q = c.in-Ok.pair in
+    let w = c.args.window.now.book.now in let b = begun_of w.parts in let log = c.args.window.now.sight.log in let key = c.requires.stands.0 in
+    let met = c.args.met.now in let p = met.stored in let q = c.in-Ok.pair in
     let key_is : key_of q ≡ key_of p = c.in-Ok.ensures.key ∙ ap (λ (z : Stored _ _). key_of z) c.again.ensures in
-    let hash = (hash_of g.K.Hash.hash_input g.S.BuildHasher.build_hasher g.S.Hasher.Hasher.write g.S.Hasher.Hasher.finish) in let full = live_full met.word c.requires.live in
-    let st = c.requires.stands.1 in let led : Some (Writing (record { place = met.place; old = met.word })) ≡ Some st.0 = st.1 in let to : Writing (record { place = met.place; old = met.word }) ≡ st.0 = cc led in
+    let hash = (hash_of g.K.Hash.hash_input g.S.BuildHasher.build_hasher g.S.Hasher.Hasher.write g.S.Hasher.Hasher.finish) in
+    let full = live_full met.word c.requires.live in
+    let st = c.requires.stands.1 in let led : Some (Writing (record { place = met.place; old = met.word })) ≡ Some st.0 = st.1 in
+    let to : Writing (record { place = met.place; old = met.word }) ≡ st.0 = cc led in
     let r = subst (λ (z : State). IsInsertingAt g.K.PartialEq.eq hash b w.begun.book key st.2.0 log z (Some p) c.args.table.now) (sym to) st.2.1 in
-    (slot_there g.K.PartialEq.eq g.K.Hash.hash_input g.S.BuildHasher.build_hasher g.S.Hasher.Hasher.write g.S.Hasher.Hasher.finish g.met.K.Eq.laws g.met.K.Hash.respects_eq b w.begun.book key st.2.0 log met.place met.word full p c.args.table.now r c.requires.limit q key_is c.in-Ok.ensures.placed).1
+    (slot_there g.K.PartialEq.eq g.K.Hash.hash_input g.S.BuildHasher.build_hasher g.S.Hasher.Hasher.write g.S.Hasher.Hasher.finish g.met.K.Eq.laws
+    g.met.K.Hash.respects_eq b w.begun.book key st.2.0 log met.place met.word full p c.args.table.now r c.requires.limit q key_is c.in-Ok.ensures.placed).1
 
 pub put_slot-found-requires-clause-can : goal.put_slot-found-requires-clause-can
 put_slot-found-requires-clause-can g c =
-    let w = c.args.window.now.book.now in let b = begun_of w.parts in let log = c.args.window.now.sight.log in let key = c.requires.stands.0 in let met = c.args.met.now in let p = met.stored in let q = c.in-Ok.pair in
+    let w = c.args.window.now.book.now in let b = begun_of w.parts in let log = c.args.window.now.sight.log in let key = c.requires.stands.0 in
+    let met = c.args.met.now in let p = met.stored in let q = c.in-Ok.pair in
     let key_is : key_of q ≡ key_of p = c.in-Ok.ensures.key ∙ ap (λ (z : Stored _ _). key_of z) c.again.ensures in
-    let hash = (hash_of g.K.Hash.hash_input g.S.BuildHasher.build_hasher g.S.Hasher.Hasher.write g.S.Hasher.Hasher.finish) in let full = live_full met.word c.requires.live in
+    let hash = (hash_of g.K.Hash.hash_input g.S.BuildHasher.build_hasher g.S.Hasher.Hasher.write g.S.Hasher.Hasher.finish) in
+    let full = live_full met.word c.requires.live in
     let word : c.live.result.0 ≡ live_word q.index = c.live.ensures ∙ ap live_word c.index-2.ensures in
-    let st = c.requires.stands.1 in let led : Some (Writing (record { place = met.place; old = met.word })) ≡ Some st.0 = st.1 in let to : Writing (record { place = met.place; old = met.word }) ≡ st.0 = cc led in
+    let st = c.requires.stands.1 in let led : Some (Writing (record { place = met.place; old = met.word })) ≡ Some st.0 = st.1 in
+    let to : Writing (record { place = met.place; old = met.word }) ≡ st.0 = cc led in
     let r = subst (λ (z : State). IsInsertingAt g.K.PartialEq.eq hash b w.begun.book key st.2.0 log z (Some p) c.args.table.now) (sym to) st.2.1 in
-    rw word (put_can g.K.PartialEq.eq g.K.Hash.hash_input g.S.BuildHasher.build_hasher g.S.Hasher.Hasher.write g.S.Hasher.Hasher.finish g.met.K.Eq.laws g.met.K.Hash.respects_eq b w.begun.book key st.2.0 log met.place met.word full p c.args.table.now r c.requires.limit q key_is c.in-Ok.ensures.placed (pair_of-live_word q.index))
+    rw word (put_can g.K.PartialEq.eq g.K.Hash.hash_input g.S.BuildHasher.build_hasher g.S.Hasher.Hasher.write g.S.Hasher.Hasher.finish
+    g.met.K.Eq.laws g.met.K.Hash.respects_eq b w.begun.book key st.2.0 log met.place met.word full p c.args.table.now r c.requires.limit q key_is
+    c.in-Ok.ensures.placed (pair_of-live_word q.index))
 
 pub agrees-requires : goal.agrees-requires
 agrees-requires g c =
-    let w = c.args.window.now.book.now in let b = begun_of w.parts in let log = c.args.window.now.sight.log in let key = c.requires.stands.0 in let met = c.args.met.now in let p = met.stored in let q = c.in-Ok.pair in
+    let w = c.args.window.now.book.now in let b = begun_of w.parts in let log = c.args.window.now.sight.log in let key = c.requires.stands.0 in
+    let met = c.args.met.now in let p = met.stored in let q = c.in-Ok.pair in
     let key_is : key_of q ≡ key_of p = c.in-Ok.ensures.key ∙ ap (λ (z : Stored _ _). key_of z) c.again.ensures in
-    let hash = (hash_of g.K.Hash.hash_input g.S.BuildHasher.build_hasher g.S.Hasher.Hasher.write g.S.Hasher.Hasher.finish) in let full = live_full met.word c.requires.live in
+    let hash = (hash_of g.K.Hash.hash_input g.S.BuildHasher.build_hasher g.S.Hasher.Hasher.write g.S.Hasher.Hasher.finish) in
+    let full = live_full met.word c.requires.live in
     let word : c.live.result.0 ≡ live_word q.index = c.live.ensures ∙ ap live_word c.index-2.ensures in
-    let st = c.requires.stands.1 in let led : Some (Writing (record { place = met.place; old = met.word })) ≡ Some st.0 = st.1 in let to : Writing (record { place = met.place; old = met.word }) ≡ st.0 = cc led in
+    let st = c.requires.stands.1 in let led : Some (Writing (record { place = met.place; old = met.word })) ≡ Some st.0 = st.1 in
+    let to : Writing (record { place = met.place; old = met.word }) ≡ st.0 = cc led in
     let r = subst (λ (z : State). IsInsertingAt g.K.PartialEq.eq hash b w.begun.book key st.2.0 log z (Some p) c.args.table.now) (sym to) st.2.1 in
     let put = c.put_slot-found in let mid = put.new.self.sight.log in
-    let tried = subst (λ (z : ℕ). IsSlotTried g.K.PartialEq.eq hash b w.begun.book met.place.table met.place.probe.i (Some steps.Replace) met.word z (Some q) (names.Pair q) log put.result.0 mid put.result.1) word put.ensures.tried in
+    let tried = subst (λ (z : ℕ). IsSlotTried g.K.PartialEq.eq hash b w.begun.book met.place.table met.place.probe.i (Some steps.Replace) met.word z
+    (Some q) (names.Pair q) log put.result.0 mid put.result.1) word put.ensures.tried in
     let is : (put.result.0 == met.word) ≡ true = search rules in
-    let there = taken_there g.K.PartialEq.eq g.K.Hash.hash_input g.S.BuildHasher.build_hasher g.S.Hasher.Hasher.write g.S.Hasher.Hasher.finish g.met.K.Eq.laws g.met.K.Hash.respects_eq b w.begun.book key st.2.0 log met.place met.word full p c.args.table.now r c.requires.limit q key_is c.in-Ok.ensures.placed mid put.result.0 put.result.1 tried is in (
-      (met_placed g.K.PartialEq.eq g.K.Hash.hash_input g.S.BuildHasher.build_hasher g.S.Hasher.Hasher.write g.S.Hasher.Hasher.finish g.met.K.Eq.laws g.met.K.Hash.respects_eq b w.begun.book key st.2.0 log met.place met.word full p c.args.table.now r).0,
+    let there = taken_there g.K.PartialEq.eq g.K.Hash.hash_input g.S.BuildHasher.build_hasher g.S.Hasher.Hasher.write g.S.Hasher.Hasher.finish
+    g.met.K.Eq.laws g.met.K.Hash.respects_eq b w.begun.book key st.2.0 log met.place met.word full p c.args.table.now r c.requires.limit q key_is
+    c.in-Ok.ensures.placed mid put.result.0 put.result.1 tried is in (
+      (met_placed g.K.PartialEq.eq g.K.Hash.hash_input g.S.BuildHasher.build_hasher g.S.Hasher.Hasher.write g.S.Hasher.Hasher.finish g.met.K.Eq.laws
+          g.met.K.Hash.respects_eq b w.begun.book key st.2.0 log met.place met.word full p c.args.table.now r).0,
       (subst (λ (o : Option (Stored _ _)). IsPlaced b (Some w.begun.book) (pair_named o)) c.in-Some.is there).0,
-      taken_number g.K.PartialEq.eq g.K.Hash.hash_input g.S.BuildHasher.build_hasher g.S.Hasher.Hasher.write g.S.Hasher.Hasher.finish g.met.K.Eq.laws g.met.K.Hash.respects_eq b w.begun.book key st.2.0 log met.place met.word full p c.args.table.now r c.requires.limit q key_is c.in-Ok.ensures.placed mid put.result.0 put.result.1 tried is c.in-Some.taken c.in-Some.is,
+      taken_number g.K.PartialEq.eq g.K.Hash.hash_input g.S.BuildHasher.build_hasher g.S.Hasher.Hasher.write g.S.Hasher.Hasher.finish g.met.K.Eq.laws
+          g.met.K.Hash.respects_eq b w.begun.book key st.2.0 log met.place met.word full p c.args.table.now r c.requires.limit q key_is
+          c.in-Ok.ensures.placed mid put.result.0 put.result.1 tried is c.in-Some.taken c.in-Some.is,
     )
 
 pub returns-clause-put : goal.returns-clause-put
 returns-clause-put g c = λ z e key begun state led stands.
-    let w = c.args.window.now.book.now in let b = begun_of w.parts in let log = c.args.window.now.sight.log in let met = c.args.met.now in let p = met.stored in let q = c.in-Ok.pair in
+    let w = c.args.window.now.book.now in let b = begun_of w.parts in let log = c.args.window.now.sight.log in let met = c.args.met.now in
+    let p = met.stored in let q = c.in-Ok.pair in
     let key_is : key_of q ≡ key_of p = c.in-Ok.ensures.key ∙ ap (λ (z : Stored _ _). key_of z) c.again.ensures in
-    let hash = (hash_of g.K.Hash.hash_input g.S.BuildHasher.build_hasher g.S.Hasher.Hasher.write g.S.Hasher.Hasher.finish) in let full = live_full met.word c.requires.live in
+    let hash = (hash_of g.K.Hash.hash_input g.S.BuildHasher.build_hasher g.S.Hasher.Hasher.write g.S.Hasher.Hasher.finish) in
+    let full = live_full met.word c.requires.live in
     let word : c.live.result.0 ≡ live_word q.index = c.live.ensures ∙ ap live_word c.index-2.ensures in
     let to : Writing (record { place = met.place; old = met.word }) ≡ state = cc led in
     let r = subst (λ (z : State). IsInsertingAt g.K.PartialEq.eq hash b w.begun.book key begun log z (Some p) c.args.table.now) (sym to) stands in
     let put = c.put_slot-found in let mid = put.new.self.sight.log in
-    let tried = subst (λ (z : ℕ). IsSlotTried g.K.PartialEq.eq hash b w.begun.book met.place.table met.place.probe.i (Some steps.Replace) met.word z (Some q) (names.Pair q) log put.result.0 mid put.result.1) word put.ensures.tried in
+    let tried = subst (λ (z : ℕ). IsSlotTried g.K.PartialEq.eq hash b w.begun.book met.place.table met.place.probe.i (Some steps.Replace) met.word z
+    (Some q) (names.Pair q) log put.result.0 mid put.result.1) word put.ensures.tried in
     let is : (put.result.0 == met.word) ≡ true = search rules in
     let one : q ≡ z = cc e in
-    let number = taken_number g.K.PartialEq.eq g.K.Hash.hash_input g.S.BuildHasher.build_hasher g.S.Hasher.Hasher.write g.S.Hasher.Hasher.finish g.met.K.Eq.laws g.met.K.Hash.respects_eq b w.begun.book key begun log met.place met.word full p c.args.table.now r c.requires.limit q key_is c.in-Ok.ensures.placed mid put.result.0 put.result.1 tried is c.in-Some.taken c.in-Some.is in (
+    let number = taken_number g.K.PartialEq.eq g.K.Hash.hash_input g.S.BuildHasher.build_hasher g.S.Hasher.Hasher.write g.S.Hasher.Hasher.finish
+    g.met.K.Eq.laws g.met.K.Hash.respects_eq b w.begun.book key begun log met.place met.word full p c.args.table.now r c.requires.limit q key_is
+    c.in-Ok.ensures.placed mid put.result.0 put.result.1 tried is c.in-Some.taken c.in-Some.is in (
       Some c.in-Some.taken,
       (p, refl, (number, c.agrees.ensures)),
       subst (λ (o : Stored _ _). IsChangeOf (g.K.PartialEq.eq key) (history_of begun) (past put.new.self) (Some c.in-Some.taken) (Some o)) one
-          (replace_traded g.K.PartialEq.eq g.K.Hash.hash_input g.S.BuildHasher.build_hasher g.S.Hasher.Hasher.write g.S.Hasher.Hasher.finish g.met.K.Eq.laws g.met.K.Hash.respects_eq b w.begun.book key begun log met.place met.word full p c.args.table.now r c.requires.limit q key_is c.in-Ok.ensures.placed mid put.result.0 put.result.1 tried is c.in-Some.taken c.in-Some.is),
+          (replace_traded g.K.PartialEq.eq g.K.Hash.hash_input g.S.BuildHasher.build_hasher g.S.Hasher.Hasher.write g.S.Hasher.Hasher.finish
+          g.met.K.Eq.laws g.met.K.Hash.respects_eq b w.begun.book key begun log met.place met.word full p c.args.table.now r c.requires.limit q
+          key_is c.in-Ok.ensures.placed mid put.result.0 put.result.1 tried is c.in-Some.taken c.in-Some.is),
     )
 
 pub returns-clause-does : goal.returns-clause-does
@@ -95,14 +120,24 @@ returns-then-found-word-clause-made g c =
 
 pub returns-clause-made : goal.returns-clause-made
 returns-clause-made g c =
-    let w = c.args.window.now.book.now in let b = begun_of w.parts in let log = c.args.window.now.sight.log in let key = c.requires.stands.0 in let met = c.args.met.now in let p = met.stored in let q = c.in-Ok.pair in
+    let w = c.args.window.now.book.now in let b = begun_of w.parts in let log = c.args.window.now.sight.log in let key = c.requires.stands.0 in
+    let met = c.args.met.now in let p = met.stored in let q = c.in-Ok.pair in
     let key_is : key_of q ≡ key_of p = c.in-Ok.ensures.key ∙ ap (λ (z : Stored _ _). key_of z) c.again.ensures in
-    let hash = (hash_of g.K.Hash.hash_input g.S.BuildHasher.build_hasher g.S.Hasher.Hasher.write g.S.Hasher.Hasher.finish) in let full = live_full met.word c.requires.live in
+    let hash = (hash_of g.K.Hash.hash_input g.S.BuildHasher.build_hasher g.S.Hasher.Hasher.write g.S.Hasher.Hasher.finish) in
+    let full = live_full met.word c.requires.live in
     let word : c.live.result.0 ≡ live_word q.index = c.live.ensures ∙ ap live_word c.index-2.ensures in
-    let st = c.requires.stands.1 in let led : Some (Writing (record { place = met.place; old = met.word })) ≡ Some st.0 = st.1 in let to : Writing (record { place = met.place; old = met.word }) ≡ st.0 = cc led in
+    let st = c.requires.stands.1 in let led : Some (Writing (record { place = met.place; old = met.word })) ≡ Some st.0 = st.1 in
+    let to : Writing (record { place = met.place; old = met.word }) ≡ st.0 = cc led in
     let r = subst (λ (z : State). IsInsertingAt g.K.PartialEq.eq hash b w.begun.book key st.2.0 log z (Some p) c.args.table.now) (sym to) st.2.1 in
     let put = c.put_slot-found in let mid = put.new.self.sight.log in
-    let tried = subst (λ (z : ℕ). IsSlotTried g.K.PartialEq.eq hash b w.begun.book met.place.table met.place.probe.i (Some steps.Replace) met.word z (Some q) (names.Pair q) log put.result.0 mid put.result.1) word put.ensures.tried in
+    let tried = subst (λ (z : ℕ). IsSlotTried g.K.PartialEq.eq hash b w.begun.book met.place.table met.place.probe.i (Some steps.Replace) met.word z
+    (Some q) (names.Pair q) log put.result.0 mid put.result.1) word put.ensures.tried in
     let is : (put.result.0 == met.word) ≡ true = search rules in
     let does = subst (λ (z : Bool). Does z c.args.window.now put.new.self) is put.ensures.does in
-    makes g.K.PartialEq.eq (Some key) st.2.0 put.result.1 (Some q) (ends g.K.PartialEq.eq g.K.Hash.hash_input g.S.BuildHasher.build_hasher g.S.Hasher.Hasher.write g.S.Hasher.Hasher.finish g.met.K.Eq.laws g.met.K.Hash.respects_eq b w.begun.book key st.2.0 log met.place met.word full p c.args.table.now r c.requires.limit q key_is c.in-Ok.ensures.placed mid put.result.0 put.result.1 tried is) c.args.window.now put.new.self (ended g.K.PartialEq.eq g.K.Hash.hash_input g.S.BuildHasher.build_hasher g.S.Hasher.Hasher.write g.S.Hasher.Hasher.finish g.met.K.Eq.laws g.met.K.Hash.respects_eq b w.begun.book key st.2.0 log met.place met.word full p c.args.table.now r c.requires.limit q key_is c.in-Ok.ensures.placed mid put.result.0 put.result.1 tried is).changed does
+    makes g.K.PartialEq.eq (Some key) st.2.0 put.result.1 (Some q)
+    (ends g.K.PartialEq.eq g.K.Hash.hash_input g.S.BuildHasher.build_hasher g.S.Hasher.Hasher.write g.S.Hasher.Hasher.finish g.met.K.Eq.laws
+    g.met.K.Hash.respects_eq b w.begun.book key st.2.0 log met.place met.word full p c.args.table.now r c.requires.limit q key_is
+    c.in-Ok.ensures.placed mid put.result.0 put.result.1 tried is) c.args.window.now put.new.self
+    (ended g.K.PartialEq.eq g.K.Hash.hash_input g.S.BuildHasher.build_hasher g.S.Hasher.Hasher.write g.S.Hasher.Hasher.finish g.met.K.Eq.laws
+    g.met.K.Hash.respects_eq b w.begun.book key st.2.0 log met.place met.word full p c.args.table.now r c.requires.limit q key_is
+    c.in-Ok.ensures.placed mid put.result.0 put.result.1 tried is).changed does

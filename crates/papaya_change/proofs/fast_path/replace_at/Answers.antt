@@ -27,41 +27,57 @@ replace-requires-clause-stands g c = (c.args.key, c.requires.stands)
 
 pub insert_met-requires-clause-met : goal.insert_met-requires-clause-met
 insert_met-requires-clause-met g c =
-    let w = c.args.window.now.book.now in let b = begun_of w.parts in let log = c.args.window.now.sight.log in let key = c.args.key in let met = c.args.met in let p = met.stored in
-    let hash = (hash_of g.K.Hash.hash_input g.S.BuildHasher.build_hasher g.S.Hasher.Hasher.write g.S.Hasher.Hasher.finish) in let full = live_full met.word c.requires.live in
-    let st = c.requires.stands in let led : Some (Writing (record { place = met.place; old = met.word })) ≡ Some st.0 = st.1 in let to : Writing (record { place = met.place; old = met.word }) ≡ st.0 = cc led in
+    let w = c.args.window.now.book.now in let b = begun_of w.parts in let log = c.args.window.now.sight.log in let key = c.args.key in
+    let met = c.args.met in let p = met.stored in
+    let hash = (hash_of g.K.Hash.hash_input g.S.BuildHasher.build_hasher g.S.Hasher.Hasher.write g.S.Hasher.Hasher.finish) in
+    let full = live_full met.word c.requires.live in
+    let st = c.requires.stands in let led : Some (Writing (record { place = met.place; old = met.word })) ≡ Some st.0 = st.1 in
+    let to : Writing (record { place = met.place; old = met.word }) ≡ st.0 = cc led in
     let r = subst (λ (z : State). IsInsertingAt g.K.PartialEq.eq hash b w.begun.book key st.2.0 log z (Some p) c.args.table.now) (sym to) st.2.1 in
-    let there = met_key_there g.K.PartialEq.eq g.K.Hash.hash_input g.S.BuildHasher.build_hasher g.S.Hasher.Hasher.write g.S.Hasher.Hasher.finish g.met.K.Eq.laws g.met.K.Hash.respects_eq b w.begun.book key st.2.0 log met.place met.word full p c.args.table.now r in
+    let there = met_key_there g.K.PartialEq.eq g.K.Hash.hash_input g.S.BuildHasher.build_hasher g.S.Hasher.Hasher.write g.S.Hasher.Hasher.finish
+    g.met.K.Eq.laws g.met.K.Hash.respects_eq b w.begun.book key st.2.0 log met.place met.word full p c.args.table.now r in
     let mid = c.replace.new.window.sight.log in
     let at = c.in-Ok-Lost in let is = at.is ∙ ap (λ z. Ok z) at.field-0-is in
-    let l = subst (λ (z : Result (Tried _ _) _). IfOk z (λ t. IsLoggedAs c.replace.new.window (key_of c.args.met.stored) c.args.value (pair_in t))) is c.replace.ensures.logged in
+    let l = subst (λ (z : Result (Tried _ _) _). IfOk z (λ t. IsLoggedAs c.replace.new.window (key_of c.args.met.stored) c.args.value (pair_in t))) is
+    c.replace.ensures.logged in
     subst (HasKeyAt mid met.place.table met.place.probe.i) (sym l.key_is)
-    (key_at_stays g.K.PartialEq.eq g.K.Hash.hash_input g.S.BuildHasher.build_hasher g.S.Hasher.Hasher.write g.S.Hasher.Hasher.finish g.met.K.Eq.laws g.met.K.Hash.respects_eq b log mid (rw (sym c.replace.ensures.sees.book) c.replace.ensures.lawful) c.replace.ensures.sees.log met.place.table met.place.probe.i (key_of p) there)
+    (key_at_stays g.K.PartialEq.eq g.K.Hash.hash_input g.S.BuildHasher.build_hasher g.S.Hasher.Hasher.write g.S.Hasher.Hasher.finish g.met.K.Eq.laws
+    g.met.K.Hash.respects_eq b log mid (rw (sym c.replace.ensures.sees.book) c.replace.ensures.lawful) c.replace.ensures.sees.log met.place.table
+    met.place.probe.i (key_of p) there)
 
 pub insert_met-requires-clause-same : goal.insert_met-requires-clause-same
 insert_met-requires-clause-same g c =
-    let w = c.args.window.now.book.now in let b = begun_of w.parts in let log = c.args.window.now.sight.log in let key = c.args.key in let met = c.args.met in let p = met.stored in
-    let hash = (hash_of g.K.Hash.hash_input g.S.BuildHasher.build_hasher g.S.Hasher.Hasher.write g.S.Hasher.Hasher.finish) in let full = live_full met.word c.requires.live in
-    let st = c.requires.stands in let led : Some (Writing (record { place = met.place; old = met.word })) ≡ Some st.0 = st.1 in let to : Writing (record { place = met.place; old = met.word }) ≡ st.0 = cc led in
+    let w = c.args.window.now.book.now in let b = begun_of w.parts in let log = c.args.window.now.sight.log in let key = c.args.key in
+    let met = c.args.met in let p = met.stored in
+    let hash = (hash_of g.K.Hash.hash_input g.S.BuildHasher.build_hasher g.S.Hasher.Hasher.write g.S.Hasher.Hasher.finish) in
+    let full = live_full met.word c.requires.live in
+    let st = c.requires.stands in let led : Some (Writing (record { place = met.place; old = met.word })) ≡ Some st.0 = st.1 in
+    let to : Writing (record { place = met.place; old = met.word }) ≡ st.0 = cc led in
     let r = subst (λ (z : State). IsInsertingAt g.K.PartialEq.eq hash b w.begun.book key st.2.0 log z (Some p) c.args.table.now) (sym to) st.2.1 in
     let at = c.in-Ok-Lost in let is = at.is ∙ ap (λ z. Ok z) at.field-0-is in
-    let l = subst (λ (z : Result (Tried _ _) _). IfOk z (λ t. IsLoggedAs c.replace.new.window (key_of c.args.met.stored) c.args.value (pair_in t))) is c.replace.ensures.logged in
-    ap (g.K.PartialEq.eq key) l.key_is ∙ met_same g.K.PartialEq.eq g.K.Hash.hash_input g.S.BuildHasher.build_hasher g.S.Hasher.Hasher.write g.S.Hasher.Hasher.finish g.met.K.Eq.laws g.met.K.Hash.respects_eq b w.begun.book key st.2.0 log met.place met.word full p c.args.table.now r
+    let l = subst (λ (z : Result (Tried _ _) _). IfOk z (λ t. IsLoggedAs c.replace.new.window (key_of c.args.met.stored) c.args.value (pair_in t))) is
+    c.replace.ensures.logged in
+    ap (g.K.PartialEq.eq key) l.key_is ∙ met_same g.K.PartialEq.eq g.K.Hash.hash_input g.S.BuildHasher.build_hasher g.S.Hasher.Hasher.write
+    g.S.Hasher.Hasher.finish g.met.K.Eq.laws g.met.K.Hash.respects_eq b w.begun.book key st.2.0 log met.place met.word full p c.args.table.now r
 
 pub returns-in-Ok-Put-clause-put : goal.returns-in-Ok-Put-clause-put
 returns-in-Ok-Put-clause-put g c = λ begun state led r.
     let at = c.in-Ok-Put in let is = at.is ∙ ap (λ z. Ok z) at.field-0-is in
-    let l = subst (λ (z : Result (Tried _ _) _). IfOk z (λ t. IsLoggedAs c.replace.new.window (key_of c.args.met.stored) c.args.value (pair_in t))) is c.replace.ensures.logged in
+    let l = subst (λ (z : Result (Tried _ _) _). IfOk z (λ t. IsLoggedAs c.replace.new.window (key_of c.args.met.stored) c.args.value (pair_in t))) is
+    c.replace.ensures.logged in
     let t = c.replace.ensures.put at.field-0-0 is c.args.key begun state led r in
-    traded_some g.K.PartialEq.eq g.met.K.Eq.laws c.args.key c.args.value _ _ at.field-0-0 l.value_is c.args.met.stored c.entry.result.1 c.entry.ensures.1 t.0 t.1 t.2
+    traded_some g.K.PartialEq.eq g.met.K.Eq.laws c.args.key c.args.value _ _ at.field-0-0 l.value_is c.args.met.stored c.entry.result.1
+    c.entry.ensures.1 t.0 t.1 t.2
 
 pub returns-in-Ok-Lost-clause-put : goal.returns-in-Ok-Lost-clause-put
 returns-in-Ok-Lost-clause-put g c =
     let at = c.in-Ok-Lost in let is = at.is ∙ ap (λ z. Ok z) at.field-0-is in
-    let l = subst (λ (z : Result (Tried _ _) _). IfOk z (λ t. IsLoggedAs c.replace.new.window (key_of c.args.met.stored) c.args.value (pair_in t))) is c.replace.ensures.logged in
+    let l = subst (λ (z : Result (Tried _ _) _). IfOk z (λ t. IsLoggedAs c.replace.new.window (key_of c.args.met.stored) c.args.value (pair_in t))) is
+    c.replace.ensures.logged in
     let log = c.args.window.now.sight.log in let mid = c.replace.new.window.sight.log in
     if_ok _ _ c.insert_met.result c.insert_met.ensures.put (λ a h begun state led r.
-    put_since g.K.PartialEq.eq c.args.key c.args.value begun mid c.insert_met.new.window.sight.log a (prefix_trans begun log mid r.4.seen c.replace.ensures.sees.log)
+    put_since g.K.PartialEq.eq c.args.key c.args.value begun mid c.insert_met.new.window.sight.log a
+    (prefix_trans begun log mid r.4.seen c.replace.ensures.sees.log)
     (subst (λ z. IsPut g.K.PartialEq.eq c.args.key z (past c.replace.new.window) (past c.insert_met.new.window) a) l.value_is h))
 
 pub returns-clause-crowded : goal.returns-clause-crowded

@@ -11,7 +11,8 @@ use Rattle.papaya_change.proofs.fast_path.seek.Given as goal
 -- the turns so far led on from the first place to this one
 abbrev pub invariant-loop-next : goal.invariant-loop-next
 invariant-loop-next g l =
-    ((who : Seeker) (begun : List (Event _ _ _)) → IsSeekingAt who l.fn.window l.key begun (Searching (Looking l.fn.at)) None l.table → IsSeekingAt who l.window l.key begun (Searching (Looking l.place)) None l.table)
+    ((who : Seeker) (begun : List (Event _ _ _)) → IsSeekingAt who l.fn.window l.key begun (Searching (Looking l.fn.at)) None l.table
+    → IsSeekingAt who l.window l.key begun (Searching (Looking l.place)) None l.table)
     × IsWithin l.place
     × Sees l.fn.window l.window
     × (l.window.own ≡ l.fn.window.own)

@@ -43,26 +43,50 @@ loop-init g c = (
 pub answer-requires-clause-can : goal.answer-requires-clause-can
 answer-requires-clause-can g c =
     let begin = c.requires.can in let key = begin.0 in let value = begin.1 in let begun = begin.2 in
-    let u = c.loop.invariant.0 key value begun (subst (λ (z : Bor (BookOf _ _ _ _)). IsInserting g.K.PartialEq.eq (hash_of g.K.Hash.hash_input g.S.BuildHasher.build_hasher g.S.Hasher.Hasher.write g.S.Hasher.Hasher.finish) (begun_of z.now.parts) z.now.begun.book key value begun c.args.window.now.sight.log c.args.begun) (sym c.loop.invariant.4.book) begin.3) in
+    let u = c.loop.invariant.0 key value begun
+    (subst (λ (z : Bor (BookOf _ _ _ _)). IsInserting g.K.PartialEq.eq
+    (hash_of g.K.Hash.hash_input g.S.BuildHasher.build_hasher g.S.Hasher.Hasher.write g.S.Hasher.Hasher.finish) (begun_of z.now.parts)
+    z.now.begun.book key value begun c.args.window.now.sight.log c.args.begun) (sym c.loop.invariant.4.book) begin.3) in
     (key, value, begun, u)
 
 pub answer-requires-in-Some-answer-clause-fit : goal.answer-requires-in-Some-answer-clause-fit
 answer-requires-in-Some-answer-clause-fit g c =
     let begin = c.requires.can in let key = begin.0 in let value = begin.1 in let begun = begin.2 in
-    let u = c.loop.invariant.0 key value begun (subst (λ (z : Bor (BookOf _ _ _ _)). IsInserting g.K.PartialEq.eq (hash_of g.K.Hash.hash_input g.S.BuildHasher.build_hasher g.S.Hasher.Hasher.write g.S.Hasher.Hasher.finish) (begun_of z.now.parts) z.now.begun.book key value begun c.args.window.now.sight.log c.args.begun) (sym c.loop.invariant.4.book) begin.3) in
+    let u = c.loop.invariant.0 key value begun
+    (subst (λ (z : Bor (BookOf _ _ _ _)). IsInserting g.K.PartialEq.eq
+    (hash_of g.K.Hash.hash_input g.S.BuildHasher.build_hasher g.S.Hasher.Hasher.write g.S.Hasher.Hasher.finish) (begun_of z.now.parts)
+    z.now.begun.book key value begun c.args.window.now.sight.log c.args.begun) (sym c.loop.invariant.4.book) begin.3) in
     (c.in-Some-answer.ensures.inserts key value begun u).1
 
 pub help-requires-clause-can : goal.help-requires-clause-can
 help-requires-clause-can g c =
     let begin = c.requires.can in let key = begin.0 in let value = begin.1 in let begun = begin.2 in
-    let u = c.loop.invariant.0 key value begun (subst (λ (z : Bor (BookOf _ _ _ _)). IsInserting g.K.PartialEq.eq (hash_of g.K.Hash.hash_input g.S.BuildHasher.build_hasher g.S.Hasher.Hasher.write g.S.Hasher.Hasher.finish) (begun_of z.now.parts) z.now.begun.book key value begun c.args.window.now.sight.log c.args.begun) (sym c.loop.invariant.4.book) begin.3) in
+    let u = c.loop.invariant.0 key value begun
+    (subst (λ (z : Bor (BookOf _ _ _ _)). IsInserting g.K.PartialEq.eq
+    (hash_of g.K.Hash.hash_input g.S.BuildHasher.build_hasher g.S.Hasher.Hasher.write g.S.Hasher.Hasher.finish) (begun_of z.now.parts)
+    z.now.begun.book key value begun c.args.window.now.sight.log c.args.begun) (sym c.loop.invariant.4.book) begin.3) in
     let w = c.answer.new.window.book.now in let b = begun_of w.parts in
-    let it = subst (λ (z : Bor (BookOf _ _ _ _)). IsInserting g.K.PartialEq.eq (hash_of g.K.Hash.hash_input g.S.BuildHasher.build_hasher g.S.Hasher.Hasher.write g.S.Hasher.Hasher.finish) (begun_of z.now.parts) z.now.begun.book key value begun c.answer.new.window.sight.log (record c.answer.new.self { writer = record c.answer.new.self.writer { call = record c.answer.new.self.writer.call { machine = after c.answer.new.self.writer.call.machine (answers.Call c.in-Some-answer.answer) } } })) (sym c.answer.ensures.sees.book) (c.in-Some-answer.ensures.inserts key value begun u).0 in
-    let on = subst (λ (z : Driver _ _ _ _). IsDriven g.K.PartialEq.eq (hash_of g.K.Hash.hash_input g.S.BuildHasher.build_hasher g.S.Hasher.Hasher.write g.S.Hasher.Hasher.finish) b w.begun.book (g.K.PartialEq.eq key) ((hash_of g.K.Hash.hash_input g.S.BuildHasher.build_hasher g.S.Hasher.Hasher.write g.S.Hasher.Hasher.finish) b.hasher key) (Some key) begun c.answer.new.window.sight.log it.made z) (sym c.answer-in-Some-answer.ensures.after) it.writing.calling in
-    let query = own_query g.K.PartialEq.eq g.K.Hash.hash_input g.S.BuildHasher.build_hasher g.S.Hasher.Hasher.write g.S.Hasher.Hasher.finish g.met.K.Eq.laws g.met.K.Hash.respects_eq b w.begun.book key in (
+    let it = subst (λ (z : Bor (BookOf _ _ _ _)).
+    IsInserting g.K.PartialEq.eq (hash_of g.K.Hash.hash_input g.S.BuildHasher.build_hasher g.S.Hasher.Hasher.write g.S.Hasher.Hasher.finish)
+    (begun_of z.now.parts) z.now.begun.book key value begun c.answer.new.window.sight.log
+    (record c.answer.new.self {
+      writer = record c.answer.new.self.writer {
+        call = record c.answer.new.self.writer.call {
+          machine = after c.answer.new.self.writer.call.machine
+              (answers.Call c.in-Some-answer.answer);
+        };
+      };
+    })) (sym c.answer.ensures.sees.book) (c.in-Some-answer.ensures.inserts key value begun u).0 in
+    let on = subst (λ (z : Driver _ _ _ _). IsDriven g.K.PartialEq.eq
+    (hash_of g.K.Hash.hash_input g.S.BuildHasher.build_hasher g.S.Hasher.Hasher.write g.S.Hasher.Hasher.finish) b w.begun.book
+    (g.K.PartialEq.eq key) ((hash_of g.K.Hash.hash_input g.S.BuildHasher.build_hasher g.S.Hasher.Hasher.write g.S.Hasher.Hasher.finish) b.hasher
+    key) (Some key) begun c.answer.new.window.sight.log it.made z) (sym c.answer-in-Some-answer.ensures.after) it.writing.calling in
+    let query = own_query g.K.PartialEq.eq g.K.Hash.hash_input g.S.BuildHasher.build_hasher g.S.Hasher.Hasher.write g.S.Hasher.Hasher.finish
+    g.met.K.Eq.laws g.met.K.Hash.respects_eq b w.begun.book key in (
       g.K.PartialEq.eq key,
       (hash_of g.K.Hash.hash_input g.S.BuildHasher.build_hasher g.S.Hasher.Hasher.write g.S.Hasher.Hasher.finish) b.hasher key,
-      form g.K.PartialEq.eq g.K.Hash.hash_input g.S.BuildHasher.build_hasher g.S.Hasher.Hasher.write g.S.Hasher.Hasher.finish g.met.K.Eq.laws g.met.K.Hash.respects_eq b (g.K.PartialEq.eq key) (g.K.Hash.hash_input key) query (Some key) w.begun.book begun,
+      form g.K.PartialEq.eq g.K.Hash.hash_input g.S.BuildHasher.build_hasher g.S.Hasher.Hasher.write g.S.Hasher.Hasher.finish g.met.K.Eq.laws
+          g.met.K.Hash.respects_eq b (g.K.PartialEq.eq key) (g.K.Hash.hash_input key) query (Some key) w.begun.book begun,
       Some key,
       begun,
       it.made,
@@ -72,71 +96,125 @@ help-requires-clause-can g c =
 pub loop-preserved : goal.loop-preserved
 loop-preserved g c =
     let w = c.answer.new.window.book.now in let b = begun_of w.parts in
-    let answer = c.in-Some-answer.answer in let m = c.loop.insertion.writer.call.machine in let call = c.answer-in-Some-answer.new.self in let then = c.help.new.self in let log = c.help.new.window.sight.log in
+    let answer = c.in-Some-answer.answer in let m = c.loop.insertion.writer.call.machine in let call = c.answer-in-Some-answer.new.self in
+    let then = c.help.new.self in let log = c.help.new.window.sight.log in
     let x = record c.answer.new.self { writer = record c.answer.new.self.writer { call = call } } in
-    let same : call.machine ≡ after m (answers.Call answer) = ap (λ (z : Driver _ _ _ _). z.machine) c.answer-in-Some-answer.ensures.after ∙ ap (λ (z : Machine). after z (answers.Call answer)) c.answer.ensures.machine in
+    let same : call.machine ≡ after m (answers.Call answer) = ap (λ (z : Driver _ _ _ _). z.machine) c.answer-in-Some-answer.ensures.after
+    ∙ ap (λ (z : Machine). after z (answers.Call answer)) c.answer.ensures.machine in
     let does = does_on m c.loop.invariant.2 answer c.args.window.now c.loop.window c.answer.new.window c.loop.invariant.5 c.in-Some-answer.ensures.answers in
     let does_call = subst (λ (z : Machine). Does (has_changed z) c.args.window.now c.answer.new.window) (sym same) does in (
       (λ key value begun r.
-          let u = c.loop.invariant.0 key value begun (subst (λ (z : Bor (BookOf _ _ _ _)). IsInserting g.K.PartialEq.eq (hash_of g.K.Hash.hash_input g.S.BuildHasher.build_hasher g.S.Hasher.Hasher.write g.S.Hasher.Hasher.finish) (begun_of z.now.parts) z.now.begun.book key value begun c.args.window.now.sight.log c.args.begun) (c.help.ensures.sees.book ∙ c.answer.ensures.sees.book) r) in
-          let on = subst (λ (z : Driver _ _ _ _). IsInserting g.K.PartialEq.eq (hash_of g.K.Hash.hash_input g.S.BuildHasher.build_hasher g.S.Hasher.Hasher.write g.S.Hasher.Hasher.finish) b w.begun.book key value begun c.answer.new.window.sight.log (record c.answer.new.self { writer = record c.answer.new.self.writer { call = z } })) (sym c.answer-in-Some-answer.ensures.after)
-          (subst (λ (z : Bor (BookOf _ _ _ _)). IsInserting g.K.PartialEq.eq (hash_of g.K.Hash.hash_input g.S.BuildHasher.build_hasher g.S.Hasher.Hasher.write g.S.Hasher.Hasher.finish) (begun_of z.now.parts) z.now.begun.book key value begun c.answer.new.window.sight.log (record c.answer.new.self { writer = record c.answer.new.self.writer { call = record c.answer.new.self.writer.call { machine = after c.answer.new.self.writer.call.machine (answers.Call answer) } } })) (sym c.answer.ensures.sees.book) (c.in-Some-answer.ensures.inserts key value begun u).0) in
-          let query = own_query g.K.PartialEq.eq g.K.Hash.hash_input g.S.BuildHasher.build_hasher g.S.Hasher.Hasher.write g.S.Hasher.Hasher.finish g.met.K.Eq.laws g.met.K.Hash.respects_eq b w.begun.book key in
-          let driven = c.help.ensures.goes_on (g.K.PartialEq.eq key) ((hash_of g.K.Hash.hash_input g.S.BuildHasher.build_hasher g.S.Hasher.Hasher.write g.S.Hasher.Hasher.finish) b.hasher key) (form g.K.PartialEq.eq g.K.Hash.hash_input g.S.BuildHasher.build_hasher g.S.Hasher.Hasher.write g.S.Hasher.Hasher.finish g.met.K.Eq.laws g.met.K.Hash.respects_eq b (g.K.PartialEq.eq key) (g.K.Hash.hash_input key) query (Some key) w.begun.book begun) (Some key) begun on.made on.writing.calling in
-          let went = inserting_helped g.K.PartialEq.eq g.K.Hash.hash_input g.S.BuildHasher.build_hasher g.S.Hasher.Hasher.write g.S.Hasher.Hasher.finish g.met.K.Eq.laws g.met.K.Hash.respects_eq b w.begun.book key value begun c.answer.new.window.sight.log log c.help.ensures.sees.log x on then driven c.help.ensures.rest.1 c.help.ensures.calling (λ e. let s = c.help.ensures.still e in (s.0, ap (λ (z : Window _ _ _ _ _). z.sight.log) s.1)) c.help.ensures.helped in
-          subst (λ (z : Bor (BookOf _ _ _ _)). IsInserting g.K.PartialEq.eq (hash_of g.K.Hash.hash_input g.S.BuildHasher.build_hasher g.S.Hasher.Hasher.write g.S.Hasher.Hasher.finish) (begun_of z.now.parts) z.now.begun.book key value begun log (record x { writer = record x.writer { call = then } })) (sym c.help.ensures.sees.book) went),
+          let u = c.loop.invariant.0 key value begun
+          (subst (λ (z : Bor (BookOf _ _ _ _)). IsInserting g.K.PartialEq.eq
+          (hash_of g.K.Hash.hash_input g.S.BuildHasher.build_hasher g.S.Hasher.Hasher.write g.S.Hasher.Hasher.finish) (begun_of z.now.parts)
+          z.now.begun.book key value begun c.args.window.now.sight.log c.args.begun) (c.help.ensures.sees.book ∙ c.answer.ensures.sees.book) r) in
+          let on = subst (λ (z : Driver _ _ _ _). IsInserting g.K.PartialEq.eq
+          (hash_of g.K.Hash.hash_input g.S.BuildHasher.build_hasher g.S.Hasher.Hasher.write g.S.Hasher.Hasher.finish) b w.begun.book key value begun
+          c.answer.new.window.sight.log (record c.answer.new.self { writer = record c.answer.new.self.writer { call = z } }))
+          (sym c.answer-in-Some-answer.ensures.after)
+          (subst (λ (z : Bor (BookOf _ _ _ _)). IsInserting g.K.PartialEq.eq
+          (hash_of g.K.Hash.hash_input g.S.BuildHasher.build_hasher g.S.Hasher.Hasher.write g.S.Hasher.Hasher.finish) (begun_of z.now.parts)
+          z.now.begun.book key value begun c.answer.new.window.sight.log
+          (record c.answer.new.self {
+            writer = record c.answer.new.self.writer {
+              call = record c.answer.new.self.writer.call { machine = after c.answer.new.self.writer.call.machine (answers.Call answer) };
+            };
+          }))
+          (sym c.answer.ensures.sees.book) (c.in-Some-answer.ensures.inserts key value begun u).0) in
+          let query = own_query g.K.PartialEq.eq g.K.Hash.hash_input g.S.BuildHasher.build_hasher g.S.Hasher.Hasher.write g.S.Hasher.Hasher.finish
+          g.met.K.Eq.laws g.met.K.Hash.respects_eq b w.begun.book key in
+          let driven = c.help.ensures.goes_on (g.K.PartialEq.eq key)
+          ((hash_of g.K.Hash.hash_input g.S.BuildHasher.build_hasher g.S.Hasher.Hasher.write g.S.Hasher.Hasher.finish) b.hasher key)
+          (form g.K.PartialEq.eq g.K.Hash.hash_input g.S.BuildHasher.build_hasher g.S.Hasher.Hasher.write g.S.Hasher.Hasher.finish g.met.K.Eq.laws
+          g.met.K.Hash.respects_eq b (g.K.PartialEq.eq key) (g.K.Hash.hash_input key) query (Some key) w.begun.book begun) (Some key) begun on.made
+          on.writing.calling in
+          let went = inserting_helped g.K.PartialEq.eq g.K.Hash.hash_input g.S.BuildHasher.build_hasher g.S.Hasher.Hasher.write
+          g.S.Hasher.Hasher.finish g.met.K.Eq.laws g.met.K.Hash.respects_eq b w.begun.book key value begun c.answer.new.window.sight.log log
+          c.help.ensures.sees.log x on then driven c.help.ensures.rest.1 c.help.ensures.calling
+          (λ e. let s = c.help.ensures.still e in (s.0, ap (λ (z : Window _ _ _ _ _). z.sight.log) s.1)) c.help.ensures.helped in
+          subst (λ (z : Bor (BookOf _ _ _ _)). IsInserting g.K.PartialEq.eq
+          (hash_of g.K.Hash.hash_input g.S.BuildHasher.build_hasher g.S.Hasher.Hasher.write g.S.Hasher.Hasher.finish) (begun_of z.now.parts)
+          z.now.begun.book key value begun log (record x { writer = record x.writer { call = then } })) (sym c.help.ensures.sees.book) went),
       c.help.ensures.standing,
       c.help.ensures.calling,
-      (helped_keeps call.machine then.machine (tables_of log) then.given.done c.help.ensures.helped).initial ∙ (ap (λ (z : Machine). z.call.initial) same ∙ ((own_settings m c.loop.invariant.2 answer).0 ∙ c.loop.invariant.3)),
+      (helped_keeps call.machine then.machine (tables_of log) then.given.done c.help.ensures.helped).initial
+          ∙ (ap (λ (z : Machine). z.call.initial) same ∙ ((own_settings m c.loop.invariant.2 answer).0 ∙ c.loop.invariant.3)),
       sees_trans _ _ _ (sees_trans _ _ _ c.loop.invariant.4 c.answer.ensures.sees) c.help.ensures.sees,
-      helped_does call.machine then.machine (tables_of log) then.given.done c.help.ensures.calling c.help.ensures.helped c.args.window.now c.answer.new.window c.help.new.window (λ e. (c.help.ensures.still e).1) c.help.ensures.own does_call,
+      helped_does call.machine then.machine (tables_of log) then.given.done c.help.ensures.calling c.help.ensures.helped c.args.window.now
+          c.answer.new.window c.help.new.window (λ e. (c.help.ensures.still e).1) c.help.ensures.own does_call,
     )
 
 pub replied-requires-clause-can : goal.replied-requires-clause-can
 replied-requires-clause-can g c =
     let begin = c.requires.can in let key = begin.0 in let value = begin.1 in let begun = begin.2 in
-    let u = c.loop.invariant.0 key value begun (subst (λ (z : Bor (BookOf _ _ _ _)). IsInserting g.K.PartialEq.eq (hash_of g.K.Hash.hash_input g.S.BuildHasher.build_hasher g.S.Hasher.Hasher.write g.S.Hasher.Hasher.finish) (begun_of z.now.parts) z.now.begun.book key value begun c.args.window.now.sight.log c.args.begun) (sym c.loop.invariant.4.book) begin.3) in
+    let u = c.loop.invariant.0 key value begun
+    (subst (λ (z : Bor (BookOf _ _ _ _)). IsInserting g.K.PartialEq.eq
+    (hash_of g.K.Hash.hash_input g.S.BuildHasher.build_hasher g.S.Hasher.Hasher.write g.S.Hasher.Hasher.finish) (begun_of z.now.parts)
+    z.now.begun.book key value begun c.args.window.now.sight.log c.args.begun) (sym c.loop.invariant.4.book) begin.3) in
     rw c.answer.ensures.sees.book (key, value, begun, (c.in-None-answer.ensures.inserts key value begun u).0)
 
 pub replied-requires-clause-done : goal.replied-requires-clause-done
 replied-requires-clause-done g c =
     let begin = c.requires.can in let key = begin.0 in let value = begin.1 in let begun = begin.2 in
-    let u = c.loop.invariant.0 key value begun (subst (λ (z : Bor (BookOf _ _ _ _)). IsInserting g.K.PartialEq.eq (hash_of g.K.Hash.hash_input g.S.BuildHasher.build_hasher g.S.Hasher.Hasher.write g.S.Hasher.Hasher.finish) (begun_of z.now.parts) z.now.begun.book key value begun c.args.window.now.sight.log c.args.begun) (sym c.loop.invariant.4.book) begin.3) in
+    let u = c.loop.invariant.0 key value begun
+    (subst (λ (z : Bor (BookOf _ _ _ _)). IsInserting g.K.PartialEq.eq
+    (hash_of g.K.Hash.hash_input g.S.BuildHasher.build_hasher g.S.Hasher.Hasher.write g.S.Hasher.Hasher.finish) (begun_of z.now.parts)
+    z.now.begun.book key value begun c.args.window.now.sight.log c.args.begun) (sym c.loop.invariant.4.book) begin.3) in
     (c.in-None-answer.ensures.inserts key value begun u).1
 
 pub returns-in-None-answer-clause-lawful : goal.returns-in-None-answer-clause-lawful
 returns-in-None-answer-clause-lawful g c =
     let begin = c.requires.can in let key = begin.0 in let value = begin.1 in let begun = begin.2 in
-    let u = c.loop.invariant.0 key value begun (subst (λ (z : Bor (BookOf _ _ _ _)). IsInserting g.K.PartialEq.eq (hash_of g.K.Hash.hash_input g.S.BuildHasher.build_hasher g.S.Hasher.Hasher.write g.S.Hasher.Hasher.finish) (begun_of z.now.parts) z.now.begun.book key value begun c.args.window.now.sight.log c.args.begun) (sym c.loop.invariant.4.book) begin.3) in
+    let u = c.loop.invariant.0 key value begun
+    (subst (λ (z : Bor (BookOf _ _ _ _)). IsInserting g.K.PartialEq.eq
+    (hash_of g.K.Hash.hash_input g.S.BuildHasher.build_hasher g.S.Hasher.Hasher.write g.S.Hasher.Hasher.finish) (begun_of z.now.parts)
+    z.now.begun.book key value begun c.args.window.now.sight.log c.args.begun) (sym c.loop.invariant.4.book) begin.3) in
     rw c.answer.ensures.sees.book (c.in-None-answer.ensures.inserts key value begun u).0.writing.calling.lawful
 
 pub returns-in-None-answer-clause-put : goal.returns-in-None-answer-clause-put
 returns-in-None-answer-clause-put g c =
     if_ok _ _ c.replied.result c.replied.ensures.put (λ a h key value begun r.
-    let u = c.loop.invariant.0 key value begun (subst (λ (z : Bor (BookOf _ _ _ _)). IsInserting g.K.PartialEq.eq (hash_of g.K.Hash.hash_input g.S.BuildHasher.build_hasher g.S.Hasher.Hasher.write g.S.Hasher.Hasher.finish) (begun_of z.now.parts) z.now.begun.book key value begun c.args.window.now.sight.log c.args.begun) (sym c.loop.invariant.4.book) r) in
+    let u = c.loop.invariant.0 key value begun
+    (subst (λ (z : Bor (BookOf _ _ _ _)). IsInserting g.K.PartialEq.eq
+    (hash_of g.K.Hash.hash_input g.S.BuildHasher.build_hasher g.S.Hasher.Hasher.write g.S.Hasher.Hasher.finish) (begun_of z.now.parts)
+    z.now.begun.book key value begun c.args.window.now.sight.log c.args.begun) (sym c.loop.invariant.4.book) r) in
     h key value begun (rw c.answer.ensures.sees.book (c.in-None-answer.ensures.inserts key value begun u).0))
 
 pub returns-in-None-answer-clause-made : goal.returns-in-None-answer-clause-made
 returns-in-None-answer-clause-made g c =
     let begin = c.requires.can in let key = begin.0 in let value = begin.1 in let begun = begin.2 in
-    let u = c.loop.invariant.0 key value begun (subst (λ (z : Bor (BookOf _ _ _ _)). IsInserting g.K.PartialEq.eq (hash_of g.K.Hash.hash_input g.S.BuildHasher.build_hasher g.S.Hasher.Hasher.write g.S.Hasher.Hasher.finish) (begun_of z.now.parts) z.now.begun.book key value begun c.args.window.now.sight.log c.args.begun) (sym c.loop.invariant.4.book) begin.3) in
+    let u = c.loop.invariant.0 key value begun
+    (subst (λ (z : Bor (BookOf _ _ _ _)). IsInserting g.K.PartialEq.eq
+    (hash_of g.K.Hash.hash_input g.S.BuildHasher.build_hasher g.S.Hasher.Hasher.write g.S.Hasher.Hasher.finish) (begun_of z.now.parts)
+    z.now.begun.book key value begun c.args.window.now.sight.log c.args.begun) (sym c.loop.invariant.4.book) begin.3) in
     let r = (c.in-None-answer.ensures.inserts key value begun u).0 in let call = c.answer.new.self.writer.call in
-    let does = does_still c.loop.insertion.writer.call.machine c.args.window.now c.loop.window c.answer.new.window c.loop.invariant.5 c.in-None-answer.ensures.answers in
-    rw c.replied.ensures.changed (makes g.K.PartialEq.eq (Some key) begun call.taken call.put call.machine c.args.window.now c.answer.new.window r.writing.calling.changed (rw c.answer.ensures.machine does))
+    let does = does_still c.loop.insertion.writer.call.machine c.args.window.now c.loop.window c.answer.new.window c.loop.invariant.5
+    c.in-None-answer.ensures.answers in
+    rw c.replied.ensures.changed (makes g.K.PartialEq.eq (Some key) begun call.taken call.put call.machine c.args.window.now c.answer.new.window
+    r.writing.calling.changed (rw c.answer.ensures.machine does))
 
 pub returns-in-None-answer-clause-crowded : goal.returns-in-None-answer-clause-crowded
 returns-in-None-answer-clause-crowded g c = λ e.
     let begin = c.requires.can in let key = begin.0 in let value = begin.1 in let begun = begin.2 in
-    let u = c.loop.invariant.0 key value begun (subst (λ (z : Bor (BookOf _ _ _ _)). IsInserting g.K.PartialEq.eq (hash_of g.K.Hash.hash_input g.S.BuildHasher.build_hasher g.S.Hasher.Hasher.write g.S.Hasher.Hasher.finish) (begun_of z.now.parts) z.now.begun.book key value begun c.args.window.now.sight.log c.args.begun) (sym c.loop.invariant.4.book) begin.3) in
+    let u = c.loop.invariant.0 key value begun
+    (subst (λ (z : Bor (BookOf _ _ _ _)). IsInserting g.K.PartialEq.eq
+    (hash_of g.K.Hash.hash_input g.S.BuildHasher.build_hasher g.S.Hasher.Hasher.write g.S.Hasher.Hasher.finish) (begun_of z.now.parts)
+    z.now.begun.book key value begun c.args.window.now.sight.log c.args.begun) (sym c.loop.invariant.4.book) begin.3) in
     let r = (c.in-None-answer.ensures.inserts key value begun u).0 in
-    let refused = subst (λ (z : _). IfErr z (λ cause. ask_of c.answer.new.self.writer.call.machine ≡ Call (Done (Refused cause)))) e c.replied.ensures.refusal in
-    let initial : c.answer.new.self.writer.call.machine.call.initial ≡ c.args.begun.writer.call.machine.call.initial = ap (λ (z : Machine). z.call.initial) c.answer.ensures.machine ∙ c.loop.invariant.3 in
+    let refused = subst (λ (z : _). IfErr z (λ cause. ask_of c.answer.new.self.writer.call.machine ≡ Call (Done (Refused cause)))) e
+    c.replied.ensures.refusal in
+    let initial : c.answer.new.self.writer.call.machine.call.initial ≡ c.args.begun.writer.call.machine.call.initial = ap
+    (λ (z : Machine). z.call.initial) c.answer.ensures.machine ∙ c.loop.invariant.3 in
     rw c.again.ensures (subst (λ n. HasNoRoom n (tables_of c.answer.new.window.sight.log) c.answer.new.self.writer.call.given.done) initial (r.crowded refused))
 
 pub returns-in-None-answer-clause-spent : goal.returns-in-None-answer-clause-spent
 returns-in-None-answer-clause-spent g c = λ e.
     let begin = c.requires.can in let key = begin.0 in let value = begin.1 in let begun = begin.2 in
-    let u = c.loop.invariant.0 key value begun (subst (λ (z : Bor (BookOf _ _ _ _)). IsInserting g.K.PartialEq.eq (hash_of g.K.Hash.hash_input g.S.BuildHasher.build_hasher g.S.Hasher.Hasher.write g.S.Hasher.Hasher.finish) (begun_of z.now.parts) z.now.begun.book key value begun c.args.window.now.sight.log c.args.begun) (sym c.loop.invariant.4.book) begin.3) in
+    let u = c.loop.invariant.0 key value begun
+    (subst (λ (z : Bor (BookOf _ _ _ _)). IsInserting g.K.PartialEq.eq
+    (hash_of g.K.Hash.hash_input g.S.BuildHasher.build_hasher g.S.Hasher.Hasher.write g.S.Hasher.Hasher.finish) (begun_of z.now.parts)
+    z.now.begun.book key value begun c.args.window.now.sight.log c.args.begun) (sym c.loop.invariant.4.book) begin.3) in
     let r = (c.in-None-answer.ensures.inserts key value begun u).0 in
-    let refused = subst (λ (z : _). IfErr z (λ cause. ask_of c.answer.new.self.writer.call.machine ≡ Call (Done (Refused cause)))) e c.replied.ensures.refusal in
+    let refused = subst (λ (z : _). IfErr z (λ cause. ask_of c.answer.new.self.writer.call.machine ≡ Call (Done (Refused cause)))) e
+    c.replied.ensures.refusal in
     rw c.answer.ensures.sees.book (r.spent refused)

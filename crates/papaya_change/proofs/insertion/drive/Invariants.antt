@@ -11,7 +11,8 @@ use Rattle.papaya_change.proofs.insertion.drive.Given as goal
 -- the insertion relies on what is seen by now, and asks for itself
 abbrev pub invariant-loop : goal.invariant-loop
 invariant-loop g l =
-    GoesOn g.K.PartialEq.eq (hash_of g.K.Hash.hash_input g.S.BuildHasher.build_hasher g.S.Hasher.Hasher.write g.S.Hasher.Hasher.finish) (begun_of l.window.book.now.parts) l.window.book.now.begun.book l.fn.window.sight.log l.fn.begun l.window.sight.log l.insertion
+    GoesOn g.K.PartialEq.eq (hash_of g.K.Hash.hash_input g.S.BuildHasher.build_hasher g.S.Hasher.Hasher.write g.S.Hasher.Hasher.finish)
+    (begun_of l.window.book.now.parts) l.window.book.now.begun.book l.fn.window.sight.log l.fn.begun l.window.sight.log l.insertion
     × IsStanding l.insertion.writer.call.machine
     × (l.insertion.writer.call.machine.phase ≡ Calling)
     × (l.insertion.writer.call.machine.call.initial ≡ l.fn.begun.writer.call.machine.call.initial)

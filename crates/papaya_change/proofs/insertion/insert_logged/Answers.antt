@@ -27,9 +27,24 @@ drive-requires-clause-can g c =
     let placed : IsPlaced (begun_of w.parts) (Some w.begun.book) (names.Pair q) = rw c.learn.ensures.sees.book c.requires.placed in
     let hashed : c.args.hash ≡ hash w.parts.hasher (key_of q) = rw c.learn.ensures.sees.book c.requires.hashed in
     let made : Made = record (nothing_made w.parts.limit) { own = Some q.index } in
-    let machine : record c.new-call.result.machine { call = record c.new-call.result.machine.call { made = record c.new-call.result.machine.call.made { own = Some c.index.result } } } ≡ insertion_at c.args.hash w.parts.mode c.args.means.now.initial made AtRoot = λ i. record (c.new-call.ensures.machine i) { call = record (c.new-call.ensures.machine i).call { made = record (c.new-call.ensures.machine i).call.made { own = Some (c.index.ensures i) } } } in
-    let there = machine ∙ ap (λ h. insertion_at h w.parts.mode c.args.means.now.initial made AtRoot) hashed in
-    ((key_of q), q.value.value, log, begins_logged g.K.PartialEq.eq hash (begun_of w.parts) w.begun.book (key_of q) q placed (g.met.K.Eq.laws.refl (key_of q)) log _ c.learn.ensures.lawful c.args.means.now.initial c.new-call.ensures.table c.new-call.ensures.pairs (subst (λ (z : Stored _ _). HasKey (begun_of w.parts) w.begun.book (key_of q) (Some (keys.Of z))) (sym c.again.ensures) (refl, placed)) (subst (λ (z : Stored _ _). HasValue (begun_of w.parts) w.begun.book (Some (values.Of z))) (sym c.again-2.ensures) placed) (ap (λ (z : Stored _ _). held_value (Some (values.Of z))) c.again-2.ensures) refl there refl refl)
+    let machine : record c.new-call.result.machine {
+      call = record c.new-call.result.machine.call { made = record c.new-call.result.machine.call.made { own = Some c.index.result } };
+    }
+    ≡ insertion_at c.args.hash w.parts.mode c.args.means.now.initial made AtRoot = λ i.
+    record (c.new-call.ensures.machine i) {
+      call =
+          record (c.new-call.ensures.machine i).call { made = record (c.new-call.ensures.machine i).call.made { own = Some (c.index.ensures i) } };
+    } in
+    let there = machine ∙ ap (λ h. insertion_at h w.parts.mode c.args.means.now.initial made AtRoot) hashed in (
+      (key_of q),
+      q.value.value,
+      log,
+      begins_logged g.K.PartialEq.eq hash (begun_of w.parts) w.begun.book (key_of q) q placed
+          (g.met.K.Eq.laws.refl (key_of q)) log _ c.learn.ensures.lawful c.args.means.now.initial c.new-call.ensures.table c.new-call.ensures.pairs
+          (subst (λ (z : Stored _ _). HasKey (begun_of w.parts) w.begun.book (key_of q) (Some (keys.Of z))) (sym c.again.ensures) (refl, placed))
+          (subst (λ (z : Stored _ _). HasValue (begun_of w.parts) w.begun.book (Some (values.Of z))) (sym c.again-2.ensures) placed)
+          (ap (λ (z : Stored _ _). held_value (Some (values.Of z))) c.again-2.ensures) refl there refl refl,
+    )
 
 pub returns-clause-put : goal.returns-clause-put
 returns-clause-put g c =
@@ -38,6 +53,20 @@ returns-clause-put g c =
     let placed : IsPlaced (begun_of w.parts) (Some w.begun.book) (names.Pair q) = rw c.learn.ensures.sees.book c.requires.placed in
     let hashed : c.args.hash ≡ hash w.parts.hasher (key_of q) = rw c.learn.ensures.sees.book c.requires.hashed in
     let made : Made = record (nothing_made w.parts.limit) { own = Some q.index } in
-    let machine : record c.new-call.result.machine { call = record c.new-call.result.machine.call { made = record c.new-call.result.machine.call.made { own = Some c.index.result } } } ≡ insertion_at c.args.hash w.parts.mode c.args.means.now.initial made AtRoot = λ i. record (c.new-call.ensures.machine i) { call = record (c.new-call.ensures.machine i).call { made = record (c.new-call.ensures.machine i).call.made { own = Some (c.index.ensures i) } } } in
+    let machine : record c.new-call.result.machine {
+      call = record c.new-call.result.machine.call { made = record c.new-call.result.machine.call.made { own = Some c.index.result } };
+    }
+    ≡ insertion_at c.args.hash w.parts.mode c.args.means.now.initial made AtRoot = λ i.
+    record (c.new-call.ensures.machine i) {
+      call =
+          record (c.new-call.ensures.machine i).call { made = record (c.new-call.ensures.machine i).call.made { own = Some (c.index.ensures i) } };
+    } in
     let there = machine ∙ ap (λ h. insertion_at h w.parts.mode c.args.means.now.initial made AtRoot) hashed in
-    if_ok _ _ c.drive.result c.drive.ensures.put (λ a h. put_since g.K.PartialEq.eq (key_of q) q.value.value c.args.window.now.sight.log log c.drive.new.window.sight.log a c.learn.ensures.sees.log (h (key_of q) q.value.value log (begins_logged g.K.PartialEq.eq hash (begun_of w.parts) w.begun.book (key_of q) q placed (g.met.K.Eq.laws.refl (key_of q)) log _ c.learn.ensures.lawful c.args.means.now.initial c.new-call.ensures.table c.new-call.ensures.pairs (subst (λ (z : Stored _ _). HasKey (begun_of w.parts) w.begun.book (key_of q) (Some (keys.Of z))) (sym c.again.ensures) (refl, placed)) (subst (λ (z : Stored _ _). HasValue (begun_of w.parts) w.begun.book (Some (values.Of z))) (sym c.again-2.ensures) placed) (ap (λ (z : Stored _ _). held_value (Some (values.Of z))) c.again-2.ensures) refl there refl refl)))
+    if_ok _ _ c.drive.result c.drive.ensures.put
+    (λ a h. put_since g.K.PartialEq.eq (key_of q) q.value.value c.args.window.now.sight.log log c.drive.new.window.sight.log a
+    c.learn.ensures.sees.log (h (key_of q) q.value.value log
+    (begins_logged g.K.PartialEq.eq hash (begun_of w.parts) w.begun.book (key_of q) q placed (g.met.K.Eq.laws.refl (key_of q)) log _
+    c.learn.ensures.lawful c.args.means.now.initial c.new-call.ensures.table c.new-call.ensures.pairs
+    (subst (λ (z : Stored _ _). HasKey (begun_of w.parts) w.begun.book (key_of q) (Some (keys.Of z))) (sym c.again.ensures) (refl, placed))
+    (subst (λ (z : Stored _ _). HasValue (begun_of w.parts) w.begun.book (Some (values.Of z))) (sym c.again-2.ensures) placed)
+    (ap (λ (z : Stored _ _). held_value (Some (values.Of z))) c.again-2.ensures) refl there refl refl)))

@@ -27,12 +27,33 @@ drive-requires-clause-can g c =
     let w = c.learn.new.self.book.now in let log = c.learn.new.self.sight.log in let q = c.args.pair in
     let placed : IsPlaced (begun_of w.parts) (Some w.begun.book) (names.Pair q) = rw c.learn.ensures.sees.book c.requires.placed in
     let hashed : c.args.hash ≡ hash w.parts.hasher c.args.key = rw c.learn.ensures.sees.book c.requires.hashed in
-    let met : HasKeyAt log c.args.write.place.table c.args.write.place.probe.i (key_of q) = key_at_stays g.K.PartialEq.eq g.K.Hash.hash_input g.S.BuildHasher.build_hasher g.S.Hasher.Hasher.write g.S.Hasher.Hasher.finish g.met.K.Eq.laws g.met.K.Hash.respects_eq (begun_of w.parts) c.args.window.now.sight.log log c.learn.ensures.lawful c.learn.ensures.sees.log c.args.write.place.table c.args.write.place.probe.i (key_of q) c.requires.met in
-    let of : c.of.result ≡ record { pair = q.index; table = c.args.write.place.table; index = c.args.write.place.probe.i } = c.of.ensures ∙ ap (made_of c.args.write) c.index.ensures in
-    let made : Made = record (nothing_made w.parts.limit) { of = Some (record { pair = q.index; table = c.args.write.place.table; index = c.args.write.place.probe.i }) } in
-    let machine : record c.new-call.result.machine { call = record c.new-call.result.machine.call { made = record c.new-call.result.machine.call.made { of = Some c.of.result } } } ≡ insertion_at c.args.hash w.parts.mode c.args.means.now.initial made AtRoot = λ i. record (c.new-call.ensures.machine i) { call = record (c.new-call.ensures.machine i).call { made = record (c.new-call.ensures.machine i).call.made { of = Some (of i) } } } in
-    let there = machine ∙ ap (λ h. insertion_at h w.parts.mode c.args.means.now.initial made AtRoot) hashed in
-    (c.args.key, q.value.value, log, begins_met g.K.PartialEq.eq hash (begun_of w.parts) w.begun.book c.args.key q placed c.requires.same log _ c.learn.ensures.lawful c.args.means.now.initial c.new-call.ensures.table c.new-call.ensures.pairs (refl, tt) (subst (λ (z : Stored _ _). HasValue (begun_of w.parts) w.begun.book (Some (values.Of z))) (sym c.again.ensures) placed) (ap (λ (z : Stored _ _). held_value (Some (values.Of z))) c.again.ensures) c.args.write.place.table c.args.write.place.probe.i met there refl refl)
+    let met : HasKeyAt log c.args.write.place.table c.args.write.place.probe.i (key_of q) = key_at_stays g.K.PartialEq.eq g.K.Hash.hash_input
+    g.S.BuildHasher.build_hasher g.S.Hasher.Hasher.write g.S.Hasher.Hasher.finish g.met.K.Eq.laws g.met.K.Hash.respects_eq (begun_of w.parts)
+    c.args.window.now.sight.log log c.learn.ensures.lawful c.learn.ensures.sees.log c.args.write.place.table c.args.write.place.probe.i (key_of q)
+    c.requires.met in
+    let of : c.of.result ≡ record { pair = q.index; table = c.args.write.place.table; index = c.args.write.place.probe.i } = c.of.ensures
+    ∙ ap (made_of c.args.write) c.index.ensures in
+    let made : Made = record (nothing_made w.parts.limit) {
+      of = Some
+          (record { pair = q.index; table = c.args.write.place.table; index = c.args.write.place.probe.i });
+    } in
+    let machine : record c.new-call.result.machine {
+      call = record c.new-call.result.machine.call { made = record c.new-call.result.machine.call.made { of = Some c.of.result } };
+    } ≡ insertion_at
+    c.args.hash w.parts.mode c.args.means.now.initial made AtRoot = λ i.
+    record (c.new-call.ensures.machine i) {
+      call =
+          record (c.new-call.ensures.machine i).call { made = record (c.new-call.ensures.machine i).call.made { of = Some (of i) } };
+    } in
+    let there = machine ∙ ap (λ h. insertion_at h w.parts.mode c.args.means.now.initial made AtRoot) hashed in (
+      c.args.key,
+      q.value.value,
+      log,
+      begins_met g.K.PartialEq.eq hash (begun_of w.parts) w.begun.book c.args.key q placed c.requires.same log _
+          c.learn.ensures.lawful c.args.means.now.initial c.new-call.ensures.table c.new-call.ensures.pairs (refl, tt)
+          (subst (λ (z : Stored _ _). HasValue (begun_of w.parts) w.begun.book (Some (values.Of z))) (sym c.again.ensures) placed)
+          (ap (λ (z : Stored _ _). held_value (Some (values.Of z))) c.again.ensures) c.args.write.place.table c.args.write.place.probe.i met there refl refl,
+    )
 
 pub returns-clause-put : goal.returns-clause-put
 returns-clause-put g c =
@@ -40,9 +61,29 @@ returns-clause-put g c =
     let w = c.learn.new.self.book.now in let log = c.learn.new.self.sight.log in let q = c.args.pair in
     let placed : IsPlaced (begun_of w.parts) (Some w.begun.book) (names.Pair q) = rw c.learn.ensures.sees.book c.requires.placed in
     let hashed : c.args.hash ≡ hash w.parts.hasher c.args.key = rw c.learn.ensures.sees.book c.requires.hashed in
-    let met : HasKeyAt log c.args.write.place.table c.args.write.place.probe.i (key_of q) = key_at_stays g.K.PartialEq.eq g.K.Hash.hash_input g.S.BuildHasher.build_hasher g.S.Hasher.Hasher.write g.S.Hasher.Hasher.finish g.met.K.Eq.laws g.met.K.Hash.respects_eq (begun_of w.parts) c.args.window.now.sight.log log c.learn.ensures.lawful c.learn.ensures.sees.log c.args.write.place.table c.args.write.place.probe.i (key_of q) c.requires.met in
-    let of : c.of.result ≡ record { pair = q.index; table = c.args.write.place.table; index = c.args.write.place.probe.i } = c.of.ensures ∙ ap (made_of c.args.write) c.index.ensures in
-    let made : Made = record (nothing_made w.parts.limit) { of = Some (record { pair = q.index; table = c.args.write.place.table; index = c.args.write.place.probe.i }) } in
-    let machine : record c.new-call.result.machine { call = record c.new-call.result.machine.call { made = record c.new-call.result.machine.call.made { of = Some c.of.result } } } ≡ insertion_at c.args.hash w.parts.mode c.args.means.now.initial made AtRoot = λ i. record (c.new-call.ensures.machine i) { call = record (c.new-call.ensures.machine i).call { made = record (c.new-call.ensures.machine i).call.made { of = Some (of i) } } } in
+    let met : HasKeyAt log c.args.write.place.table c.args.write.place.probe.i (key_of q) = key_at_stays g.K.PartialEq.eq g.K.Hash.hash_input
+    g.S.BuildHasher.build_hasher g.S.Hasher.Hasher.write g.S.Hasher.Hasher.finish g.met.K.Eq.laws g.met.K.Hash.respects_eq (begun_of w.parts)
+    c.args.window.now.sight.log log c.learn.ensures.lawful c.learn.ensures.sees.log c.args.write.place.table c.args.write.place.probe.i (key_of q)
+    c.requires.met in
+    let of : c.of.result ≡ record { pair = q.index; table = c.args.write.place.table; index = c.args.write.place.probe.i } = c.of.ensures
+    ∙ ap (made_of c.args.write) c.index.ensures in
+    let made : Made = record (nothing_made w.parts.limit) {
+      of = Some
+          (record { pair = q.index; table = c.args.write.place.table; index = c.args.write.place.probe.i });
+    } in
+    let machine : record c.new-call.result.machine {
+      call = record c.new-call.result.machine.call { made = record c.new-call.result.machine.call.made { of = Some c.of.result } };
+    } ≡ insertion_at
+    c.args.hash w.parts.mode c.args.means.now.initial made AtRoot = λ i.
+    record (c.new-call.ensures.machine i) {
+      call =
+          record (c.new-call.ensures.machine i).call { made = record (c.new-call.ensures.machine i).call.made { of = Some (of i) } };
+    } in
     let there = machine ∙ ap (λ h. insertion_at h w.parts.mode c.args.means.now.initial made AtRoot) hashed in
-    if_ok _ _ c.drive.result c.drive.ensures.put (λ a h. put_since g.K.PartialEq.eq c.args.key q.value.value c.args.window.now.sight.log log c.drive.new.window.sight.log a c.learn.ensures.sees.log (h c.args.key q.value.value log (begins_met g.K.PartialEq.eq hash (begun_of w.parts) w.begun.book c.args.key q placed c.requires.same log _ c.learn.ensures.lawful c.args.means.now.initial c.new-call.ensures.table c.new-call.ensures.pairs (refl, tt) (subst (λ (z : Stored _ _). HasValue (begun_of w.parts) w.begun.book (Some (values.Of z))) (sym c.again.ensures) placed) (ap (λ (z : Stored _ _). held_value (Some (values.Of z))) c.again.ensures) c.args.write.place.table c.args.write.place.probe.i met there refl refl)))
+    if_ok _ _ c.drive.result c.drive.ensures.put
+    (λ a h. put_since g.K.PartialEq.eq c.args.key q.value.value c.args.window.now.sight.log log c.drive.new.window.sight.log a
+    c.learn.ensures.sees.log (h c.args.key q.value.value log
+    (begins_met g.K.PartialEq.eq hash (begun_of w.parts) w.begun.book c.args.key q placed c.requires.same log _ c.learn.ensures.lawful
+    c.args.means.now.initial c.new-call.ensures.table c.new-call.ensures.pairs (refl, tt)
+    (subst (λ (z : Stored _ _). HasValue (begun_of w.parts) w.begun.book (Some (values.Of z))) (sym c.again.ensures) placed)
+    (ap (λ (z : Stored _ _). held_value (Some (values.Of z))) c.again.ensures) c.args.write.place.table c.args.write.place.probe.i met there refl refl)))

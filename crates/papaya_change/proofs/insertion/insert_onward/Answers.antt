@@ -16,22 +16,44 @@ if_ok P Q (Err e) p f = tt
 pub drive-requires-clause-can : goal.drive-requires-clause-can
 drive-requires-clause-can g c =
     let hash = (hash_of g.K.Hash.hash_input g.S.BuildHasher.build_hasher g.S.Hasher.Hasher.write g.S.Hasher.Hasher.finish) in
-    let w = c.args.window.now.book.now in let b = begun_of w.parts in let log = c.args.window.now.sight.log in let key = c.args.key in let to = Growing (Room c.args.number) in
+    let w = c.args.window.now.book.now in let b = begun_of w.parts in let log = c.args.window.now.sight.log in let key = c.args.key in
+    let to = Growing (Room c.args.number) in
     let stood = c.stand.ensures in
-    let machine : c.stand.new.self.machine ≡ insertion_at c.args.hash w.parts.mode c.args.means.now.initial (nothing_made w.parts.limit) to = ap (λ z. z.machine) stood ∙ (λ i. record (c.new-call.ensures.machine i) { call = record (c.new-call.ensures.machine i).call { state = to } }) in
+    let machine : c.stand.new.self.machine ≡ insertion_at c.args.hash w.parts.mode c.args.means.now.initial (nothing_made w.parts.limit) to = ap
+    (λ z. z.machine) stood ∙ (λ i. record (c.new-call.ensures.machine i) { call = record (c.new-call.ensures.machine i).call { state = to } }) in
     let there = machine ∙ ap (λ h. insertion_at h w.parts.mode c.args.means.now.initial (nothing_made w.parts.limit) to) c.requires.hashed in
     let st = c.requires.stands in let led : Some to ≡ Some st.0 = st.1 in let is : to ≡ st.0 = cc led in
-    let r = subst (λ (z : State). IsInsertingAt g.K.PartialEq.eq hash b w.begun.book key st.2.0 log z None c.args.table.now) (sym is) st.2.1 in
-    (key, c.args.value, st.2.0, begins_onward g.K.PartialEq.eq hash b w.begun.book key st.2.0 log c.args.number c.args.table r c.args.value _ c.args.means.now.initial (ap (λ z. z.table) stood) (ap (λ z. z.fresh) stood ∙ c.new-call.ensures.table.1) (ap (λ z. z.last) stood ∙ c.new-call.ensures.pairs.0, ap (λ z. z.kept) stood ∙ c.new-call.ensures.pairs.1, ap (λ z. z.taken) stood ∙ c.new-call.ensures.pairs.2, ap (λ z. z.put) stood ∙ c.new-call.ensures.pairs.3) (refl, tt) tt refl there refl refl)
+    let r = subst (λ (z : State). IsInsertingAt g.K.PartialEq.eq hash b w.begun.book key st.2.0 log z None c.args.table.now) (sym is) st.2.1 in (
+      key,
+      c.args.value,
+      st.2.0,
+      begins_onward g.K.PartialEq.eq hash b w.begun.book key st.2.0 log c.args.number c.args.table r c.args.value _
+          c.args.means.now.initial (ap (λ z. z.table) stood) (ap (λ z. z.fresh) stood ∙ c.new-call.ensures.table.1) (
+            ap (λ z. z.last) stood ∙ c.new-call.ensures.pairs.0,
+            ap (λ z. z.kept) stood ∙ c.new-call.ensures.pairs.1,
+            ap (λ z. z.taken) stood
+                ∙ c.new-call.ensures.pairs.2,
+            ap (λ z. z.put) stood ∙ c.new-call.ensures.pairs.3,
+          ) (refl, tt) tt refl there refl refl,
+    )
 
 pub returns-clause-put : goal.returns-clause-put
 returns-clause-put g c =
     let hash = (hash_of g.K.Hash.hash_input g.S.BuildHasher.build_hasher g.S.Hasher.Hasher.write g.S.Hasher.Hasher.finish) in
-    let w = c.args.window.now.book.now in let b = begun_of w.parts in let log = c.args.window.now.sight.log in let key = c.args.key in let to = Growing (Room c.args.number) in
+    let w = c.args.window.now.book.now in let b = begun_of w.parts in let log = c.args.window.now.sight.log in let key = c.args.key in
+    let to = Growing (Room c.args.number) in
     let stood = c.stand.ensures in
-    let machine : c.stand.new.self.machine ≡ insertion_at c.args.hash w.parts.mode c.args.means.now.initial (nothing_made w.parts.limit) to = ap (λ z. z.machine) stood ∙ (λ i. record (c.new-call.ensures.machine i) { call = record (c.new-call.ensures.machine i).call { state = to } }) in
+    let machine : c.stand.new.self.machine ≡ insertion_at c.args.hash w.parts.mode c.args.means.now.initial (nothing_made w.parts.limit) to = ap
+    (λ z. z.machine) stood ∙ (λ i. record (c.new-call.ensures.machine i) { call = record (c.new-call.ensures.machine i).call { state = to } }) in
     let there = machine ∙ ap (λ h. insertion_at h w.parts.mode c.args.means.now.initial (nothing_made w.parts.limit) to) c.requires.hashed in
     if_ok _ _ c.drive.result c.drive.ensures.put (λ a h begun state led r0.
     let is : to ≡ state = cc led in
     let r = subst (λ (z : State). IsInsertingAt g.K.PartialEq.eq hash b w.begun.book key begun log z None c.args.table.now) (sym is) r0 in
-    h key c.args.value begun (begins_onward g.K.PartialEq.eq hash b w.begun.book key begun log c.args.number c.args.table r c.args.value _ c.args.means.now.initial (ap (λ z. z.table) stood) (ap (λ z. z.fresh) stood ∙ c.new-call.ensures.table.1) (ap (λ z. z.last) stood ∙ c.new-call.ensures.pairs.0, ap (λ z. z.kept) stood ∙ c.new-call.ensures.pairs.1, ap (λ z. z.taken) stood ∙ c.new-call.ensures.pairs.2, ap (λ z. z.put) stood ∙ c.new-call.ensures.pairs.3) (refl, tt) tt refl there refl refl))
+    h key c.args.value begun (begins_onward g.K.PartialEq.eq hash b w.begun.book key begun log c.args.number c.args.table r c.args.value _
+    c.args.means.now.initial (ap (λ z. z.table) stood) (ap (λ z. z.fresh) stood ∙ c.new-call.ensures.table.1) (
+      ap (λ z. z.last) stood ∙ c.new-call.ensures.pairs.0,
+      ap (λ z. z.kept) stood ∙ c.new-call.ensures.pairs.1,
+      ap (λ z. z.taken) stood
+          ∙ c.new-call.ensures.pairs.2,
+      ap (λ z. z.put) stood ∙ c.new-call.ensures.pairs.3,
+    ) (refl, tt) tt refl there refl refl))

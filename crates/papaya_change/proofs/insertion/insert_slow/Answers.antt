@@ -18,7 +18,9 @@ drive-requires-clause-can g c =
       c.args.key,
       c.args.value,
       log,
-      begins g.K.PartialEq.eq (hash_of g.K.Hash.hash_input g.S.BuildHasher.build_hasher g.S.Hasher.Hasher.write g.S.Hasher.Hasher.finish) (begun_of w.parts) w.begun.book c.args.key c.args.value log _ c.learn.ensures.lawful c.args.means.now.initial machine c.new.ensures.table c.new.ensures.pairs refl refl refl refl,
+      begins g.K.PartialEq.eq (hash_of g.K.Hash.hash_input g.S.BuildHasher.build_hasher g.S.Hasher.Hasher.write g.S.Hasher.Hasher.finish)
+          (begun_of w.parts) w.begun.book c.args.key c.args.value log _ c.learn.ensures.lawful c.args.means.now.initial machine c.new.ensures.table
+          c.new.ensures.pairs refl refl refl refl,
     )
 
 pub returns-clause-put : goal.returns-clause-put
@@ -27,4 +29,6 @@ returns-clause-put g c =
     let machine = c.new.ensures.machine ∙ ap (λ h. started (Insert true) h w.parts.mode c.args.means.now.initial 0 w.parts.limit) c.hash-hash.ensures in
     if_ok _ _ c.drive.result c.drive.ensures.put (λ a h.
     put_since g.K.PartialEq.eq c.args.key c.args.value c.args.window.now.sight.log log c.drive.new.window.sight.log a c.learn.ensures.sees.log
-    (h c.args.key c.args.value log (begins g.K.PartialEq.eq (hash_of g.K.Hash.hash_input g.S.BuildHasher.build_hasher g.S.Hasher.Hasher.write g.S.Hasher.Hasher.finish) (begun_of w.parts) w.begun.book c.args.key c.args.value log _ c.learn.ensures.lawful c.args.means.now.initial machine c.new.ensures.table c.new.ensures.pairs refl refl refl refl)))
+    (h c.args.key c.args.value log (begins g.K.PartialEq.eq
+    (hash_of g.K.Hash.hash_input g.S.BuildHasher.build_hasher g.S.Hasher.Hasher.write g.S.Hasher.Hasher.finish) (begun_of w.parts) w.begun.book
+    c.args.key c.args.value log _ c.learn.ensures.lawful c.args.means.now.initial machine c.new.ensures.table c.new.ensures.pairs refl refl refl refl)))

@@ -39,14 +39,17 @@ loop-init g c =
       (
         log,
         c.learn.ensures.sees.log,
-        begins g.K.PartialEq.eq (hash_of g.K.Hash.hash_input g.S.BuildHasher.build_hasher g.S.Hasher.Hasher.write g.S.Hasher.Hasher.finish) (begun_of w.parts) w.begun.book (g.Q.Equivalent.matches c.args.key.now) fed (Judges g.F.FnMut) c.args.agrees log _ c.learn.ensures.lawful c.args.means.now.initial machine c.new.ensures.table c.new.ensures.pairs refl,
+        begins g.K.PartialEq.eq (hash_of g.K.Hash.hash_input g.S.BuildHasher.build_hasher g.S.Hasher.Hasher.write g.S.Hasher.Hasher.finish)
+            (begun_of w.parts) w.begun.book (g.Q.Equivalent.matches c.args.key.now) fed (Judges g.F.FnMut) c.args.agrees log _ c.learn.ensures.lawful
+            c.args.means.now.initial machine c.new.ensures.table c.new.ensures.pairs refl,
       ),
       c.new.ensures.standing,
       ap (λ (m : Machine). m.phase) machine,
       ap (λ (m : Machine). m.call.initial) machine,
       c.learn.ensures.sees,
       c.requires.callable,
-      subst (λ (m : Machine). Does (has_changed m) c.args.window.now c.learn.new.self) (sym machine) (idles c.args.window.now c.learn.new.self c.learn.ensures.own),
+      subst (λ (m : Machine). Does (has_changed m) c.args.window.now c.learn.new.self) (sym machine)
+          (idles c.args.window.now c.learn.new.self c.learn.ensures.own),
     )
 
 pub answer-requires-in-Some-answer-clause-fit : goal.answer-requires-in-Some-answer-clause-fit
@@ -55,55 +58,129 @@ answer-requires-in-Some-answer-clause-fit g c = let u = c.loop.invariant.0 in (c
 pub help-requires-clause-can : goal.help-requires-clause-can
 help-requires-clause-can g c =
     let u = c.loop.invariant.0 in let w = c.answer.new.window.book.now in let b = begun_of w.parts in
-    let lawful : IsQuery g.K.PartialEq.eq g.K.Hash.hash_input (g.Q.Equivalent.matches c.args.key.now) (g.Q.Hash.hash_input c.args.key.now) = record { feeds = g.met.Q.Equivalent.hashes_as_key c.args.key.now; class = λ k l. g.met.Q.Equivalent.matches_equal_keys c.args.key.now k l } in
+    let lawful : IsQuery g.K.PartialEq.eq g.K.Hash.hash_input (g.Q.Equivalent.matches c.args.key.now)
+    (g.Q.Hash.hash_input c.args.key.now) = record {
+      feeds = g.met.Q.Equivalent.hashes_as_key c.args.key.now;
+      class = λ k l.
+          g.met.Q.Equivalent.matches_equal_keys c.args.key.now k l;
+    } in
     let matches = g.Q.Equivalent.matches c.args.key.now in let old = c.answer.new.window.sight.log in
-    let on = subst (λ (z : Driver _ _ _ _). IsDriven g.K.PartialEq.eq (hash_of g.K.Hash.hash_input g.S.BuildHasher.build_hasher g.S.Hasher.Hasher.write g.S.Hasher.Hasher.finish) b w.begun.book matches (hash_of g.Q.Hash.hash_input g.S.BuildHasher.build_hasher g.S.Hasher.Hasher.write g.S.Hasher.Hasher.finish w.parts.hasher c.args.key.now) None u.0 old [] z) (sym c.answer-in-Some-answer.ensures.after)
-    (subst (λ (z : Bor (BookOf _ _ _ _)). IsRemoving g.K.PartialEq.eq (hash_of g.K.Hash.hash_input g.S.BuildHasher.build_hasher g.S.Hasher.Hasher.write g.S.Hasher.Hasher.finish) (begun_of z.now.parts) z.now.begun.book matches (hash_of g.Q.Hash.hash_input g.S.BuildHasher.build_hasher g.S.Hasher.Hasher.write g.S.Hasher.Hasher.finish z.now.parts.hasher c.args.key.now) (Judges g.F.FnMut) c.args.agrees u.0 old (record c.answer.new.self { call = record c.answer.new.self.call { machine = after c.answer.new.self.call.machine (answers.Call c.in-Some-answer.answer) } }) c.answer.new.agrees) (sym c.answer.ensures.sees.book) (c.in-Some-answer.ensures.removes c.args.agrees u.0 u.2).0).calling in
-    (g.Q.Equivalent.matches c.args.key.now, hash_of g.Q.Hash.hash_input g.S.BuildHasher.build_hasher g.S.Hasher.Hasher.write g.S.Hasher.Hasher.finish w.parts.hasher c.args.key.now, (form g.K.PartialEq.eq g.K.Hash.hash_input g.S.BuildHasher.build_hasher g.S.Hasher.Hasher.write g.S.Hasher.Hasher.finish g.met.K.Eq.laws g.met.K.Hash.respects_eq b (g.Q.Equivalent.matches c.args.key.now) (g.Q.Hash.hash_input c.args.key.now) lawful None w.begun.book u.0), None, u.0, [], on)
+    let on = subst (λ (z : Driver _ _ _ _). IsDriven g.K.PartialEq.eq
+    (hash_of g.K.Hash.hash_input g.S.BuildHasher.build_hasher g.S.Hasher.Hasher.write g.S.Hasher.Hasher.finish) b w.begun.book matches
+    (hash_of g.Q.Hash.hash_input g.S.BuildHasher.build_hasher g.S.Hasher.Hasher.write g.S.Hasher.Hasher.finish w.parts.hasher c.args.key.now) None
+    u.0 old [] z) (sym c.answer-in-Some-answer.ensures.after)
+    (subst (λ (z : Bor (BookOf _ _ _ _)). IsRemoving g.K.PartialEq.eq
+    (hash_of g.K.Hash.hash_input g.S.BuildHasher.build_hasher g.S.Hasher.Hasher.write g.S.Hasher.Hasher.finish) (begun_of z.now.parts)
+    z.now.begun.book matches (hash_of g.Q.Hash.hash_input g.S.BuildHasher.build_hasher g.S.Hasher.Hasher.write g.S.Hasher.Hasher.finish
+    z.now.parts.hasher c.args.key.now) (Judges g.F.FnMut) c.args.agrees u.0 old
+    (record c.answer.new.self {
+      call = record c.answer.new.self.call {
+        machine = after c.answer.new.self.call.machine
+            (answers.Call c.in-Some-answer.answer);
+      };
+    }) c.answer.new.agrees) (sym c.answer.ensures.sees.book)
+    (c.in-Some-answer.ensures.removes c.args.agrees u.0 u.2).0).calling in (
+      g.Q.Equivalent.matches c.args.key.now,
+      hash_of g.Q.Hash.hash_input g.S.BuildHasher.build_hasher g.S.Hasher.Hasher.write g.S.Hasher.Hasher.finish
+          w.parts.hasher c.args.key.now,
+      (form g.K.PartialEq.eq g.K.Hash.hash_input g.S.BuildHasher.build_hasher g.S.Hasher.Hasher.write
+          g.S.Hasher.Hasher.finish g.met.K.Eq.laws g.met.K.Hash.respects_eq b (g.Q.Equivalent.matches c.args.key.now) (g.Q.Hash.hash_input c.args.key.now)
+          lawful None w.begun.book u.0),
+      None,
+      u.0,
+      [],
+      on,
+    )
 
 pub loop-preserved : goal.loop-preserved
 loop-preserved g c =
     let u = c.loop.invariant.0 in let w = c.answer.new.window.book.now in let b = begun_of w.parts in
-    let lawful : IsQuery g.K.PartialEq.eq g.K.Hash.hash_input (g.Q.Equivalent.matches c.args.key.now) (g.Q.Hash.hash_input c.args.key.now) = record { feeds = g.met.Q.Equivalent.hashes_as_key c.args.key.now; class = λ k l. g.met.Q.Equivalent.matches_equal_keys c.args.key.now k l } in
+    let lawful : IsQuery g.K.PartialEq.eq g.K.Hash.hash_input (g.Q.Equivalent.matches c.args.key.now)
+    (g.Q.Hash.hash_input c.args.key.now) = record {
+      feeds = g.met.Q.Equivalent.hashes_as_key c.args.key.now;
+      class = λ k l.
+          g.met.Q.Equivalent.matches_equal_keys c.args.key.now k l;
+    } in
     let fed = hash_of g.Q.Hash.hash_input g.S.BuildHasher.build_hasher g.S.Hasher.Hasher.write g.S.Hasher.Hasher.finish w.parts.hasher c.args.key.now in
     let answer = c.in-Some-answer.answer in let m = c.loop.removal.call.machine in let call = c.answer-in-Some-answer.new.self in let then = c.help.new.self in
     let old = c.answer.new.window.sight.log in let log = c.help.new.window.sight.log in let matches = g.Q.Equivalent.matches c.args.key.now in
     let x = record c.answer.new.self { call = call } in
-    let on = subst (λ (z : Driver _ _ _ _). IsRemoving g.K.PartialEq.eq (hash_of g.K.Hash.hash_input g.S.BuildHasher.build_hasher g.S.Hasher.Hasher.write g.S.Hasher.Hasher.finish) b w.begun.book matches fed (Judges g.F.FnMut) c.args.agrees u.0 old (record c.answer.new.self { call = z }) c.answer.new.agrees) (sym c.answer-in-Some-answer.ensures.after)
-    (subst (λ (z : Bor (BookOf _ _ _ _)). IsRemoving g.K.PartialEq.eq (hash_of g.K.Hash.hash_input g.S.BuildHasher.build_hasher g.S.Hasher.Hasher.write g.S.Hasher.Hasher.finish) (begun_of z.now.parts) z.now.begun.book matches (hash_of g.Q.Hash.hash_input g.S.BuildHasher.build_hasher g.S.Hasher.Hasher.write g.S.Hasher.Hasher.finish z.now.parts.hasher c.args.key.now) (Judges g.F.FnMut) c.args.agrees u.0 old (record c.answer.new.self { call = record c.answer.new.self.call { machine = after c.answer.new.self.call.machine (answers.Call answer) } }) c.answer.new.agrees) (sym c.answer.ensures.sees.book) (c.in-Some-answer.ensures.removes c.args.agrees u.0 u.2).0) in
-    let driven = c.help.ensures.goes_on matches fed (form g.K.PartialEq.eq g.K.Hash.hash_input g.S.BuildHasher.build_hasher g.S.Hasher.Hasher.write g.S.Hasher.Hasher.finish g.met.K.Eq.laws g.met.K.Hash.respects_eq b (g.Q.Equivalent.matches c.args.key.now) (g.Q.Hash.hash_input c.args.key.now) lawful None w.begun.book u.0) None u.0 [] on.calling in
-    let went = removing_helped g.K.PartialEq.eq (hash_of g.K.Hash.hash_input g.S.BuildHasher.build_hasher g.S.Hasher.Hasher.write g.S.Hasher.Hasher.finish) b w.begun.book matches fed (Judges g.F.FnMut) c.args.agrees u.0 old log x c.answer.new.agrees on then c.help.ensures.sees.log driven c.help.ensures.calling (λ e. (c.help.ensures.still e).0) c.help.ensures.helped in
-    let same : call.machine ≡ after m (answers.Call answer) = ap (λ (z : Driver _ _ _ _). z.machine) c.answer-in-Some-answer.ensures.after ∙ ap (λ (z : Machine). after z (answers.Call answer)) c.answer.ensures.machine in
+    let on = subst (λ (z : Driver _ _ _ _). IsRemoving g.K.PartialEq.eq
+    (hash_of g.K.Hash.hash_input g.S.BuildHasher.build_hasher g.S.Hasher.Hasher.write g.S.Hasher.Hasher.finish) b w.begun.book matches fed
+    (Judges g.F.FnMut) c.args.agrees u.0 old (record c.answer.new.self { call = z }) c.answer.new.agrees) (sym c.answer-in-Some-answer.ensures.after)
+    (subst (λ (z : Bor (BookOf _ _ _ _)). IsRemoving g.K.PartialEq.eq
+    (hash_of g.K.Hash.hash_input g.S.BuildHasher.build_hasher g.S.Hasher.Hasher.write g.S.Hasher.Hasher.finish) (begun_of z.now.parts)
+    z.now.begun.book matches (hash_of g.Q.Hash.hash_input g.S.BuildHasher.build_hasher g.S.Hasher.Hasher.write g.S.Hasher.Hasher.finish
+    z.now.parts.hasher c.args.key.now) (Judges g.F.FnMut) c.args.agrees u.0 old
+    (record c.answer.new.self { call = record c.answer.new.self.call { machine = after c.answer.new.self.call.machine (answers.Call answer) } })
+    c.answer.new.agrees) (sym c.answer.ensures.sees.book) (c.in-Some-answer.ensures.removes c.args.agrees u.0 u.2).0) in
+    let driven = c.help.ensures.goes_on matches fed
+    (form g.K.PartialEq.eq g.K.Hash.hash_input g.S.BuildHasher.build_hasher g.S.Hasher.Hasher.write g.S.Hasher.Hasher.finish g.met.K.Eq.laws
+    g.met.K.Hash.respects_eq b (g.Q.Equivalent.matches c.args.key.now) (g.Q.Hash.hash_input c.args.key.now) lawful None w.begun.book u.0) None u.0
+    [] on.calling in
+    let went = removing_helped g.K.PartialEq.eq
+    (hash_of g.K.Hash.hash_input g.S.BuildHasher.build_hasher g.S.Hasher.Hasher.write g.S.Hasher.Hasher.finish) b w.begun.book matches fed
+    (Judges g.F.FnMut) c.args.agrees u.0 old log x c.answer.new.agrees on then c.help.ensures.sees.log driven c.help.ensures.calling
+    (λ e. (c.help.ensures.still e).0) c.help.ensures.helped in
+    let same : call.machine ≡ after m (answers.Call answer) = ap (λ (z : Driver _ _ _ _). z.machine) c.answer-in-Some-answer.ensures.after
+    ∙ ap (λ (z : Machine). after z (answers.Call answer)) c.answer.ensures.machine in
     let does = does_on m c.loop.invariant.2 answer c.args.window.now c.loop.window c.answer.new.window c.loop.invariant.6 c.in-Some-answer.ensures.answers in
     let does_call = subst (λ (z : Machine). Does (has_changed z) c.args.window.now c.answer.new.window) (sym same) does in (
-      (u.0, u.1, subst (λ (z : Bor (BookOf _ _ _ _)). IsRemoving g.K.PartialEq.eq (hash_of g.K.Hash.hash_input g.S.BuildHasher.build_hasher g.S.Hasher.Hasher.write g.S.Hasher.Hasher.finish) (begun_of z.now.parts) z.now.begun.book matches (hash_of g.Q.Hash.hash_input g.S.BuildHasher.build_hasher g.S.Hasher.Hasher.write g.S.Hasher.Hasher.finish z.now.parts.hasher c.args.key.now) (Judges g.F.FnMut) c.args.agrees u.0 log (record x { call = then }) c.answer.new.agrees) (sym c.help.ensures.sees.book) went),
+      (
+        u.0,
+        u.1,
+        subst (λ (z : Bor (BookOf _ _ _ _)).
+            IsRemoving g.K.PartialEq.eq (hash_of g.K.Hash.hash_input g.S.BuildHasher.build_hasher g.S.Hasher.Hasher.write g.S.Hasher.Hasher.finish)
+            (begun_of z.now.parts) z.now.begun.book matches
+            (hash_of g.Q.Hash.hash_input g.S.BuildHasher.build_hasher g.S.Hasher.Hasher.write g.S.Hasher.Hasher.finish z.now.parts.hasher c.args.key.now)
+            (Judges g.F.FnMut) c.args.agrees u.0 log (record x { call = then }) c.answer.new.agrees) (sym c.help.ensures.sees.book) went,
+      ),
       c.help.ensures.standing,
       c.help.ensures.calling,
-      (helped_keeps call.machine then.machine (tables_of log) then.given.done c.help.ensures.helped).initial ∙ (ap (λ (z : Machine). z.call.initial) same ∙ ((own_settings m c.loop.invariant.2 answer).0 ∙ c.loop.invariant.3)),
+      (helped_keeps call.machine then.machine (tables_of log) then.given.done c.help.ensures.helped).initial
+          ∙ (ap (λ (z : Machine). z.call.initial) same ∙ ((own_settings m c.loop.invariant.2 answer).0 ∙ c.loop.invariant.3)),
       sees_trans _ _ _ (sees_trans _ _ _ c.loop.invariant.4 c.answer.ensures.sees) c.help.ensures.sees,
       c.answer.ensures.callable,
-      helped_does call.machine then.machine (tables_of log) then.given.done c.help.ensures.calling c.help.ensures.helped c.args.window.now c.answer.new.window c.help.new.window (λ e. (c.help.ensures.still e).1) c.help.ensures.own does_call,
+      helped_does call.machine then.machine (tables_of log) then.given.done c.help.ensures.calling c.help.ensures.helped c.args.window.now
+          c.answer.new.window c.help.new.window (λ e. (c.help.ensures.still e).1) c.help.ensures.own does_call,
     )
 
 pub replied-requires-clause-can : goal.replied-requires-clause-can
 replied-requires-clause-can g c = let u = c.loop.invariant.0 in
     let w = c.loop.window.book.now in
-    let lawful : IsQuery g.K.PartialEq.eq g.K.Hash.hash_input (g.Q.Equivalent.matches c.args.key.now) (g.Q.Hash.hash_input c.args.key.now) = record { feeds = g.met.Q.Equivalent.hashes_as_key c.args.key.now; class = λ k l. g.met.Q.Equivalent.matches_equal_keys c.args.key.now k l } in
-    rw c.answer.ensures.sees.book (can_tell g.K.PartialEq.eq g.K.Hash.hash_input g.S.BuildHasher.build_hasher g.S.Hasher.Hasher.write g.S.Hasher.Hasher.finish g.met.K.Eq.laws g.met.K.Hash.respects_eq (begun_of w.parts) w.begun.book (g.Q.Equivalent.matches c.args.key.now) (g.Q.Hash.hash_input c.args.key.now) lawful (Judges g.F.FnMut) c.args.agrees u.0 c.answer.new.window.sight.log c.answer.new.self c.answer.new.agrees (c.in-None-answer.ensures.removes c.args.agrees u.0 u.2).0)
+    let lawful : IsQuery g.K.PartialEq.eq g.K.Hash.hash_input (g.Q.Equivalent.matches c.args.key.now)
+    (g.Q.Hash.hash_input c.args.key.now) = record {
+      feeds = g.met.Q.Equivalent.hashes_as_key c.args.key.now;
+      class = λ k l.
+          g.met.Q.Equivalent.matches_equal_keys c.args.key.now k l;
+    } in
+    rw c.answer.ensures.sees.book (can_tell g.K.PartialEq.eq g.K.Hash.hash_input g.S.BuildHasher.build_hasher g.S.Hasher.Hasher.write
+    g.S.Hasher.Hasher.finish g.met.K.Eq.laws g.met.K.Hash.respects_eq (begun_of w.parts) w.begun.book (g.Q.Equivalent.matches c.args.key.now)
+    (g.Q.Hash.hash_input c.args.key.now) lawful (Judges g.F.FnMut) c.args.agrees u.0 c.answer.new.window.sight.log c.answer.new.self
+    c.answer.new.agrees (c.in-None-answer.ensures.removes c.args.agrees u.0 u.2).0)
 
 pub replied-requires-clause-done : goal.replied-requires-clause-done
 replied-requires-clause-done g c = let u = c.loop.invariant.0 in (c.in-None-answer.ensures.removes c.args.agrees u.0 u.2).1
 
 pub returns-in-None-answer-clause-lawful : goal.returns-in-None-answer-clause-lawful
-returns-in-None-answer-clause-lawful g c = let u = c.loop.invariant.0 in rw c.answer.ensures.sees.book (c.in-None-answer.ensures.removes c.args.agrees u.0 u.2).0.calling.lawful
+returns-in-None-answer-clause-lawful g c = let u = c.loop.invariant.0 in
+    rw c.answer.ensures.sees.book (c.in-None-answer.ensures.removes c.args.agrees u.0 u.2).0.calling.lawful
 
 pub returns-in-None-answer-clause-removed : goal.returns-in-None-answer-clause-removed
 returns-in-None-answer-clause-removed g c =
     let u = c.loop.invariant.0 in let r = (c.in-None-answer.ensures.removes c.args.agrees u.0 u.2).0 in
     let w = c.loop.window.book.now in let t = c.replied.ensures.tells in
-    let lawful : IsQuery g.K.PartialEq.eq g.K.Hash.hash_input (g.Q.Equivalent.matches c.args.key.now) (g.Q.Hash.hash_input c.args.key.now) = record { feeds = g.met.Q.Equivalent.hashes_as_key c.args.key.now; class = λ k l. g.met.Q.Equivalent.matches_equal_keys c.args.key.now k l } in
-    removal_since g.K.PartialEq.eq (g.Q.Equivalent.matches c.args.key.now) _ _ _ (history_since c.args.window.now.sight.log u.0 u.1) (Judges g.F.FnMut) c.args.agrees c.replied.result
-    (answered g.K.PartialEq.eq g.K.Hash.hash_input g.S.BuildHasher.build_hasher g.S.Hasher.Hasher.write g.S.Hasher.Hasher.finish g.met.K.Eq.laws g.met.K.Hash.respects_eq (begun_of w.parts) w.begun.book (g.Q.Equivalent.matches c.args.key.now) (g.Q.Hash.hash_input c.args.key.now) lawful (Judges g.F.FnMut) c.args.agrees u.0 c.answer.new.window.sight.log c.answer.new.self c.answer.new.agrees r t.0 t.1 c.replied.result t.2)
+    let lawful : IsQuery g.K.PartialEq.eq g.K.Hash.hash_input (g.Q.Equivalent.matches c.args.key.now)
+    (g.Q.Hash.hash_input c.args.key.now) = record {
+      feeds = g.met.Q.Equivalent.hashes_as_key c.args.key.now;
+      class = λ k l.
+          g.met.Q.Equivalent.matches_equal_keys c.args.key.now k l;
+    } in
+    removal_since g.K.PartialEq.eq (g.Q.Equivalent.matches c.args.key.now) _ _ _ (history_since c.args.window.now.sight.log u.0 u.1)
+    (Judges g.F.FnMut) c.args.agrees c.replied.result
+    (answered g.K.PartialEq.eq g.K.Hash.hash_input g.S.BuildHasher.build_hasher g.S.Hasher.Hasher.write g.S.Hasher.Hasher.finish g.met.K.Eq.laws
+    g.met.K.Hash.respects_eq (begun_of w.parts) w.begun.book (g.Q.Equivalent.matches c.args.key.now) (g.Q.Hash.hash_input c.args.key.now) lawful
+    (Judges g.F.FnMut) c.args.agrees u.0 c.answer.new.window.sight.log c.answer.new.self c.answer.new.agrees r t.0 t.1 c.replied.result t.2)
 
 pub returns-in-None-answer-clause-made : goal.returns-in-None-answer-clause-made
 returns-in-None-answer-clause-made g c =
@@ -111,12 +188,14 @@ returns-in-None-answer-clause-made g c =
     let does = does_still c.loop.removal.call.machine c.args.window.now c.loop.window c.answer.new.window c.loop.invariant.6 c.in-None-answer.ensures.answers in
     let t = c.replied.ensures.tells in
     let changed = told_went c.answer.new.self t.0 c.replied.result t.2 ∙ sym (replied call.machine t.0 t.1) in
-    rw changed (makes g.K.PartialEq.eq None u.0 call.taken call.put call.machine c.args.window.now c.answer.new.window r.calling.changed (rw c.answer.ensures.machine does))
+    rw changed (makes g.K.PartialEq.eq None u.0 call.taken call.put call.machine c.args.window.now c.answer.new.window r.calling.changed
+    (rw c.answer.ensures.machine does))
 
 pub returns-in-None-answer-clause-crowded : goal.returns-in-None-answer-clause-crowded
 returns-in-None-answer-clause-crowded g c = λ e.
     let u = c.loop.invariant.0 in let r = (c.in-None-answer.ensures.removes c.args.agrees u.0 u.2).0 in
     let t = c.replied.ensures.tells in
     let refused = t.1 ∙ ap (λ z. Call (Done z)) (told_refused c.answer.new.self t.0 c.replied.result t.2 Capacity e) in
-    let initial : c.answer.new.self.call.machine.call.initial ≡ c.args.means.now.initial = ap (λ (z : Machine). z.call.initial) c.answer.ensures.machine ∙ c.loop.invariant.3 in
+    let initial : c.answer.new.self.call.machine.call.initial ≡ c.args.means.now.initial = ap (λ (z : Machine). z.call.initial)
+    c.answer.ensures.machine ∙ c.loop.invariant.3 in
     rw c.again.ensures (subst (λ n. HasNoRoom n (tables_of c.answer.new.window.sight.log) c.answer.new.self.call.given.done) initial (r.crowded refused))

@@ -13,7 +13,10 @@ use Rattle.papaya_change.proofs.removal.remove_slow.Given as goal
 -- the removal relies on what is seen by now, and asks for itself
 abbrev pub invariant-loop : goal.invariant-loop
 invariant-loop g l =
-    IsUnderWay g.K.PartialEq.eq (hash_of g.K.Hash.hash_input g.S.BuildHasher.build_hasher g.S.Hasher.Hasher.write g.S.Hasher.Hasher.finish) (begun_of l.window.book.now.parts) l.window.book.now.begun.book (g.Q.Equivalent.matches l.fn.key) (hash_of g.Q.Hash.hash_input g.S.BuildHasher.build_hasher g.S.Hasher.Hasher.write g.S.Hasher.Hasher.finish l.window.book.now.parts.hasher l.fn.key) (Judges g.F.FnMut) l.fn.agrees l.fn.window.sight.log l.window.sight.log l.removal l.agrees
+    IsUnderWay g.K.PartialEq.eq (hash_of g.K.Hash.hash_input g.S.BuildHasher.build_hasher g.S.Hasher.Hasher.write g.S.Hasher.Hasher.finish)
+    (begun_of l.window.book.now.parts) l.window.book.now.begun.book (g.Q.Equivalent.matches l.fn.key)
+    (hash_of g.Q.Hash.hash_input g.S.BuildHasher.build_hasher g.S.Hasher.Hasher.write g.S.Hasher.Hasher.finish l.window.book.now.parts.hasher
+    l.fn.key) (Judges g.F.FnMut) l.fn.agrees l.fn.window.sight.log l.window.sight.log l.removal l.agrees
     × IsStanding l.removal.call.machine
     × (l.removal.call.machine.phase ≡ Calling)
     × (l.removal.call.machine.call.initial ≡ l.fn.means.initial)

@@ -23,15 +23,30 @@ use Rattle.papaya_compute.proofs.Found.{pair_placed}
 use Rattle.papaya_compute.proofs.deciding.decide_at_once.Goals as goal
 
 pub returns-in_default-clause-goes : goal.returns-in_default-clause-goes
-returns-in_default-clause-goes g c = ([], (c.begin.new.window.sight.log, prefix_trans c.args.window.now.sight.log c.look.new.window.sight.log c.begin.new.window.sight.log c.look.ensures.sees.log c.begin.ensures.sees.log, c.begin.ensures.begins), refl)
+returns-in_default-clause-goes g c = (
+  [],
+  (
+    c.begin.new.window.sight.log,
+    prefix_trans c.args.window.now.sight.log c.look.new.window.sight.log c.begin.new.window.sight.log
+        c.look.ensures.sees.log c.begin.ensures.sees.log,
+    c.begin.ensures.begins,
+  ),
+  refl,
+)
 
 pub returns-in_default-clause-ahead : goal.returns-in_default-clause-ahead
-returns-in_default-clause-ahead g c = (c.begin.ensures.ahead, ap (λ (o : _). o.done) (c.begin.ensures.own ∙ c.look.ensures.own) ∙ sym (append-nil c.args.window.now.own.done))
+returns-in_default-clause-ahead g c = (
+  c.begin.ensures.ahead,
+  ap (λ (o : _). o.done) (c.begin.ensures.own ∙ c.look.ensures.own)
+      ∙ sym (append-nil c.args.window.now.own.done),
+)
 
 pub fill-filled-requires-clause-found : goal.fill-filled-requires-clause-found
 fill-filled-requires-clause-found g c =
     let w = c.args.window.now in let log = w.sight.log in let key = c.args.key in let mid = c.look.new.window in let spot = c.in-Some.spot in
-    let found : IsFoundAt mid key log spot.table.now (Empty c.in-Empty.at) = λ who state. subst (λ (z : Turn _ _). leads who z ≡ Some state → IsSeekingAt who mid key log state (met_by z) spot.table.now) c.in-Empty.is (c.look.ensures.found spot c.in-Some.is who state) in
+    let found : IsFoundAt mid key log spot.table.now (Empty c.in-Empty.at) = λ who state.
+    subst (λ (z : Turn _ _). leads who z ≡ Some state → IsSeekingAt who mid key log state (met_by z) spot.table.now) c.in-Empty.is
+    (c.look.ensures.found spot c.in-Some.is who state) in
     (log, found)
 
 pub fill-filled-requires-clause-limit : goal.fill-filled-requires-clause-limit
@@ -43,7 +58,9 @@ fill-filled-requires-clause-hashed g c = rw c.look.ensures.sees.book c.hash-hash
 pub settle-requires : goal.settle-requires
 settle-requires g c =
     let w = c.args.window.now in let log = w.sight.log in let key = c.args.key in let mid = c.look.new.window in let spot = c.in-Some.spot in
-    let found : IsFoundAt mid key log spot.table.now (Empty c.in-Empty.at) = λ who state. subst (λ (z : Turn _ _). leads who z ≡ Some state → IsSeekingAt who mid key log state (met_by z) spot.table.now) c.in-Empty.is (c.look.ensures.found spot c.in-Some.is who state) in
+    let found : IsFoundAt mid key log spot.table.now (Empty c.in-Empty.at) = λ who state.
+    subst (λ (z : Turn _ _). leads who z ≡ Some state → IsSeekingAt who mid key log state (met_by z) spot.table.now) c.in-Empty.is
+    (c.look.ensures.found spot c.in-Some.is who state) in
     let tried = c.fill-filled in let then = tried.new.window in let done = c.wish-wished.result in let wished = c.wish-wished.ensures.wishes in
     let replies = if_over _ _ tried.result (λ a h. h log found) tried.ensures.replies in
     unremoved None g.K.PartialEq.eq key (past w) (past then) g.D.Rule.decides c.args.rule.now c.wish-wished.new.rule None done wished tried.result replies
@@ -51,20 +68,27 @@ settle-requires g c =
 pub returns-in-Empty-clause-decided : goal.returns-in-Empty-clause-decided
 returns-in-Empty-clause-decided g c =
     let w = c.args.window.now in let log = w.sight.log in let key = c.args.key in let mid = c.look.new.window in let spot = c.in-Some.spot in
-    let found : IsFoundAt mid key log spot.table.now (Empty c.in-Empty.at) = λ who state. subst (λ (z : Turn _ _). leads who z ≡ Some state → IsSeekingAt who mid key log state (met_by z) spot.table.now) c.in-Empty.is (c.look.ensures.found spot c.in-Some.is who state) in
+    let found : IsFoundAt mid key log spot.table.now (Empty c.in-Empty.at) = λ who state.
+    subst (λ (z : Turn _ _). leads who z ≡ Some state → IsSeekingAt who mid key log state (met_by z) spot.table.now) c.in-Empty.is
+    (c.look.ensures.found spot c.in-Some.is who state) in
     let tried = c.fill-filled in let then = tried.new.window in let done = c.wish-wished.result in let wished = c.wish-wished.ensures.wishes in
     let replies = if_over _ _ tried.result (λ a h. h log found) tried.ensures.replies in
-    subst (λ (z : First _ _). IfOver z (λ answer. IsDecided g.K.PartialEq.eq key (past w) (past then) g.D.Rule.decides c.args.rule.now c.wish-wished.new.rule answer)) (sym c.settle.ensures)
-    (decided_once None g.K.PartialEq.eq key (past w) (past then) g.D.Rule.decides c.args.rule.now c.wish-wished.new.rule None done wished refl tried.result replies)
+    subst (λ (z : First _ _). IfOver z (λ answer.
+    IsDecided g.K.PartialEq.eq key (past w) (past then) g.D.Rule.decides c.args.rule.now c.wish-wished.new.rule answer)) (sym c.settle.ensures)
+    (decided_once None g.K.PartialEq.eq key (past w) (past then) g.D.Rule.decides c.args.rule.now c.wish-wished.new.rule None done wished refl
+    tried.result replies)
 
 pub returns-in-Empty-clause-made : goal.returns-in-Empty-clause-made
 returns-in-Empty-clause-made g c =
     let w = c.args.window.now in let log = w.sight.log in let key = c.args.key in let mid = c.look.new.window in let spot = c.in-Some.spot in
-    let found : IsFoundAt mid key log spot.table.now (Empty c.in-Empty.at) = λ who state. subst (λ (z : Turn _ _). leads who z ≡ Some state → IsSeekingAt who mid key log state (met_by z) spot.table.now) c.in-Empty.is (c.look.ensures.found spot c.in-Some.is who state) in
+    let found : IsFoundAt mid key log spot.table.now (Empty c.in-Empty.at) = λ who state.
+    subst (λ (z : Turn _ _). leads who z ≡ Some state → IsSeekingAt who mid key log state (met_by z) spot.table.now) c.in-Empty.is
+    (c.look.ensures.found spot c.in-Some.is who state) in
     let tried = c.fill-filled in let then = tried.new.window in let done = c.wish-wished.result in let wished = c.wish-wished.ensures.wishes in
     let replies = if_over _ _ tried.result (λ a h. h log found) tried.ensures.replies in
     subst (λ (z : First _ _). IfOver z (λ answer. Makes (puts answer) (own w) (own then) (past then))) (sym c.settle.ensures)
-    (made_still None (λ changed. Makes changed (own w) (own then) (past then)) tried.result (unremoved None g.K.PartialEq.eq key (past w) (past then) g.D.Rule.decides c.args.rule.now c.wish-wished.new.rule None done wished tried.result replies)
+    (made_still None (λ changed. Makes changed (own w) (own then) (past then)) tried.result
+    (unremoved None g.K.PartialEq.eq key (past w) (past then) g.D.Rule.decides c.args.rule.now c.wish-wished.new.rule None done wished tried.result replies)
     (rw (sym c.look.ensures.own) tried.ensures.made))
 
 pub returns-in-Empty-clause-crowded : goal.returns-in-Empty-clause-crowded
@@ -76,7 +100,9 @@ returns-in-Empty-clause-spent g c = λ e. c.fill-filled.ensures.spent (refused_s
 pub returns-in-Empty-clause-ahead : goal.returns-in-Empty-clause-ahead
 returns-in-Empty-clause-ahead g c =
     let w = c.args.window.now in let log = w.sight.log in let key = c.args.key in let mid = c.look.new.window in let spot = c.in-Some.spot in
-    let found : IsFoundAt mid key log spot.table.now (Empty c.in-Empty.at) = λ who state. subst (λ (z : Turn _ _). leads who z ≡ Some state → IsSeekingAt who mid key log state (met_by z) spot.table.now) c.in-Empty.is (c.look.ensures.found spot c.in-Some.is who state) in
+    let found : IsFoundAt mid key log spot.table.now (Empty c.in-Empty.at) = λ who state.
+    subst (λ (z : Turn _ _). leads who z ≡ Some state → IsSeekingAt who mid key log state (met_by z) spot.table.now) c.in-Empty.is
+    (c.look.ensures.found spot c.in-Some.is who state) in
     let tried = c.fill-filled in let then = tried.new.window in
     subst (λ (z : First _ _). IfOn z (λ x. IsAhead c.args.means.now.initial x × Does false w then)) (sym c.settle.ensures)
     (on_still None _ tried.result (if_on _ _ tried.result (λ x h. (h.0, does_since w mid then c.look.ensures.own h.1)) tried.ensures.ahead))
@@ -84,16 +110,26 @@ returns-in-Empty-clause-ahead g c =
 pub returns-in-Empty-clause-goes : goal.returns-in-Empty-clause-goes
 returns-in-Empty-clause-goes g c =
     let w = c.args.window.now in let log = w.sight.log in let key = c.args.key in let mid = c.look.new.window in let spot = c.in-Some.spot in
-    let found : IsFoundAt mid key log spot.table.now (Empty c.in-Empty.at) = λ who state. subst (λ (z : Turn _ _). leads who z ≡ Some state → IsSeekingAt who mid key log state (met_by z) spot.table.now) c.in-Empty.is (c.look.ensures.found spot c.in-Some.is who state) in
+    let found : IsFoundAt mid key log spot.table.now (Empty c.in-Empty.at) = λ who state.
+    subst (λ (z : Turn _ _). leads who z ≡ Some state → IsSeekingAt who mid key log state (met_by z) spot.table.now) c.in-Empty.is
+    (c.look.ensures.found spot c.in-Some.is who state) in
     let tried = c.fill-filled in let then = tried.new.window in let done = c.wish-wished.result in let wished = c.wish-wished.ensures.wishes in
     let replies = if_over _ _ tried.result (λ a h. h log found) tried.ensures.replies in
     subst (λ (z : First _ _). IfOn z (IsOnItsWay w then key (Wishes g.D.Rule.decides) c.args.rule.now c.wish-wished.new.rule)) (sym c.settle.ensures)
-    (on_still None _ tried.result (if_on _ _ tried.result (λ x h. ((None, done) ∷ [], (log, ([], append-nil log), h log found), said_once None g.K.PartialEq.eq key (past w) (past then) g.D.Rule.decides c.args.rule.now c.wish-wished.new.rule None done wished)) tried.ensures.goes))
+    (on_still None _ tried.result (if_on _ _ tried.result
+    (λ x h. (
+      (None, done) ∷ [],
+      (log, ([], append-nil log), h log found),
+      said_once None g.K.PartialEq.eq key (past w) (past then) g.D.Rule.decides
+          c.args.rule.now c.wish-wished.new.rule None done wished,
+    )) tried.ensures.goes))
 
 pub renew-renewed-requires-clause-found : goal.renew-renewed-requires-clause-found
 renew-renewed-requires-clause-found g c =
     let w = c.args.window.now in let log = w.sight.log in let key = c.args.key in let mid = c.look.new.window in let spot = c.in-Some.spot in
-    let found : IsFoundAt mid key log spot.table.now (MetPair c.in-Met.met) = λ who state. subst (λ (z : Turn _ _). leads who z ≡ Some state → IsSeekingAt who mid key log state (met_by z) spot.table.now) c.in-Met.is (c.look.ensures.found spot c.in-Some.is who state) in
+    let found : IsFoundAt mid key log spot.table.now (MetPair c.in-Met.met) = λ who state.
+    subst (λ (z : Turn _ _). leads who z ≡ Some state → IsSeekingAt who mid key log state (met_by z) spot.table.now) c.in-Met.is
+    (c.look.ensures.found spot c.in-Some.is who state) in
     rw c.in-Met.met-is (log, found)
 
 pub renew-renewed-requires-clause-limit : goal.renew-renewed-requires-clause-limit
@@ -105,40 +141,65 @@ renew-renewed-requires-clause-hashed g c = rw c.look.ensures.sees.book c.hash-ha
 pub settle-requires-in-Met : goal.settle-requires-in-Met
 settle-requires-in-Met g c =
     let w = c.args.window.now in let log = w.sight.log in let key = c.args.key in let mid = c.look.new.window in let spot = c.in-Some.spot in
-    let found : IsFoundAt mid key log spot.table.now (MetPair c.in-Met.met) = λ who state. subst (λ (z : Turn _ _). leads who z ≡ Some state → IsSeekingAt who mid key log state (met_by z) spot.table.now) c.in-Met.is (c.look.ensures.found spot c.in-Some.is who state) in
-    let tried = c.renew-renewed in let then = tried.new.window in let done = c.wish-again.result in let wished = subst (λ (z : Stored _ _). Wishes g.D.Rule.decides c.args.rule.now (Some z) c.wish-again.result c.wish-again.new.rule) (c.again.ensures ∙ ap (λ (z : Met _ _). z.stored) c.in-Met.met-is) c.wish-again.ensures.wishes in
-    let replies = if_over _ _ tried.result (λ a h. h log found) (subst (λ (z : Met _ _). RepliesOnce mid then key spot.table.now (MetPair z) done tried.result) c.in-Met.met-is tried.ensures.replies) in
-    unremoved c.value_in.result g.K.PartialEq.eq key (past w) (past then) g.D.Rule.decides c.args.rule.now c.wish-again.new.rule (Some c.in-Met.met.stored) done wished tried.result replies
+    let found : IsFoundAt mid key log spot.table.now (MetPair c.in-Met.met) = λ who state.
+    subst (λ (z : Turn _ _). leads who z ≡ Some state → IsSeekingAt who mid key log state (met_by z) spot.table.now) c.in-Met.is
+    (c.look.ensures.found spot c.in-Some.is who state) in
+    let tried = c.renew-renewed in let then = tried.new.window in let done = c.wish-again.result in
+    let wished = subst (λ (z : Stored _ _). Wishes g.D.Rule.decides c.args.rule.now (Some z) c.wish-again.result c.wish-again.new.rule)
+    (c.again.ensures ∙ ap (λ (z : Met _ _). z.stored) c.in-Met.met-is) c.wish-again.ensures.wishes in
+    let replies = if_over _ _ tried.result (λ a h. h log found)
+    (subst (λ (z : Met _ _). RepliesOnce mid then key spot.table.now (MetPair z) done tried.result) c.in-Met.met-is tried.ensures.replies) in
+    unremoved c.value_in.result g.K.PartialEq.eq key (past w) (past then) g.D.Rule.decides c.args.rule.now c.wish-again.new.rule
+    (Some c.in-Met.met.stored) done wished tried.result replies
 
 pub returns-in-Met-clause-decided : goal.returns-in-Met-clause-decided
 returns-in-Met-clause-decided g c =
     let w = c.args.window.now in let log = w.sight.log in let key = c.args.key in let mid = c.look.new.window in let spot = c.in-Some.spot in
-    let found : IsFoundAt mid key log spot.table.now (MetPair c.in-Met.met) = λ who state. subst (λ (z : Turn _ _). leads who z ≡ Some state → IsSeekingAt who mid key log state (met_by z) spot.table.now) c.in-Met.is (c.look.ensures.found spot c.in-Some.is who state) in
-    let tried = c.renew-renewed in let then = tried.new.window in let done = c.wish-again.result in let wished = subst (λ (z : Stored _ _). Wishes g.D.Rule.decides c.args.rule.now (Some z) c.wish-again.result c.wish-again.new.rule) (c.again.ensures ∙ ap (λ (z : Met _ _). z.stored) c.in-Met.met-is) c.wish-again.ensures.wishes in
-    let replies = if_over _ _ tried.result (λ a h. h log found) (subst (λ (z : Met _ _). RepliesOnce mid then key spot.table.now (MetPair z) done tried.result) c.in-Met.met-is tried.ensures.replies) in
-    subst (λ (z : First _ _). IfOver z (λ answer. IsDecided g.K.PartialEq.eq key (past w) (past then) g.D.Rule.decides c.args.rule.now c.wish-again.new.rule answer)) (sym c.settle-in-Met.ensures)
-    (decided_once c.value_in.result g.K.PartialEq.eq key (past w) (past then) g.D.Rule.decides c.args.rule.now c.wish-again.new.rule (Some c.in-Met.met.stored) done wished (c.value_in.ensures ∙ ap (λ (z : Stored _ _). value_in (Some z)) (c.again.ensures ∙ ap (λ (z : Met _ _). z.stored) c.in-Met.met-is)) tried.result replies)
+    let found : IsFoundAt mid key log spot.table.now (MetPair c.in-Met.met) = λ who state.
+    subst (λ (z : Turn _ _). leads who z ≡ Some state → IsSeekingAt who mid key log state (met_by z) spot.table.now) c.in-Met.is
+    (c.look.ensures.found spot c.in-Some.is who state) in
+    let tried = c.renew-renewed in let then = tried.new.window in let done = c.wish-again.result in
+    let wished = subst (λ (z : Stored _ _). Wishes g.D.Rule.decides c.args.rule.now (Some z) c.wish-again.result c.wish-again.new.rule)
+    (c.again.ensures ∙ ap (λ (z : Met _ _). z.stored) c.in-Met.met-is) c.wish-again.ensures.wishes in
+    let replies = if_over _ _ tried.result (λ a h. h log found)
+    (subst (λ (z : Met _ _). RepliesOnce mid then key spot.table.now (MetPair z) done tried.result) c.in-Met.met-is tried.ensures.replies) in
+    subst (λ (z : First _ _). IfOver z (λ answer.
+    IsDecided g.K.PartialEq.eq key (past w) (past then) g.D.Rule.decides c.args.rule.now c.wish-again.new.rule answer)) (sym c.settle-in-Met.ensures)
+    (decided_once c.value_in.result g.K.PartialEq.eq key (past w) (past then) g.D.Rule.decides c.args.rule.now c.wish-again.new.rule
+    (Some c.in-Met.met.stored) done wished (c.value_in.ensures
+    ∙ ap (λ (z : Stored _ _). value_in (Some z)) (c.again.ensures ∙ ap (λ (z : Met _ _). z.stored) c.in-Met.met-is)) tried.result replies)
 
 pub returns-in-Met-clause-made : goal.returns-in-Met-clause-made
 returns-in-Met-clause-made g c =
     let w = c.args.window.now in let log = w.sight.log in let key = c.args.key in let mid = c.look.new.window in let spot = c.in-Some.spot in
-    let found : IsFoundAt mid key log spot.table.now (MetPair c.in-Met.met) = λ who state. subst (λ (z : Turn _ _). leads who z ≡ Some state → IsSeekingAt who mid key log state (met_by z) spot.table.now) c.in-Met.is (c.look.ensures.found spot c.in-Some.is who state) in
-    let tried = c.renew-renewed in let then = tried.new.window in let done = c.wish-again.result in let wished = subst (λ (z : Stored _ _). Wishes g.D.Rule.decides c.args.rule.now (Some z) c.wish-again.result c.wish-again.new.rule) (c.again.ensures ∙ ap (λ (z : Met _ _). z.stored) c.in-Met.met-is) c.wish-again.ensures.wishes in
-    let replies = if_over _ _ tried.result (λ a h. h log found) (subst (λ (z : Met _ _). RepliesOnce mid then key spot.table.now (MetPair z) done tried.result) c.in-Met.met-is tried.ensures.replies) in
+    let found : IsFoundAt mid key log spot.table.now (MetPair c.in-Met.met) = λ who state.
+    subst (λ (z : Turn _ _). leads who z ≡ Some state → IsSeekingAt who mid key log state (met_by z) spot.table.now) c.in-Met.is
+    (c.look.ensures.found spot c.in-Some.is who state) in
+    let tried = c.renew-renewed in let then = tried.new.window in let done = c.wish-again.result in
+    let wished = subst (λ (z : Stored _ _). Wishes g.D.Rule.decides c.args.rule.now (Some z) c.wish-again.result c.wish-again.new.rule)
+    (c.again.ensures ∙ ap (λ (z : Met _ _). z.stored) c.in-Met.met-is) c.wish-again.ensures.wishes in
+    let replies = if_over _ _ tried.result (λ a h. h log found)
+    (subst (λ (z : Met _ _). RepliesOnce mid then key spot.table.now (MetPair z) done tried.result) c.in-Met.met-is tried.ensures.replies) in
     subst (λ (z : First _ _). IfOver z (λ answer. Makes (puts answer) (own w) (own then) (past then))) (sym c.settle-in-Met.ensures)
-    (made_still c.value_in.result (λ changed. Makes changed (own w) (own then) (past then)) tried.result (unremoved c.value_in.result g.K.PartialEq.eq key (past w) (past then) g.D.Rule.decides c.args.rule.now c.wish-again.new.rule (Some c.in-Met.met.stored) done wished tried.result replies)
+    (made_still c.value_in.result (λ changed. Makes changed (own w) (own then) (past then)) tried.result
+    (unremoved c.value_in.result g.K.PartialEq.eq key (past w) (past then) g.D.Rule.decides c.args.rule.now c.wish-again.new.rule
+    (Some c.in-Met.met.stored) done wished tried.result replies)
     (rw (sym c.look.ensures.own) tried.ensures.made))
 
 pub returns-in-Met-clause-crowded : goal.returns-in-Met-clause-crowded
-returns-in-Met-clause-crowded g c = λ e. c.renew-renewed.ensures.crowded (refused_still c.value_in.result c.renew-renewed.result Capacity (sym c.settle-in-Met.ensures ∙ e))
+returns-in-Met-clause-crowded g c = λ e.
+    c.renew-renewed.ensures.crowded (refused_still c.value_in.result c.renew-renewed.result Capacity (sym c.settle-in-Met.ensures ∙ e))
 
 pub returns-in-Met-clause-spent : goal.returns-in-Met-clause-spent
-returns-in-Met-clause-spent g c = λ e. c.renew-renewed.ensures.spent (refused_still c.value_in.result c.renew-renewed.result Limit (sym c.settle-in-Met.ensures ∙ e))
+returns-in-Met-clause-spent g c = λ e. c.renew-renewed.ensures.spent
+    (refused_still c.value_in.result c.renew-renewed.result Limit (sym c.settle-in-Met.ensures ∙ e))
 
 pub returns-in-Met-clause-ahead : goal.returns-in-Met-clause-ahead
 returns-in-Met-clause-ahead g c =
     let w = c.args.window.now in let log = w.sight.log in let key = c.args.key in let mid = c.look.new.window in let spot = c.in-Some.spot in
-    let found : IsFoundAt mid key log spot.table.now (MetPair c.in-Met.met) = λ who state. subst (λ (z : Turn _ _). leads who z ≡ Some state → IsSeekingAt who mid key log state (met_by z) spot.table.now) c.in-Met.is (c.look.ensures.found spot c.in-Some.is who state) in
+    let found : IsFoundAt mid key log spot.table.now (MetPair c.in-Met.met) = λ who state.
+    subst (λ (z : Turn _ _). leads who z ≡ Some state → IsSeekingAt who mid key log state (met_by z) spot.table.now) c.in-Met.is
+    (c.look.ensures.found spot c.in-Some.is who state) in
     let tried = c.renew-renewed in let then = tried.new.window in
     subst (λ (z : First _ _). IfOn z (λ x. IsAhead c.args.means.now.initial x × Does false w then)) (sym c.settle-in-Met.ensures)
     (on_still c.value_in.result _ tried.result (if_on _ _ tried.result (λ x h. (h.0, does_since w mid then c.look.ensures.own h.1)) tried.ensures.ahead))
@@ -146,35 +207,70 @@ returns-in-Met-clause-ahead g c =
 pub returns-in-Met-clause-goes : goal.returns-in-Met-clause-goes
 returns-in-Met-clause-goes g c =
     let w = c.args.window.now in let log = w.sight.log in let key = c.args.key in let mid = c.look.new.window in let spot = c.in-Some.spot in
-    let found : IsFoundAt mid key log spot.table.now (MetPair c.in-Met.met) = λ who state. subst (λ (z : Turn _ _). leads who z ≡ Some state → IsSeekingAt who mid key log state (met_by z) spot.table.now) c.in-Met.is (c.look.ensures.found spot c.in-Some.is who state) in
-    let tried = c.renew-renewed in let then = tried.new.window in let done = c.wish-again.result in let wished = subst (λ (z : Stored _ _). Wishes g.D.Rule.decides c.args.rule.now (Some z) c.wish-again.result c.wish-again.new.rule) (c.again.ensures ∙ ap (λ (z : Met _ _). z.stored) c.in-Met.met-is) c.wish-again.ensures.wishes in
-    let replies = if_over _ _ tried.result (λ a h. h log found) (subst (λ (z : Met _ _). RepliesOnce mid then key spot.table.now (MetPair z) done tried.result) c.in-Met.met-is tried.ensures.replies) in
+    let found : IsFoundAt mid key log spot.table.now (MetPair c.in-Met.met) = λ who state.
+    subst (λ (z : Turn _ _). leads who z ≡ Some state → IsSeekingAt who mid key log state (met_by z) spot.table.now) c.in-Met.is
+    (c.look.ensures.found spot c.in-Some.is who state) in
+    let tried = c.renew-renewed in let then = tried.new.window in let done = c.wish-again.result in
+    let wished = subst (λ (z : Stored _ _). Wishes g.D.Rule.decides c.args.rule.now (Some z) c.wish-again.result c.wish-again.new.rule)
+    (c.again.ensures ∙ ap (λ (z : Met _ _). z.stored) c.in-Met.met-is) c.wish-again.ensures.wishes in
+    let replies = if_over _ _ tried.result (λ a h. h log found)
+    (subst (λ (z : Met _ _). RepliesOnce mid then key spot.table.now (MetPair z) done tried.result) c.in-Met.met-is tried.ensures.replies) in
     subst (λ (z : First _ _). IfOn z (IsOnItsWay w then key (Wishes g.D.Rule.decides) c.args.rule.now c.wish-again.new.rule)) (sym c.settle-in-Met.ensures)
-    (on_still c.value_in.result _ tried.result (if_on _ _ tried.result (λ x h. (((Some c.in-Met.met.stored), done) ∷ [], (log, ([], append-nil log), h log found), said_once c.value_in.result g.K.PartialEq.eq key (past w) (past then) g.D.Rule.decides c.args.rule.now c.wish-again.new.rule (Some c.in-Met.met.stored) done wished)) (subst (λ (z : Met _ _). GoesOnce mid then key spot.table.now (MetPair z) done tried.result) c.in-Met.met-is tried.ensures.goes)))
+    (on_still c.value_in.result _ tried.result
+    (if_on _ _ tried.result (λ x h. (
+      ((Some c.in-Met.met.stored), done) ∷ [],
+      (log, ([], append-nil log), h log found),
+      said_once c.value_in.result
+          g.K.PartialEq.eq key (past w) (past then) g.D.Rule.decides c.args.rule.now c.wish-again.new.rule (Some c.in-Met.met.stored) done wished,
+    ))
+    (subst (λ (z : Met _ _). GoesOnce mid then key spot.table.now (MetPair z) done tried.result) c.in-Met.met-is tried.ensures.goes)))
 
 pub wish-again-requires-clause-placed : goal.wish-again-requires-clause-placed
 wish-again-requires-clause-placed g c =
     let w = c.args.window.now in let log = w.sight.log in let key = c.args.key in let mid = c.look.new.window in let spot = c.in-Some.spot in
-    let found : IsFoundAt mid key log spot.table.now (MetPair c.in-Met.met) = λ who state. subst (λ (z : Turn _ _). leads who z ≡ Some state → IsSeekingAt who mid key log state (met_by z) spot.table.now) c.in-Met.is (c.look.ensures.found spot c.in-Some.is who state) in
+    let found : IsFoundAt mid key log spot.table.now (MetPair c.in-Met.met) = λ who state.
+    subst (λ (z : Turn _ _). leads who z ≡ Some state → IsSeekingAt who mid key log state (met_by z) spot.table.now) c.in-Met.is
+    (c.look.ensures.found spot c.in-Some.is who state) in
     let met = c.in-Met.met in let p = met.stored in
-    let there = pair_placed g.K.PartialEq.eq g.K.Hash.hash_input g.S.BuildHasher.build_hasher g.S.Hasher.Hasher.write g.S.Hasher.Hasher.finish g.met.K.Eq.laws g.met.K.Hash.respects_eq (begun_of mid.book.now.parts) mid.book.now.begun.book key log mid.sight.log spot.table.now met.place met.word p (found Computes (Showing (record { place = met.place; word = met.word })) refl) in
-    subst (λ (z : Stored _ _). IsPlaced (begun_of w.book.now.parts) (Some w.book.now.begun.book) (names.Pair z)) (sym (c.again.ensures ∙ ap (λ (z : Met _ _). z.stored) c.in-Met.met-is))
+    let there = pair_placed g.K.PartialEq.eq g.K.Hash.hash_input g.S.BuildHasher.build_hasher g.S.Hasher.Hasher.write g.S.Hasher.Hasher.finish
+    g.met.K.Eq.laws g.met.K.Hash.respects_eq (begun_of mid.book.now.parts) mid.book.now.begun.book key log mid.sight.log spot.table.now met.place
+    met.word p (found Computes (Showing (record { place = met.place; word = met.word })) refl) in
+    subst (λ (z : Stored _ _). IsPlaced (begun_of w.book.now.parts) (Some w.book.now.begun.book) (names.Pair z))
+    (sym (c.again.ensures ∙ ap (λ (z : Met _ _). z.stored) c.in-Met.met-is))
     (subst (λ (k : _). IsPlaced (begun_of k.now.parts) (Some k.now.begun.book) (names.Pair p)) c.look.ensures.sees.book there)
 
 pub value_in-requires : goal.value_in-requires
 value_in-requires g c =
     let w = c.args.window.now in let log = w.sight.log in let key = c.args.key in let mid = c.look.new.window in let spot = c.in-Some.spot in
-    let found : IsFoundAt mid key log spot.table.now (MetPair c.in-Met.met) = λ who state. subst (λ (z : Turn _ _). leads who z ≡ Some state → IsSeekingAt who mid key log state (met_by z) spot.table.now) c.in-Met.is (c.look.ensures.found spot c.in-Some.is who state) in
+    let found : IsFoundAt mid key log spot.table.now (MetPair c.in-Met.met) = λ who state.
+    subst (λ (z : Turn _ _). leads who z ≡ Some state → IsSeekingAt who mid key log state (met_by z) spot.table.now) c.in-Met.is
+    (c.look.ensures.found spot c.in-Some.is who state) in
     let met = c.in-Met.met in let p = met.stored in
-    let there = pair_placed g.K.PartialEq.eq g.K.Hash.hash_input g.S.BuildHasher.build_hasher g.S.Hasher.Hasher.write g.S.Hasher.Hasher.finish g.met.K.Eq.laws g.met.K.Hash.respects_eq (begun_of mid.book.now.parts) mid.book.now.begun.book key log mid.sight.log spot.table.now met.place met.word p (found Computes (Showing (record { place = met.place; word = met.word })) refl) in
-    subst (λ (z : Stored _ _). IsPlaced (begun_of w.book.now.parts) (Some w.book.now.begun.book) (names.Pair z)) (sym (c.again.ensures ∙ ap (λ (z : Met _ _). z.stored) c.in-Met.met-is))
+    let there = pair_placed g.K.PartialEq.eq g.K.Hash.hash_input g.S.BuildHasher.build_hasher g.S.Hasher.Hasher.write g.S.Hasher.Hasher.finish
+    g.met.K.Eq.laws g.met.K.Hash.respects_eq (begun_of mid.book.now.parts) mid.book.now.begun.book key log mid.sight.log spot.table.now met.place
+    met.word p (found Computes (Showing (record { place = met.place; word = met.word })) refl) in
+    subst (λ (z : Stored _ _). IsPlaced (begun_of w.book.now.parts) (Some w.book.now.begun.book) (names.Pair z))
+    (sym (c.again.ensures ∙ ap (λ (z : Met _ _). z.stored) c.in-Met.met-is))
     (subst (λ (k : _). IsPlaced (begun_of k.now.parts) (Some k.now.begun.book) (names.Pair p)) c.look.ensures.sees.book there)
 
 pub renew-renewed-requires-clause-live : goal.renew-renewed-requires-clause-live
 renew-renewed-requires-clause-live g c = rw c.in-Met.met-is (c.look.ensures.live c.in-Some.spot c.in-Some.is c.in-Met.met c.in-Met.is)
 
 pub returns-in_default-turn-clause-goes : goal.returns-in_default-turn-clause-goes
-returns-in_default-turn-clause-goes g c = ([], (c.begin-in_default-turn.new.window.sight.log, prefix_trans c.args.window.now.sight.log c.look.new.window.sight.log c.begin-in_default-turn.new.window.sight.log c.look.ensures.sees.log c.begin-in_default-turn.ensures.sees.log, c.begin-in_default-turn.ensures.begins), refl)
+returns-in_default-turn-clause-goes g c = (
+  [],
+  (
+    c.begin-in_default-turn.new.window.sight.log,
+    prefix_trans c.args.window.now.sight.log c.look.new.window.sight.log
+        c.begin-in_default-turn.new.window.sight.log c.look.ensures.sees.log c.begin-in_default-turn.ensures.sees.log,
+    c.begin-in_default-turn.ensures.begins,
+  ),
+  refl,
+)
 
 pub returns-in_default-turn-clause-ahead : goal.returns-in_default-turn-clause-ahead
-returns-in_default-turn-clause-ahead g c = (c.begin-in_default-turn.ensures.ahead, ap (λ (o : _). o.done) (c.begin-in_default-turn.ensures.own ∙ c.look.ensures.own) ∙ sym (append-nil c.args.window.now.own.done))
+returns-in_default-turn-clause-ahead g c = (
+  c.begin-in_default-turn.ensures.ahead,
+  ap (λ (o : _). o.done) (c.begin-in_default-turn.ensures.own ∙ c.look.ensures.own)
+      ∙ sym (append-nil c.args.window.now.own.done),
+)

@@ -27,16 +27,23 @@ use Rattle.papaya_compute.proofs.fast_path.fill.Goals as goal
 
 pub claim-requires-clause-stands : goal.claim-requires-clause-stands
 claim-requires-clause-stands g c =
-    let w = c.args.window.now in let log = w.sight.log in let key = c.args.key in let b = begun_of w.book.now.parts in let name = w.book.now.begun.book in let hash = (hash_of g.K.Hash.hash_input g.S.BuildHasher.build_hasher g.S.Hasher.Hasher.write g.S.Hasher.Hasher.finish) in
+    let w = c.args.window.now in let log = w.sight.log in let key = c.args.key in let b = begun_of w.book.now.parts in
+    let name = w.book.now.begun.book in let hash =
+    (hash_of g.K.Hash.hash_input g.S.BuildHasher.build_hasher g.S.Hasher.Hasher.write g.S.Hasher.Hasher.finish) in
     let at = c.args.at in let write = Writing (record { place = at; old = 0 }) in
     let found = c.requires.found in (write, refl, (found.0, found.1 Inserts write refl))
 
 pub returns-in-Ok-Put-clause-replies : goal.returns-in-Ok-Put-clause-replies
 returns-in-Ok-Put-clause-replies g c = λ begun found.
-    let w = c.args.window.now in let log = w.sight.log in let key = c.args.key in let b = begun_of w.book.now.parts in let name = w.book.now.begun.book in let hash = (hash_of g.K.Hash.hash_input g.S.BuildHasher.build_hasher g.S.Hasher.Hasher.write g.S.Hasher.Hasher.finish) in
+    let w = c.args.window.now in let log = w.sight.log in let key = c.args.key in let b = begun_of w.book.now.parts in
+    let name = w.book.now.begun.book in let hash =
+    (hash_of g.K.Hash.hash_input g.S.BuildHasher.build_hasher g.S.Hasher.Hasher.write g.S.Hasher.Hasher.finish) in
     let at = c.args.at in let write = Writing (record { place = at; old = 0 }) in
-    let there = found Computes (Offering (At at)) refl in let was = none_found g.K.PartialEq.eq g.K.Hash.hash_input g.S.BuildHasher.build_hasher g.S.Hasher.Hasher.write g.S.Hasher.Hasher.finish g.met.K.Eq.laws g.met.K.Hash.respects_eq b name key begun log c.args.table.now at there in
-    let then = c.claim.new.window in let later = held_wider g.K.PartialEq.eq (g.K.PartialEq.eq key) (history_of begun) (history_of begun) (history_of log) (history_of then.sight.log) ([], append-nil (history_of begun)) (history_since log then.sight.log c.claim.ensures.sees.log) None was in
+    let there = found Computes (Offering (At at)) refl in
+    let was = none_found g.K.PartialEq.eq g.K.Hash.hash_input g.S.BuildHasher.build_hasher g.S.Hasher.Hasher.write g.S.Hasher.Hasher.finish
+    g.met.K.Eq.laws g.met.K.Hash.respects_eq b name key begun log c.args.table.now at there in
+    let then = c.claim.new.window in let later = held_wider g.K.PartialEq.eq (g.K.PartialEq.eq key) (history_of begun) (history_of begun)
+    (history_of log) (history_of then.sight.log) ([], append-nil (history_of begun)) (history_since log then.sight.log c.claim.ensures.sees.log) None was in
     let value = c.in-Insert.value in let done = c.in-Ok-Put in let is = done.is ∙ ap (λ z. Ok z) done.field-0-is in let q = done.pair in
     let l = subst (λ (z : Result (Tried _ _) _). IfOk z (λ t. IsLoggedAs c.claim.new.window key value (pair_in t))) is c.claim.ensures.logged in
     let op : c.args.operation ≡ operation.Insert q.value.value = c.in-Insert.is ∙ ap (λ v. operation.Insert v) (sym l.value_is) in
@@ -51,56 +58,82 @@ returns-in-Ok-Put-clause-made g c =
 
 pub entry-requires : goal.entry-requires
 entry-requires g c =
-    let w = c.args.window.now in let log = w.sight.log in let key = c.args.key in let b = begun_of w.book.now.parts in let name = w.book.now.begun.book in let hash = (hash_of g.K.Hash.hash_input g.S.BuildHasher.build_hasher g.S.Hasher.Hasher.write g.S.Hasher.Hasher.finish) in
+    let w = c.args.window.now in let log = w.sight.log in let key = c.args.key in let b = begun_of w.book.now.parts in
+    let name = w.book.now.begun.book in let hash =
+    (hash_of g.K.Hash.hash_input g.S.BuildHasher.build_hasher g.S.Hasher.Hasher.write g.S.Hasher.Hasher.finish) in
     let value = c.in-Insert.value in let done = c.in-Ok-Put in let is = done.is ∙ ap (λ z. Ok z) done.field-0-is in let q = done.pair in
     let l = subst (λ (z : Result (Tried _ _) _). IfOk z (λ t. IsLoggedAs c.claim.new.window key value (pair_in t))) is c.claim.ensures.logged in
     l.placed
 
 pub filled-requires-clause-placed : goal.filled-requires-clause-placed
 filled-requires-clause-placed g c =
-    let w = c.args.window.now in let log = w.sight.log in let key = c.args.key in let b = begun_of w.book.now.parts in let name = w.book.now.begun.book in let hash = (hash_of g.K.Hash.hash_input g.S.BuildHasher.build_hasher g.S.Hasher.Hasher.write g.S.Hasher.Hasher.finish) in
+    let w = c.args.window.now in let log = w.sight.log in let key = c.args.key in let b = begun_of w.book.now.parts in
+    let name = w.book.now.begun.book in let hash =
+    (hash_of g.K.Hash.hash_input g.S.BuildHasher.build_hasher g.S.Hasher.Hasher.write g.S.Hasher.Hasher.finish) in
     let value = c.in-Insert.value in let done = c.in-Ok-Lost in let is = done.is ∙ ap (λ z. Ok z) done.field-0-is in let q = done.pair in
     let l = subst (λ (z : Result (Tried _ _) _). IfOk z (λ t. IsLoggedAs c.claim.new.window key value (pair_in t))) is c.claim.ensures.logged in
     l.placed
 
 pub filled-requires-clause-number : goal.filled-requires-clause-number
 filled-requires-clause-number g c =
-    let w = c.args.window.now in let log = w.sight.log in let key = c.args.key in let b = begun_of w.book.now.parts in let name = w.book.now.begun.book in let hash = (hash_of g.K.Hash.hash_input g.S.BuildHasher.build_hasher g.S.Hasher.Hasher.write g.S.Hasher.Hasher.finish) in
+    let w = c.args.window.now in let log = w.sight.log in let key = c.args.key in let b = begun_of w.book.now.parts in
+    let name = w.book.now.begun.book in let hash =
+    (hash_of g.K.Hash.hash_input g.S.BuildHasher.build_hasher g.S.Hasher.Hasher.write g.S.Hasher.Hasher.finish) in
     let value = c.in-Insert.value in let done = c.in-Ok-Lost in let is = done.is ∙ ap (λ z. Ok z) done.field-0-is in let q = done.pair in
     let l = subst (λ (z : Result (Tried _ _) _). IfOk z (λ t. IsLoggedAs c.claim.new.window key value (pair_in t))) is c.claim.ensures.logged in
     l.number
 
 pub filled-requires-clause-hashed : goal.filled-requires-clause-hashed
 filled-requires-clause-hashed g c =
-    let w = c.args.window.now in let log = w.sight.log in let key = c.args.key in let b = begun_of w.book.now.parts in let name = w.book.now.begun.book in let hash = (hash_of g.K.Hash.hash_input g.S.BuildHasher.build_hasher g.S.Hasher.Hasher.write g.S.Hasher.Hasher.finish) in
+    let w = c.args.window.now in let log = w.sight.log in let key = c.args.key in let b = begun_of w.book.now.parts in
+    let name = w.book.now.begun.book in let hash =
+    (hash_of g.K.Hash.hash_input g.S.BuildHasher.build_hasher g.S.Hasher.Hasher.write g.S.Hasher.Hasher.finish) in
     let value = c.in-Insert.value in let done = c.in-Ok-Lost in let is = done.is ∙ ap (λ z. Ok z) done.field-0-is in let q = done.pair in
     let l = subst (λ (z : Result (Tried _ _) _). IfOk z (λ t. IsLoggedAs c.claim.new.window key value (pair_in t))) is c.claim.ensures.logged in
     rw c.claim.ensures.sees.book (c.requires.hashed ∙ ap (hash w.book.now.parts.hasher) (sym l.key_is))
 
 pub returns-in-Ok-Lost-clause-ahead : goal.returns-in-Ok-Lost-clause-ahead
 returns-in-Ok-Lost-clause-ahead g c =
-    let w = c.args.window.now in let done = c.in-Ok-Lost in let is = done.is ∙ ap (λ z. Ok z) done.field-0-is in
-    (record { standing = c.filled.ensures.standing; calling = c.filled.ensures.calling; initial_is = c.filled.ensures.initial; unchanged = c.filled.ensures.unchanged }, subst (λ (z : Result (Tried _ _) _). Does (is_put z) w c.claim.new.window) is c.claim.ensures.does)
+    let w = c.args.window.now in let done = c.in-Ok-Lost in let is = done.is ∙ ap (λ z. Ok z) done.field-0-is in (
+      record {
+        standing = c.filled.ensures.standing;
+        calling = c.filled.ensures.calling;
+        initial_is = c.filled.ensures.initial;
+        unchanged = c.filled.ensures.unchanged;
+      },
+      subst (λ (z : Result (Tried _ _) _). Does (is_put z) w c.claim.new.window) is c.claim.ensures.does,
+    )
 
 pub returns-in-Ok-Lost-clause-goes : goal.returns-in-Ok-Lost-clause-goes
 returns-in-Ok-Lost-clause-goes g c = λ begun found.
-    let w = c.args.window.now in let log = w.sight.log in let key = c.args.key in let b = begun_of w.book.now.parts in let name = w.book.now.begun.book in let hash = (hash_of g.K.Hash.hash_input g.S.BuildHasher.build_hasher g.S.Hasher.Hasher.write g.S.Hasher.Hasher.finish) in
+    let w = c.args.window.now in let log = w.sight.log in let key = c.args.key in let b = begun_of w.book.now.parts in
+    let name = w.book.now.begun.book in let hash =
+    (hash_of g.K.Hash.hash_input g.S.BuildHasher.build_hasher g.S.Hasher.Hasher.write g.S.Hasher.Hasher.finish) in
     let at = c.args.at in let write = Writing (record { place = at; old = 0 }) in
-    let there = found Computes (Offering (At at)) refl in let was = none_found g.K.PartialEq.eq g.K.Hash.hash_input g.S.BuildHasher.build_hasher g.S.Hasher.Hasher.write g.S.Hasher.Hasher.finish g.met.K.Eq.laws g.met.K.Hash.respects_eq b name key begun log c.args.table.now at there in
-    let then = c.claim.new.window in let later = held_wider g.K.PartialEq.eq (g.K.PartialEq.eq key) (history_of begun) (history_of begun) (history_of log) (history_of then.sight.log) ([], append-nil (history_of begun)) (history_since log then.sight.log c.claim.ensures.sees.log) None was in
+    let there = found Computes (Offering (At at)) refl in
+    let was = none_found g.K.PartialEq.eq g.K.Hash.hash_input g.S.BuildHasher.build_hasher g.S.Hasher.Hasher.write g.S.Hasher.Hasher.finish
+    g.met.K.Eq.laws g.met.K.Hash.respects_eq b name key begun log c.args.table.now at there in
+    let then = c.claim.new.window in let later = held_wider g.K.PartialEq.eq (g.K.PartialEq.eq key) (history_of begun) (history_of begun)
+    (history_of log) (history_of then.sight.log) ([], append-nil (history_of begun)) (history_since log then.sight.log c.claim.ensures.sees.log) None was in
     let value = c.in-Insert.value in let done = c.in-Ok-Lost in let is = done.is ∙ ap (λ z. Ok z) done.field-0-is in let q = done.pair in
     let l = subst (λ (z : Result (Tried _ _) _). IfOk z (λ t. IsLoggedAs c.claim.new.window key value (pair_in t))) is c.claim.ensures.logged in
     let op : c.args.operation ≡ operation.Insert q.value.value = c.in-Insert.is ∙ ap (λ v. operation.Insert v) (sym l.value_is) in
     let x = c.filled.result in
     let resumes = subst (λ k. IsResumed then k None (operation.Insert q.value.value) x) l.key_is c.filled.ensures.resumes in
-    subst (λ (o : Operation _ _). IsComputing g.K.PartialEq.eq hash (begun_of then.book.now.parts) then.book.now.begun.book key begun then.sight.log x ((None, o) ∷ [])) (sym op) (resumes begun (prefix_trans begun log then.sight.log there.4.seen c.claim.ensures.sees.log) later)
+    subst (λ (o : Operation _ _). IsComputing g.K.PartialEq.eq hash (begun_of then.book.now.parts) then.book.now.begun.book key begun then.sight.log x
+    ((None, o) ∷ [])) (sym op) (resumes begun (prefix_trans begun log then.sight.log there.4.seen c.claim.ensures.sees.log) later)
 
 pub returns-in-Err-clause-replies : goal.returns-in-Err-clause-replies
 returns-in-Err-clause-replies g c = λ begun found.
-    let w = c.args.window.now in let log = w.sight.log in let key = c.args.key in let b = begun_of w.book.now.parts in let name = w.book.now.begun.book in let hash = (hash_of g.K.Hash.hash_input g.S.BuildHasher.build_hasher g.S.Hasher.Hasher.write g.S.Hasher.Hasher.finish) in
+    let w = c.args.window.now in let log = w.sight.log in let key = c.args.key in let b = begun_of w.book.now.parts in
+    let name = w.book.now.begun.book in let hash =
+    (hash_of g.K.Hash.hash_input g.S.BuildHasher.build_hasher g.S.Hasher.Hasher.write g.S.Hasher.Hasher.finish) in
     let at = c.args.at in let write = Writing (record { place = at; old = 0 }) in
-    let there = found Computes (Offering (At at)) refl in let was = none_found g.K.PartialEq.eq g.K.Hash.hash_input g.S.BuildHasher.build_hasher g.S.Hasher.Hasher.write g.S.Hasher.Hasher.finish g.met.K.Eq.laws g.met.K.Hash.respects_eq b name key begun log c.args.table.now at there in
-    let then = c.claim.new.window in let later = held_wider g.K.PartialEq.eq (g.K.PartialEq.eq key) (history_of begun) (history_of begun) (history_of log) (history_of then.sight.log) ([], append-nil (history_of begun)) (history_since log then.sight.log c.claim.ensures.sees.log) None was in
+    let there = found Computes (Offering (At at)) refl in
+    let was = none_found g.K.PartialEq.eq g.K.Hash.hash_input g.S.BuildHasher.build_hasher g.S.Hasher.Hasher.write g.S.Hasher.Hasher.finish
+    g.met.K.Eq.laws g.met.K.Hash.respects_eq b name key begun log c.args.table.now at there in
+    let then = c.claim.new.window in let later = held_wider g.K.PartialEq.eq (g.K.PartialEq.eq key) (history_of begun) (history_of begun)
+    (history_of log) (history_of then.sight.log) ([], append-nil (history_of begun)) (history_since log then.sight.log c.claim.ensures.sees.log) None was in
     let cause = c.in-Err.refused in
     let none = subst (λ (z : Result (Tried _ _) _). IfErr z IsMemoryOrCapacity) c.in-Err.is c.claim.ensures.refused in
     refuses g.K.PartialEq.eq key _ _ None later c.args.operation cause none
@@ -115,26 +148,38 @@ returns-in-Err-clause-crowded g c = λ e. let same : c.in-Err.refused ≡ Capaci
 
 pub returns-in-Remove-clause-replies : goal.returns-in-Remove-clause-replies
 returns-in-Remove-clause-replies g c = λ begun found.
-    let w = c.args.window.now in let log = w.sight.log in let key = c.args.key in let b = begun_of w.book.now.parts in let name = w.book.now.begun.book in let hash = (hash_of g.K.Hash.hash_input g.S.BuildHasher.build_hasher g.S.Hasher.Hasher.write g.S.Hasher.Hasher.finish) in
+    let w = c.args.window.now in let log = w.sight.log in let key = c.args.key in let b = begun_of w.book.now.parts in
+    let name = w.book.now.begun.book in let hash =
+    (hash_of g.K.Hash.hash_input g.S.BuildHasher.build_hasher g.S.Hasher.Hasher.write g.S.Hasher.Hasher.finish) in
     let at = c.args.at in let write = Writing (record { place = at; old = 0 }) in
-    let there = found Computes (Offering (At at)) refl in let was = none_found g.K.PartialEq.eq g.K.Hash.hash_input g.S.BuildHasher.build_hasher g.S.Hasher.Hasher.write g.S.Hasher.Hasher.finish g.met.K.Eq.laws g.met.K.Hash.respects_eq b name key begun log c.args.table.now at there in
+    let there = found Computes (Offering (At at)) refl in
+    let was = none_found g.K.PartialEq.eq g.K.Hash.hash_input g.S.BuildHasher.build_hasher g.S.Hasher.Hasher.write g.S.Hasher.Hasher.finish
+    g.met.K.Eq.laws g.met.K.Hash.respects_eq b name key begun log c.args.table.now at there in
     removes_nothing g.K.PartialEq.eq key _ _ None was c.args.operation refl c.in-Remove.is
 
 pub returns-in-Remove-clause-lawful : goal.returns-in-Remove-clause-lawful
 returns-in-Remove-clause-lawful g c =
-    let w = c.args.window.now in let log = w.sight.log in let key = c.args.key in let b = begun_of w.book.now.parts in let name = w.book.now.begun.book in let hash = (hash_of g.K.Hash.hash_input g.S.BuildHasher.build_hasher g.S.Hasher.Hasher.write g.S.Hasher.Hasher.finish) in
+    let w = c.args.window.now in let log = w.sight.log in let key = c.args.key in let b = begun_of w.book.now.parts in
+    let name = w.book.now.begun.book in let hash =
+    (hash_of g.K.Hash.hash_input g.S.BuildHasher.build_hasher g.S.Hasher.Hasher.write g.S.Hasher.Hasher.finish) in
     let at = c.args.at in let write = Writing (record { place = at; old = 0 }) in
     let found = c.requires.found in (found.1 Inserts write refl).4.lawful
 
 pub returns-in-Abort-clause-replies : goal.returns-in-Abort-clause-replies
 returns-in-Abort-clause-replies g c = λ begun found.
-    let w = c.args.window.now in let log = w.sight.log in let key = c.args.key in let b = begun_of w.book.now.parts in let name = w.book.now.begun.book in let hash = (hash_of g.K.Hash.hash_input g.S.BuildHasher.build_hasher g.S.Hasher.Hasher.write g.S.Hasher.Hasher.finish) in
+    let w = c.args.window.now in let log = w.sight.log in let key = c.args.key in let b = begun_of w.book.now.parts in
+    let name = w.book.now.begun.book in let hash =
+    (hash_of g.K.Hash.hash_input g.S.BuildHasher.build_hasher g.S.Hasher.Hasher.write g.S.Hasher.Hasher.finish) in
     let at = c.args.at in let write = Writing (record { place = at; old = 0 }) in
-    let there = found Computes (Offering (At at)) refl in let was = none_found g.K.PartialEq.eq g.K.Hash.hash_input g.S.BuildHasher.build_hasher g.S.Hasher.Hasher.write g.S.Hasher.Hasher.finish g.met.K.Eq.laws g.met.K.Hash.respects_eq b name key begun log c.args.table.now at there in
+    let there = found Computes (Offering (At at)) refl in
+    let was = none_found g.K.PartialEq.eq g.K.Hash.hash_input g.S.BuildHasher.build_hasher g.S.Hasher.Hasher.write g.S.Hasher.Hasher.finish
+    g.met.K.Eq.laws g.met.K.Hash.respects_eq b name key begun log c.args.table.now at there in
     aborts g.K.PartialEq.eq key _ _ None was c.args.operation c.in-Abort.with c.in-Abort.is
 
 pub returns-in-Abort-clause-lawful : goal.returns-in-Abort-clause-lawful
 returns-in-Abort-clause-lawful g c =
-    let w = c.args.window.now in let log = w.sight.log in let key = c.args.key in let b = begun_of w.book.now.parts in let name = w.book.now.begun.book in let hash = (hash_of g.K.Hash.hash_input g.S.BuildHasher.build_hasher g.S.Hasher.Hasher.write g.S.Hasher.Hasher.finish) in
+    let w = c.args.window.now in let log = w.sight.log in let key = c.args.key in let b = begun_of w.book.now.parts in
+    let name = w.book.now.begun.book in let hash =
+    (hash_of g.K.Hash.hash_input g.S.BuildHasher.build_hasher g.S.Hasher.Hasher.write g.S.Hasher.Hasher.finish) in
     let at = c.args.at in let write = Writing (record { place = at; old = 0 }) in
     let found = c.requires.found in (found.1 Inserts write refl).4.lawful

@@ -27,20 +27,28 @@ use Rattle.papaya_compute.proofs.fast_path.renew.Goals as goal
 
 pub replace-requires-clause-stands : goal.replace-requires-clause-stands
 replace-requires-clause-stands g c =
-    let w = c.args.window.now in let log = w.sight.log in let key = c.args.key in let b = begun_of w.book.now.parts in let name = w.book.now.begun.book in let hash = (hash_of g.K.Hash.hash_input g.S.BuildHasher.build_hasher g.S.Hasher.Hasher.write g.S.Hasher.Hasher.finish) in
+    let w = c.args.window.now in let log = w.sight.log in let key = c.args.key in let b = begun_of w.book.now.parts in
+    let name = w.book.now.begun.book in let hash =
+    (hash_of g.K.Hash.hash_input g.S.BuildHasher.build_hasher g.S.Hasher.Hasher.write g.S.Hasher.Hasher.finish) in
     let met = c.args.met in let p = met.stored in let write = Writing (record { place = met.place; old = met.word }) in
     let found = c.requires.found in (key, (write, refl, (found.0, found.1 Inserts write refl)))
 
 pub entry-old-requires : goal.entry-old-requires
 entry-old-requires g c =
-    let w = c.args.window.now in let log = w.sight.log in let key = c.args.key in let b = begun_of w.book.now.parts in let name = w.book.now.begun.book in let hash = (hash_of g.K.Hash.hash_input g.S.BuildHasher.build_hasher g.S.Hasher.Hasher.write g.S.Hasher.Hasher.finish) in
+    let w = c.args.window.now in let log = w.sight.log in let key = c.args.key in let b = begun_of w.book.now.parts in
+    let name = w.book.now.begun.book in let hash =
+    (hash_of g.K.Hash.hash_input g.S.BuildHasher.build_hasher g.S.Hasher.Hasher.write g.S.Hasher.Hasher.finish) in
     let met = c.args.met in let p = met.stored in let write = Writing (record { place = met.place; old = met.word }) in
     let found = c.requires.found in
-    rw c.replace.ensures.sees.book (pair_placed g.K.PartialEq.eq g.K.Hash.hash_input g.S.BuildHasher.build_hasher g.S.Hasher.Hasher.write g.S.Hasher.Hasher.finish g.met.K.Eq.laws g.met.K.Hash.respects_eq b name key found.0 log c.args.table.now met.place met.word p (found.1 Computes (Showing (record { place = met.place; word = met.word })) refl))
+    rw c.replace.ensures.sees.book (pair_placed g.K.PartialEq.eq g.K.Hash.hash_input g.S.BuildHasher.build_hasher g.S.Hasher.Hasher.write
+    g.S.Hasher.Hasher.finish g.met.K.Eq.laws g.met.K.Hash.respects_eq b name key found.0 log c.args.table.now met.place met.word p
+    (found.1 Computes (Showing (record { place = met.place; word = met.word })) refl))
 
 pub entry-new-requires : goal.entry-new-requires
 entry-new-requires g c =
-    let w = c.args.window.now in let log = w.sight.log in let key = c.args.key in let b = begun_of w.book.now.parts in let name = w.book.now.begun.book in let hash = (hash_of g.K.Hash.hash_input g.S.BuildHasher.build_hasher g.S.Hasher.Hasher.write g.S.Hasher.Hasher.finish) in
+    let w = c.args.window.now in let log = w.sight.log in let key = c.args.key in let b = begun_of w.book.now.parts in
+    let name = w.book.now.begun.book in let hash =
+    (hash_of g.K.Hash.hash_input g.S.BuildHasher.build_hasher g.S.Hasher.Hasher.write g.S.Hasher.Hasher.finish) in
     let met = c.args.met in let p = met.stored in let write = Writing (record { place = met.place; old = met.word }) in
     let value = c.in-Insert.value in let done = c.in-Ok-Put in let is = done.is ∙ ap (λ z. Ok z) done.field-0-is in let q = done.pair in
     let l = subst (λ (z : Result (Tried _ _) _). IfOk z (λ t. IsLoggedAs c.replace.new.window (key_of p) value (pair_in t))) is c.replace.ensures.logged in
@@ -48,16 +56,23 @@ entry-new-requires g c =
 
 pub returns-in-Ok-Put-clause-replies : goal.returns-in-Ok-Put-clause-replies
 returns-in-Ok-Put-clause-replies g c = λ begun found.
-    let w = c.args.window.now in let log = w.sight.log in let key = c.args.key in let b = begun_of w.book.now.parts in let name = w.book.now.begun.book in let hash = (hash_of g.K.Hash.hash_input g.S.BuildHasher.build_hasher g.S.Hasher.Hasher.write g.S.Hasher.Hasher.finish) in
+    let w = c.args.window.now in let log = w.sight.log in let key = c.args.key in let b = begun_of w.book.now.parts in
+    let name = w.book.now.begun.book in let hash =
+    (hash_of g.K.Hash.hash_input g.S.BuildHasher.build_hasher g.S.Hasher.Hasher.write g.S.Hasher.Hasher.finish) in
     let met = c.args.met in let p = met.stored in let write = Writing (record { place = met.place; old = met.word }) in
-    let there = found Computes (Showing (record { place = met.place; word = met.word })) refl in let was = pair_found g.K.PartialEq.eq g.K.Hash.hash_input g.S.BuildHasher.build_hasher g.S.Hasher.Hasher.write g.S.Hasher.Hasher.finish g.met.K.Eq.laws g.met.K.Hash.respects_eq b name key begun log c.args.table.now met.place met.word p there in
-    let then = c.replace.new.window in let later = held_wider g.K.PartialEq.eq (g.K.PartialEq.eq key) (history_of begun) (history_of begun) (history_of log) (history_of then.sight.log) ([], append-nil (history_of begun)) (history_since log then.sight.log c.replace.ensures.sees.log) (Some p) was in
+    let there = found Computes (Showing (record { place = met.place; word = met.word })) refl in
+    let was = pair_found g.K.PartialEq.eq g.K.Hash.hash_input g.S.BuildHasher.build_hasher g.S.Hasher.Hasher.write g.S.Hasher.Hasher.finish
+    g.met.K.Eq.laws g.met.K.Hash.respects_eq b name key begun log c.args.table.now met.place met.word p there in
+    let then = c.replace.new.window in let later = held_wider g.K.PartialEq.eq (g.K.PartialEq.eq key) (history_of begun) (history_of begun)
+    (history_of log) (history_of then.sight.log) ([], append-nil (history_of begun)) (history_since log then.sight.log c.replace.ensures.sees.log)
+    (Some p) was in
     let value = c.in-Insert.value in let done = c.in-Ok-Put in let is = done.is ∙ ap (λ z. Ok z) done.field-0-is in let q = done.pair in
     let l = subst (λ (z : Result (Tried _ _) _). IfOk z (λ t. IsLoggedAs c.replace.new.window (key_of p) value (pair_in t))) is c.replace.ensures.logged in
     let op : c.args.operation ≡ operation.Insert q.value.value = c.in-Insert.is ∙ ap (λ v. operation.Insert v) (sym l.value_is) in
     let t = c.replace.ensures.put q is key begun write refl (found Inserts write refl) in let z = met_some p t.0 t.1 in
     let change = subst (λ (o : Option (Stored _ _)). IsChangeOf (g.K.PartialEq.eq key) (history_of begun) (past then) o (Some q)) z.1 t.2 in
-    updates g.K.PartialEq.eq key _ _ (Some p) later c.args.operation p z.0 q refl op z.2 change c.entry-old.result c.entry-new.result c.entry-old.ensures c.entry-new.ensures
+    updates g.K.PartialEq.eq key _ _ (Some p) later c.args.operation p z.0 q refl op z.2 change c.entry-old.result c.entry-new.result
+    c.entry-old.ensures c.entry-new.ensures
 
 pub returns-in-Ok-Put-clause-made : goal.returns-in-Ok-Put-clause-made
 returns-in-Ok-Put-clause-made g c =
@@ -66,14 +81,20 @@ returns-in-Ok-Put-clause-made g c =
 
 pub replaced-requires-clause-shown : goal.replaced-requires-clause-shown
 replaced-requires-clause-shown g c =
-    let w = c.args.window.now in let log = w.sight.log in let key = c.args.key in let b = begun_of w.book.now.parts in let name = w.book.now.begun.book in let hash = (hash_of g.K.Hash.hash_input g.S.BuildHasher.build_hasher g.S.Hasher.Hasher.write g.S.Hasher.Hasher.finish) in
+    let w = c.args.window.now in let log = w.sight.log in let key = c.args.key in let b = begun_of w.book.now.parts in
+    let name = w.book.now.begun.book in let hash =
+    (hash_of g.K.Hash.hash_input g.S.BuildHasher.build_hasher g.S.Hasher.Hasher.write g.S.Hasher.Hasher.finish) in
     let met = c.args.met in let p = met.stored in let write = Writing (record { place = met.place; old = met.word }) in
     let found = c.requires.found in
-    rw c.replace.ensures.sees.book (pair_placed g.K.PartialEq.eq g.K.Hash.hash_input g.S.BuildHasher.build_hasher g.S.Hasher.Hasher.write g.S.Hasher.Hasher.finish g.met.K.Eq.laws g.met.K.Hash.respects_eq b name key found.0 log c.args.table.now met.place met.word p (found.1 Computes (Showing (record { place = met.place; word = met.word })) refl))
+    rw c.replace.ensures.sees.book (pair_placed g.K.PartialEq.eq g.K.Hash.hash_input g.S.BuildHasher.build_hasher g.S.Hasher.Hasher.write
+    g.S.Hasher.Hasher.finish g.met.K.Eq.laws g.met.K.Hash.respects_eq b name key found.0 log c.args.table.now met.place met.word p
+    (found.1 Computes (Showing (record { place = met.place; word = met.word })) refl))
 
 pub replaced-requires-clause-placed : goal.replaced-requires-clause-placed
 replaced-requires-clause-placed g c =
-    let w = c.args.window.now in let log = w.sight.log in let key = c.args.key in let b = begun_of w.book.now.parts in let name = w.book.now.begun.book in let hash = (hash_of g.K.Hash.hash_input g.S.BuildHasher.build_hasher g.S.Hasher.Hasher.write g.S.Hasher.Hasher.finish) in
+    let w = c.args.window.now in let log = w.sight.log in let key = c.args.key in let b = begun_of w.book.now.parts in
+    let name = w.book.now.begun.book in let hash =
+    (hash_of g.K.Hash.hash_input g.S.BuildHasher.build_hasher g.S.Hasher.Hasher.write g.S.Hasher.Hasher.finish) in
     let met = c.args.met in let p = met.stored in let write = Writing (record { place = met.place; old = met.word }) in
     let value = c.in-Insert.value in let done = c.in-Ok-Lost in let is = done.is ∙ ap (λ z. Ok z) done.field-0-is in let q = done.pair in
     let l = subst (λ (z : Result (Tried _ _) _). IfOk z (λ t. IsLoggedAs c.replace.new.window (key_of p) value (pair_in t))) is c.replace.ensures.logged in
@@ -81,7 +102,9 @@ replaced-requires-clause-placed g c =
 
 pub replaced-requires-clause-number : goal.replaced-requires-clause-number
 replaced-requires-clause-number g c =
-    let w = c.args.window.now in let log = w.sight.log in let key = c.args.key in let b = begun_of w.book.now.parts in let name = w.book.now.begun.book in let hash = (hash_of g.K.Hash.hash_input g.S.BuildHasher.build_hasher g.S.Hasher.Hasher.write g.S.Hasher.Hasher.finish) in
+    let w = c.args.window.now in let log = w.sight.log in let key = c.args.key in let b = begun_of w.book.now.parts in
+    let name = w.book.now.begun.book in let hash =
+    (hash_of g.K.Hash.hash_input g.S.BuildHasher.build_hasher g.S.Hasher.Hasher.write g.S.Hasher.Hasher.finish) in
     let met = c.args.met in let p = met.stored in let write = Writing (record { place = met.place; old = met.word }) in
     let value = c.in-Insert.value in let done = c.in-Ok-Lost in let is = done.is ∙ ap (λ z. Ok z) done.field-0-is in let q = done.pair in
     let l = subst (λ (z : Result (Tried _ _) _). IfOk z (λ t. IsLoggedAs c.replace.new.window (key_of p) value (pair_in t))) is c.replace.ensures.logged in
@@ -92,7 +115,9 @@ replaced-requires-clause-hashed g c = rw c.replace.ensures.sees.book c.requires.
 
 pub replaced-requires-clause-kept : goal.replaced-requires-clause-kept
 replaced-requires-clause-kept g c =
-    let w = c.args.window.now in let log = w.sight.log in let key = c.args.key in let b = begun_of w.book.now.parts in let name = w.book.now.begun.book in let hash = (hash_of g.K.Hash.hash_input g.S.BuildHasher.build_hasher g.S.Hasher.Hasher.write g.S.Hasher.Hasher.finish) in
+    let w = c.args.window.now in let log = w.sight.log in let key = c.args.key in let b = begun_of w.book.now.parts in
+    let name = w.book.now.begun.book in let hash =
+    (hash_of g.K.Hash.hash_input g.S.BuildHasher.build_hasher g.S.Hasher.Hasher.write g.S.Hasher.Hasher.finish) in
     let met = c.args.met in let p = met.stored in let write = Writing (record { place = met.place; old = met.word }) in
     let value = c.in-Insert.value in let done = c.in-Ok-Lost in let is = done.is ∙ ap (λ z. Ok z) done.field-0-is in let q = done.pair in
     let l = subst (λ (z : Result (Tried _ _) _). IfOk z (λ t. IsLoggedAs c.replace.new.window (key_of p) value (pair_in t))) is c.replace.ensures.logged in
@@ -100,47 +125,76 @@ replaced-requires-clause-kept g c =
 
 pub replaced-requires-clause-same : goal.replaced-requires-clause-same
 replaced-requires-clause-same g c =
-    let w = c.args.window.now in let log = w.sight.log in let key = c.args.key in let b = begun_of w.book.now.parts in let name = w.book.now.begun.book in let hash = (hash_of g.K.Hash.hash_input g.S.BuildHasher.build_hasher g.S.Hasher.Hasher.write g.S.Hasher.Hasher.finish) in
+    let w = c.args.window.now in let log = w.sight.log in let key = c.args.key in let b = begun_of w.book.now.parts in
+    let name = w.book.now.begun.book in let hash =
+    (hash_of g.K.Hash.hash_input g.S.BuildHasher.build_hasher g.S.Hasher.Hasher.write g.S.Hasher.Hasher.finish) in
     let met = c.args.met in let p = met.stored in let write = Writing (record { place = met.place; old = met.word }) in
     let found = c.requires.found in let begun = found.0 in let writes = found.1 Inserts write refl in let full = live_full met.word c.requires.live in
     let value = c.in-Insert.value in let done = c.in-Ok-Lost in let is = done.is ∙ ap (λ z. Ok z) done.field-0-is in let q = done.pair in
     let l = subst (λ (z : Result (Tried _ _) _). IfOk z (λ t. IsLoggedAs c.replace.new.window (key_of p) value (pair_in t))) is c.replace.ensures.logged in
-    ap (g.K.PartialEq.eq key) l.key_is ∙ met_same g.K.PartialEq.eq g.K.Hash.hash_input g.S.BuildHasher.build_hasher g.S.Hasher.Hasher.write g.S.Hasher.Hasher.finish g.met.K.Eq.laws g.met.K.Hash.respects_eq b name key begun log met.place met.word full p c.args.table.now writes
+    ap (g.K.PartialEq.eq key) l.key_is ∙ met_same g.K.PartialEq.eq g.K.Hash.hash_input g.S.BuildHasher.build_hasher g.S.Hasher.Hasher.write
+    g.S.Hasher.Hasher.finish g.met.K.Eq.laws g.met.K.Hash.respects_eq b name key begun log met.place met.word full p c.args.table.now writes
 
 pub replaced-requires-clause-there : goal.replaced-requires-clause-there
 replaced-requires-clause-there g c =
-    let w = c.args.window.now in let log = w.sight.log in let key = c.args.key in let b = begun_of w.book.now.parts in let name = w.book.now.begun.book in let hash = (hash_of g.K.Hash.hash_input g.S.BuildHasher.build_hasher g.S.Hasher.Hasher.write g.S.Hasher.Hasher.finish) in
+    let w = c.args.window.now in let log = w.sight.log in let key = c.args.key in let b = begun_of w.book.now.parts in
+    let name = w.book.now.begun.book in let hash =
+    (hash_of g.K.Hash.hash_input g.S.BuildHasher.build_hasher g.S.Hasher.Hasher.write g.S.Hasher.Hasher.finish) in
     let met = c.args.met in let p = met.stored in let write = Writing (record { place = met.place; old = met.word }) in
     let found = c.requires.found in let begun = found.0 in let writes = found.1 Inserts write refl in let full = live_full met.word c.requires.live in
     let value = c.in-Insert.value in let done = c.in-Ok-Lost in let is = done.is ∙ ap (λ z. Ok z) done.field-0-is in let q = done.pair in
     let l = subst (λ (z : Result (Tried _ _) _). IfOk z (λ t. IsLoggedAs c.replace.new.window (key_of p) value (pair_in t))) is c.replace.ensures.logged in
     let then = c.replace.new.window in
     subst (HasKeyAt then.sight.log met.place.table met.place.probe.i) (sym l.key_is)
-    (key_at_stays g.K.PartialEq.eq g.K.Hash.hash_input g.S.BuildHasher.build_hasher g.S.Hasher.Hasher.write g.S.Hasher.Hasher.finish g.met.K.Eq.laws g.met.K.Hash.respects_eq b log then.sight.log (rw (sym c.replace.ensures.sees.book) c.replace.ensures.lawful) c.replace.ensures.sees.log met.place.table met.place.probe.i (key_of p) (met_key_there g.K.PartialEq.eq g.K.Hash.hash_input g.S.BuildHasher.build_hasher g.S.Hasher.Hasher.write g.S.Hasher.Hasher.finish g.met.K.Eq.laws g.met.K.Hash.respects_eq b name key begun log met.place met.word full p c.args.table.now writes))
+    (key_at_stays g.K.PartialEq.eq g.K.Hash.hash_input g.S.BuildHasher.build_hasher g.S.Hasher.Hasher.write g.S.Hasher.Hasher.finish g.met.K.Eq.laws
+    g.met.K.Hash.respects_eq b log then.sight.log (rw (sym c.replace.ensures.sees.book) c.replace.ensures.lawful) c.replace.ensures.sees.log
+    met.place.table met.place.probe.i (key_of p)
+    (met_key_there g.K.PartialEq.eq g.K.Hash.hash_input g.S.BuildHasher.build_hasher g.S.Hasher.Hasher.write g.S.Hasher.Hasher.finish
+    g.met.K.Eq.laws g.met.K.Hash.respects_eq b name key begun log met.place met.word full p c.args.table.now writes))
 
 pub returns-in-Ok-Lost-clause-ahead : goal.returns-in-Ok-Lost-clause-ahead
 returns-in-Ok-Lost-clause-ahead g c =
-    let w = c.args.window.now in let done = c.in-Ok-Lost in let is = done.is ∙ ap (λ z. Ok z) done.field-0-is in
-    (record { standing = c.replaced.ensures.standing; calling = c.replaced.ensures.calling; initial_is = c.replaced.ensures.initial; unchanged = c.replaced.ensures.unchanged }, subst (λ (z : Result (Tried _ _) _). Does (is_put z) w c.replace.new.window) is c.replace.ensures.does)
+    let w = c.args.window.now in let done = c.in-Ok-Lost in let is = done.is ∙ ap (λ z. Ok z) done.field-0-is in (
+      record {
+        standing = c.replaced.ensures.standing;
+        calling = c.replaced.ensures.calling;
+        initial_is = c.replaced.ensures.initial;
+        unchanged = c.replaced.ensures.unchanged;
+      },
+      subst (λ (z : Result (Tried _ _) _). Does (is_put z) w c.replace.new.window) is c.replace.ensures.does,
+    )
 
 pub returns-in-Ok-Lost-clause-goes : goal.returns-in-Ok-Lost-clause-goes
 returns-in-Ok-Lost-clause-goes g c = λ begun found.
-    let w = c.args.window.now in let log = w.sight.log in let key = c.args.key in let b = begun_of w.book.now.parts in let name = w.book.now.begun.book in let hash = (hash_of g.K.Hash.hash_input g.S.BuildHasher.build_hasher g.S.Hasher.Hasher.write g.S.Hasher.Hasher.finish) in
+    let w = c.args.window.now in let log = w.sight.log in let key = c.args.key in let b = begun_of w.book.now.parts in
+    let name = w.book.now.begun.book in let hash =
+    (hash_of g.K.Hash.hash_input g.S.BuildHasher.build_hasher g.S.Hasher.Hasher.write g.S.Hasher.Hasher.finish) in
     let met = c.args.met in let p = met.stored in let write = Writing (record { place = met.place; old = met.word }) in
-    let there = found Computes (Showing (record { place = met.place; word = met.word })) refl in let was = pair_found g.K.PartialEq.eq g.K.Hash.hash_input g.S.BuildHasher.build_hasher g.S.Hasher.Hasher.write g.S.Hasher.Hasher.finish g.met.K.Eq.laws g.met.K.Hash.respects_eq b name key begun log c.args.table.now met.place met.word p there in
-    let then = c.replace.new.window in let later = held_wider g.K.PartialEq.eq (g.K.PartialEq.eq key) (history_of begun) (history_of begun) (history_of log) (history_of then.sight.log) ([], append-nil (history_of begun)) (history_since log then.sight.log c.replace.ensures.sees.log) (Some p) was in
+    let there = found Computes (Showing (record { place = met.place; word = met.word })) refl in
+    let was = pair_found g.K.PartialEq.eq g.K.Hash.hash_input g.S.BuildHasher.build_hasher g.S.Hasher.Hasher.write g.S.Hasher.Hasher.finish
+    g.met.K.Eq.laws g.met.K.Hash.respects_eq b name key begun log c.args.table.now met.place met.word p there in
+    let then = c.replace.new.window in let later = held_wider g.K.PartialEq.eq (g.K.PartialEq.eq key) (history_of begun) (history_of begun)
+    (history_of log) (history_of then.sight.log) ([], append-nil (history_of begun)) (history_since log then.sight.log c.replace.ensures.sees.log)
+    (Some p) was in
     let value = c.in-Insert.value in let done = c.in-Ok-Lost in let is = done.is ∙ ap (λ z. Ok z) done.field-0-is in let q = done.pair in
     let l = subst (λ (z : Result (Tried _ _) _). IfOk z (λ t. IsLoggedAs c.replace.new.window (key_of p) value (pair_in t))) is c.replace.ensures.logged in
     let op : c.args.operation ≡ operation.Insert q.value.value = c.in-Insert.is ∙ ap (λ v. operation.Insert v) (sym l.value_is) in
     let x = c.replaced.result in
-    subst (λ (o : Operation _ _). IsComputing g.K.PartialEq.eq hash (begun_of then.book.now.parts) then.book.now.begun.book key begun then.sight.log x ((Some p, o) ∷ [])) (sym op) (c.replaced.ensures.resumes begun (prefix_trans begun log then.sight.log there.4.seen c.replace.ensures.sees.log) later)
+    subst (λ (o : Operation _ _). IsComputing g.K.PartialEq.eq hash (begun_of then.book.now.parts) then.book.now.begun.book key begun then.sight.log x
+    ((Some p, o) ∷ [])) (sym op) (c.replaced.ensures.resumes begun (prefix_trans begun log then.sight.log there.4.seen c.replace.ensures.sees.log) later)
 
 pub returns-in-Insert-clause-replies : goal.returns-in-Insert-clause-replies
 returns-in-Insert-clause-replies g c = λ begun found.
-    let w = c.args.window.now in let log = w.sight.log in let key = c.args.key in let b = begun_of w.book.now.parts in let name = w.book.now.begun.book in let hash = (hash_of g.K.Hash.hash_input g.S.BuildHasher.build_hasher g.S.Hasher.Hasher.write g.S.Hasher.Hasher.finish) in
+    let w = c.args.window.now in let log = w.sight.log in let key = c.args.key in let b = begun_of w.book.now.parts in
+    let name = w.book.now.begun.book in let hash =
+    (hash_of g.K.Hash.hash_input g.S.BuildHasher.build_hasher g.S.Hasher.Hasher.write g.S.Hasher.Hasher.finish) in
     let met = c.args.met in let p = met.stored in let write = Writing (record { place = met.place; old = met.word }) in
-    let there = found Computes (Showing (record { place = met.place; word = met.word })) refl in let was = pair_found g.K.PartialEq.eq g.K.Hash.hash_input g.S.BuildHasher.build_hasher g.S.Hasher.Hasher.write g.S.Hasher.Hasher.finish g.met.K.Eq.laws g.met.K.Hash.respects_eq b name key begun log c.args.table.now met.place met.word p there in
-    let then = c.replace.new.window in let later = held_wider g.K.PartialEq.eq (g.K.PartialEq.eq key) (history_of begun) (history_of begun) (history_of log) (history_of then.sight.log) ([], append-nil (history_of begun)) (history_since log then.sight.log c.replace.ensures.sees.log) (Some p) was in
+    let there = found Computes (Showing (record { place = met.place; word = met.word })) refl in
+    let was = pair_found g.K.PartialEq.eq g.K.Hash.hash_input g.S.BuildHasher.build_hasher g.S.Hasher.Hasher.write g.S.Hasher.Hasher.finish
+    g.met.K.Eq.laws g.met.K.Hash.respects_eq b name key begun log c.args.table.now met.place met.word p there in
+    let then = c.replace.new.window in let later = held_wider g.K.PartialEq.eq (g.K.PartialEq.eq key) (history_of begun) (history_of begun)
+    (history_of log) (history_of then.sight.log) ([], append-nil (history_of begun)) (history_since log then.sight.log c.replace.ensures.sees.log)
+    (Some p) was in
     let cause = c.in-Err.refused in
     let none = subst (λ (z : Result (Tried _ _) _). IfErr z IsMemoryOrCapacity) c.in-Err.is c.replace.ensures.refused in
     refuses g.K.PartialEq.eq key _ _ (Some p) later c.args.operation cause none
@@ -155,15 +209,21 @@ returns-in-Insert-clause-crowded g c = λ e. let same : c.in-Err.refused ≡ Cap
 
 pub delete-requires : goal.delete-requires
 delete-requires g c =
-    let w = c.args.window.now in let log = w.sight.log in let key = c.args.key in let b = begun_of w.book.now.parts in let name = w.book.now.begun.book in let hash = (hash_of g.K.Hash.hash_input g.S.BuildHasher.build_hasher g.S.Hasher.Hasher.write g.S.Hasher.Hasher.finish) in
+    let w = c.args.window.now in let log = w.sight.log in let key = c.args.key in let b = begun_of w.book.now.parts in
+    let name = w.book.now.begun.book in let hash =
+    (hash_of g.K.Hash.hash_input g.S.BuildHasher.build_hasher g.S.Hasher.Hasher.write g.S.Hasher.Hasher.finish) in
     let met = c.args.met in let p = met.stored in let show = Showing (record { place = met.place; word = met.word }) in
     let found = c.requires.found in record { shows = (key, found.0, found.1 Computes show refl) }
 
 pub removing-call-requires-clause-shown : goal.removing-call-requires-clause-shown
 removing-call-requires-clause-shown g c =
-    let w = c.args.window.now in let log = w.sight.log in let key = c.args.key in let b = begun_of w.book.now.parts in let name = w.book.now.begun.book in let hash = (hash_of g.K.Hash.hash_input g.S.BuildHasher.build_hasher g.S.Hasher.Hasher.write g.S.Hasher.Hasher.finish) in
+    let w = c.args.window.now in let log = w.sight.log in let key = c.args.key in let b = begun_of w.book.now.parts in
+    let name = w.book.now.begun.book in let hash =
+    (hash_of g.K.Hash.hash_input g.S.BuildHasher.build_hasher g.S.Hasher.Hasher.write g.S.Hasher.Hasher.finish) in
     let met = c.args.met in let p = met.stored in let show = Showing (record { place = met.place; word = met.word }) in
-    let found = c.requires.found in rw c.delete.ensures.sees.book (pair_placed g.K.PartialEq.eq g.K.Hash.hash_input g.S.BuildHasher.build_hasher g.S.Hasher.Hasher.write g.S.Hasher.Hasher.finish g.met.K.Eq.laws g.met.K.Hash.respects_eq b name key found.0 log c.args.table.now met.place met.word p (found.1 Computes show refl))
+    let found = c.requires.found in rw c.delete.ensures.sees.book
+    (pair_placed g.K.PartialEq.eq g.K.Hash.hash_input g.S.BuildHasher.build_hasher g.S.Hasher.Hasher.write g.S.Hasher.Hasher.finish g.met.K.Eq.laws
+    g.met.K.Hash.respects_eq b name key found.0 log c.args.table.now met.place met.word p (found.1 Computes show refl))
 
 pub removing-call-requires-clause-hashed : goal.removing-call-requires-clause-hashed
 removing-call-requires-clause-hashed g c =
@@ -171,30 +231,55 @@ removing-call-requires-clause-hashed g c =
 
 pub returns-then-not-delete-clause-goes : goal.returns-then-not-delete-clause-goes
 returns-then-not-delete-clause-goes g c = λ begun found.
-    let w = c.args.window.now in let log = w.sight.log in let key = c.args.key in let b = begun_of w.book.now.parts in let name = w.book.now.begun.book in let hash = (hash_of g.K.Hash.hash_input g.S.BuildHasher.build_hasher g.S.Hasher.Hasher.write g.S.Hasher.Hasher.finish) in
+    let w = c.args.window.now in let log = w.sight.log in let key = c.args.key in let b = begun_of w.book.now.parts in
+    let name = w.book.now.begun.book in let hash =
+    (hash_of g.K.Hash.hash_input g.S.BuildHasher.build_hasher g.S.Hasher.Hasher.write g.S.Hasher.Hasher.finish) in
     let met = c.args.met in let p = met.stored in let show = Showing (record { place = met.place; word = met.word }) in
-    let there = found Computes show refl in let was = pair_found g.K.PartialEq.eq g.K.Hash.hash_input g.S.BuildHasher.build_hasher g.S.Hasher.Hasher.write g.S.Hasher.Hasher.finish g.met.K.Eq.laws g.met.K.Hash.respects_eq b name key begun log c.args.table.now met.place met.word p there in
-    let then = c.delete.new.window in let later = held_wider g.K.PartialEq.eq (g.K.PartialEq.eq key) (history_of begun) (history_of begun) (history_of log) (history_of then.sight.log) ([], append-nil (history_of begun)) (history_since log then.sight.log c.delete.ensures.sees.log) (Some p) was in
+    let there = found Computes show refl in let was = pair_found g.K.PartialEq.eq g.K.Hash.hash_input g.S.BuildHasher.build_hasher
+    g.S.Hasher.Hasher.write g.S.Hasher.Hasher.finish g.met.K.Eq.laws g.met.K.Hash.respects_eq b name key begun log c.args.table.now met.place
+    met.word p there in
+    let then = c.delete.new.window in let later = held_wider g.K.PartialEq.eq (g.K.PartialEq.eq key) (history_of begun) (history_of begun)
+    (history_of log) (history_of then.sight.log) ([], append-nil (history_of begun)) (history_since log then.sight.log c.delete.ensures.sees.log)
+    (Some p) was in
     let x = c.removing-call.result in
-    subst (λ (o : Operation _ _). IsComputing g.K.PartialEq.eq hash (begun_of then.book.now.parts) then.book.now.begun.book key begun then.sight.log x ((Some p, o) ∷ [])) (sym c.in-Remove.is) (c.removing-call.ensures.resumes begun (prefix_trans begun log then.sight.log there.4.seen c.delete.ensures.sees.log) later)
+    subst (λ (o : Operation _ _). IsComputing g.K.PartialEq.eq hash (begun_of then.book.now.parts) then.book.now.begun.book key begun then.sight.log x
+    ((Some p, o) ∷ [])) (sym c.in-Remove.is)
+    (c.removing-call.ensures.resumes begun (prefix_trans begun log then.sight.log there.4.seen c.delete.ensures.sees.log) later)
 
 pub returns-then-not-delete-clause-ahead : goal.returns-then-not-delete-clause-ahead
 returns-then-not-delete-clause-ahead g c =
-    let not : c.delete.result ≡ false = search rules in
-    (record { standing = c.removing-call.ensures.standing; calling = c.removing-call.ensures.calling; initial_is = c.removing-call.ensures.initial; unchanged = c.removing-call.ensures.unchanged }, subst (λ (z : Bool). Does z c.args.window.now c.delete.new.window) not c.delete.ensures.does)
+    let not : c.delete.result ≡ false = search rules in (
+      record {
+        standing = c.removing-call.ensures.standing;
+        calling = c.removing-call.ensures.calling;
+        initial_is = c.removing-call.ensures.initial;
+        unchanged = c.removing-call.ensures.unchanged;
+      },
+      subst (λ (z : Bool). Does z c.args.window.now c.delete.new.window) not c.delete.ensures.does,
+    )
 
 pub entry-requires : goal.entry-requires
 entry-requires g c =
-    let w = c.args.window.now in let log = w.sight.log in let key = c.args.key in let b = begun_of w.book.now.parts in let name = w.book.now.begun.book in let hash = (hash_of g.K.Hash.hash_input g.S.BuildHasher.build_hasher g.S.Hasher.Hasher.write g.S.Hasher.Hasher.finish) in
+    let w = c.args.window.now in let log = w.sight.log in let key = c.args.key in let b = begun_of w.book.now.parts in
+    let name = w.book.now.begun.book in let hash =
+    (hash_of g.K.Hash.hash_input g.S.BuildHasher.build_hasher g.S.Hasher.Hasher.write g.S.Hasher.Hasher.finish) in
     let met = c.args.met in let p = met.stored in let show = Showing (record { place = met.place; word = met.word }) in
-    let found = c.requires.found in rw c.delete.ensures.sees.book (pair_placed g.K.PartialEq.eq g.K.Hash.hash_input g.S.BuildHasher.build_hasher g.S.Hasher.Hasher.write g.S.Hasher.Hasher.finish g.met.K.Eq.laws g.met.K.Hash.respects_eq b name key found.0 log c.args.table.now met.place met.word p (found.1 Computes show refl))
+    let found = c.requires.found in rw c.delete.ensures.sees.book
+    (pair_placed g.K.PartialEq.eq g.K.Hash.hash_input g.S.BuildHasher.build_hasher g.S.Hasher.Hasher.write g.S.Hasher.Hasher.finish g.met.K.Eq.laws
+    g.met.K.Hash.respects_eq b name key found.0 log c.args.table.now met.place met.word p (found.1 Computes show refl))
 
 pub returns-in-Remove-clause-replies : goal.returns-in-Remove-clause-replies
 returns-in-Remove-clause-replies g c = λ begun found.
-    let w = c.args.window.now in let log = w.sight.log in let key = c.args.key in let b = begun_of w.book.now.parts in let name = w.book.now.begun.book in let hash = (hash_of g.K.Hash.hash_input g.S.BuildHasher.build_hasher g.S.Hasher.Hasher.write g.S.Hasher.Hasher.finish) in
+    let w = c.args.window.now in let log = w.sight.log in let key = c.args.key in let b = begun_of w.book.now.parts in
+    let name = w.book.now.begun.book in let hash =
+    (hash_of g.K.Hash.hash_input g.S.BuildHasher.build_hasher g.S.Hasher.Hasher.write g.S.Hasher.Hasher.finish) in
     let met = c.args.met in let p = met.stored in let show = Showing (record { place = met.place; word = met.word }) in
-    let there = found Computes show refl in let was = pair_found g.K.PartialEq.eq g.K.Hash.hash_input g.S.BuildHasher.build_hasher g.S.Hasher.Hasher.write g.S.Hasher.Hasher.finish g.met.K.Eq.laws g.met.K.Hash.respects_eq b name key begun log c.args.table.now met.place met.word p there in
-    let then = c.delete.new.window in let later = held_wider g.K.PartialEq.eq (g.K.PartialEq.eq key) (history_of begun) (history_of begun) (history_of log) (history_of then.sight.log) ([], append-nil (history_of begun)) (history_since log then.sight.log c.delete.ensures.sees.log) (Some p) was in
+    let there = found Computes show refl in let was = pair_found g.K.PartialEq.eq g.K.Hash.hash_input g.S.BuildHasher.build_hasher
+    g.S.Hasher.Hasher.write g.S.Hasher.Hasher.finish g.met.K.Eq.laws g.met.K.Hash.respects_eq b name key begun log c.args.table.now met.place
+    met.word p there in
+    let then = c.delete.new.window in let later = held_wider g.K.PartialEq.eq (g.K.PartialEq.eq key) (history_of begun) (history_of begun)
+    (history_of log) (history_of then.sight.log) ([], append-nil (history_of begun)) (history_since log then.sight.log c.delete.ensures.sees.log)
+    (Some p) was in
     let did : c.delete.result ≡ true = search rules in let t = c.delete.ensures.went did key begun there in
     removed g.K.PartialEq.eq key _ _ (Some p) later c.args.operation p t.0 refl c.in-Remove.is t.1 t.2 c.entry.result.0 c.entry.result.1 c.entry.ensures
 
@@ -205,13 +290,19 @@ returns-in-Remove-clause-made g c =
 
 pub returns-clause-replies : goal.returns-clause-replies
 returns-clause-replies g c = λ begun found.
-    let w = c.args.window.now in let log = w.sight.log in let key = c.args.key in let b = begun_of w.book.now.parts in let name = w.book.now.begun.book in let hash = (hash_of g.K.Hash.hash_input g.S.BuildHasher.build_hasher g.S.Hasher.Hasher.write g.S.Hasher.Hasher.finish) in
+    let w = c.args.window.now in let log = w.sight.log in let key = c.args.key in let b = begun_of w.book.now.parts in
+    let name = w.book.now.begun.book in let hash =
+    (hash_of g.K.Hash.hash_input g.S.BuildHasher.build_hasher g.S.Hasher.Hasher.write g.S.Hasher.Hasher.finish) in
     let met = c.args.met in let p = met.stored in let write = Writing (record { place = met.place; old = met.word }) in
-    let there = found Computes (Showing (record { place = met.place; word = met.word })) refl in let was = pair_found g.K.PartialEq.eq g.K.Hash.hash_input g.S.BuildHasher.build_hasher g.S.Hasher.Hasher.write g.S.Hasher.Hasher.finish g.met.K.Eq.laws g.met.K.Hash.respects_eq b name key begun log c.args.table.now met.place met.word p there in
+    let there = found Computes (Showing (record { place = met.place; word = met.word })) refl in
+    let was = pair_found g.K.PartialEq.eq g.K.Hash.hash_input g.S.BuildHasher.build_hasher g.S.Hasher.Hasher.write g.S.Hasher.Hasher.finish
+    g.met.K.Eq.laws g.met.K.Hash.respects_eq b name key begun log c.args.table.now met.place met.word p there in
     aborts g.K.PartialEq.eq key _ _ (Some p) was c.args.operation c.in-Abort.with c.in-Abort.is
 
 pub returns-clause-lawful : goal.returns-clause-lawful
 returns-clause-lawful g c =
-    let w = c.args.window.now in let log = w.sight.log in let key = c.args.key in let b = begun_of w.book.now.parts in let name = w.book.now.begun.book in let hash = (hash_of g.K.Hash.hash_input g.S.BuildHasher.build_hasher g.S.Hasher.Hasher.write g.S.Hasher.Hasher.finish) in
+    let w = c.args.window.now in let log = w.sight.log in let key = c.args.key in let b = begun_of w.book.now.parts in
+    let name = w.book.now.begun.book in let hash =
+    (hash_of g.K.Hash.hash_input g.S.BuildHasher.build_hasher g.S.Hasher.Hasher.write g.S.Hasher.Hasher.finish) in
     let met = c.args.met in let p = met.stored in let write = Writing (record { place = met.place; old = met.word }) in
     let found = c.requires.found in (found.1 Inserts write refl).4.lawful

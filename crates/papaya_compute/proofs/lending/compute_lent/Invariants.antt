@@ -13,7 +13,9 @@ use Rattle.papaya_compute.proofs.lending.compute_lent.Given as goal
 -- the compute relies on what is seen by now and on what its closure said, and asks for itself
 abbrev pub invariant-loop : goal.invariant-loop
 invariant-loop g l =
-    ((heard : _) × IsUnderWay g.K.PartialEq.eq (hash_of g.K.Hash.hash_input g.S.BuildHasher.build_hasher g.S.Hasher.Hasher.write g.S.Hasher.Hasher.finish) (begun_of l.window.book.now.parts) l.window.book.now.begun.book l.fn.key l.fn.window.sight.log l.window.sight.log l.computing heard × HasSaid (Operates g.F.FnMut) l.fn.f heard l.f)
+    ((heard : _) × IsUnderWay g.K.PartialEq.eq
+    (hash_of g.K.Hash.hash_input g.S.BuildHasher.build_hasher g.S.Hasher.Hasher.write g.S.Hasher.Hasher.finish) (begun_of l.window.book.now.parts)
+    l.window.book.now.begun.book l.fn.key l.fn.window.sight.log l.window.sight.log l.computing heard × HasSaid (Operates g.F.FnMut) l.fn.f heard l.f)
     × IsStanding l.computing.writer.call.machine
     × (l.computing.writer.call.machine.phase ≡ Calling)
     × (l.computing.writer.call.machine.call.initial ≡ l.fn.initial)

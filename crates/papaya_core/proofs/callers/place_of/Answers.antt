@@ -9,7 +9,8 @@ loop-place-init g c = λ i seat lt. absurd (omega arith)
 
 pub returns-then-seat-caller : goal.returns-then-seat-caller
 returns-then-seat-caller g c =
-    let at = slice_get_read c.args.seats.now (length c.args.seats.now) c.loop-place.place c.index-seats-place.result refl c.loop-place-test.true c.index-seats-place.is in
+    let at = slice_get_read c.args.seats.now (length c.args.seats.now) c.loop-place.place c.index-seats-place.result refl c.loop-place-test.true
+    c.index-seats-place.is in
     record {
       within = omega arith;
       before = c.loop-place.invariant;
@@ -18,12 +19,14 @@ returns-then-seat-caller g c =
 
 pub loop-place-preserved : goal.loop-place-preserved
 loop-place-preserved g c = λ i seat lt e.
-    let at = slice_get_read c.args.seats.now (length c.args.seats.now) c.loop-place.place c.index-seats-place.result refl c.loop-place-test.true c.index-seats-place.is in
+    let at = slice_get_read c.args.seats.now (length c.args.seats.now) c.loop-place.place c.index-seats-place.result refl c.loop-place-test.true
+    c.index-seats-place.is in
     ⊎_elim
     (λ (below : i < c.loop-place.place). c.loop-place.invariant i seat below e)
     (λ (above : c.loop-place.place ≤ i).
     let same : i ≡ c.loop-place.place = omega arith in
-    λ is. c.if-seat-caller.false (ap (λ x. x.caller) (same_item c.index-seats-place.result seat (sym at ∙ (ap (slice_get c.args.seats.now) (sym same) ∙ e))) ∙ is))
+    λ is. c.if-seat-caller.false (ap (λ x. x.caller)
+    (same_item c.index-seats-place.result seat (sym at ∙ (ap (slice_get c.args.seats.now) (sym same) ∙ e))) ∙ is))
     (cases_lt i c.loop-place.place)
 
 pub returns : goal.returns

@@ -36,7 +36,8 @@ returns-in-Some-reply-clause-goes g c =
       later = c.perform_scan-answer.new.scanning;
       performs = c.perform_scan-answer.ensures.performs;
       event_is = c.event_of_scan-event.ensures ∙ ap (λ k. event_of_scan k c.in-Some.ask a) c.kind-kind.ensures;
-      reply_is = ap (λ y. Some y) c.outcome_of.ensures.told ∙ sym c.in-Some-reply.is ∙ c.reply.ensures ∙ ap reply_of is_after ∙ ap (λ o. reply_or o (reply_of (after c.args.scanning.scanner a))) (sym c.in_default.is ∙ c.unheard.ensures);
+      reply_is = ap (λ y. Some y) c.outcome_of.ensures.told ∙ sym c.in-Some-reply.is ∙ c.reply.ensures ∙ ap reply_of is_after
+          ∙ ap (λ o. reply_or o (reply_of (after c.args.scanning.scanner a))) (sym c.in_default.is ∙ c.unheard.ensures);
       work_is = refl;
       shard = c.perform_scan-answer.ensures.shard;
     }
@@ -49,7 +50,10 @@ returns-in-Some-reply-clause-walked g c =
     let is_after : c.answer.new.self ≡ after c.args.scanning.scanner a = c.answer.ensures.after ∙ ap (λ m. after m a) c.perform_scan-answer.ensures.scanner in
     let asked : ask_of c.args.scanning.scanner ≡ Some c.in-Some.ask = sym c.ask.ensures ∙ c.in-Some.is in
     let given : later.given ≡ all_given c.args.scanning =
-    given_is g.K.PartialEq.eq (record { op = g.A.Answers.op_gives; yes = g.A.Answers.yes_gives }) (hash_of g.K.Hash.hash_input g.S.BuildHasher.build_hasher g.S.Hasher.Hasher.write g.S.Hasher.Hasher.finish) c.args.refuse c.args.store.now c.args.scanning a c.perform_scan-answer.new.store later c.in-Some.ask c.perform_scan-answer.ensures.performs (sym (sym c.in_default.is ∙ c.unheard.ensures))
+    given_is g.K.PartialEq.eq (record { op = g.A.Answers.op_gives; yes = g.A.Answers.yes_gives })
+    (hash_of g.K.Hash.hash_input g.S.BuildHasher.build_hasher g.S.Hasher.Hasher.write g.S.Hasher.Hasher.finish) c.args.refuse c.args.store.now
+    c.args.scanning a c.perform_scan-answer.new.store later c.in-Some.ask c.perform_scan-answer.ensures.performs
+    (sym (sym c.in_default.is ∙ c.unheard.ensures))
     ∙ ap (λ o. c.args.scanning.given ++ given_by o) (sym asked) in
     subst (λ l. ListsGiven c.args.scanning.scanner.scan l c.outcome_of.result) given
     (subst (λ scan. ListsGiven scan later.given c.outcome_of.result) (ap (λ m. m.scan) is_after) c.outcome_of.ensures.listed)
@@ -66,7 +70,8 @@ returns-in-None-reply-clause-goes g c =
       later = c.perform_scan-answer.new.scanning;
       performs = c.perform_scan-answer.ensures.performs;
       event_is = c.event_of_scan-event.ensures ∙ ap (λ k. event_of_scan k c.in-Some.ask a) c.kind-kind.ensures;
-      reply_is = sym c.in-None-reply.is ∙ c.reply.ensures ∙ ap reply_of is_after ∙ ap (λ o. reply_or o (reply_of (after c.args.scanning.scanner a))) (sym c.in_default.is ∙ c.unheard.ensures);
+      reply_is = sym c.in-None-reply.is ∙ c.reply.ensures ∙ ap reply_of is_after
+          ∙ ap (λ o. reply_or o (reply_of (after c.args.scanning.scanner a))) (sym c.in_default.is ∙ c.unheard.ensures);
       work_is = ap (λ m. Some (works.Scan (record c.perform_scan-answer.new.scanning { scanner = m }))) is_after;
       shard = c.perform_scan-answer.ensures.shard;
     }
@@ -84,5 +89,7 @@ answer-requires-clause-fit g c =
       resizers = λ caller z e. let none : None ≡ Some z = e in absurd cc;
       scanners = λ caller v e. let none : None ≡ Some v = e in absurd cc;
     } in
-    (scan_core g.K.PartialEq.eq (record { op = g.A.Answers.op_gives; yes = g.A.Answers.yes_gives }) (hash_of g.K.Hash.hash_input g.S.BuildHasher.build_hasher g.S.Hasher.Hasher.write g.S.Hasher.Hasher.finish) c.args.refuse c.args.store.now [] mode core
-    c.args.scanning c.requires.standing c.perform_scan-answer.result c.perform_scan-answer.new.store c.perform_scan-answer.new.scanning c.in-Some.ask (sym c.ask.ensures ∙ c.in-Some.is) c.perform_scan-answer.ensures.performs).1
+    (scan_core g.K.PartialEq.eq (record { op = g.A.Answers.op_gives; yes = g.A.Answers.yes_gives })
+    (hash_of g.K.Hash.hash_input g.S.BuildHasher.build_hasher g.S.Hasher.Hasher.write g.S.Hasher.Hasher.finish) c.args.refuse c.args.store.now [] mode core
+    c.args.scanning c.requires.standing c.perform_scan-answer.result c.perform_scan-answer.new.store c.perform_scan-answer.new.scanning c.in-Some.ask
+    (sym c.ask.ensures ∙ c.in-Some.is) c.perform_scan-answer.ensures.performs).1

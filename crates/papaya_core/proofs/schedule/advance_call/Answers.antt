@@ -19,9 +19,11 @@ hashes g = hash_of g.K.Hash.hash_input g.S.BuildHasher.build_hasher g.S.Hasher.H
 
 pub answer-requires-clause-fit : goal.answer-requires-clause-fit
 answer-requires-clause-fit g c =
-    (performed_ask g.K.PartialEq.eq (hashes g) (says g) c.args.refuse (ask_of c.args.running.machine) c.args.store.now c.args.running c.perform_ask-answer.result c.perform_ask-answer.new.self c.perform_ask-answer.new.running
+    (performed_ask g.K.PartialEq.eq (hashes g) (says g) c.args.refuse (ask_of c.args.running.machine) c.args.store.now c.args.running
+    c.perform_ask-answer.result c.perform_ask-answer.new.self c.perform_ask-answer.new.running
     (unnumbered c.args.store.now.words.tables c.requires.sizes) (subst IsFitAsk c.ask-ask.ensures.value c.ask-ask.ensures.size)
-    (subst (λ y. PerformsAsk g.K.PartialEq.eq (says g) (hashes g) c.args.refuse y c.args.store.now c.args.running c.perform_ask-answer.result c.perform_ask-answer.new.self c.perform_ask-answer.new.running) c.ask-ask.ensures.value c.perform_ask-answer.ensures.performs)).fit
+    (subst (λ y. PerformsAsk g.K.PartialEq.eq (says g) (hashes g) c.args.refuse y c.args.store.now c.args.running c.perform_ask-answer.result
+    c.perform_ask-answer.new.self c.perform_ask-answer.new.running) c.ask-ask.ensures.value c.perform_ask-answer.ensures.performs)).fit
 
 pub returns-in-Some-clause-goes : goal.returns-in-Some-clause-goes
 returns-in-Some-clause-goes g c =
@@ -31,9 +33,11 @@ returns-in-Some-clause-goes g c =
     record {
       answer = a;
       later = c.perform_ask-answer.new.running;
-      performs = subst (λ y. PerformsAsk g.K.PartialEq.eq (says g) (hashes g) c.args.refuse y c.args.store.now before a c.perform_ask-answer.new.self c.perform_ask-answer.new.running) c.ask-ask.ensures.value c.perform_ask-answer.ensures.performs;
+      performs = subst (λ y. PerformsAsk g.K.PartialEq.eq (says g) (hashes g) c.args.refuse y c.args.store.now before a c.perform_ask-answer.new.self
+          c.perform_ask-answer.new.running) c.ask-ask.ensures.value c.perform_ask-answer.ensures.performs;
       machine = c.perform_ask-answer.ensures.machine;
-      event_is = c.event_of-event.ensures ∙ ap (λ y. event_of y c.ask-ask.result a) c.kind-kind.ensures ∙ ap (λ y. event_of (kind_of_ask before.machine) y a) c.ask-ask.ensures.value;
+      event_is = c.event_of-event.ensures ∙ ap (λ y. event_of y c.ask-ask.result a) c.kind-kind.ensures
+          ∙ ap (λ y. event_of (kind_of_ask before.machine) y a) c.ask-ask.ensures.value;
       reply_is = sym c.in-Some.is ∙ c.reply_in.ensures ∙ ap reply_in c.ask.ensures.value ∙ ap (λ m. reply_in (ask_of m)) is_after;
       work_is = refl;
       shard = λ by asks. c.perform_ask-answer.ensures.shard by (c.ask-ask.ensures.value ∙ asks);
@@ -47,9 +51,11 @@ returns-in-None-clause-goes g c =
     record {
       answer = a;
       later = c.perform_ask-answer.new.running;
-      performs = subst (λ y. PerformsAsk g.K.PartialEq.eq (says g) (hashes g) c.args.refuse y c.args.store.now before a c.perform_ask-answer.new.self c.perform_ask-answer.new.running) c.ask-ask.ensures.value c.perform_ask-answer.ensures.performs;
+      performs = subst (λ y. PerformsAsk g.K.PartialEq.eq (says g) (hashes g) c.args.refuse y c.args.store.now before a c.perform_ask-answer.new.self
+          c.perform_ask-answer.new.running) c.ask-ask.ensures.value c.perform_ask-answer.ensures.performs;
       machine = c.perform_ask-answer.ensures.machine;
-      event_is = c.event_of-event.ensures ∙ ap (λ y. event_of y c.ask-ask.result a) c.kind-kind.ensures ∙ ap (λ y. event_of (kind_of_ask before.machine) y a) c.ask-ask.ensures.value;
+      event_is = c.event_of-event.ensures ∙ ap (λ y. event_of y c.ask-ask.result a) c.kind-kind.ensures
+          ∙ ap (λ y. event_of (kind_of_ask before.machine) y a) c.ask-ask.ensures.value;
       reply_is = sym c.in-None.is ∙ c.reply_in.ensures ∙ ap reply_in c.ask.ensures.value ∙ ap (λ m. reply_in (ask_of m)) is_after;
       work_is = ap (λ m. Some (works.Call (record c.perform_ask-answer.new.running { machine = m }))) is_after;
       shard = λ by asks. c.perform_ask-answer.ensures.shard by (c.ask-ask.ensures.value ∙ asks);

@@ -7,4 +7,5 @@ use Rattle.papaya_json.proofs.reading.map_of.Given as goal
 
 -- the map has the pairs of the members so far
 abbrev pub invariant-loop-name : goal.invariant-loop-name
-invariant-loop-name g l = IsFilled g.K.PartialEq.eq (IsPair (FnReturnsAt g.T.Fn l.fn.key) (FnReturnsAt g.W.Fn l.fn.value)) (λ p. p) l.fn.hasher (map deref_pair l.yielded) l.map
+invariant-loop-name g l = IsFilled g.K.PartialEq.eq (IsPair (FnReturnsAt g.T.Fn l.fn.key) (FnReturnsAt g.W.Fn l.fn.value)) (λ p. p) l.fn.hasher
+    (map deref_pair l.yielded) l.map

@@ -7,4 +7,5 @@ use Rattle.papaya_json.proofs.shared.fill.Given as goal
 
 -- something was read of the members so far, and the pass is one of the map
 abbrev pub invariant-loop-name : goal.invariant-loop-name
-invariant-loop-name g l = IsEachRead (IsPair (FnReturnsAt g.T.Fn l.fn.key) (FnReturnsAt g.W.Fn l.fn.value)) (map deref_pair l.yielded) × (l.pass.book ≡ l.fn.map.book)
+invariant-loop-name g l = IsEachRead (IsPair (FnReturnsAt g.T.Fn l.fn.key) (FnReturnsAt g.W.Fn l.fn.value)) (map deref_pair l.yielded)
+    × (l.pass.book ≡ l.fn.map.book)

@@ -28,8 +28,14 @@ returns-in_default-clause-err g c =
     let inside : i < length items = search rules in
     let is : get_or items i item ≡ item = search rules in
     let none : FnReturnsAt g.T.Fn c.args.key item None = record { shown = _; shows = refl; says = record { met = c.in_default.ensures } } in
-    let whole : items ≡ take i items ++ item ∷ drop (i + 1) items = sym (take-append-drop i items) ∙ ap (λ rest. take i items ++ rest) (drop_more items i item inside ∙ ap (λ x. x ∷ drop (i + 1) items) is) in
-    inr (refl, subst (Any (HasNoKey (FnReturnsAt g.T.Fn c.args.key))) (sym whole) (any_middle (HasNoKey (FnReturnsAt g.T.Fn c.args.key)) (take i items) item (drop (i + 1) items) none))
+    let whole : items ≡ take i items ++ item ∷ drop (i + 1) items = sym (take-append-drop i items)
+    ∙ ap (λ rest. take i items ++ rest) (drop_more items i item inside ∙ ap (λ x. x ∷ drop (i + 1) items) is) in
+    inr (
+      refl,
+      subst (Any (HasNoKey (FnReturnsAt g.T.Fn c.args.key))) (sym whole)
+          (any_middle (HasNoKey (FnReturnsAt g.T.Fn c.args.key)) (take i items) item (drop (i + 1) items) none),
+    )
 
 pub returns-clause-ok : goal.returns-clause-ok
-returns-clause-ok g c = subst (IsEachRead (IsKey (FnReturnsAt g.T.Fn c.args.key))) (take_all c.loop-item.item-index c.args.items.now.items (search rules)) c.loop-item.invariant
+returns-clause-ok g c = subst (IsEachRead (IsKey (FnReturnsAt g.T.Fn c.args.key)))
+    (take_all c.loop-item.item-index c.args.items.now.items (search rules)) c.loop-item.invariant

@@ -9,10 +9,15 @@ use Rattle.papaya_json.proofs.writing.array_from.Goals as goal
 pub loop-k-preserved : goal.loop-k-preserved
 loop-k-preserved g c =
     let l = c.loop-k in
-    let answered : FnReturnsAt g.T.Fn c.args.key c.in-Some.k.now (Some c.in-Some-key.item) = record { shown = c.in-Some.k; shows = refl; says = record { met = c.in-Some-key.ensures } } in
-    let more : AllZip (λ k (item : Value). FnReturnsAt g.T.Fn c.args.key k (Some item)) (map (λ k. k.now) l.yielded ++ c.in-Some.k.now ∷ []) (l.items.items ++ c.in-Some-key.item ∷ []) = all_zipped_more (λ k (item : Value). FnReturnsAt g.T.Fn c.args.key k (Some item)) (map (λ k. k.now) l.yielded) l.items.items c.in-Some.k.now c.in-Some-key.item l.invariant answered in
-    subst (λ ks. AllZip (λ k (item : Value). FnReturnsAt g.T.Fn c.args.key k (Some item)) ks c.push.new.items.items) (sym (map_push (λ k. k.now) l.yielded c.in-Some.k))
-    (subst (AllZip (λ k (item : Value). FnReturnsAt g.T.Fn c.args.key k (Some item)) (map (λ k. k.now) l.yielded ++ c.in-Some.k.now ∷ [])) (sym c.in-Ok.ensures.ok) more)
+    let answered : FnReturnsAt g.T.Fn c.args.key c.in-Some.k.now
+    (Some c.in-Some-key.item) = record { shown = c.in-Some.k; shows = refl; says = record { met = c.in-Some-key.ensures } } in
+    let more : AllZip (λ k (item : Value). FnReturnsAt g.T.Fn c.args.key k (Some item)) (map (λ k. k.now) l.yielded ++ c.in-Some.k.now ∷ [])
+    (l.items.items ++ c.in-Some-key.item ∷ []) = all_zipped_more (λ k (item : Value). FnReturnsAt g.T.Fn c.args.key k (Some item))
+    (map (λ k. k.now) l.yielded) l.items.items c.in-Some.k.now c.in-Some-key.item l.invariant answered in
+    subst (λ ks. AllZip (λ k (item : Value). FnReturnsAt g.T.Fn c.args.key k (Some item)) ks c.push.new.items.items)
+    (sym (map_push (λ k. k.now) l.yielded c.in-Some.k))
+    (subst (AllZip (λ k (item : Value). FnReturnsAt g.T.Fn c.args.key k (Some item)) (map (λ k. k.now) l.yielded ++ c.in-Some.k.now ∷ []))
+    (sym c.in-Ok.ensures.ok) more)
 
 pub returns-in_default-clause-err : goal.returns-in_default-clause-err
 returns-in_default-clause-err g c = inr (

@@ -23,12 +23,17 @@ returns-clause-err g c =
     (λ e why. ⊎_elim (λ memory. inl memory) (λ other. inr (⊎_elim
     (λ clash.
     let came = clash.1 in
-    inl (clash.0, subst (HasClash text_of data_of) (sym (came_all deref_pair came.first came.items came.left came.is.0 came.came came.is.1) ∙ came.made) came.is.2))
+    inl (
+      clash.0,
+      subst (HasClash text_of data_of)
+          (sym (came_all deref_pair came.first came.items came.left came.is.0 came.came came.is.1) ∙ came.made) came.is.2,
+    ))
     (λ item.
     let came = item.1 in
     inr (
       item.0,
-      subst (Any (HasNoMember text_of data_of)) (sym (comes_next deref_pair came.first came.items came.left came.is.0 came.is.1 came.came came.is.2) ∙ came.made)
+      subst (Any (HasNoMember text_of data_of))
+          (sym (comes_next deref_pair came.first came.items came.left came.is.0 came.is.1 came.came came.is.2) ∙ came.made)
           (any_middle (HasNoMember text_of data_of) (map deref_pair came.items) (deref_pair came.is.0) came.is.1 came.is.3),
     ))
     other)) why)

@@ -19,4 +19,5 @@ pub returns-clause-count : goal.returns-clause-count
 returns-clause-count g c = λ h law s m keeps e may n now ends ends'.
     let r = step_keeps h law s m keeps e may in
     length_after h law m (chain_content h s n) (chain_content h (after s e) now) (chain_apart h law s m keeps n s.root)
-    (chain_apart h law (after s e) (map_after h m e) r.1 now (after s e).root) (chain_is h law s m keeps n ends) e r.0 (chain_is h law (after s e) (map_after h m e) r.1 now ends')
+    (chain_apart h law (after s e) (map_after h m e) r.1 now (after s e).root) (chain_is h law s m keeps n ends) e r.0
+    (chain_is h law (after s e) (map_after h m e) r.1 now ends')

@@ -12,7 +12,8 @@ pub returns-clause-lawful : goal.returns-clause-lawful
 returns-clause-lawful g c = λ h d law slots matches hash form. key_lawful h matches hash d law form slots
 
 pub returns-clause-planned : goal.returns-clause-planned
-returns-clause-planned g c = λ blocking chunk_of most key same hash_of size places chunks matches hash. key_planned blocking chunk_of most key same hash_of size places chunks matches hash
+returns-clause-planned g c = λ blocking chunk_of most key same hash_of size places chunks matches hash.
+    key_planned blocking chunk_of most key same hash_of size places chunks matches hash
 
 pub returns-clause-agrees : goal.returns-clause-agrees
 returns-clause-agrees g c = λ h h' s agrees matches hash. key_agrees (IsOn s.first s.next) h h' agrees matches hash

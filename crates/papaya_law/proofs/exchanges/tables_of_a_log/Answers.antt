@@ -9,7 +9,8 @@ pub returns-clause-brings : goal.returns-clause-brings
 returns-clause-brings g c = λ s e t come. comes_after s e t come
 
 pub returns-clause-planned : goal.returns-clause-planned
-returns-clause-planned g c = λ h s size size' places places' chunks chunks' a b d. planned_agrees h (IsOn s.first s.next) size size' places places' chunks chunks' a b d
+returns-clause-planned g c = λ h s size size' places places' chunks chunks' a b d.
+    planned_agrees h (IsOn s.first s.next) size size' places places' chunks chunks' a b d
 
 pub returns-clause-lawful : goal.returns-clause-lawful
 returns-clause-lawful g c = λ h law es sized. lawful_in h law es sized

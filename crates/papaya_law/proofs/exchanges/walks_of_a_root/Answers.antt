@@ -9,7 +9,8 @@ pub returns-clause-stays : goal.returns-clause-stays
 returns-clause-stays g c = λ h law m k t j fs s may e. still_there h law m k t j fs s may e
 
 pub returns-clause-gone : goal.returns-clause-gone
-returns-clause-gone g c = λ h law inc s m keeps k t j p fs may r lt old now. copied_since h law inc s m (incremental_state h s m keeps inc) k t j p fs may r lt old now
+returns-clause-gone g c = λ h law inc s m keeps k t j p fs may r lt old now.
+    copied_since h law inc s m (incremental_state h s m keeps inc) k t j p fs may r lt old now
 
 pub returns-clause-tombstone : goal.returns-clause-tombstone
 returns-clause-tombstone g c = λ h law m k t j p fs s may old now. tombstone_since h law m k t j p fs s may old now

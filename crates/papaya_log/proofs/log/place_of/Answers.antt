@@ -4,10 +4,12 @@ use Rattle.papaya_log.specs.Rows.{row_len}
 use Rattle.papaya_log.proofs.log.place_of.Goals as goal
 
 pub overflow_sub-result : goal.overflow_sub-result
-overflow_sub-result c = top_is_from c.args.index c.ilog2-top.result c.ilog2-top.ensures.power_le c.ilog2-top.ensures.next_power_gt c.args.first_bits (search rules)
+overflow_sub-result c = top_is_from c.args.index c.ilog2-top.result c.ilog2-top.ensures.power_le c.ilog2-top.ensures.next_power_gt c.args.first_bits
+    (search rules)
 
 pub power-requires-2 : goal.power-requires-2
-power-requires-2 c = let below = top_is_below c.args.index c.ilog2-top.result c.ilog2-top.ensures.power_le c.ilog2-top.ensures.next_power_gt 42 c.requires.index in omega arith
+power-requires-2 c = let below = top_is_below c.args.index c.ilog2-top.result c.ilog2-top.ensures.power_le c.ilog2-top.ensures.next_power_gt 42
+    c.requires.index in omega arith
 
 pub returns-clause-row : goal.returns-clause-row
 returns-clause-row c =
@@ -21,6 +23,7 @@ returns-clause-slot c =
     let from : bits ≤ top = top_is_from c.args.index top c.ilog2-top.ensures.power_le c.ilog2-top.ensures.next_power_gt bits (search rules) in
     let power : c.power-2.result ≡ 2 ^ top = search rules in
     let exponent : min (bits + (top - bits)) 41 ≡ top = omega arith in
-    let len : row_len bits (top - bits + 1) ≡ 2 ^ top = ap (row_len bits) (let e : top - bits + 1 ≡ suc (top - bits) = omega arith in e) ∙ ap (λ (k : ℕ). 2 ^ k) exponent in
+    let len : row_len bits (top - bits + 1) ≡ 2 ^ top = ap (row_len bits) (let e : top - bits + 1 ≡ suc (top - bits) = omega arith in e)
+    ∙ ap (λ (k : ℕ). 2 ^ k) exponent in
     let high = c.ilog2-top.ensures.next_power_gt in let low = c.ilog2-top.ensures.power_le in
     subst (λ (n : ℕ). c.args.index - c.power-2.result < n) (sym len) (omega arith)

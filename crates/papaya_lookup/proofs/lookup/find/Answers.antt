@@ -7,7 +7,9 @@ use Rattle.papaya_lookup.specs.Lookups.{led_to, left_of}
 use Rattle.papaya_lookup.specs.declared.lookup.Turn.{Turn}
 use Rattle.papaya_lookup.specs.declared.lookup.Turn.TheVariants as turns
 use Rattle.papaya_lookup.proofs.Readings.{IsQuery}
-use Rattle.papaya_lookup.proofs.Turning.{Turned, absent_else, answers_absent, answers_found, answers_none, answers_passed, first_looked, next_held, numbered, root_held}
+use Rattle.papaya_lookup.proofs.Turning.{Turned, absent_else, answers_absent, answers_found}
+use Rattle.papaya_lookup.proofs.Turning.{answers_none, answers_passed, first_looked, next_held}
+use Rattle.papaya_lookup.proofs.Turning.{numbered, root_held}
 use Rattle.papaya_lookup.proofs.lookup.find.Goals as goal
 
 pub loop-held-init : goal.loop-held-init
@@ -15,10 +17,16 @@ loop-held-init g c =
     let lawful : IsQuery g.K.PartialEq.eq g.K.Hash.hash_input (g.Q.Equivalent.matches c.args.key.now) (g.Q.Hash.hash_input c.args.key.now) =
     record { feeds = g.met.Q.Equivalent.hashes_as_key c.args.key.now; class = λ k l. g.met.Q.Equivalent.matches_equal_keys c.args.key.now k l } in
     let root = c.root-number in
-    let reading = root_held g.K.PartialEq.eq g.K.Hash.hash_input g.S.BuildHasher.build_hasher g.S.Hasher.Hasher.write g.S.Hasher.Hasher.finish g.met.K.Eq.laws g.met.K.Hash.respects_eq c.learn.new.self.book.now (g.Q.Equivalent.matches c.args.key.now) (g.Q.Hash.hash_input c.args.key.now) lawful c.args.window.now.sight.log c.learn.new.self.sight.log c.learn.ensures.sees.log c.hash-hash.result
+    let reading = root_held g.K.PartialEq.eq g.K.Hash.hash_input g.S.BuildHasher.build_hasher g.S.Hasher.Hasher.write g.S.Hasher.Hasher.finish
+    g.met.K.Eq.laws g.met.K.Hash.respects_eq c.learn.new.self.book.now (g.Q.Equivalent.matches c.args.key.now) (g.Q.Hash.hash_input c.args.key.now)
+    lawful c.args.window.now.sight.log c.learn.new.self.sight.log c.learn.ensures.sees.log c.hash-hash.result
     c.learn.ensures.lawful c.hash-hash.ensures root.new.self.sight.log root.ensures.sees.log root.result.0 root.result.1 root.ensures.root in (
       rw (root.ensures.sees.book, c.again-began.ensures) (record { pair = None; reading = reading; names = root.ensures.root.names }),
-      record { book = root.ensures.sees.book ∙ c.learn.ensures.sees.book; log = prefix_trans c.args.window.now.sight.log c.learn.new.self.sight.log root.new.self.sight.log c.learn.ensures.sees.log root.ensures.sees.log },
+      record {
+        book = root.ensures.sees.book ∙ c.learn.ensures.sees.book;
+        log = prefix_trans c.args.window.now.sight.log c.learn.new.self.sight.log
+            root.new.self.sight.log c.learn.ensures.sees.log root.ensures.sees.log;
+      },
       root.ensures.own ∙ c.learn.ensures.own,
       rw c.again-began.ensures root.ensures.sees.log,
     )
@@ -28,25 +36,44 @@ search-requires-clause-reading g c =
     let lawful : IsQuery g.K.PartialEq.eq g.K.Hash.hash_input (g.Q.Equivalent.matches c.args.key.now) (g.Q.Hash.hash_input c.args.key.now) =
     record { feeds = g.met.Q.Equivalent.hashes_as_key c.args.key.now; class = λ k l. g.met.Q.Equivalent.matches_equal_keys c.args.key.now k l } in
     let l = c.loop-held in let inv = l.invariant.0 in let size = c.size-len in
-    let first = first_looked g.K.PartialEq.eq g.K.Hash.hash_input g.S.BuildHasher.build_hasher g.S.Hasher.Hasher.write g.S.Hasher.Hasher.finish g.met.K.Eq.laws g.met.K.Hash.respects_eq c.loop-held.window.book.now (g.Q.Equivalent.matches c.args.key.now) (g.Q.Hash.hash_input c.args.key.now) lawful c.args.window.now.sight.log c.learn.new.self.sight.log c.learn.ensures.sees.log c.hash-hash.result
-    l.window.sight.log l.number l.held inv.pair (rw (sym c.again-began.ensures) inv.reading) inv.names c.in-Some.table c.in-Some.is size.result.0 size.result.1 size.ensures.len size.ensures.limit size.ensures.size c.first-first.result c.first-first.ensures.value in
+    let first = first_looked g.K.PartialEq.eq g.K.Hash.hash_input g.S.BuildHasher.build_hasher g.S.Hasher.Hasher.write g.S.Hasher.Hasher.finish
+    g.met.K.Eq.laws g.met.K.Hash.respects_eq c.loop-held.window.book.now (g.Q.Equivalent.matches c.args.key.now)
+    (g.Q.Hash.hash_input c.args.key.now) lawful c.args.window.now.sight.log c.learn.new.self.sight.log c.learn.ensures.sees.log c.hash-hash.result
+    l.window.sight.log l.number l.held inv.pair (rw (sym c.again-began.ensures) inv.reading) inv.names c.in-Some.table c.in-Some.is size.result.0
+    size.result.1 size.ensures.len size.ensures.limit size.ensures.size c.first-first.result c.first-first.ensures.value in
     rw c.again-began.ensures first.0
 
 pub returns-in-Found-clause-answered : goal.returns-in-Found-clause-answered
 returns-in-Found-clause-answered g c =
     let lawful : IsQuery g.K.PartialEq.eq g.K.Hash.hash_input (g.Q.Equivalent.matches c.args.key.now) (g.Q.Hash.hash_input c.args.key.now) =
     record { feeds = g.met.Q.Equivalent.hashes_as_key c.args.key.now; class = λ k l. g.met.Q.Equivalent.matches_equal_keys c.args.key.now k l } in
-    let turned : Turned g.K.PartialEq.eq g.K.Hash.hash_input g.S.BuildHasher.build_hasher g.S.Hasher.Hasher.write g.S.Hasher.Hasher.finish g.met.K.Eq.laws g.met.K.Hash.respects_eq c.search.new.window.book.now (g.Q.Equivalent.matches c.args.key.now) (g.Q.Hash.hash_input c.args.key.now) lawful c.args.window.now.sight.log c.learn.new.self.sight.log c.learn.ensures.sees.log c.hash-hash.result c.search.new.window.sight.log c.in-Some.table.now (turns.Found c.in-Found.met c.in-Found.entry) =
-    subst (λ (z : Turn _ _). Turned g.K.PartialEq.eq g.K.Hash.hash_input g.S.BuildHasher.build_hasher g.S.Hasher.Hasher.write g.S.Hasher.Hasher.finish g.met.K.Eq.laws g.met.K.Hash.respects_eq c.search.new.window.book.now (g.Q.Equivalent.matches c.args.key.now) (g.Q.Hash.hash_input c.args.key.now) lawful c.args.window.now.sight.log c.learn.new.self.sight.log c.learn.ensures.sees.log c.hash-hash.result c.search.new.window.sight.log c.in-Some.table.now z) c.in-Found.is (rw (sym c.again-began.ensures) c.search.ensures.turned) in
-    answers_found g.K.PartialEq.eq g.K.Hash.hash_input g.S.BuildHasher.build_hasher g.S.Hasher.Hasher.write g.S.Hasher.Hasher.finish g.met.K.Eq.laws g.met.K.Hash.respects_eq c.search.new.window.book.now (g.Q.Equivalent.matches c.args.key.now) (g.Q.Hash.hash_input c.args.key.now) lawful c.args.window.now.sight.log c.learn.new.self.sight.log c.learn.ensures.sees.log c.hash-hash.result c.search.new.window.sight.log c.in-Some.table.now c.in-Found.met c.in-Found.entry turned c.in-Some.table
+    let turned : Turned g.K.PartialEq.eq g.K.Hash.hash_input g.S.BuildHasher.build_hasher g.S.Hasher.Hasher.write g.S.Hasher.Hasher.finish
+    g.met.K.Eq.laws g.met.K.Hash.respects_eq c.search.new.window.book.now (g.Q.Equivalent.matches c.args.key.now)
+    (g.Q.Hash.hash_input c.args.key.now) lawful c.args.window.now.sight.log c.learn.new.self.sight.log c.learn.ensures.sees.log c.hash-hash.result
+    c.search.new.window.sight.log c.in-Some.table.now (turns.Found c.in-Found.met c.in-Found.entry) =
+    subst (λ (z : Turn _ _). Turned g.K.PartialEq.eq g.K.Hash.hash_input g.S.BuildHasher.build_hasher g.S.Hasher.Hasher.write g.S.Hasher.Hasher.finish
+    g.met.K.Eq.laws g.met.K.Hash.respects_eq c.search.new.window.book.now (g.Q.Equivalent.matches c.args.key.now)
+    (g.Q.Hash.hash_input c.args.key.now) lawful c.args.window.now.sight.log c.learn.new.self.sight.log c.learn.ensures.sees.log c.hash-hash.result
+    c.search.new.window.sight.log c.in-Some.table.now z) c.in-Found.is (rw (sym c.again-began.ensures) c.search.ensures.turned) in
+    answers_found g.K.PartialEq.eq g.K.Hash.hash_input g.S.BuildHasher.build_hasher g.S.Hasher.Hasher.write g.S.Hasher.Hasher.finish g.met.K.Eq.laws
+    g.met.K.Hash.respects_eq c.search.new.window.book.now (g.Q.Equivalent.matches c.args.key.now) (g.Q.Hash.hash_input c.args.key.now) lawful
+    c.args.window.now.sight.log c.learn.new.self.sight.log c.learn.ensures.sees.log c.hash-hash.result c.search.new.window.sight.log
+    c.in-Some.table.now c.in-Found.met c.in-Found.entry turned c.in-Some.table
 
 pub returns-in-Found-clause-hits : goal.returns-in-Found-clause-hits
 returns-in-Found-clause-hits g c =
     let lawful : IsQuery g.K.PartialEq.eq g.K.Hash.hash_input (g.Q.Equivalent.matches c.args.key.now) (g.Q.Hash.hash_input c.args.key.now) =
     record { feeds = g.met.Q.Equivalent.hashes_as_key c.args.key.now; class = λ k l. g.met.Q.Equivalent.matches_equal_keys c.args.key.now k l } in
-    let turned : Turned g.K.PartialEq.eq g.K.Hash.hash_input g.S.BuildHasher.build_hasher g.S.Hasher.Hasher.write g.S.Hasher.Hasher.finish g.met.K.Eq.laws g.met.K.Hash.respects_eq c.search.new.window.book.now (g.Q.Equivalent.matches c.args.key.now) (g.Q.Hash.hash_input c.args.key.now) lawful c.args.window.now.sight.log c.learn.new.self.sight.log c.learn.ensures.sees.log c.hash-hash.result c.search.new.window.sight.log c.in-Some.table.now (turns.Found c.in-Found.met c.in-Found.entry) =
-    subst (λ (z : Turn _ _). Turned g.K.PartialEq.eq g.K.Hash.hash_input g.S.BuildHasher.build_hasher g.S.Hasher.Hasher.write g.S.Hasher.Hasher.finish g.met.K.Eq.laws g.met.K.Hash.respects_eq c.search.new.window.book.now (g.Q.Equivalent.matches c.args.key.now) (g.Q.Hash.hash_input c.args.key.now) lawful c.args.window.now.sight.log c.learn.new.self.sight.log c.learn.ensures.sees.log c.hash-hash.result c.search.new.window.sight.log c.in-Some.table.now z) c.in-Found.is (rw (sym c.again-began.ensures) c.search.ensures.turned) in
-    let after : IsPrefix c.learn.new.self.sight.log c.search.new.window.sight.log = rw (sym c.again-began.ensures) (prefix_trans _ _ _ c.loop-held.invariant.3 c.search.ensures.sees.log) in
+    let turned : Turned g.K.PartialEq.eq g.K.Hash.hash_input g.S.BuildHasher.build_hasher g.S.Hasher.Hasher.write g.S.Hasher.Hasher.finish
+    g.met.K.Eq.laws g.met.K.Hash.respects_eq c.search.new.window.book.now (g.Q.Equivalent.matches c.args.key.now)
+    (g.Q.Hash.hash_input c.args.key.now) lawful c.args.window.now.sight.log c.learn.new.self.sight.log c.learn.ensures.sees.log c.hash-hash.result
+    c.search.new.window.sight.log c.in-Some.table.now (turns.Found c.in-Found.met c.in-Found.entry) =
+    subst (λ (z : Turn _ _). Turned g.K.PartialEq.eq g.K.Hash.hash_input g.S.BuildHasher.build_hasher g.S.Hasher.Hasher.write g.S.Hasher.Hasher.finish
+    g.met.K.Eq.laws g.met.K.Hash.respects_eq c.search.new.window.book.now (g.Q.Equivalent.matches c.args.key.now)
+    (g.Q.Hash.hash_input c.args.key.now) lawful c.args.window.now.sight.log c.learn.new.self.sight.log c.learn.ensures.sees.log c.hash-hash.result
+    c.search.new.window.sight.log c.in-Some.table.now z) c.in-Found.is (rw (sym c.again-began.ensures) c.search.ensures.turned) in
+    let after : IsPrefix c.learn.new.self.sight.log c.search.new.window.sight.log = rw (sym c.again-began.ensures)
+    (prefix_trans _ _ _ c.loop-held.invariant.3 c.search.ensures.sees.log) in
     let f = turned.found c.in-Found.met c.in-Found.entry refl in
     λ hit e. let one : record { table = c.in-Some.table; met = c.in-Found.met; key = c.in-Found.entry.0; value = c.in-Found.entry.1 } ≡ hit = cc e in
     rw (← one) (c.learn.new.self.sight.log, c.learn.ensures.sees.log, (after, f.1, f.2, f.3))
@@ -56,15 +83,28 @@ loop-held-smaller g c =
     let lawful : IsQuery g.K.PartialEq.eq g.K.Hash.hash_input (g.Q.Equivalent.matches c.args.key.now) (g.Q.Hash.hash_input c.args.key.now) =
     record { feeds = g.met.Q.Equivalent.hashes_as_key c.args.key.now; class = λ k l. g.met.Q.Equivalent.matches_equal_keys c.args.key.now k l } in
     let l = c.loop-held in let inv = l.invariant.0 in let size = c.size-len in
-    let first = first_looked g.K.PartialEq.eq g.K.Hash.hash_input g.S.BuildHasher.build_hasher g.S.Hasher.Hasher.write g.S.Hasher.Hasher.finish g.met.K.Eq.laws g.met.K.Hash.respects_eq c.loop-held.window.book.now (g.Q.Equivalent.matches c.args.key.now) (g.Q.Hash.hash_input c.args.key.now) lawful c.args.window.now.sight.log c.learn.new.self.sight.log c.learn.ensures.sees.log c.hash-hash.result
-    l.window.sight.log l.number l.held inv.pair (rw (sym c.again-began.ensures) inv.reading) inv.names c.in-Some.table c.in-Some.is size.result.0 size.result.1 size.ensures.len size.ensures.limit size.ensures.size c.first-first.result c.first-first.ensures.value in
-    let turned : Turned g.K.PartialEq.eq g.K.Hash.hash_input g.S.BuildHasher.build_hasher g.S.Hasher.Hasher.write g.S.Hasher.Hasher.finish g.met.K.Eq.laws g.met.K.Hash.respects_eq c.search.new.window.book.now (g.Q.Equivalent.matches c.args.key.now) (g.Q.Hash.hash_input c.args.key.now) lawful c.args.window.now.sight.log c.learn.new.self.sight.log c.learn.ensures.sees.log c.hash-hash.result c.search.new.window.sight.log c.in-Some.table.now (turns.Over c.in-Over.passed) =
-    subst (λ (z : Turn _ _). Turned g.K.PartialEq.eq g.K.Hash.hash_input g.S.BuildHasher.build_hasher g.S.Hasher.Hasher.write g.S.Hasher.Hasher.finish g.met.K.Eq.laws g.met.K.Hash.respects_eq c.search.new.window.book.now (g.Q.Equivalent.matches c.args.key.now) (g.Q.Hash.hash_input c.args.key.now) lawful c.args.window.now.sight.log c.learn.new.self.sight.log c.learn.ensures.sees.log c.hash-hash.result c.search.new.window.sight.log c.in-Some.table.now z) c.in-Over.is (rw (sym c.again-began.ensures) c.search.ensures.turned) in
-    let next = next_held g.K.PartialEq.eq g.K.Hash.hash_input g.S.BuildHasher.build_hasher g.S.Hasher.Hasher.write g.S.Hasher.Hasher.finish g.met.K.Eq.laws g.met.K.Hash.respects_eq c.search.new.window.book.now (g.Q.Equivalent.matches c.args.key.now) (g.Q.Hash.hash_input c.args.key.now) lawful c.args.window.now.sight.log c.learn.new.self.sight.log c.learn.ensures.sees.log c.hash-hash.result
-    c.search.new.window.sight.log c.next-next.new.self.sight.log c.next-next.ensures.sees.log c.in-Some.table.now c.in-Over.passed c.in-Incremental.field-0 c.in-Incremental.is turned c.next-next.result.0 c.next-next.result.1 c.next-next.ensures.next in
+    let first = first_looked g.K.PartialEq.eq g.K.Hash.hash_input g.S.BuildHasher.build_hasher g.S.Hasher.Hasher.write g.S.Hasher.Hasher.finish
+    g.met.K.Eq.laws g.met.K.Hash.respects_eq c.loop-held.window.book.now (g.Q.Equivalent.matches c.args.key.now)
+    (g.Q.Hash.hash_input c.args.key.now) lawful c.args.window.now.sight.log c.learn.new.self.sight.log c.learn.ensures.sees.log c.hash-hash.result
+    l.window.sight.log l.number l.held inv.pair (rw (sym c.again-began.ensures) inv.reading) inv.names c.in-Some.table c.in-Some.is size.result.0
+    size.result.1 size.ensures.len size.ensures.limit size.ensures.size c.first-first.result c.first-first.ensures.value in
+    let turned : Turned g.K.PartialEq.eq g.K.Hash.hash_input g.S.BuildHasher.build_hasher g.S.Hasher.Hasher.write g.S.Hasher.Hasher.finish
+    g.met.K.Eq.laws g.met.K.Hash.respects_eq c.search.new.window.book.now (g.Q.Equivalent.matches c.args.key.now)
+    (g.Q.Hash.hash_input c.args.key.now) lawful c.args.window.now.sight.log c.learn.new.self.sight.log c.learn.ensures.sees.log c.hash-hash.result
+    c.search.new.window.sight.log c.in-Some.table.now (turns.Over c.in-Over.passed) =
+    subst (λ (z : Turn _ _). Turned g.K.PartialEq.eq g.K.Hash.hash_input g.S.BuildHasher.build_hasher g.S.Hasher.Hasher.write g.S.Hasher.Hasher.finish
+    g.met.K.Eq.laws g.met.K.Hash.respects_eq c.search.new.window.book.now (g.Q.Equivalent.matches c.args.key.now)
+    (g.Q.Hash.hash_input c.args.key.now) lawful c.args.window.now.sight.log c.learn.new.self.sight.log c.learn.ensures.sees.log c.hash-hash.result
+    c.search.new.window.sight.log c.in-Some.table.now z) c.in-Over.is (rw (sym c.again-began.ensures) c.search.ensures.turned) in
+    let next = next_held g.K.PartialEq.eq g.K.Hash.hash_input g.S.BuildHasher.build_hasher g.S.Hasher.Hasher.write g.S.Hasher.Hasher.finish
+    g.met.K.Eq.laws g.met.K.Hash.respects_eq c.search.new.window.book.now (g.Q.Equivalent.matches c.args.key.now)
+    (g.Q.Hash.hash_input c.args.key.now) lawful c.args.window.now.sight.log c.learn.new.self.sight.log c.learn.ensures.sees.log c.hash-hash.result
+    c.search.new.window.sight.log c.next-next.new.self.sight.log c.next-next.ensures.sees.log c.in-Some.table.now c.in-Over.passed
+    c.in-Incremental.field-0 c.in-Incremental.is turned c.next-next.result.0 c.next-next.result.1 c.next-next.ensures.next in
     let mode = c.search.new.window.book.now.parts.mode in
     let less : left_of (numbered c.next-next.result.0) < left_of (led_to mode 0 c.search.result) = rw c.in-Over.is next.2 in
-    let most : left_of (led_to mode 0 c.search.result) ≤ left_of (Searching (Looking c.first-first.result)) = rw c.search.ensures.sees.book c.search.ensures.fewer in
+    let most : left_of (led_to mode 0 c.search.result) ≤ left_of (Searching (Looking c.first-first.result)) = rw c.search.ensures.sees.book
+    c.search.ensures.fewer in
     let before : left_of (Searching (Looking c.first-first.result)) < left_of (numbered l.number) = first.1 in
     let done : left_of (numbered c.next-next.result.0) < left_of (numbered l.number) = omega (arith, less, most, before) in done
 
@@ -72,13 +112,28 @@ pub loop-held-preserved : goal.loop-held-preserved
 loop-held-preserved g c =
     let lawful : IsQuery g.K.PartialEq.eq g.K.Hash.hash_input (g.Q.Equivalent.matches c.args.key.now) (g.Q.Hash.hash_input c.args.key.now) =
     record { feeds = g.met.Q.Equivalent.hashes_as_key c.args.key.now; class = λ k l. g.met.Q.Equivalent.matches_equal_keys c.args.key.now k l } in
-    let turned : Turned g.K.PartialEq.eq g.K.Hash.hash_input g.S.BuildHasher.build_hasher g.S.Hasher.Hasher.write g.S.Hasher.Hasher.finish g.met.K.Eq.laws g.met.K.Hash.respects_eq c.search.new.window.book.now (g.Q.Equivalent.matches c.args.key.now) (g.Q.Hash.hash_input c.args.key.now) lawful c.args.window.now.sight.log c.learn.new.self.sight.log c.learn.ensures.sees.log c.hash-hash.result c.search.new.window.sight.log c.in-Some.table.now (turns.Over c.in-Over.passed) =
-    subst (λ (z : Turn _ _). Turned g.K.PartialEq.eq g.K.Hash.hash_input g.S.BuildHasher.build_hasher g.S.Hasher.Hasher.write g.S.Hasher.Hasher.finish g.met.K.Eq.laws g.met.K.Hash.respects_eq c.search.new.window.book.now (g.Q.Equivalent.matches c.args.key.now) (g.Q.Hash.hash_input c.args.key.now) lawful c.args.window.now.sight.log c.learn.new.self.sight.log c.learn.ensures.sees.log c.hash-hash.result c.search.new.window.sight.log c.in-Some.table.now z) c.in-Over.is (rw (sym c.again-began.ensures) c.search.ensures.turned) in
-    let next = next_held g.K.PartialEq.eq g.K.Hash.hash_input g.S.BuildHasher.build_hasher g.S.Hasher.Hasher.write g.S.Hasher.Hasher.finish g.met.K.Eq.laws g.met.K.Hash.respects_eq c.search.new.window.book.now (g.Q.Equivalent.matches c.args.key.now) (g.Q.Hash.hash_input c.args.key.now) lawful c.args.window.now.sight.log c.learn.new.self.sight.log c.learn.ensures.sees.log c.hash-hash.result
-    c.search.new.window.sight.log c.next-next.new.self.sight.log c.next-next.ensures.sees.log c.in-Some.table.now c.in-Over.passed c.in-Incremental.field-0 c.in-Incremental.is turned c.next-next.result.0 c.next-next.result.1 c.next-next.ensures.next in
+    let turned : Turned g.K.PartialEq.eq g.K.Hash.hash_input g.S.BuildHasher.build_hasher g.S.Hasher.Hasher.write g.S.Hasher.Hasher.finish
+    g.met.K.Eq.laws g.met.K.Hash.respects_eq c.search.new.window.book.now (g.Q.Equivalent.matches c.args.key.now)
+    (g.Q.Hash.hash_input c.args.key.now) lawful c.args.window.now.sight.log c.learn.new.self.sight.log c.learn.ensures.sees.log c.hash-hash.result
+    c.search.new.window.sight.log c.in-Some.table.now (turns.Over c.in-Over.passed) =
+    subst (λ (z : Turn _ _). Turned g.K.PartialEq.eq g.K.Hash.hash_input g.S.BuildHasher.build_hasher g.S.Hasher.Hasher.write g.S.Hasher.Hasher.finish
+    g.met.K.Eq.laws g.met.K.Hash.respects_eq c.search.new.window.book.now (g.Q.Equivalent.matches c.args.key.now)
+    (g.Q.Hash.hash_input c.args.key.now) lawful c.args.window.now.sight.log c.learn.new.self.sight.log c.learn.ensures.sees.log c.hash-hash.result
+    c.search.new.window.sight.log c.in-Some.table.now z) c.in-Over.is (rw (sym c.again-began.ensures) c.search.ensures.turned) in
+    let next = next_held g.K.PartialEq.eq g.K.Hash.hash_input g.S.BuildHasher.build_hasher g.S.Hasher.Hasher.write g.S.Hasher.Hasher.finish
+    g.met.K.Eq.laws g.met.K.Hash.respects_eq c.search.new.window.book.now (g.Q.Equivalent.matches c.args.key.now)
+    (g.Q.Hash.hash_input c.args.key.now) lawful c.args.window.now.sight.log c.learn.new.self.sight.log c.learn.ensures.sees.log c.hash-hash.result
+    c.search.new.window.sight.log c.next-next.new.self.sight.log c.next-next.ensures.sees.log c.in-Some.table.now c.in-Over.passed
+    c.in-Incremental.field-0 c.in-Incremental.is turned c.next-next.result.0 c.next-next.result.1 c.next-next.ensures.next in
     let sees = c.loop-held.invariant.1 in let there = c.next-next.ensures in (
       rw (there.sees.book, c.again-began.ensures) (record { pair = next.0; reading = next.1; names = there.next.names }),
-      record { book = there.sees.book ∙ (c.search.ensures.sees.book ∙ sees.book); log = prefix_trans c.args.window.now.sight.log c.search.new.window.sight.log c.next-next.new.self.sight.log (prefix_trans c.args.window.now.sight.log c.loop-held.window.sight.log c.search.new.window.sight.log sees.log c.search.ensures.sees.log) there.sees.log },
+      record {
+        book = there.sees.book ∙ (c.search.ensures.sees.book ∙ sees.book);
+        log = prefix_trans c.args.window.now.sight.log
+            c.search.new.window.sight.log c.next-next.new.self.sight.log
+            (prefix_trans c.args.window.now.sight.log c.loop-held.window.sight.log c.search.new.window.sight.log sees.log c.search.ensures.sees.log)
+            there.sees.log;
+      },
       there.own ∙ (c.search.ensures.own ∙ c.loop-held.invariant.2),
       prefix_trans _ _ _ c.loop-held.invariant.3 (prefix_trans _ _ _ c.search.ensures.sees.log there.sees.log),
     )
@@ -87,18 +142,37 @@ pub returns-in-Blocking-clause-answered : goal.returns-in-Blocking-clause-answer
 returns-in-Blocking-clause-answered g c =
     let lawful : IsQuery g.K.PartialEq.eq g.K.Hash.hash_input (g.Q.Equivalent.matches c.args.key.now) (g.Q.Hash.hash_input c.args.key.now) =
     record { feeds = g.met.Q.Equivalent.hashes_as_key c.args.key.now; class = λ k l. g.met.Q.Equivalent.matches_equal_keys c.args.key.now k l } in
-    let turned : Turned g.K.PartialEq.eq g.K.Hash.hash_input g.S.BuildHasher.build_hasher g.S.Hasher.Hasher.write g.S.Hasher.Hasher.finish g.met.K.Eq.laws g.met.K.Hash.respects_eq c.search.new.window.book.now (g.Q.Equivalent.matches c.args.key.now) (g.Q.Hash.hash_input c.args.key.now) lawful c.args.window.now.sight.log c.learn.new.self.sight.log c.learn.ensures.sees.log c.hash-hash.result c.search.new.window.sight.log c.in-Some.table.now (turns.Over c.in-Over.passed) =
-    subst (λ (z : Turn _ _). Turned g.K.PartialEq.eq g.K.Hash.hash_input g.S.BuildHasher.build_hasher g.S.Hasher.Hasher.write g.S.Hasher.Hasher.finish g.met.K.Eq.laws g.met.K.Hash.respects_eq c.search.new.window.book.now (g.Q.Equivalent.matches c.args.key.now) (g.Q.Hash.hash_input c.args.key.now) lawful c.args.window.now.sight.log c.learn.new.self.sight.log c.learn.ensures.sees.log c.hash-hash.result c.search.new.window.sight.log c.in-Some.table.now z) c.in-Over.is (rw (sym c.again-began.ensures) c.search.ensures.turned) in
-    answers_passed g.K.PartialEq.eq g.K.Hash.hash_input g.S.BuildHasher.build_hasher g.S.Hasher.Hasher.write g.S.Hasher.Hasher.finish g.met.K.Eq.laws g.met.K.Hash.respects_eq c.search.new.window.book.now (g.Q.Equivalent.matches c.args.key.now) (g.Q.Hash.hash_input c.args.key.now) lawful c.args.window.now.sight.log c.learn.new.self.sight.log c.learn.ensures.sees.log c.hash-hash.result c.search.new.window.sight.log c.in-Some.table.now c.in-Over.passed c.in-Blocking.is turned
+    let turned : Turned g.K.PartialEq.eq g.K.Hash.hash_input g.S.BuildHasher.build_hasher g.S.Hasher.Hasher.write g.S.Hasher.Hasher.finish
+    g.met.K.Eq.laws g.met.K.Hash.respects_eq c.search.new.window.book.now (g.Q.Equivalent.matches c.args.key.now)
+    (g.Q.Hash.hash_input c.args.key.now) lawful c.args.window.now.sight.log c.learn.new.self.sight.log c.learn.ensures.sees.log c.hash-hash.result
+    c.search.new.window.sight.log c.in-Some.table.now (turns.Over c.in-Over.passed) =
+    subst (λ (z : Turn _ _). Turned g.K.PartialEq.eq g.K.Hash.hash_input g.S.BuildHasher.build_hasher g.S.Hasher.Hasher.write g.S.Hasher.Hasher.finish
+    g.met.K.Eq.laws g.met.K.Hash.respects_eq c.search.new.window.book.now (g.Q.Equivalent.matches c.args.key.now)
+    (g.Q.Hash.hash_input c.args.key.now) lawful c.args.window.now.sight.log c.learn.new.self.sight.log c.learn.ensures.sees.log c.hash-hash.result
+    c.search.new.window.sight.log c.in-Some.table.now z) c.in-Over.is (rw (sym c.again-began.ensures) c.search.ensures.turned) in
+    answers_passed g.K.PartialEq.eq g.K.Hash.hash_input g.S.BuildHasher.build_hasher g.S.Hasher.Hasher.write g.S.Hasher.Hasher.finish g.met.K.Eq.laws
+    g.met.K.Hash.respects_eq c.search.new.window.book.now (g.Q.Equivalent.matches c.args.key.now) (g.Q.Hash.hash_input c.args.key.now) lawful
+    c.args.window.now.sight.log c.learn.new.self.sight.log c.learn.ensures.sees.log c.hash-hash.result c.search.new.window.sight.log
+    c.in-Some.table.now c.in-Over.passed c.in-Blocking.is turned
 
 pub returns-in_default-search-clause-answered : goal.returns-in_default-search-clause-answered
 returns-in_default-search-clause-answered g c =
     let lawful : IsQuery g.K.PartialEq.eq g.K.Hash.hash_input (g.Q.Equivalent.matches c.args.key.now) (g.Q.Hash.hash_input c.args.key.now) =
     record { feeds = g.met.Q.Equivalent.hashes_as_key c.args.key.now; class = λ k l. g.met.Q.Equivalent.matches_equal_keys c.args.key.now k l } in
-    let is : c.search.result ≡ turns.Absent = absent_else c.search.result c.search.ensures.over (λ met entry e. c.in_default-search.not-Found met entry e) (λ t e. c.in_default-search.not-Over t e) in
-    let turned : Turned g.K.PartialEq.eq g.K.Hash.hash_input g.S.BuildHasher.build_hasher g.S.Hasher.Hasher.write g.S.Hasher.Hasher.finish g.met.K.Eq.laws g.met.K.Hash.respects_eq c.search.new.window.book.now (g.Q.Equivalent.matches c.args.key.now) (g.Q.Hash.hash_input c.args.key.now) lawful c.args.window.now.sight.log c.learn.new.self.sight.log c.learn.ensures.sees.log c.hash-hash.result c.search.new.window.sight.log c.in-Some.table.now turns.Absent =
-    subst (λ (z : Turn _ _). Turned g.K.PartialEq.eq g.K.Hash.hash_input g.S.BuildHasher.build_hasher g.S.Hasher.Hasher.write g.S.Hasher.Hasher.finish g.met.K.Eq.laws g.met.K.Hash.respects_eq c.search.new.window.book.now (g.Q.Equivalent.matches c.args.key.now) (g.Q.Hash.hash_input c.args.key.now) lawful c.args.window.now.sight.log c.learn.new.self.sight.log c.learn.ensures.sees.log c.hash-hash.result c.search.new.window.sight.log c.in-Some.table.now z) is (rw (sym c.again-began.ensures) c.search.ensures.turned) in
-    answers_absent g.K.PartialEq.eq g.K.Hash.hash_input g.S.BuildHasher.build_hasher g.S.Hasher.Hasher.write g.S.Hasher.Hasher.finish g.met.K.Eq.laws g.met.K.Hash.respects_eq c.search.new.window.book.now (g.Q.Equivalent.matches c.args.key.now) (g.Q.Hash.hash_input c.args.key.now) lawful c.args.window.now.sight.log c.learn.new.self.sight.log c.learn.ensures.sees.log c.hash-hash.result c.search.new.window.sight.log c.in-Some.table.now turned
+    let is : c.search.result ≡ turns.Absent = absent_else c.search.result c.search.ensures.over
+    (λ met entry e. c.in_default-search.not-Found met entry e) (λ t e. c.in_default-search.not-Over t e) in
+    let turned : Turned g.K.PartialEq.eq g.K.Hash.hash_input g.S.BuildHasher.build_hasher g.S.Hasher.Hasher.write g.S.Hasher.Hasher.finish
+    g.met.K.Eq.laws g.met.K.Hash.respects_eq c.search.new.window.book.now (g.Q.Equivalent.matches c.args.key.now)
+    (g.Q.Hash.hash_input c.args.key.now) lawful c.args.window.now.sight.log c.learn.new.self.sight.log c.learn.ensures.sees.log c.hash-hash.result
+    c.search.new.window.sight.log c.in-Some.table.now turns.Absent =
+    subst (λ (z : Turn _ _). Turned g.K.PartialEq.eq g.K.Hash.hash_input g.S.BuildHasher.build_hasher g.S.Hasher.Hasher.write g.S.Hasher.Hasher.finish
+    g.met.K.Eq.laws g.met.K.Hash.respects_eq c.search.new.window.book.now (g.Q.Equivalent.matches c.args.key.now)
+    (g.Q.Hash.hash_input c.args.key.now) lawful c.args.window.now.sight.log c.learn.new.self.sight.log c.learn.ensures.sees.log c.hash-hash.result
+    c.search.new.window.sight.log c.in-Some.table.now z) is (rw (sym c.again-began.ensures) c.search.ensures.turned) in
+    answers_absent g.K.PartialEq.eq g.K.Hash.hash_input g.S.BuildHasher.build_hasher g.S.Hasher.Hasher.write g.S.Hasher.Hasher.finish g.met.K.Eq.laws
+    g.met.K.Hash.respects_eq c.search.new.window.book.now (g.Q.Equivalent.matches c.args.key.now) (g.Q.Hash.hash_input c.args.key.now) lawful
+    c.args.window.now.sight.log c.learn.new.self.sight.log c.learn.ensures.sees.log c.hash-hash.result c.search.new.window.sight.log
+    c.in-Some.table.now turned
 
 pub returns-clause-answered : goal.returns-clause-answered
 returns-clause-answered g c =
@@ -106,4 +180,7 @@ returns-clause-answered g c =
     record { feeds = g.met.Q.Equivalent.hashes_as_key c.args.key.now; class = λ k l. g.met.Q.Equivalent.matches_equal_keys c.args.key.now k l } in
     let l = c.loop-held in let inv = l.invariant.0 in
     let none : l.held ≡ None = search rules in
-    answers_none g.K.PartialEq.eq g.K.Hash.hash_input g.S.BuildHasher.build_hasher g.S.Hasher.Hasher.write g.S.Hasher.Hasher.finish g.met.K.Eq.laws g.met.K.Hash.respects_eq c.loop-held.window.book.now (g.Q.Equivalent.matches c.args.key.now) (g.Q.Hash.hash_input c.args.key.now) lawful c.args.window.now.sight.log c.learn.new.self.sight.log c.learn.ensures.sees.log c.hash-hash.result l.window.sight.log l.number l.held inv.pair (rw (sym c.again-began.ensures) inv.reading) inv.names none
+    answers_none g.K.PartialEq.eq g.K.Hash.hash_input g.S.BuildHasher.build_hasher g.S.Hasher.Hasher.write g.S.Hasher.Hasher.finish g.met.K.Eq.laws
+    g.met.K.Hash.respects_eq c.loop-held.window.book.now (g.Q.Equivalent.matches c.args.key.now) (g.Q.Hash.hash_input c.args.key.now) lawful
+    c.args.window.now.sight.log c.learn.new.self.sight.log c.learn.ensures.sees.log c.hash-hash.result l.window.sight.log l.number l.held inv.pair
+    (rw (sym c.again-began.ensures) inv.reading) inv.names none

@@ -18,7 +18,10 @@ hint-hint-requires-clause-place g c =
     let lawful : IsQuery g.K.PartialEq.eq g.K.Hash.hash_input (g.Q.Equivalent.matches c.args.key.now) (g.Q.Hash.hash_input c.args.key.now) =
     record { feeds = g.met.Q.Equivalent.hashes_as_key c.args.key.now; class = λ k l. g.met.Q.Equivalent.matches_equal_keys c.args.key.now k l } in
     let w = c.args.window.now.book.now in
-    (hint_there g.K.PartialEq.eq g.K.Hash.hash_input g.S.BuildHasher.build_hasher g.S.Hasher.Hasher.write g.S.Hasher.Hasher.finish g.met.K.Eq.laws g.met.K.Hash.respects_eq (begun_of w.parts) (g.Q.Equivalent.matches c.args.key.now) (g.Q.Hash.hash_input c.args.key.now) lawful (exchanges_of c.args.began.now.log) c.args.hash w.begun.book c.args.window.now.sight.log c.args.at c.requires.within c.args.table.now c.requires.reading).1
+    (hint_there g.K.PartialEq.eq g.K.Hash.hash_input g.S.BuildHasher.build_hasher g.S.Hasher.Hasher.write g.S.Hasher.Hasher.finish g.met.K.Eq.laws
+    g.met.K.Hash.respects_eq (begun_of w.parts) (g.Q.Equivalent.matches c.args.key.now) (g.Q.Hash.hash_input c.args.key.now) lawful
+    (exchanges_of c.args.began.now.log) c.args.hash w.begun.book c.args.window.now.sight.log c.args.at c.requires.within c.args.table.now
+    c.requires.reading).1
 
 pub read_at-requires-clause-reading : goal.read_at-requires-clause-reading
 read_at-requires-clause-reading g c =
@@ -27,22 +30,33 @@ read_at-requires-clause-reading g c =
     let w = c.args.window.now.book.now in let h = c.hint-hint in
     let reads : hinted c.args.at c.args.hash h.result ≡ On (Reading c.in-On-Reading.field-0-0) = search rules in
     rw h.ensures.sees.book
-    (word_next g.K.PartialEq.eq g.K.Hash.hash_input g.S.BuildHasher.build_hasher g.S.Hasher.Hasher.write g.S.Hasher.Hasher.finish g.met.K.Eq.laws g.met.K.Hash.respects_eq (begun_of w.parts) (g.Q.Equivalent.matches c.args.key.now) (g.Q.Hash.hash_input c.args.key.now) lawful (exchanges_of c.args.began.now.log) c.args.hash w.begun.book c.args.window.now.sight.log c.args.at c.requires.within c.args.table.now c.requires.reading
+    (word_next g.K.PartialEq.eq g.K.Hash.hash_input g.S.BuildHasher.build_hasher g.S.Hasher.Hasher.write g.S.Hasher.Hasher.finish g.met.K.Eq.laws
+    g.met.K.Hash.respects_eq (begun_of w.parts) (g.Q.Equivalent.matches c.args.key.now) (g.Q.Hash.hash_input c.args.key.now) lawful
+    (exchanges_of c.args.began.now.log) c.args.hash w.begun.book c.args.window.now.sight.log c.args.at c.requires.within c.args.table.now c.requires.reading
     h.new.self.sight.log h.ensures.sees.log h.result h.ensures.hint c.in-On-Reading.field-0-0 reads)
 
 pub returns : goal.returns
 returns g c =
     let h = c.hint-hint in let r = c.read_at in
     let less = subst (λ (z : _). left_of (led_to z.now.parts.mode 0 r.result) < left_of (Searching (Reading c.args.at))) h.ensures.sees.book r.ensures.fewer in
-    record { sees = sees_trans _ _ _ h.ensures.sees r.ensures.sees; own = r.ensures.own ∙ h.ensures.own; turned = r.ensures.turned; fewer = omega (arith, less) }
+    record {
+      sees = sees_trans _ _ _ h.ensures.sees r.ensures.sees;
+      own = r.ensures.own
+          ∙ h.ensures.own;
+      turned = r.ensures.turned;
+      fewer = omega (arith, less);
+    }
 
 pub returns-in_default-clause-turned : goal.returns-in_default-clause-turned
 returns-in_default-clause-turned g c =
     let lawful : IsQuery g.K.PartialEq.eq g.K.Hash.hash_input (g.Q.Equivalent.matches c.args.key.now) (g.Q.Hash.hash_input c.args.key.now) =
     record { feeds = g.met.Q.Equivalent.hashes_as_key c.args.key.now; class = λ k l. g.met.Q.Equivalent.matches_equal_keys c.args.key.now k l } in
     let w = c.args.window.now.book.now in let h = c.hint-hint in
-    let none : (a : Place) → hinted c.args.at c.args.hash h.result ≡ On (Reading a) → ⊥ = λ a e. elim c.in_default.branch [ in_default-via-in-On+in_default x ↦ search rules | in_default-via-in_default x ↦ search rules ] in
+    let none : (a : Place) → hinted c.args.at c.args.hash h.result ≡ On (Reading a)
+    → ⊥ = λ a e. elim c.in_default.branch [ in_default-via-in-On+in_default x ↦ search rules | in_default-via-in_default x ↦ search rules ] in
     let seen : IsProbed (hinted c.args.at c.args.hash h.result) = subst IsProbed c.hinted-seen.ensures.value c.hinted-seen.ensures.seen in
     rw (h.ensures.sees.book, c.without.ensures, c.hinted-seen.ensures.value)
-    (hint_passed g.K.PartialEq.eq g.K.Hash.hash_input g.S.BuildHasher.build_hasher g.S.Hasher.Hasher.write g.S.Hasher.Hasher.finish g.met.K.Eq.laws g.met.K.Hash.respects_eq (begun_of w.parts) (g.Q.Equivalent.matches c.args.key.now) (g.Q.Hash.hash_input c.args.key.now) lawful (exchanges_of c.args.began.now.log) c.args.hash w.begun.book c.args.window.now.sight.log c.args.at c.requires.within c.args.table.now c.requires.reading
+    (hint_passed g.K.PartialEq.eq g.K.Hash.hash_input g.S.BuildHasher.build_hasher g.S.Hasher.Hasher.write g.S.Hasher.Hasher.finish g.met.K.Eq.laws
+    g.met.K.Hash.respects_eq (begun_of w.parts) (g.Q.Equivalent.matches c.args.key.now) (g.Q.Hash.hash_input c.args.key.now) lawful
+    (exchanges_of c.args.began.now.log) c.args.hash w.begun.book c.args.window.now.sight.log c.args.at c.requires.within c.args.table.now c.requires.reading
     h.new.self.sight.log h.ensures.sees.log h.result h.ensures.hint seen none).0

@@ -12,7 +12,10 @@ use Rattle.papaya_lookup.proofs.lookup.search.Given as goal
 -- the turns so far led the lookup's machine on to this place
 abbrev pub invariant-loop-next : goal.invariant-loop-next
 invariant-loop-next g l =
-    IsTurned g.K.PartialEq.eq (hash_of g.K.Hash.hash_input g.S.BuildHasher.build_hasher g.S.Hasher.Hasher.write g.S.Hasher.Hasher.finish) (begun_of l.window.book.now.parts) l.window.book.now.begun.book (g.Q.Equivalent.matches l.key) (hash_of g.Q.Hash.hash_input g.S.BuildHasher.build_hasher g.S.Hasher.Hasher.write g.S.Hasher.Hasher.finish l.window.book.now.parts.hasher l.key) (exchanges_of l.began.log) l.hash l.window.sight.log l.table (Next l.place)
+    IsTurned g.K.PartialEq.eq (hash_of g.K.Hash.hash_input g.S.BuildHasher.build_hasher g.S.Hasher.Hasher.write g.S.Hasher.Hasher.finish)
+    (begun_of l.window.book.now.parts) l.window.book.now.begun.book (g.Q.Equivalent.matches l.key)
+    (hash_of g.Q.Hash.hash_input g.S.BuildHasher.build_hasher g.S.Hasher.Hasher.write g.S.Hasher.Hasher.finish l.window.book.now.parts.hasher l.key)
+    (exchanges_of l.began.log) l.hash l.window.sight.log l.table (Next l.place)
     × (left_of (Searching (Looking l.place)) ≤ left_of (Searching (Looking l.fn.at)))
     × Sees l.fn.window l.window
     × (l.window.own ≡ l.fn.window.own)

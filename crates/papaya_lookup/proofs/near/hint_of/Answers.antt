@@ -15,22 +15,31 @@ load-hint-requires g c =
     let r = c.requires.slot in let w = c.args.window.now.book.now in let v = c.learn.new.self.log in let b = begun_of w.parts in
     let hash = hash_of g.K.Hash.hash_input g.S.BuildHasher.build_hasher g.S.Hasher.Hasher.write g.S.Hasher.Hasher.finish in
     let held = c.learn.ensures.4 in
-    let lawful : IsLawfulLog g.K.PartialEq.eq hash b v = subst (λ (z : _). IsLawfulLog g.K.PartialEq.eq hash z v) (opened_with g.K.PartialEq.eq hash b held.1.begun v (prefix_trans (Begin b ∷ []) w.begun.log v (first_prefix (Begin b) w.begun.log w.begins) c.learn.ensures.3) held.1.lawful) held.1.lawful in
+    let lawful : IsLawfulLog g.K.PartialEq.eq hash b v = subst (λ (z : _). IsLawfulLog g.K.PartialEq.eq hash z v)
+    (opened_with g.K.PartialEq.eq hash b held.1.begun v
+    (prefix_trans (Begin b ∷ []) w.begun.log v (first_prefix (Begin b) w.begun.log w.begins) c.learn.ensures.3) held.1.lawful) held.1.lawful in
     let called = name_since w.begun.log v w.begun.book c.learn.ensures.3 w.called in
     let came = table_since c.args.window.now.sight.log v c.args.number r.0 c.learn.ensures.2 r.1 in
-    let book = table_book g.K.PartialEq.eq hash b v w.begun.book lawful called c.args.number r.0 came in
-    (c.learn.ensures.0 ∙ (c.args.window.now.same_book ∙ (sym book ∙ sym (ap (λ z. z.book) (c.hint.ensures ∙ r.4)))), hinted_grows g.K.PartialEq.eq hash c.hint.result.now.key)
+    let book = table_book g.K.PartialEq.eq hash b v w.begun.book lawful called c.args.number r.0 came in (
+      c.learn.ensures.0 ∙ (c.args.window.now.same_book ∙ (sym book ∙ sym (ap (λ z. z.book) (c.hint.ensures ∙ r.4)))),
+      hinted_grows g.K.PartialEq.eq
+          hash c.hint.result.now.key,
+    )
 
 pub returns-clause-hint : goal.returns-clause-hint
 returns-clause-hint g c =
     let r = c.requires.slot in let w = c.args.window.now.book.now in let v = c.learn-2.new.self.log in let b = begun_of w.parts in
     let hash = hash_of g.K.Hash.hash_input g.S.BuildHasher.build_hasher g.S.Hasher.Hasher.write g.S.Hasher.Hasher.finish in
     let held = c.learn-2.ensures.4 in
-    let lawful : IsLawfulLog g.K.PartialEq.eq hash b v = subst (λ (z : _). IsLawfulLog g.K.PartialEq.eq hash z v) (opened_with g.K.PartialEq.eq hash b held.1.begun v (prefix_trans (Begin b ∷ []) w.begun.log v (first_prefix (Begin b) w.begun.log w.begins) c.learn-2.ensures.3) held.1.lawful) held.1.lawful in
-    let seen = prefix_trans c.args.window.now.sight.log c.load-hint.new.seen.log v (prefix_trans c.args.window.now.sight.log c.learn.new.self.log c.load-hint.new.seen.log c.learn.ensures.2 c.load-hint.ensures.2) c.learn-2.ensures.2 in
+    let lawful : IsLawfulLog g.K.PartialEq.eq hash b v = subst (λ (z : _). IsLawfulLog g.K.PartialEq.eq hash z v)
+    (opened_with g.K.PartialEq.eq hash b held.1.begun v
+    (prefix_trans (Begin b ∷ []) w.begun.log v (first_prefix (Begin b) w.begun.log w.begins) c.learn-2.ensures.3) held.1.lawful) held.1.lawful in
+    let seen = prefix_trans c.args.window.now.sight.log c.load-hint.new.seen.log v
+    (prefix_trans c.args.window.now.sight.log c.learn.new.self.log c.load-hint.new.seen.log c.learn.ensures.2 c.load-hint.ensures.2) c.learn-2.ensures.2 in
     let came = table_since c.args.window.now.sight.log v c.args.number r.0 seen r.1 in
     let k = r.2 in let n = c.load-hint.result in
     let said = hinted_grows g.K.PartialEq.eq hash c.hint.result.now.key n c.load-hint.new.seen.log v c.learn-2.ensures.2 c.load-hint.ensures.3 in
-    said_by_now g.K.PartialEq.eq g.K.Hash.hash_input g.S.BuildHasher.build_hasher g.S.Hasher.Hasher.write g.S.Hasher.Hasher.finish g.met.K.Eq.laws g.met.K.Hash.respects_eq b v lawful c.args.number c.args.place k n
+    said_by_now g.K.PartialEq.eq g.K.Hash.hash_input g.S.BuildHasher.build_hasher g.S.Hasher.Hasher.write g.S.Hasher.Hasher.finish g.met.K.Eq.laws
+    g.met.K.Hash.respects_eq b v lawful c.args.number c.args.place k n
     (slot_key v c.args.number c.args.place k r.0 came r.3)
     (subst (λ z. IsHinted g.K.PartialEq.eq hash z n v) (ap (λ z. z.key) (c.hint.ensures ∙ r.4)) said)

@@ -14,7 +14,10 @@ returns-then-not-holds-clause-near g c =
     let w = c.args.window.now.book.now in
     let h = c.hint_of-found in
     let differs : may_hold h.result c.args.hash ≡ false = search rules in
-    rw h.ensures.sees.book (passed_over g.K.PartialEq.eq g.K.Hash.hash_input g.S.BuildHasher.build_hasher g.S.Hasher.Hasher.write g.S.Hasher.Hasher.finish g.met.K.Eq.laws g.met.K.Hash.respects_eq (begun_of w.parts) (g.Q.Equivalent.matches c.args.key.now) (g.Q.Hash.hash_input c.args.key.now) lawful (exchanges_of c.args.began.now.log) c.args.hash w.begun.book c.args.window.now.sight.log c.args.at c.requires.within c.args.table.now c.requires.reading
+    rw h.ensures.sees.book (passed_over g.K.PartialEq.eq g.K.Hash.hash_input g.S.BuildHasher.build_hasher g.S.Hasher.Hasher.write
+    g.S.Hasher.Hasher.finish g.met.K.Eq.laws g.met.K.Hash.respects_eq (begun_of w.parts) (g.Q.Equivalent.matches c.args.key.now)
+    (g.Q.Hash.hash_input c.args.key.now) lawful (exchanges_of c.args.began.now.log) c.args.hash w.begun.book c.args.window.now.sight.log c.args.at
+    c.requires.within c.args.table.now c.requires.reading
     h.new.window.sight.log h.ensures.sees.log h.result h.ensures.hint differs)
 
 pub read_slot-requires-clause-slot : goal.read_slot-requires-clause-slot
@@ -29,5 +32,7 @@ read_slot-requires-clause-reading g c =
     let w = c.args.window.now.book.now in
     let h = c.hint_of-found in
     let agrees : may_hold h.result c.args.hash ≡ true = search rules in
-    rw h.ensures.sees.book (to_read g.K.PartialEq.eq g.K.Hash.hash_input g.S.BuildHasher.build_hasher g.S.Hasher.Hasher.write g.S.Hasher.Hasher.finish g.met.K.Eq.laws g.met.K.Hash.respects_eq (begun_of w.parts) (g.Q.Equivalent.matches c.args.key.now) (g.Q.Hash.hash_input c.args.key.now) lawful (exchanges_of c.args.began.now.log) c.args.hash w.begun.book c.args.window.now.sight.log c.args.at c.requires.within c.args.table.now c.requires.reading
+    rw h.ensures.sees.book (to_read g.K.PartialEq.eq g.K.Hash.hash_input g.S.BuildHasher.build_hasher g.S.Hasher.Hasher.write g.S.Hasher.Hasher.finish
+    g.met.K.Eq.laws g.met.K.Hash.respects_eq (begun_of w.parts) (g.Q.Equivalent.matches c.args.key.now) (g.Q.Hash.hash_input c.args.key.now) lawful
+    (exchanges_of c.args.began.now.log) c.args.hash w.begun.book c.args.window.now.sight.log c.args.at c.requires.within c.args.table.now c.requires.reading
     h.new.window.sight.log h.ensures.sees.log h.result h.ensures.hint agrees)

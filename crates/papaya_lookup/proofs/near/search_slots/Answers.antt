@@ -17,8 +17,12 @@ bounds-slots-place g c =
     let lawful : IsQuery g.K.PartialEq.eq g.K.Hash.hash_input (g.Q.Equivalent.matches c.args.key.now) (g.Q.Hash.hash_input c.args.key.now) =
     record { feeds = g.met.Q.Equivalent.hashes_as_key c.args.key.now; class = λ k l. g.met.Q.Equivalent.matches_equal_keys c.args.key.now k l } in
     let w = c.loop-turned.window.book.now in let t = c.loop-turned.invariant.0 in
-    let there = hint_there g.K.PartialEq.eq g.K.Hash.hash_input g.S.BuildHasher.build_hasher g.S.Hasher.Hasher.write g.S.Hasher.Hasher.finish g.met.K.Eq.laws g.met.K.Hash.respects_eq (begun_of w.parts) (g.Q.Equivalent.matches c.args.key.now) (g.Q.Hash.hash_input c.args.key.now) lawful (exchanges_of c.args.began.now.log) c.args.hash w.begun.book c.loop-turned.window.sight.log c.loop-turned.place (t.within c.loop-turned.place refl) c.args.table.now (t.lent, t.lent_is, t.pair, t.reading) in
-    let len : length c.slots_of-slots.result.now ≡ length c.args.table.now.slots = ap length c.slots_of-slots.ensures ∙ named_len c.args.table.now.book c.args.table.now.slots in
+    let there = hint_there g.K.PartialEq.eq g.K.Hash.hash_input g.S.BuildHasher.build_hasher g.S.Hasher.Hasher.write g.S.Hasher.Hasher.finish
+    g.met.K.Eq.laws g.met.K.Hash.respects_eq (begun_of w.parts) (g.Q.Equivalent.matches c.args.key.now) (g.Q.Hash.hash_input c.args.key.now) lawful
+    (exchanges_of c.args.began.now.log) c.args.hash w.begun.book c.loop-turned.window.sight.log c.loop-turned.place
+    (t.within c.loop-turned.place refl) c.args.table.now (t.lent, t.lent_is, t.pair, t.reading) in
+    let len : length c.slots_of-slots.result.now ≡ length c.args.table.now.slots = ap length c.slots_of-slots.ensures
+    ∙ named_len c.args.table.now.book c.args.table.now.slots in
     subst (λ (n : ℕ). c.loop-turned.place.probe.i < n) (sym len) there.1
 
 pub look_at_slot-requires-clause-within : goal.look_at_slot-requires-clause-within
@@ -29,7 +33,11 @@ look_at_slot-requires-clause-slot g c =
     let lawful : IsQuery g.K.PartialEq.eq g.K.Hash.hash_input (g.Q.Equivalent.matches c.args.key.now) (g.Q.Hash.hash_input c.args.key.now) =
     record { feeds = g.met.Q.Equivalent.hashes_as_key c.args.key.now; class = λ k l. g.met.Q.Equivalent.matches_equal_keys c.args.key.now k l } in
     let w = c.loop-turned.window.book.now in let t = c.loop-turned.invariant.0 in
-    let there = hint_there g.K.PartialEq.eq g.K.Hash.hash_input g.S.BuildHasher.build_hasher g.S.Hasher.Hasher.write g.S.Hasher.Hasher.finish g.met.K.Eq.laws g.met.K.Hash.respects_eq (begun_of w.parts) (g.Q.Equivalent.matches c.args.key.now) (g.Q.Hash.hash_input c.args.key.now) lawful (exchanges_of c.args.began.now.log) c.args.hash w.begun.book c.loop-turned.window.sight.log c.loop-turned.place (t.within c.loop-turned.place refl) c.args.table.now (t.lent, t.lent_is, t.pair, t.reading) in
-    let is = subst (λ (l : List Named). c.index-slots-place.result ≡ slice_index_or l c.loop-turned.place.probe.i c.index-slots-place.result) c.slots_of-slots.ensures c.index-slots-place.is in
+    let there = hint_there g.K.PartialEq.eq g.K.Hash.hash_input g.S.BuildHasher.build_hasher g.S.Hasher.Hasher.write g.S.Hasher.Hasher.finish
+    g.met.K.Eq.laws g.met.K.Hash.respects_eq (begun_of w.parts) (g.Q.Equivalent.matches c.args.key.now) (g.Q.Hash.hash_input c.args.key.now) lawful
+    (exchanges_of c.args.began.now.log) c.args.hash w.begun.book c.loop-turned.window.sight.log c.loop-turned.place
+    (t.within c.loop-turned.place refl) c.args.table.now (t.lent, t.lent_is, t.pair, t.reading) in
+    let is = subst (λ (l : List Named). c.index-slots-place.result ≡ slice_index_or l c.loop-turned.place.probe.i c.index-slots-place.result)
+    c.slots_of-slots.ensures c.index-slots-place.is in
     let at = named_at c.args.table.now.book c.args.table.now.slots c.loop-turned.place.probe.i c.index-slots-place.result there.1 is in
     (c.args.table.now, there.0, at.0, at.1, at.2)

@@ -26,30 +26,43 @@ loop-init g c = (
   c.new-computing.ensures.initial,
   c.learn.ensures.sees,
   c.requires.callable,
-  subst (λ (changed : Bool). Does changed c.args.window.now c.learn.new.self) (sym c.new-computing.ensures.unchanged) (idles c.args.window.now c.learn.new.self c.learn.ensures.own),
+  subst (λ (changed : Bool). Does changed c.args.window.now c.learn.new.self) (sym c.new-computing.ensures.unchanged)
+      (idles c.args.window.now c.learn.new.self c.learn.ensures.own),
 )
 
 pub tell-requires-clause-can : goal.tell-requires-clause-can
-tell-requires-clause-can g c = let u = c.loop.invariant.0 in (c.args.key, u.1.0, u.0, rw c.turn.ensures.sees.book (c.in-Answered.ensures.turns.0 c.args.key u.1.0 u.0 u.1.2))
+tell-requires-clause-can g c = let u = c.loop.invariant.0 in
+    (c.args.key, u.1.0, u.0, rw c.turn.ensures.sees.book (c.in-Answered.ensures.turns.0 c.args.key u.1.0 u.0 u.1.2))
 
 pub loop-preserved-in-Answered : goal.loop-preserved-in-Answered
 loop-preserved-in-Answered g c =
     let u = c.loop.invariant.0 in let on = c.in-Answered.ensures.turns.0 c.args.key u.1.0 u.0 u.1.2 in
     let m = c.loop.computing.writer.call.machine in let then = c.tell.new.self.writer.call in let answer = c.in-Answered.answer in
-    let same : after c.turn.new.self.writer.call.machine (answers.Call answer) ≡ after m (answers.Call answer) = ap (λ (z : Machine). after z (answers.Call answer)) c.turn.ensures.machine in
+    let same : after c.turn.new.self.writer.call.machine (answers.Call answer) ≡ after m (answers.Call answer) = ap
+    (λ (z : Machine). after z (answers.Call answer)) c.turn.ensures.machine in
     let does = does_on m c.loop.invariant.2 answer c.args.window.now c.loop.window c.turn.new.window c.loop.invariant.6 c.in-Answered.ensures.turns.1 in
     let does_call = subst (λ (z : Machine). Does (has_changed z) c.args.window.now c.turn.new.window) (sym same) does in (
       (u.0, (u.1.0, u.1.1, rw c.tell.ensures.sees.book (c.tell.ensures.takes c.args.key u.1.0 u.0 (rw c.turn.ensures.sees.book on))), u.2),
       c.tell.ensures.standing,
       c.tell.ensures.calling,
-      (helped_keeps (after c.turn.new.self.writer.call.machine (answers.Call answer)) then.machine (tables_of c.tell.new.window.sight.log) then.given.done c.tell.ensures.helped).initial ∙ (ap (λ (z : Machine). z.call.initial) same ∙ ((own_settings m c.loop.invariant.2 answer).0 ∙ c.loop.invariant.3)),
+      (helped_keeps (after c.turn.new.self.writer.call.machine (answers.Call answer)) then.machine (tables_of c.tell.new.window.sight.log)
+          then.given.done c.tell.ensures.helped).initial
+          ∙ (ap (λ (z : Machine). z.call.initial) same ∙ ((own_settings m c.loop.invariant.2 answer).0 ∙ c.loop.invariant.3)),
       sees_trans _ _ _ (sees_trans _ _ _ c.loop.invariant.4 c.turn.ensures.sees) c.tell.ensures.sees,
       c.loop.invariant.5,
-      helped_does (after c.turn.new.self.writer.call.machine (answers.Call answer)) then.machine (tables_of c.tell.new.window.sight.log) then.given.done c.tell.ensures.calling c.tell.ensures.helped c.args.window.now c.turn.new.window c.tell.new.window c.tell.ensures.still c.tell.ensures.own does_call,
+      helped_does (after c.turn.new.self.writer.call.machine (answers.Call answer)) then.machine (tables_of c.tell.new.window.sight.log)
+          then.given.done c.tell.ensures.calling c.tell.ensures.helped c.args.window.now c.turn.new.window c.tell.new.window c.tell.ensures.still
+          c.tell.ensures.own does_call,
     )
 
 pub tell-requires-in-Shows-clause-can : goal.tell-requires-in-Shows-clause-can
-tell-requires-in-Shows-clause-can g c = let u = c.loop.invariant.0 in let same = c.in-Shows.ensures.turns in (c.args.key, u.1.0, (c.in-Shows.shown, c.operate-operation.result) ∷ u.0, (c.hear-answer.ensures.hears c.turn.new.window).1 c.args.key u.1.0 u.0 (rw (same.1, same.2) u.1.2))
+tell-requires-in-Shows-clause-can g c = let u = c.loop.invariant.0 in let same = c.in-Shows.ensures.turns in (
+  c.args.key,
+  u.1.0,
+  (c.in-Shows.shown, c.operate-operation.result) ∷ u.0,
+  (c.hear-answer.ensures.hears c.turn.new.window).1 c.args.key u.1.0 u.0
+      (rw (same.1, same.2) u.1.2),
+)
 
 pub loop-preserved : goal.loop-preserved
 loop-preserved g c =
@@ -58,43 +71,59 @@ loop-preserved g c =
     let on = (c.hear-answer.ensures.hears c.turn.new.window).1 c.args.key u.1.0 u.0 (rw (same.1, same.2) u.1.2) in
     let m = c.loop.computing.writer.call.machine in let then = c.tell-in-Shows.new.self.writer.call in let answer = c.hear-answer.result in
     let is : c.hear-answer.new.self.writer.call.machine ≡ m = c.hear-answer.ensures.machine ∙ c.turn.ensures.machine in
-    let led : after c.hear-answer.new.self.writer.call.machine (answers.Call answer) ≡ after m (answers.Call answer) = ap (λ (z : Machine). after z (answers.Call answer)) is in
-    let does = does_on m c.loop.invariant.2 answer c.args.window.now c.loop.window c.turn.new.window c.loop.invariant.6 (rw (sym same.1, sym same.2) (c.hear-answer.ensures.hears c.turn.new.window).0) in
+    let led : after c.hear-answer.new.self.writer.call.machine (answers.Call answer) ≡ after m (answers.Call answer) = ap
+    (λ (z : Machine). after z (answers.Call answer)) is in
+    let does = does_on m c.loop.invariant.2 answer c.args.window.now c.loop.window c.turn.new.window c.loop.invariant.6
+    (rw (sym same.1, sym same.2) (c.hear-answer.ensures.hears c.turn.new.window).0) in
     let does_call = subst (λ (z : Machine). Does (has_changed z) c.args.window.now c.turn.new.window) (sym led) does in (
-      (heard, (u.1.0, u.1.1, rw c.tell-in-Shows.ensures.sees.book (c.tell-in-Shows.ensures.takes c.args.key u.1.0 heard on)), (c.loop.f, u.2, c.operate-operation.ensures.operates)),
+      (
+        heard,
+        (u.1.0, u.1.1, rw c.tell-in-Shows.ensures.sees.book (c.tell-in-Shows.ensures.takes c.args.key u.1.0 heard on)),
+        (c.loop.f, u.2, c.operate-operation.ensures.operates),
+      ),
       c.tell-in-Shows.ensures.standing,
       c.tell-in-Shows.ensures.calling,
-      (helped_keeps (after c.hear-answer.new.self.writer.call.machine (answers.Call answer)) then.machine (tables_of c.tell-in-Shows.new.window.sight.log) then.given.done c.tell-in-Shows.ensures.helped).initial ∙ (ap (λ (z : Machine). z.call.initial) led ∙ ((own_settings m c.loop.invariant.2 answer).0 ∙ c.loop.invariant.3)),
+      (helped_keeps (after c.hear-answer.new.self.writer.call.machine (answers.Call answer)) then.machine
+          (tables_of c.tell-in-Shows.new.window.sight.log) then.given.done c.tell-in-Shows.ensures.helped).initial
+          ∙ (ap (λ (z : Machine). z.call.initial) led ∙ ((own_settings m c.loop.invariant.2 answer).0 ∙ c.loop.invariant.3)),
       sees_trans _ _ _ (sees_trans _ _ _ c.loop.invariant.4 c.turn.ensures.sees) c.tell-in-Shows.ensures.sees,
       c.operate-operation.ensures.callable,
-      helped_does (after c.hear-answer.new.self.writer.call.machine (answers.Call answer)) then.machine (tables_of c.tell-in-Shows.new.window.sight.log) then.given.done c.tell-in-Shows.ensures.calling c.tell-in-Shows.ensures.helped c.args.window.now c.turn.new.window c.tell-in-Shows.new.window c.tell-in-Shows.ensures.still c.tell-in-Shows.ensures.own does_call,
+      helped_does (after c.hear-answer.new.self.writer.call.machine (answers.Call answer)) then.machine
+          (tables_of c.tell-in-Shows.new.window.sight.log) then.given.done c.tell-in-Shows.ensures.calling c.tell-in-Shows.ensures.helped
+          c.args.window.now c.turn.new.window c.tell-in-Shows.new.window c.tell-in-Shows.ensures.still c.tell-in-Shows.ensures.own does_call,
     )
 
 pub replied-requires-clause-can : goal.replied-requires-clause-can
-replied-requires-clause-can g c = let u = c.loop.invariant.0 in rw c.turn.ensures.sees.book (c.args.key, u.1.0, u.0, (c.in-Replied.ensures.turns.0 c.args.key u.1.0 u.0 u.1.2).0)
+replied-requires-clause-can g c = let u = c.loop.invariant.0 in
+    rw c.turn.ensures.sees.book (c.args.key, u.1.0, u.0, (c.in-Replied.ensures.turns.0 c.args.key u.1.0 u.0 u.1.2).0)
 
 pub replied-requires-clause-done : goal.replied-requires-clause-done
 replied-requires-clause-done g c = let u = c.loop.invariant.0 in (c.in-Replied.ensures.turns.0 c.args.key u.1.0 u.0 u.1.2).1
 
 pub returns-in-Replied-clause-lawful : goal.returns-in-Replied-clause-lawful
-returns-in-Replied-clause-lawful g c = let u = c.loop.invariant.0 in rw c.turn.ensures.sees.book (c.in-Replied.ensures.turns.0 c.args.key u.1.0 u.0 u.1.2).0.writing.calling.lawful
+returns-in-Replied-clause-lawful g c = let u = c.loop.invariant.0 in
+    rw c.turn.ensures.sees.book (c.in-Replied.ensures.turns.0 c.args.key u.1.0 u.0 u.1.2).0.writing.calling.lawful
 
 pub returns-in-Replied-clause-computed : goal.returns-in-Replied-clause-computed
 returns-in-Replied-clause-computed g c =
     let u = c.loop.invariant.0 in let r = (c.in-Replied.ensures.turns.0 c.args.key u.1.0 u.0 u.1.2).0 in
-    computed_by g.K.PartialEq.eq c.args.key _ _ _ (history_since c.args.window.now.sight.log u.1.0 u.1.1) (Operates g.F.FnMut) c.args.f c.loop.f u.0 u.2 c.replied.result (c.replied.ensures.replies c.args.key u.1.0 u.0 (rw c.turn.ensures.sees.book r))
+    computed_by g.K.PartialEq.eq c.args.key _ _ _ (history_since c.args.window.now.sight.log u.1.0 u.1.1) (Operates g.F.FnMut) c.args.f c.loop.f u.0
+    u.2 c.replied.result (c.replied.ensures.replies c.args.key u.1.0 u.0 (rw c.turn.ensures.sees.book r))
 
 pub returns-in-Replied-clause-made : goal.returns-in-Replied-clause-made
 returns-in-Replied-clause-made g c =
     let u = c.loop.invariant.0 in let r = (c.in-Replied.ensures.turns.0 c.args.key u.1.0 u.0 u.1.2).0 in let call = c.turn.new.self.writer.call in
-    let does = does_still c.loop.computing.writer.call.machine c.args.window.now c.loop.window c.turn.new.window c.loop.invariant.6 c.in-Replied.ensures.turns.1 in
-    rw c.replied.ensures.changed (makes g.K.PartialEq.eq (Some c.args.key) u.1.0 call.taken call.put call.machine c.args.window.now c.turn.new.window r.writing.calling.changed (rw c.turn.ensures.machine does))
+    let does = does_still c.loop.computing.writer.call.machine c.args.window.now c.loop.window c.turn.new.window c.loop.invariant.6
+    c.in-Replied.ensures.turns.1 in
+    rw c.replied.ensures.changed (makes g.K.PartialEq.eq (Some c.args.key) u.1.0 call.taken call.put call.machine c.args.window.now c.turn.new.window
+    r.writing.calling.changed (rw c.turn.ensures.machine does))
 
 pub returns-in-Replied-clause-crowded : goal.returns-in-Replied-clause-crowded
 returns-in-Replied-clause-crowded g c = λ e.
     let u = c.loop.invariant.0 in let r = (c.in-Replied.ensures.turns.0 c.args.key u.1.0 u.0 u.1.2).0 in
     let refused = subst (λ (z : _). IfErr z (λ cause. ask_of c.turn.new.self.writer.call.machine ≡ Call (Done (Refused cause)))) e c.replied.ensures.refusal in
-    let initial : c.turn.new.self.writer.call.machine.call.initial ≡ c.args.initial = ap (λ (z : Machine). z.call.initial) c.turn.ensures.machine ∙ c.loop.invariant.3 in
+    let initial : c.turn.new.self.writer.call.machine.call.initial ≡ c.args.initial = ap (λ (z : Machine). z.call.initial) c.turn.ensures.machine
+    ∙ c.loop.invariant.3 in
     rw c.again.ensures (subst (λ n. HasNoRoom n (tables_of c.turn.new.window.sight.log) c.turn.new.self.writer.call.given.done) initial (r.crowded refused))
 
 pub returns-in-Replied-clause-spent : goal.returns-in-Replied-clause-spent

@@ -25,19 +25,24 @@ loop-init g c = record {
 
 pub returns-in_err-number-clause-kept : goal.returns-in_err-number-clause-kept
 returns-in_err-number-clause-kept g c =
-    let before = shown_on c.args.window.now.sight.log (Judges g.F.FnMut) c.loop.window c.take_root.new.window c.take_root.ensures.sees (ap (λ o. o.done) c.take_root.ensures.own) (own c.args.window.now) c.args.stays c.loop.stays c.loop.invariant.shown.0 c.loop.invariant.shown.1 in
+    let before = shown_on c.args.window.now.sight.log (Judges g.F.FnMut) c.loop.window c.take_root.new.window c.take_root.ensures.sees
+    (ap (λ o. o.done) c.take_root.ensures.own) (own c.args.window.now) c.args.stays c.loop.stays c.loop.invariant.shown.0 c.loop.invariant.shown.1 in
     record { left = c.loop.stays; said = c.loop.invariant.shown.0; shown = before; leaves = search rules }
 
 pub returns-in_default-clause-kept : goal.returns-in_default-clause-kept
 returns-in_default-clause-kept g c =
     let log = c.take_root.new.window.sight.log in
     let zero : (state_of log).root ≡ 0 = search rules in
-    let before = shown_on c.args.window.now.sight.log (Judges g.F.FnMut) c.loop.window c.take_root.new.window c.take_root.ensures.sees (ap (λ o. o.done) c.take_root.ensures.own) (own c.args.window.now) c.args.stays c.loop.stays c.loop.invariant.shown.0 c.loop.invariant.shown.1 in
+    let before = shown_on c.args.window.now.sight.log (Judges g.F.FnMut) c.loop.window c.take_root.new.window c.take_root.ensures.sees
+    (ap (λ o. o.done) c.take_root.ensures.own) (own c.args.window.now) c.args.stays c.loop.stays c.loop.invariant.shown.0 c.loop.invariant.shown.1 in
     record {
       left = c.loop.stays;
       said = c.loop.invariant.shown.0;
       shown = before;
-      leaves = retained_rootless g.K.PartialEq.eq g.K.Hash.hash_input g.S.BuildHasher.build_hasher g.S.Hasher.Hasher.write g.S.Hasher.Hasher.finish g.met.K.Eq.laws g.met.K.Hash.respects_eq (begun_of c.take_root.new.window.book.now.parts) c.args.window.now.sight.log log (prefix_trans c.args.window.now.sight.log c.loop.window.sight.log log c.loop.invariant.sees.log c.take_root.ensures.sees.log) c.take_root.ensures.lawful zero c.loop.invariant.shown.0;
+      leaves = retained_rootless g.K.PartialEq.eq g.K.Hash.hash_input g.S.BuildHasher.build_hasher g.S.Hasher.Hasher.write g.S.Hasher.Hasher.finish
+          g.met.K.Eq.laws g.met.K.Hash.respects_eq (begun_of c.take_root.new.window.book.now.parts) c.args.window.now.sight.log log
+          (prefix_trans c.args.window.now.sight.log c.loop.window.sight.log log c.loop.invariant.sees.log c.take_root.ensures.sees.log)
+          c.take_root.ensures.lawful zero c.loop.invariant.shown.0;
     }
 
 pub scan_table-requires-clause-taken : goal.scan_table-requires-clause-taken
@@ -60,39 +65,65 @@ returns-then-not-scan_table-clause-kept g c =
     let table : IsTable w t c.in-Some-2.table.now = search rules in
     let sees = sees_trans w met c.learn.new.self c.scan_table.ensures.sees c.learn.ensures.sees in
     let since = prefix_trans old c.loop.window.sight.log taken.at c.loop.invariant.sees.log taken.since in
-    let before = shown_on c.args.window.now.sight.log (Judges g.F.FnMut) c.loop.window c.take_root.new.window c.take_root.ensures.sees (ap (λ o. o.done) c.take_root.ensures.own) (own c.args.window.now) c.args.stays c.loop.stays c.loop.invariant.shown.0 c.loop.invariant.shown.1 in
-    let scans : Scans c.args.window.now.sight.log (Judges g.F.FnMut) c.take_root.new.window c.loop.stays c.scan_table.new.window c.scan_table.new.stays c.in-Some-2.number 0 (length c.in-Some-2.table.now.slots) (c.scan_table.result ≡ false) = rw (sym c.again-began.ensures) c.scan_table.ensures.scans in
+    let before = shown_on c.args.window.now.sight.log (Judges g.F.FnMut) c.loop.window c.take_root.new.window c.take_root.ensures.sees
+    (ap (λ o. o.done) c.take_root.ensures.own) (own c.args.window.now) c.args.stays c.loop.stays c.loop.invariant.shown.0 c.loop.invariant.shown.1 in
+    let scans : Scans c.args.window.now.sight.log (Judges g.F.FnMut) c.take_root.new.window c.loop.stays c.scan_table.new.window
+    c.scan_table.new.stays c.in-Some-2.number 0 (length c.in-Some-2.table.now.slots) (c.scan_table.result ≡ false) = rw (sym c.again-began.ensures)
+    c.scan_table.ensures.scans in
     let one = scans c.args.stays (own c.args.window.now) c.loop.invariant.shown.0 before in
     let at : IsTakenAt b old w.sight.log t taken.at = record { since = since; until = taken.until; root = taken.root; some = taken.some; last = taken.last } in
-    let then' : IsTaken b old log t = record { at = taken.at; since = since; until = prefix_trans taken.at w.sight.log log taken.until sees.log; root = taken.root; some = taken.some; last = taken.last } in
+    let then' : IsTaken b old log t = record {
+      at = taken.at;
+      since = since;
+      until = prefix_trans taken.at w.sight.log log taken.until sees.log;
+      root = taken.root;
+      some = taken.some;
+      last = taken.last;
+    } in
     let lawful = subst (λ (z : Bor (Book _ _ _ _)). IsLawfulLog g.K.PartialEq.eq hash (begun_of z.now.parts) log) sees.book c.learn.ensures.lawful in
     let scanned = one.2 over taken.at at (λ x lt. absurd (omega (arith, lt))) in
     record {
       left = c.scan_table.new.stays;
       said = one.0;
-      shown = shown_on c.args.window.now.sight.log (Judges g.F.FnMut) met c.learn.new.self c.learn.ensures.sees (ap (λ o. o.done) c.learn.ensures.own) (own c.args.window.now) c.args.stays c.scan_table.new.stays one.0 one.1;
-      leaves = scanned_all g.K.PartialEq.eq g.K.Hash.hash_input g.S.BuildHasher.build_hasher g.S.Hasher.Hasher.write g.S.Hasher.Hasher.finish g.met.K.Eq.laws g.met.K.Hash.respects_eq b old log lawful t then' c.in-Some-2.table.now (table_on w c.learn.new.self t c.in-Some-2.table.now sees table) one.0 (scanned_later taken.at met.sight.log log c.learn.ensures.sees.log t (length c.in-Some-2.table.now.slots) one.0 scanned);
+      shown = shown_on c.args.window.now.sight.log (Judges g.F.FnMut) met c.learn.new.self c.learn.ensures.sees (ap (λ o. o.done) c.learn.ensures.own)
+          (own c.args.window.now) c.args.stays c.scan_table.new.stays one.0 one.1;
+      leaves = scanned_all g.K.PartialEq.eq g.K.Hash.hash_input g.S.BuildHasher.build_hasher g.S.Hasher.Hasher.write g.S.Hasher.Hasher.finish
+          g.met.K.Eq.laws g.met.K.Hash.respects_eq b old log lawful t then' c.in-Some-2.table.now
+          (table_on w c.learn.new.self t c.in-Some-2.table.now sees table) one.0
+          (scanned_later taken.at met.sight.log log c.learn.ensures.sees.log t (length c.in-Some-2.table.now.slots) one.0 scanned);
     }
 
 pub returns-in_err-resize-clause-kept : goal.returns-in_err-resize-clause-kept
 returns-in_err-resize-clause-kept g c =
-    let before = shown_on c.args.window.now.sight.log (Judges g.F.FnMut) c.loop.window c.take_root.new.window c.take_root.ensures.sees (ap (λ o. o.done) c.take_root.ensures.own) (own c.args.window.now) c.args.stays c.loop.stays c.loop.invariant.shown.0 c.loop.invariant.shown.1 in
-    let scans : Scans c.args.window.now.sight.log (Judges g.F.FnMut) c.take_root.new.window c.loop.stays c.scan_table.new.window c.scan_table.new.stays c.in-Some-2.number 0 (length c.in-Some-2.table.now.slots) (c.scan_table.result ≡ false) = rw (sym c.again-began.ensures) c.scan_table.ensures.scans in
+    let before = shown_on c.args.window.now.sight.log (Judges g.F.FnMut) c.loop.window c.take_root.new.window c.take_root.ensures.sees
+    (ap (λ o. o.done) c.take_root.ensures.own) (own c.args.window.now) c.args.stays c.loop.stays c.loop.invariant.shown.0 c.loop.invariant.shown.1 in
+    let scans : Scans c.args.window.now.sight.log (Judges g.F.FnMut) c.take_root.new.window c.loop.stays c.scan_table.new.window
+    c.scan_table.new.stays c.in-Some-2.number 0 (length c.in-Some-2.table.now.slots) (c.scan_table.result ≡ false) = rw (sym c.again-began.ensures)
+    c.scan_table.ensures.scans in
     let one = scans c.args.stays (own c.args.window.now) c.loop.invariant.shown.0 before in
     record {
       left = c.scan_table.new.stays;
       said = one.0;
-      shown = shown_on c.args.window.now.sight.log (Judges g.F.FnMut) c.scan_table.new.window c.resize.new.window c.resize.ensures.sees (ap (λ o. o.done) c.resize.ensures.own) (own c.args.window.now) c.args.stays c.scan_table.new.stays one.0 one.1;
+      shown = shown_on c.args.window.now.sight.log (Judges g.F.FnMut) c.scan_table.new.window c.resize.new.window c.resize.ensures.sees
+          (ap (λ o. o.done) c.resize.ensures.own) (own c.args.window.now) c.args.stays c.scan_table.new.stays one.0 one.1;
       leaves = search rules;
     }
 
 pub loop-preserved : goal.loop-preserved
 loop-preserved g c =
-    let before = shown_on c.args.window.now.sight.log (Judges g.F.FnMut) c.loop.window c.take_root.new.window c.take_root.ensures.sees (ap (λ o. o.done) c.take_root.ensures.own) (own c.args.window.now) c.args.stays c.loop.stays c.loop.invariant.shown.0 c.loop.invariant.shown.1 in
-    let scans : Scans c.args.window.now.sight.log (Judges g.F.FnMut) c.take_root.new.window c.loop.stays c.scan_table.new.window c.scan_table.new.stays c.in-Some-2.number 0 (length c.in-Some-2.table.now.slots) (c.scan_table.result ≡ false) = rw (sym c.again-began.ensures) c.scan_table.ensures.scans in
+    let before = shown_on c.args.window.now.sight.log (Judges g.F.FnMut) c.loop.window c.take_root.new.window c.take_root.ensures.sees
+    (ap (λ o. o.done) c.take_root.ensures.own) (own c.args.window.now) c.args.stays c.loop.stays c.loop.invariant.shown.0 c.loop.invariant.shown.1 in
+    let scans : Scans c.args.window.now.sight.log (Judges g.F.FnMut) c.take_root.new.window c.loop.stays c.scan_table.new.window
+    c.scan_table.new.stays c.in-Some-2.number 0 (length c.in-Some-2.table.now.slots) (c.scan_table.result ≡ false) = rw (sym c.again-began.ensures)
+    c.scan_table.ensures.scans in
     let one = scans c.args.stays (own c.args.window.now) c.loop.invariant.shown.0 before in
-    let met = sees_trans c.args.window.now c.take_root.new.window c.scan_table.new.window (sees_trans c.args.window.now c.loop.window c.take_root.new.window c.loop.invariant.sees c.take_root.ensures.sees) c.scan_table.ensures.sees in record {
+    let met = sees_trans c.args.window.now c.take_root.new.window c.scan_table.new.window
+    (sees_trans c.args.window.now c.loop.window c.take_root.new.window c.loop.invariant.sees c.take_root.ensures.sees) c.scan_table.ensures.sees in record {
       sees = sees_trans c.args.window.now c.scan_table.new.window c.resize.new.window met c.resize.ensures.sees;
       callable = c.scan_table.ensures.callable;
-      shown = (one.0, shown_on c.args.window.now.sight.log (Judges g.F.FnMut) c.scan_table.new.window c.resize.new.window c.resize.ensures.sees (ap (λ o. o.done) c.resize.ensures.own) (own c.args.window.now) c.args.stays c.scan_table.new.stays one.0 one.1);
+      shown = (
+        one.0,
+        shown_on c.args.window.now.sight.log (Judges g.F.FnMut) c.scan_table.new.window c.resize.new.window c.resize.ensures.sees
+            (ap (λ o. o.done) c.resize.ensures.own) (own c.args.window.now) c.args.stays c.scan_table.new.stays one.0 one.1,
+      );
     }

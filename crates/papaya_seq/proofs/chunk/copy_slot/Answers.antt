@@ -32,20 +32,23 @@ returns-then-word-eq0-clause-settles g c =
 pub returns-then-word-eq0-clause-sized : goal.returns-then-word-eq0-clause-sized
 returns-then-word-eq0-clause-sized g c =
     note_sized g.K.PartialEq.eq (hash g) c.exchange.new.self c.note.new.self c.args.slot.from c.args.slot.index 129 c.note.ensures
-    (exchange_sized g.K.PartialEq.eq (hash g) c.args.store.now c.exchange.new.self (words.Slot c.args.slot.from c.args.slot.index) 0 5 c.exchange.result c.exchange.ensures c.requires)
+    (exchange_sized g.K.PartialEq.eq (hash g) c.args.store.now c.exchange.new.self (words.Slot c.args.slot.from c.args.slot.index) 0 5
+    c.exchange.result c.exchange.ensures c.requires)
 
 pub returns-in-Live-clause-settles : goal.returns-in-Live-clause-settles
 returns-in-Live-clause-settles g c =
     let s = c.args.store.now in
     let live : kind_of c.word-word.result ≡ kinds.Live = search rules in
-    settles_then g.K.PartialEq.eq (hash g) c.args.mode c.args.slot s (On Looking) s (On (Marking c.word-word.result)) c.move_pair.new.store (settled_as c.move_pair.result)
+    settles_then g.K.PartialEq.eq (hash g) c.args.mode c.args.slot s (On Looking) s (On (Marking c.word-word.result)) c.move_pair.new.store
+    (settled_as c.move_pair.result)
     (looks_at g.K.PartialEq.eq (hash g) c.args.mode c.args.slot s c.word-word.result kinds.Live (sym c.word-word.ensures) live)
     c.move_pair.ensures.settles
 
 pub returns-in-Copied-clause-settles : goal.returns-in-Copied-clause-settles
 returns-in-Copied-clause-settles g c =
     let s = c.args.store.now in
-    let settled : (kind : Kind) → c.kind.result ≡ kind → Settles g.K.PartialEq.eq (hash g) c.args.mode c.args.slot s (On Looking) s (look_at kind c.args.slot c.word-word.result) =
+    let settled : (kind : Kind) → c.kind.result ≡ kind
+    → Settles g.K.PartialEq.eq (hash g) c.args.mode c.args.slot s (On Looking) s (look_at kind c.args.slot c.word-word.result) =
     λ kind is. looks_at g.K.PartialEq.eq (hash g) c.args.mode c.args.slot s c.word-word.result kind (sym c.word-word.ensures) (sym c.kind.ensures ∙ is) in
     elim c.in-Copied.is [
       | inl is ↦ settled kinds.Copied is

@@ -8,7 +8,9 @@ use Rattle.papaya_seq.proofs.chunk.copy_slots.Given as goal
 
 -- the slots so far led on from the first one to this one
 abbrev pub invariant-loop-settle : goal.invariant-loop-settle
-invariant-loop-settle g l = IsStandingChunk l.chunk × IsSized l.store × Steps g.K.PartialEq.eq (hash_of g.K.Hash.hash_input g.S.BuildHasher.build_hasher g.S.Hasher.Hasher.write g.S.Hasher.Hasher.finish) l.fn.mode l.fn.store (Settling l.fn.chunk Looking) l.store (Settling l.chunk Looking)
+invariant-loop-settle g l = IsStandingChunk l.chunk × IsSized l.store
+    × Steps g.K.PartialEq.eq (hash_of g.K.Hash.hash_input g.S.BuildHasher.build_hasher g.S.Hasher.Hasher.write g.S.Hasher.Hasher.finish) l.fn.mode
+    l.fn.store (Settling l.fn.chunk Looking) l.store (Settling l.chunk Looking)
 
 -- the slots that are left
 abbrev pub decreases-loop-settle : goal.decreases-loop-settle

@@ -22,7 +22,8 @@ loop-next-preserved g c =
     let further : hinted at c.args.hash (hint_at s.words at.table at.probe.i) ≡ seen.On (searches.Looking c.in-On-Looking.next) = search rules in (
       subst IsProbed saw c.hinted.ensures.seen,
       λ mode slot marked.
-          carry_then g.K.PartialEq.eq (hash g) mode slot s marked (Looking c.args.hash c.args.place) (Looking c.args.hash at) (Looking c.args.hash c.in-On-Looking.next)
+          carry_then g.K.PartialEq.eq (hash g) mode slot s marked (Looking c.args.hash c.args.place) (Looking c.args.hash at)
+          (Looking c.args.hash c.in-On-Looking.next)
           (c.loop-next.invariant.1 mode slot marked) (looks_further g.K.PartialEq.eq (hash g) mode slot s marked c.args.hash at c.in-On-Looking.next further),
     )
 
@@ -32,7 +33,8 @@ returns-then-word-eq0-clause-finds g c mode slot marked =
     let at = c.loop-next.place in
     let saw : hinted at c.args.hash (hint_at s.words at.table at.probe.i) ≡ seen.On (searches.Reading c.in-On-Reading.field-0-0) = search rules in
     let empty : word_at s.words (words.Slot at.table at.probe.i) ≡ 0 = search rules in
-    carry_then g.K.PartialEq.eq (hash g) mode slot s marked (Looking c.args.hash c.args.place) (Looking c.args.hash at) (Placing c.args.hash at) (c.loop-next.invariant.1 mode slot marked)
+    carry_then g.K.PartialEq.eq (hash g) mode slot s marked (Looking c.args.hash c.args.place) (Looking c.args.hash at) (Placing c.args.hash at)
+    (c.loop-next.invariant.1 mode slot marked)
     (carry_then g.K.PartialEq.eq (hash g) mode slot s marked (Looking c.args.hash at) (Reading c.args.hash at) (Placing c.args.hash at)
     (reads g.K.PartialEq.eq (hash g) mode slot s marked c.args.hash at c.in-On-Reading.field-0-0 saw)
     (finds g.K.PartialEq.eq (hash g) mode slot s marked c.args.hash at empty))
@@ -42,5 +44,6 @@ returns-in-On-Reading-clause-finds g c mode slot marked =
     let s = c.args.store.now in
     let at = c.loop-next.place in
     let saw : hinted at c.args.hash (hint_at s.words at.table at.probe.i) ≡ seen.On (searches.Reading c.in-On-Reading.field-0-0) = search rules in
-    carry_then g.K.PartialEq.eq (hash g) mode slot s marked (Looking c.args.hash c.args.place) (Looking c.args.hash at) (Reading c.args.hash at) (c.loop-next.invariant.1 mode slot marked)
+    carry_then g.K.PartialEq.eq (hash g) mode slot s marked (Looking c.args.hash c.args.place) (Looking c.args.hash at) (Reading c.args.hash at)
+    (c.loop-next.invariant.1 mode slot marked)
     (reads g.K.PartialEq.eq (hash g) mode slot s marked c.args.hash at c.in-On-Reading.field-0-0 saw)

@@ -21,13 +21,16 @@ hash g = hash_of g.K.Hash.hash_input g.S.BuildHasher.build_hasher g.S.Hasher.Has
 
 -- the word was marked
 sized_marked : (g : Over) (c : After-exchange g) → IsSized c.exchange.new.self
-sized_marked g c = exchange_sized g.K.PartialEq.eq (hash g) c.args.store.now c.exchange.new.self (words.Slot c.args.slot.from c.args.slot.index) c.args.word c.marked-marked.result.0 c.exchange.result c.exchange.ensures c.requires.sized
+sized_marked g c = exchange_sized g.K.PartialEq.eq (hash g) c.args.store.now c.exchange.new.self (words.Slot c.args.slot.from c.args.slot.index)
+    c.args.word c.marked-marked.result.0 c.exchange.result c.exchange.ensures c.requires.sized
 
 pub carry-carry-requires : goal.carry-carry-requires
 carry-carry-requires g c = sized_marked g (goal.at.carry-carry-requires g c).After-exchange
 
 -- and its pair has come so far
-come : (g : Over) (c : After-carry-carry g) → Settles g.K.PartialEq.eq (hash g) c.args.mode c.args.slot c.args.store.now (On (Marking c.args.word)) c.exchange.new.self (On (Carrying c.marked-marked.result.0 c.carry-carry.result))
+come : (g : Over) (c : After-carry-carry g)
+    → Settles g.K.PartialEq.eq (hash g) c.args.mode c.args.slot c.args.store.now (On (Marking c.args.word)) c.exchange.new.self
+    (On (Carrying c.marked-marked.result.0 c.carry-carry.result))
 come g c =
     let s = c.args.store.now in
     let s1 = c.exchange.new.self in
@@ -38,7 +41,8 @@ come g c =
     subst (λ x. Settles g.K.PartialEq.eq (hash g) c.args.mode c.args.slot s (On (Marking c.args.word)) s1 (On (Carrying x (Hashing c.args.slot.to)))) (sym is)
     (marks g.K.PartialEq.eq (hash g) c.args.mode c.args.slot s s1 c.exchange.result c.args.word c.requires.stands
     (subst (λ x. Exchanges (word_at s.words at) c.args.word (put s.words at x) c.exchange.result s s1) is c.exchange.ensures)) in
-    settles_then g.K.PartialEq.eq (hash g) c.args.mode c.args.slot s (On (Marking c.args.word)) s1 (On (Carrying m (Hashing c.args.slot.to))) s1 (On (Carrying m c.carry-carry.result)) marked (c.carry-carry.ensures.carries c.args.mode c.args.slot)
+    settles_then g.K.PartialEq.eq (hash g) c.args.mode c.args.slot s (On (Marking c.args.word)) s1 (On (Carrying m (Hashing c.args.slot.to))) s1
+    (On (Carrying m c.carry-carry.result)) marked (c.carry-carry.ensures.carries c.args.mode c.args.slot)
 
 pub returns-in_default : goal.returns-in_default
 returns-in_default g c = record {
@@ -50,10 +54,12 @@ returns-in_default g c = record {
 sized_noted : (g : Over) (c : After-note g) → IsSized c.note.new.self
 sized_noted g c =
     note_sized g.K.PartialEq.eq (hash g) c.exchange-2.new.self c.note.new.self c.in-Placing.place.table c.in-Placing.place.probe.i c.hint.result c.note.ensures
-    (exchange_sized g.K.PartialEq.eq (hash g) c.exchange.new.self c.exchange-2.new.self (words.Slot c.in-Placing.place.table c.in-Placing.place.probe.i) 0 c.live.result.0 c.exchange-2.result c.exchange-2.ensures
+    (exchange_sized g.K.PartialEq.eq (hash g) c.exchange.new.self c.exchange-2.new.self
+    (words.Slot c.in-Placing.place.table c.in-Placing.place.probe.i) 0 c.live.result.0 c.exchange-2.result c.exchange-2.ensures
     (sized_marked g (goal.at.After-note g c).After-exchange))
 
-placed : (g : Over) (c : After-note g) → Settles g.K.PartialEq.eq (hash g) c.args.mode c.args.slot c.args.store.now (On (Marking c.args.word)) c.note.new.self (settle_finishes c.marked-marked.result.0 c.args.mode)
+placed : (g : Over) (c : After-note g) → Settles g.K.PartialEq.eq (hash g) c.args.mode c.args.slot c.args.store.now (On (Marking c.args.word))
+    c.note.new.self (settle_finishes c.marked-marked.result.0 c.args.mode)
 placed g c =
     let s = c.args.store.now in
     let s1 = c.exchange.new.self in
@@ -65,14 +71,18 @@ placed g c =
     let at = words.Slot place.table place.probe.i in
     let live : c.live.result.0 ≡ live_word (number_of m) = c.live.ensures ∙ ap live_word c.pair-pair.ensures in
     let found : Settles g.K.PartialEq.eq (hash g) c.args.mode c.args.slot s (On (Marking c.args.word)) s1 (On (Carrying m (Placing h place))) =
-    subst (λ x. Settles g.K.PartialEq.eq (hash g) c.args.mode c.args.slot s (On (Marking c.args.word)) s1 (On (Carrying m x))) c.in-Placing.is (come g (goal.at.After-note g c).After-carry-carry) in
+    subst (λ x. Settles g.K.PartialEq.eq (hash g) c.args.mode c.args.slot s (On (Marking c.args.word)) s1 (On (Carrying m x))) c.in-Placing.is
+    (come g (goal.at.After-note g c).After-carry-carry) in
     let puts : Settles g.K.PartialEq.eq (hash g) c.args.mode c.args.slot s1 (On (Carrying m (Placing h place))) s2 (On (Carrying m (Placed h place))) =
     places g.K.PartialEq.eq (hash g) c.args.mode c.args.slot s1 s2 c.exchange-2.result m h place (c.carry-carry.ensures.empty h place c.in-Placing.is)
     (subst (λ x. Exchanges (word_at s1.words at) 0 (put s1.words at x) c.exchange-2.result s1 s2) live c.exchange-2.ensures) in
     let hints : Settles g.K.PartialEq.eq (hash g) c.args.mode c.args.slot s2 (On (Carrying m (Placed h place))) s3 (settle_finishes m c.args.mode) =
-    notes g.K.PartialEq.eq (hash g) c.args.mode c.args.slot s2 s3 m h place (c.note.ensures ∙ ap (λ x. record s2 { words = note s2.words place.table place.probe.i x }) c.hint.ensures) in
-    settles_then g.K.PartialEq.eq (hash g) c.args.mode c.args.slot s (On (Marking c.args.word)) s1 (On (Carrying m (Placing h place))) s3 (settle_finishes m c.args.mode) found
-    (settles_then g.K.PartialEq.eq (hash g) c.args.mode c.args.slot s1 (On (Carrying m (Placing h place))) s2 (On (Carrying m (Placed h place))) s3 (settle_finishes m c.args.mode) puts hints)
+    notes g.K.PartialEq.eq (hash g) c.args.mode c.args.slot s2 s3 m h place
+    (c.note.ensures ∙ ap (λ x. record s2 { words = note s2.words place.table place.probe.i x }) c.hint.ensures) in
+    settles_then g.K.PartialEq.eq (hash g) c.args.mode c.args.slot s (On (Marking c.args.word)) s1 (On (Carrying m (Placing h place))) s3
+    (settle_finishes m c.args.mode) found
+    (settles_then g.K.PartialEq.eq (hash g) c.args.mode c.args.slot s1 (On (Carrying m (Placing h place))) s2 (On (Carrying m (Placed h place))) s3
+    (settle_finishes m c.args.mode) puts hints)
 
 pub returns-in-Incremental-clause-settles : goal.returns-in-Incremental-clause-settles
 returns-in-Incremental-clause-settles g c =
@@ -83,19 +93,22 @@ returns-in-Incremental-clause-settles g c =
     let at = words.Slot c.args.slot.from c.args.slot.index in
     let copied : c.copied.result.0 ≡ copied_word (number_of m) = c.copied.ensures ∙ ap copied_word c.pair-pair.ensures in
     settles_then g.K.PartialEq.eq (hash g) c.args.mode c.args.slot s (On (Marking c.args.word)) s3 (On (Finishing m)) s4 Was_settled
-    (subst (λ mode. Settles g.K.PartialEq.eq (hash g) c.args.mode c.args.slot s (On (Marking c.args.word)) s3 (settle_finishes m mode)) c.in-Incremental.is (placed g (goal.at.returns-in-Incremental-clause-settles g c).After-note))
+    (subst (λ mode. Settles g.K.PartialEq.eq (hash g) c.args.mode c.args.slot s (On (Marking c.args.word)) s3 (settle_finishes m mode))
+    c.in-Incremental.is (placed g (goal.at.returns-in-Incremental-clause-settles g c).After-note))
     (finishes g.K.PartialEq.eq (hash g) c.args.mode c.args.slot s3 s4 c.exchange-in-Incremental.result m
     (subst (λ x. Exchanges (word_at s3.words at) m (put s3.words at x) c.exchange-in-Incremental.result s3 s4) copied c.exchange-in-Incremental.ensures))
 
 pub returns-in-Incremental-clause-sized : goal.returns-in-Incremental-clause-sized
 returns-in-Incremental-clause-sized g c =
-    exchange_sized g.K.PartialEq.eq (hash g) c.note.new.self c.exchange-in-Incremental.new.self (words.Slot c.args.slot.from c.args.slot.index) c.marked-marked.result.0 c.copied.result.0 c.exchange-in-Incremental.result c.exchange-in-Incremental.ensures
+    exchange_sized g.K.PartialEq.eq (hash g) c.note.new.self c.exchange-in-Incremental.new.self (words.Slot c.args.slot.from c.args.slot.index)
+    c.marked-marked.result.0 c.copied.result.0 c.exchange-in-Incremental.result c.exchange-in-Incremental.ensures
     (sized_noted g (goal.at.returns-in-Incremental-clause-sized g c).After-note)
 
 pub returns-in_default-mode-clause-settles : goal.returns-in_default-mode-clause-settles
 returns-in_default-mode-clause-settles g c =
     let blocking : c.args.mode ≡ Blocking = search rules in
-    subst (λ mode. Settles g.K.PartialEq.eq (hash g) c.args.mode c.args.slot c.args.store.now (On (Marking c.args.word)) c.note.new.self (settle_finishes c.marked-marked.result.0 mode)) blocking (placed g (goal.at.returns-in_default-mode-clause-settles g c).After-note)
+    subst (λ mode. Settles g.K.PartialEq.eq (hash g) c.args.mode c.args.slot c.args.store.now (On (Marking c.args.word)) c.note.new.self
+    (settle_finishes c.marked-marked.result.0 mode)) blocking (placed g (goal.at.returns-in_default-mode-clause-settles g c).After-note)
 
 pub returns-in_default-mode-clause-sized : goal.returns-in_default-mode-clause-sized
 returns-in_default-mode-clause-sized g c = sized_noted g (goal.at.returns-in_default-mode-clause-sized g c).After-note

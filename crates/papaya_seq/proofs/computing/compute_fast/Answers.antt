@@ -29,17 +29,21 @@ said g f = Says (λ shown operation. given.F-post g f shown operation)
 
 -- what the search of the root saw
 empty : (g : Over) (c : In-Some-Empty g) → IsRootTurn (g.K.PartialEq.eq c.args.key) c.args.store.now c.args.hash (turns.Empty c.in-Some-Empty.place)
-empty g c = subst (λ (t : Turn). IsRootTurn (g.K.PartialEq.eq c.args.key) c.args.store.now c.args.hash t) (search rules) (c.search_root.ensures c.in-Some-Empty.field-0 c.in-Some-Empty.is)
+empty g c = subst (λ (t : Turn). IsRootTurn (g.K.PartialEq.eq c.args.key) c.args.store.now c.args.hash t) (search rules)
+    (c.search_root.ensures c.in-Some-Empty.field-0 c.in-Some-Empty.is)
 
-here : (g : Over) (c : In-Some-Here g) → IsRootTurn (g.K.PartialEq.eq c.args.key) c.args.store.now c.args.hash (turns.Here c.in-Some-Here.place c.in-Some-Here.word)
-here g c = subst (λ (t : Turn). IsRootTurn (g.K.PartialEq.eq c.args.key) c.args.store.now c.args.hash t) (search rules) (c.search_root.ensures c.in-Some-Here.field-0 c.in-Some-Here.is)
+here : (g : Over) (c : In-Some-Here g) → IsRootTurn (g.K.PartialEq.eq c.args.key) c.args.store.now c.args.hash
+    (turns.Here c.in-Some-Here.place c.in-Some-Here.word)
+here g c = subst (λ (t : Turn). IsRootTurn (g.K.PartialEq.eq c.args.key) c.args.store.now c.args.hash t) (search rules)
+    (c.search_root.ensures c.in-Some-Here.field-0 c.in-Some-Here.is)
 
 -- where nothing was, no word stands
 bare : (g : Over) (c : In-Some-Empty g) → word_at c.args.store.now.words (slot_of c.in-Some-Empty.place) ≡ 0
 bare g c = c.requires.bare c.in-Some-Empty.place.table c.in-Some-Empty.place.probe.i (empty g c).stands
 
 pub decide-operation-requires : goal.decide-operation-requires
-decide-operation-requires g c = c.requires.takes (turns.Empty c.in-Some-Empty.place) (empty g (goal.at.decide-operation-requires g c).In-Some-Empty) c.no_pair.result (ap (λ o. option_map deref_pair o) c.no_pair.ensures)
+decide-operation-requires g c = c.requires.takes (turns.Empty c.in-Some-Empty.place) (empty g (goal.at.decide-operation-requires g c).In-Some-Empty)
+    c.no_pair.result (ap (λ o. option_map deref_pair o) c.no_pair.ensures)
 
 pub operate-requires-clause-stands : goal.operate-requires-clause-stands
 operate-requires-clause-stands g c = bare g (goal.at.operate-requires-clause-stands g c).In-Some-Empty
@@ -47,7 +51,9 @@ operate-requires-clause-stands g c = bare g (goal.at.operate-requires-clause-sta
 pub returns-in-Some-Empty-clause-ok : goal.returns-in-Some-Empty-clause-ok
 returns-in-Some-Empty-clause-ok g c mode initial =
     let at = (goal.at.returns-in-Some-Empty-clause-ok g c).In-Some-Empty in
-    none_computed g.K.PartialEq.eq (hash_of g.K.Hash.hash_input g.S.BuildHasher.build_hasher g.S.Hasher.Hasher.write g.S.Hasher.Hasher.finish) c.args.store.now c.args.key c.args.hash c.in-Some-Empty.place mode initial (said g c.args.f) c.decide-operation.result c.operate.result c.operate.new.store (empty g at) (bare g at)
+    none_computed g.K.PartialEq.eq (hash_of g.K.Hash.hash_input g.S.BuildHasher.build_hasher g.S.Hasher.Hasher.write g.S.Hasher.Hasher.finish)
+    c.args.store.now c.args.key c.args.hash c.in-Some-Empty.place mode initial (said g c.args.f) c.decide-operation.result c.operate.result
+    c.operate.new.store (empty g at) (bare g at)
     (c.no_pair.result, ap (λ o. option_map deref_pair o) c.no_pair.ensures, c.decide-operation.ensures) c.operate.ensures
 
 -- the pair that was found is of the log
@@ -55,11 +61,14 @@ logged : (g : Over) (c : In-Some-Here g) → IsSome (pair_of c.args.store.now (n
 logged g c = some_matched (g.K.PartialEq.eq c.args.key) (pair_of c.args.store.now (number_of c.in-Some-Here.word)) (here g c).matched
 
 -- and is shown to the closure
-shows : (g : Over) (c : In-Some-Here g) (n : ℕ) → n ≡ number_of c.in-Some-Here.word → (entry : Option (Bor g.row.K.Denot × Bor g.row.V.Denot)) → MatchOption entry (pair_of c.args.store.now n ≡ None) (λ p. pair_of c.args.store.now n ≡ Some (record { number = n; key = p.0.now; value = p.1.now }))
-    → (p : Stored g.row.K.Denot g.row.V.Denot) × (p.number ≡ number_of c.in-Some-Here.word) × (pair_of c.args.store.now (number_of c.in-Some-Here.word) ≡ Some p) × AreOf entry (Some p)
+shows : (g : Over) (c : In-Some-Here g) (n : ℕ) → n ≡ number_of c.in-Some-Here.word → (entry : Option (Bor g.row.K.Denot × Bor g.row.V.Denot))
+    → MatchOption entry (pair_of c.args.store.now n ≡ None) (λ p. pair_of c.args.store.now n ≡ Some (record { number = n; key = p.0.now; value = p.1.now }))
+    → (p : Stored g.row.K.Denot g.row.V.Denot) × (p.number ≡ number_of c.in-Some-Here.word)
+    × (pair_of c.args.store.now (number_of c.in-Some-Here.word) ≡ Some p) × AreOf entry (Some p)
 shows g c n is entry refers =
     shown_pair c.args.store.now (number_of c.in-Some-Here.word) entry
-    (subst (λ i. MatchOption entry (pair_of c.args.store.now i ≡ None) (λ p. pair_of c.args.store.now i ≡ Some (record { number = i; key = p.0.now; value = p.1.now }))) is refers) (logged g c)
+    (subst (λ i. MatchOption entry (pair_of c.args.store.now i ≡ None)
+    (λ p. pair_of c.args.store.now i ≡ Some (record { number = i; key = p.0.now; value = p.1.now }))) is refers) (logged g c)
 
 pub decide-operation-requires-in-Some-Here : goal.decide-operation-requires-in-Some-Here
 decide-operation-requires-in-Some-Here g c =
@@ -80,6 +89,8 @@ returns-in-Some-Here-clause-ok g c mode initial =
     let hashes = hash_of g.K.Hash.hash_input g.S.BuildHasher.build_hasher g.S.Hasher.Hasher.write g.S.Hasher.Hasher.finish in
     let live : kind_of c.in-Some-Here.word ≡ Live = search rules in
     let (p, number, there, are) = shows g at c.pair-pair.result c.pair-pair.ensures c.pair.result c.pair.ensures in
-    subst (λ n. IsComputedFrom g.K.PartialEq.eq hashes c.args.key (said g c.args.f) c.args.store.now (started Compute c.args.hash mode initial None) (Some n) c.operate-in-Some-Here.result c.operate-in-Some-Here.new.store) (sym c.pair-pair.ensures)
-    (pair_computed g.K.PartialEq.eq hashes c.args.store.now c.args.key c.args.hash c.in-Some-Here.place mode initial (said g c.args.f) c.decide-operation-in-Some-Here.result c.operate-in-Some-Here.result c.operate-in-Some-Here.new.store c.in-Some-Here.word live (here g at) p number there
+    subst (λ n. IsComputedFrom g.K.PartialEq.eq hashes c.args.key (said g c.args.f) c.args.store.now (started Compute c.args.hash mode initial None)
+    (Some n) c.operate-in-Some-Here.result c.operate-in-Some-Here.new.store) (sym c.pair-pair.ensures)
+    (pair_computed g.K.PartialEq.eq hashes c.args.store.now c.args.key c.args.hash c.in-Some-Here.place mode initial (said g c.args.f)
+    c.decide-operation-in-Some-Here.result c.operate-in-Some-Here.result c.operate-in-Some-Here.new.store c.in-Some-Here.word live (here g at) p number there
     (c.pair.result, are, c.decide-operation-in-Some-Here.ensures) c.operate-in-Some-Here.ensures)

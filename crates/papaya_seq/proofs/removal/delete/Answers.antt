@@ -13,14 +13,17 @@ pub returns-in-Yes-false-clause-tombstone : goal.returns-in-Yes-false-clause-tom
 returns-in-Yes-false-clause-tombstone g c matches m =
     let said : c.show.result ≡ Yes false = search rules in
     kept g.F.FnMut matches c.args.store.now c.args.agrees.now c.args.removal m c.show.new.agrees
-    (subst (λ n. IsShown g.F.FnMut (pair_of c.args.store.now n) c.args.agrees.now (Yes false) c.show.new.agrees) c.pair-pair.ensures (subst (λ a. IsShown g.F.FnMut (pair_of c.args.store.now c.pair-pair.result) c.args.agrees.now a c.show.new.agrees) said c.show.ensures.shown))
+    (subst (λ n. IsShown g.F.FnMut (pair_of c.args.store.now n) c.args.agrees.now (Yes false) c.show.new.agrees) c.pair-pair.ensures
+    (subst (λ a. IsShown g.F.FnMut (pair_of c.args.store.now c.pair-pair.result) c.args.agrees.now a c.show.new.agrees) said c.show.ensures.shown))
     c.pair-pair.result c.pair-pair.ensures
 
 pub returns-clause-tombstone : goal.returns-clause-tombstone
 returns-clause-tombstone g c matches m =
     let said : c.show.result ≡ Yes true = search rules in
     let s = c.args.store.now in
-    subst (λ after. IsRemovedFrom g.F.FnMut matches s c.args.agrees.now (itself (record m { task = RemoveIf; state = Showing c.args.removal })) (Removed c.pair-pair.result) after c.show.new.agrees) (sym c.take_out.ensures)
+    subst (λ after. IsRemovedFrom g.F.FnMut matches s c.args.agrees.now (itself (record m { task = RemoveIf; state = Showing c.args.removal }))
+    (Removed c.pair-pair.result) after c.show.new.agrees) (sym c.take_out.ensures)
     (removed g.F.FnMut matches s c.args.agrees.now c.args.removal m c.show.new.agrees
-    (subst (λ n. IsShown g.F.FnMut (pair_of s n) c.args.agrees.now (Yes true) c.show.new.agrees) c.pair-pair.ensures (subst (λ a. IsShown g.F.FnMut (pair_of s c.pair-pair.result) c.args.agrees.now a c.show.new.agrees) said c.show.ensures.shown))
+    (subst (λ n. IsShown g.F.FnMut (pair_of s n) c.args.agrees.now (Yes true) c.show.new.agrees) c.pair-pair.ensures
+    (subst (λ a. IsShown g.F.FnMut (pair_of s c.pair-pair.result) c.args.agrees.now a c.show.new.agrees) said c.show.ensures.shown))
     c.requires.stands c.pair-pair.result c.pair-pair.ensures)

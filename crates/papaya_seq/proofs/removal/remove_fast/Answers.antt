@@ -12,21 +12,30 @@ use Rattle.papaya_seq.proofs.removal.remove_fast.Goals.{In-Some-Here}
 use Rattle.papaya_seq.proofs.removal.remove_fast.Given.{Over}
 
 -- what the search of the root saw
-here : (g : Over) (c : In-Some-Here g) → IsRootTurn (g.Q.Equivalent.matches c.args.key.now) c.args.store.now c.args.hash (turns.Here c.in-Some-Here.place c.in-Some-Here.word)
-here g c = subst (λ (t : Turn). IsRootTurn (g.Q.Equivalent.matches c.args.key.now) c.args.store.now c.args.hash t) (search rules) (c.search_root.ensures c.in-Some-Here.field-0 c.in-Some-Here.is)
+here : (g : Over) (c : In-Some-Here g) → IsRootTurn (g.Q.Equivalent.matches c.args.key.now) c.args.store.now c.args.hash
+    (turns.Here c.in-Some-Here.place c.in-Some-Here.word)
+here g c = subst (λ (t : Turn). IsRootTurn (g.Q.Equivalent.matches c.args.key.now) c.args.store.now c.args.hash t) (search rules)
+    (c.search_root.ensures c.in-Some-Here.field-0 c.in-Some-Here.is)
 
 pub delete-requires-clause-stands : goal.delete-requires-clause-stands
 delete-requires-clause-stands g c = (here g (goal.at.delete-requires-clause-stands g c).In-Some-Here).stands
 
 pub delete-requires-clause-logged : goal.delete-requires-clause-logged
-delete-requires-clause-logged g c = some_matched (g.Q.Equivalent.matches c.args.key.now) (pair_of c.args.store.now (number_of c.in-Some-Here.word)) (here g (goal.at.delete-requires-clause-logged g c).In-Some-Here).matched
+delete-requires-clause-logged g c = some_matched (g.Q.Equivalent.matches c.args.key.now) (pair_of c.args.store.now (number_of c.in-Some-Here.word))
+    (here g (goal.at.delete-requires-clause-logged g c).In-Some-Here).matched
 
 pub returns-in-Some-Empty-clause-removed : goal.returns-in-Some-Empty-clause-removed
 returns-in-Some-Empty-clause-removed g c mode initial limit =
-    let root : IsRootTurn (g.Q.Equivalent.matches c.args.key.now) c.args.store.now c.args.hash (turns.Empty c.in-Some-Empty.field-0-0) = subst (λ (t : Turn). IsRootTurn (g.Q.Equivalent.matches c.args.key.now) c.args.store.now c.args.hash t) c.in-Some-Empty.field-0-is (c.search_root.ensures c.in-Some-Empty.field-0 c.in-Some-Empty.is) in
-    found_none g.F.FnMut (g.Q.Equivalent.matches c.args.key.now) c.args.store.now c.args.agrees.now c.args.hash mode initial limit c.in-Some-Empty.field-0-0 root
+    let root : IsRootTurn (g.Q.Equivalent.matches c.args.key.now) c.args.store.now c.args.hash
+    (turns.Empty c.in-Some-Empty.field-0-0) =
+    subst (λ (t : Turn). IsRootTurn (g.Q.Equivalent.matches c.args.key.now) c.args.store.now c.args.hash t) c.in-Some-Empty.field-0-is
+    (c.search_root.ensures c.in-Some-Empty.field-0 c.in-Some-Empty.is) in
+    found_none g.F.FnMut (g.Q.Equivalent.matches c.args.key.now) c.args.store.now c.args.agrees.now c.args.hash mode initial limit
+    c.in-Some-Empty.field-0-0 root
 
 pub returns-in-Some-Here-clause-removed : goal.returns-in-Some-Here-clause-removed
 returns-in-Some-Here-clause-removed g c mode initial limit =
     let live : kind_of c.in-Some-Here.word ≡ Live = search rules in
-    found_it g.F.FnMut (g.Q.Equivalent.matches c.args.key.now) c.args.store.now c.args.agrees.now c.args.hash mode initial limit c.in-Some-Here.place c.in-Some-Here.word live (here g (goal.at.returns-in-Some-Here-clause-removed g c).In-Some-Here) c.delete.result c.delete.new.store c.delete.new.agrees (c.delete.ensures.tombstone (g.Q.Equivalent.matches c.args.key.now))
+    found_it g.F.FnMut (g.Q.Equivalent.matches c.args.key.now) c.args.store.now c.args.agrees.now c.args.hash mode initial limit c.in-Some-Here.place
+    c.in-Some-Here.word live (here g (goal.at.returns-in-Some-Here-clause-removed g c).In-Some-Here) c.delete.result c.delete.new.store
+    c.delete.new.agrees (c.delete.ensures.tombstone (g.Q.Equivalent.matches c.args.key.now))

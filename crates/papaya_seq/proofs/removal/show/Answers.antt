@@ -7,8 +7,11 @@ use Rattle.papaya_seq.specs.Removes.{IsShown}
 use Rattle.papaya_seq.proofs.removal.show.Goals as goal
 
 -- a closure that was called at a pair's key and value was shown it
-shown : {F K V : Type 0} (g : Mut F (Bor K × (Bor V × Unit {0})) Bool) (o : Option (Stored K V)) (n : ℕ) (key : Bor K) (value : Bor V) (f f' : F) (agrees : Bool) → o ≡ Some (record { number = n; key = key.now; value = value.now }) → Called g f (key, (value, tt)) agrees f' → IsShown g o f (Yes agrees) f'
+shown : {F K V : Type 0} (g : Mut F (Bor K × (Bor V × Unit {0})) Bool) (o : Option (Stored K V)) (n : ℕ) (key : Bor K) (value : Bor V) (f f' : F)
+    (agrees : Bool) → o ≡ Some (record { number = n; key = key.now; value = value.now }) → Called g f (key, (value, tt)) agrees f'
+    → IsShown g o f (Yes agrees) f'
 shown g o n key value f f' agrees is called = subst (λ y. IsShown g y f (Yes agrees) f') (sym is) (key, value, agrees, refl, refl, refl, called)
 
 pub returns-in-Some-clause-shown : goal.returns-in-Some-clause-shown
-returns-in-Some-clause-shown g c = shown g.F.FnMut (pair_of c.args.store.now c.args.pair) c.args.pair c.in-Some.key c.in-Some.value c.args.agrees.now c.agrees.new.self c.agrees.result c.in-Some.ensures c.agrees.ensures
+returns-in-Some-clause-shown g c = shown g.F.FnMut (pair_of c.args.store.now c.args.pair) c.args.pair c.in-Some.key c.in-Some.value c.args.agrees.now
+    c.agrees.new.self c.agrees.result c.in-Some.ensures c.agrees.ensures

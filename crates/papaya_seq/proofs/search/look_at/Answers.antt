@@ -14,7 +14,12 @@ returns-in-On-Reading-clause-turn g c =
     let store = c.args.store.now in
     let turn = c.read_at.ensures.turn c.args.hash in
     let reads : hinted c.args.at c.args.hash (hint_there matches store c.args.hash c.args.at) ≡ On (Reading c.in-On-Reading.place) = search rules in
-    record { sees = reads_on matches store c.args.hash c.args.at c.in-On-Reading.place (seen_by c.read_at.result) reads turn.sees; within = turn.within; stands = turn.stands; matched = turn.matched }
+    record {
+      sees = reads_on matches store c.args.hash c.args.at c.in-On-Reading.place (seen_by c.read_at.result) reads turn.sees;
+      within = turn.within;
+      stands = turn.stands;
+      matched = turn.matched;
+    }
 
 pub returns-in_default-clause-turn : goal.returns-in_default-clause-turn
 returns-in_default-clause-turn g c =
@@ -24,5 +29,7 @@ returns-in_default-clause-turn g c =
     turn_seen matches store c.args.hash c.args.at (Searching (Looking c.args.at)) c.turn_of.result c.hinted-seen.result c.turn_of.ensures
     (subst (Sees matches store c.args.hash c.args.at) (sym told) (sees_hint matches store c.args.hash c.args.at))
     c.hinted-seen.ensures.seen
-    (subst (StandsBy (λ w. word_at store.words w)) (sym told) (stands_hinted (λ w. word_at store.words w) c.args.at c.args.hash (hint_there matches store c.args.hash c.args.at)))
-    (subst (IsMatchedBy matches store c.args.hash) (sym told) (matched_hinted matches store c.args.hash c.args.at (hint_there matches store c.args.hash c.args.at)))
+    (subst (StandsBy (λ w. word_at store.words w)) (sym told)
+    (stands_hinted (λ w. word_at store.words w) c.args.at c.args.hash (hint_there matches store c.args.hash c.args.at)))
+    (subst (IsMatchedBy matches store c.args.hash) (sym told)
+    (matched_hinted matches store c.args.hash c.args.at (hint_there matches store c.args.hash c.args.at)))

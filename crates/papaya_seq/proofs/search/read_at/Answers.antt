@@ -16,11 +16,17 @@ returns-in-On-Comparing-clause-turn g c hash =
     let from = Searching (Reading c.args.at) in
     let compares : look c.args.at (word_there matches store hash c.args.at) ≡ On (Comparing c.in-On-Comparing.place c.in-On-Comparing.named) = search rules in
     turn_seen matches store hash c.args.at from c.turn_of.result c.at_yes.result c.turn_of.ensures
-    (subst (SeesFrom matches store hash from) (sym (c.at_yes.ensures.value ∙ ap (at_yes (Comparing c.in-On-Comparing.place c.in-On-Comparing.named)) (c.matches-same.ensures ∙ search rules))) (sees_same matches store hash c.args.at c.in-On-Comparing.place c.in-On-Comparing.named compares))
+    (subst (SeesFrom matches store hash from)
+    (sym (c.at_yes.ensures.value ∙ ap (at_yes (Comparing c.in-On-Comparing.place c.in-On-Comparing.named)) (c.matches-same.ensures ∙ search rules)))
+    (sees_same matches store hash c.args.at c.in-On-Comparing.place c.in-On-Comparing.named compares))
     c.at_yes.ensures.seen
-    (subst (StandsBy (λ w. word_at store.words w)) (sym c.at_yes.ensures.value) (stands_yes (λ w. word_at store.words w) c.in-On-Comparing.place c.in-On-Comparing.named c.matches-same.result
-    (subst (StandsBy (λ w. word_at store.words w)) compares (stands_look (λ w. word_at store.words w) (kind_of (word_there matches store hash c.args.at)) c.args.at (word_there matches store hash c.args.at) refl refl))))
-    (subst (IsMatchedBy matches store hash) (sym c.at_yes.ensures.value) (matched_yes matches store hash c.in-On-Comparing.place c.in-On-Comparing.named c.matches-same.result (c.matches-same.ensures ∙ search rules)))
+    (subst (StandsBy (λ w. word_at store.words w)) (sym c.at_yes.ensures.value)
+    (stands_yes (λ w. word_at store.words w) c.in-On-Comparing.place c.in-On-Comparing.named c.matches-same.result
+    (subst (StandsBy (λ w. word_at store.words w)) compares
+    (stands_look (λ w. word_at store.words w) (kind_of (word_there matches store hash c.args.at)) c.args.at
+    (word_there matches store hash c.args.at) refl refl))))
+    (subst (IsMatchedBy matches store hash) (sym c.at_yes.ensures.value)
+    (matched_yes matches store hash c.in-On-Comparing.place c.in-On-Comparing.named c.matches-same.result (c.matches-same.ensures ∙ search rules)))
 
 pub returns-in_default-clause-turn : goal.returns-in_default-clause-turn
 returns-in_default-clause-turn g c hash =
@@ -28,7 +34,11 @@ returns-in_default-clause-turn g c hash =
     let store = c.args.store.now in
     let from = Searching (Reading c.args.at) in
     turn_seen matches store hash c.args.at from c.turn_of-in_default.result c.look-seen.result c.turn_of-in_default.ensures
-    (subst (SeesFrom matches store hash from) (sym (c.look-seen.ensures.value ∙ ap (look c.args.at) c.word-word.ensures)) (sees_word matches store hash c.args.at))
+    (subst (SeesFrom matches store hash from) (sym (c.look-seen.ensures.value ∙ ap (look c.args.at) c.word-word.ensures))
+    (sees_word matches store hash c.args.at))
     c.look-seen.ensures.seen
-    (subst (StandsBy (λ w. word_at store.words w)) (sym (c.look-seen.ensures.value ∙ ap (look c.args.at) c.word-word.ensures)) (stands_look (λ w. word_at store.words w) (kind_of (word_there matches store hash c.args.at)) c.args.at (word_there matches store hash c.args.at) refl refl))
-    (subst (IsMatchedBy matches store hash) (sym (c.look-seen.ensures.value ∙ ap (look c.args.at) c.word-word.ensures)) (matched_look matches store hash c.args.at (kind_of (word_there matches store hash c.args.at)) (word_there matches store hash c.args.at)))
+    (subst (StandsBy (λ w. word_at store.words w)) (sym (c.look-seen.ensures.value ∙ ap (look c.args.at) c.word-word.ensures))
+    (stands_look (λ w. word_at store.words w) (kind_of (word_there matches store hash c.args.at)) c.args.at
+    (word_there matches store hash c.args.at) refl refl))
+    (subst (IsMatchedBy matches store hash) (sym (c.look-seen.ensures.value ∙ ap (look c.args.at) c.word-word.ensures))
+    (matched_look matches store hash c.args.at (kind_of (word_there matches store hash c.args.at)) (word_there matches store hash c.args.at)))

@@ -13,7 +13,14 @@ returns-in-Size g c turn e =
     let matches = g.Q.Equivalent.matches c.args.key.now in
     let store = c.args.store.now in
     let is : c.search.result ≡ turn = cc e in
-    let size : size_of (table_of store.words.tables store.words.root) ≡ Size c.in-Size.len c.in-Size.limit = sym (c.size_of.ensures ∙ ap (λ n. size_of (table_of store.words.tables n)) c.word-table.ensures) ∙ c.in-Size.is in
+    let size : size_of (table_of store.words.tables store.words.root) ≡ Size c.in-Size.len c.in-Size.limit = sym
+    (c.size_of.ensures ∙ ap (λ n. size_of (table_of store.words.tables n)) c.word-table.ensures) ∙ c.in-Size.is in
     let first = c.first-first.ensures.value ∙ ap (λ n. first_place c.args.hash n c.in-Size.len c.in-Size.limit) c.word-table.ensures in
-    let by : IsTurn matches store c.args.hash (first_place c.args.hash store.words.root c.in-Size.len c.in-Size.limit) c.search.result = subst (λ p. IsTurn matches store c.args.hash p c.search.result) first c.search.ensures.turn in
-    subst (λ (t : Turn). IsRootTurn matches store c.args.hash t) is (record { sees = sees_root matches store c.args.hash c.in-Size.len c.in-Size.limit size (seen_by c.search.result) by.sees; stands = by.stands; matched = by.matched })
+    let by : IsTurn matches store c.args.hash (first_place c.args.hash store.words.root c.in-Size.len c.in-Size.limit)
+    c.search.result = subst (λ p. IsTurn matches store c.args.hash p c.search.result) first c.search.ensures.turn in
+    subst (λ (t : Turn). IsRootTurn matches store c.args.hash t) is
+    (record {
+      sees = sees_root matches store c.args.hash c.in-Size.len c.in-Size.limit size (seen_by c.search.result) by.sees;
+      stands = by.stands;
+      matched = by.matched;
+    })

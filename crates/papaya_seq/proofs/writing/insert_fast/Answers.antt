@@ -18,10 +18,13 @@ use Rattle.papaya_seq.proofs.writing.insert_fast.Given.{Over}
 
 -- what the search of the root saw
 empty : (g : Over) (c : In-Some-Empty g) → IsRootTurn (g.K.PartialEq.eq c.args.key) c.args.store.now c.args.hash (turns.Empty c.in-Some-Empty.place)
-empty g c = subst (λ (t : Turn). IsRootTurn (g.K.PartialEq.eq c.args.key) c.args.store.now c.args.hash t) (search rules) (c.search_root.ensures c.in-Some-Empty.field-0 c.in-Some-Empty.is)
+empty g c = subst (λ (t : Turn). IsRootTurn (g.K.PartialEq.eq c.args.key) c.args.store.now c.args.hash t) (search rules)
+    (c.search_root.ensures c.in-Some-Empty.field-0 c.in-Some-Empty.is)
 
-here : (g : Over) (c : In-Some-Here g) → IsRootTurn (g.K.PartialEq.eq c.args.key) c.args.store.now c.args.hash (turns.Here c.in-Some-Here.place c.in-Some-Here.word)
-here g c = subst (λ (t : Turn). IsRootTurn (g.K.PartialEq.eq c.args.key) c.args.store.now c.args.hash t) (search rules) (c.search_root.ensures c.in-Some-Here.field-0 c.in-Some-Here.is)
+here : (g : Over) (c : In-Some-Here g) → IsRootTurn (g.K.PartialEq.eq c.args.key) c.args.store.now c.args.hash
+    (turns.Here c.in-Some-Here.place c.in-Some-Here.word)
+here g c = subst (λ (t : Turn). IsRootTurn (g.K.PartialEq.eq c.args.key) c.args.store.now c.args.hash t) (search rules)
+    (c.search_root.ensures c.in-Some-Here.field-0 c.in-Some-Here.is)
 
 -- where nothing was, no word stands
 bare : (g : Over) (c : In-Some-Empty g) → word_at c.args.store.now.words (slot_of c.in-Some-Empty.place) ≡ 0
@@ -34,27 +37,39 @@ pub returns-then-not-replace-clause-ok : goal.returns-then-not-replace-clause-ok
 returns-then-not-replace-clause-ok g c mode initial =
     let live : kind_of c.in-Some-Here.word ≡ Live = search rules in
     let never : c.args.replace ≡ false = search rules in
-    occupied g.K.PartialEq.eq (hash_of g.K.Hash.hash_input g.S.BuildHasher.build_hasher g.S.Hasher.Hasher.write g.S.Hasher.Hasher.finish) c.args.store.now c.args.key c.args.value c.args.hash c.in-Some-Here.place mode initial c.in-Some-Here.word live (here g (goal.at.returns-then-not-replace-clause-ok g c).In-Some-Here) c.args.replace never c.pair.result c.pair.ensures
+    occupied g.K.PartialEq.eq (hash_of g.K.Hash.hash_input g.S.BuildHasher.build_hasher g.S.Hasher.Hasher.write g.S.Hasher.Hasher.finish)
+    c.args.store.now c.args.key c.args.value c.args.hash c.in-Some-Here.place mode initial c.in-Some-Here.word live
+    (here g (goal.at.returns-then-not-replace-clause-ok g c).In-Some-Here) c.args.replace never c.pair.result c.pair.ensures
 
 pub write-requires-in-Some-Here-clause-stands : goal.write-requires-in-Some-Here-clause-stands
 write-requires-in-Some-Here-clause-stands g c = (here g (goal.at.write-requires-in-Some-Here-clause-stands g c).In-Some-Here).stands
 
 pub write-requires-in-Some-Here-clause-pair : goal.write-requires-in-Some-Here-clause-pair
-write-requires-in-Some-Here-clause-pair g c = λ some. some_matched (g.K.PartialEq.eq c.args.key) (pair_of c.args.store.now (number_of c.in-Some-Here.word)) (here g (goal.at.write-requires-in-Some-Here-clause-pair g c).In-Some-Here).matched
+write-requires-in-Some-Here-clause-pair g c = λ some.
+    some_matched (g.K.PartialEq.eq c.args.key) (pair_of c.args.store.now (number_of c.in-Some-Here.word))
+    (here g (goal.at.write-requires-in-Some-Here-clause-pair g c).In-Some-Here).matched
 
 pub returns-in-Some-Empty-clause-ok : goal.returns-in-Some-Empty-clause-ok
 returns-in-Some-Empty-clause-ok g c mode initial =
-    claimed g.K.PartialEq.eq (hash_of g.K.Hash.hash_input g.S.BuildHasher.build_hasher g.S.Hasher.Hasher.write g.S.Hasher.Hasher.finish) c.args.store.now c.args.key c.args.value c.args.hash c.in-Some-Empty.place mode initial c.args.replace (empty g (goal.at.returns-in-Some-Empty-clause-ok g c).In-Some-Empty) (bare g (goal.at.returns-in-Some-Empty-clause-ok g c).In-Some-Empty) c.write.result c.write.new.store c.write.ensures
+    claimed g.K.PartialEq.eq (hash_of g.K.Hash.hash_input g.S.BuildHasher.build_hasher g.S.Hasher.Hasher.write g.S.Hasher.Hasher.finish)
+    c.args.store.now c.args.key c.args.value c.args.hash c.in-Some-Empty.place mode initial c.args.replace
+    (empty g (goal.at.returns-in-Some-Empty-clause-ok g c).In-Some-Empty) (bare g (goal.at.returns-in-Some-Empty-clause-ok g c).In-Some-Empty)
+    c.write.result c.write.new.store c.write.ensures
 
 pub returns-else-not-replace-clause-ok : goal.returns-else-not-replace-clause-ok
 returns-else-not-replace-clause-ok g c mode initial =
     let live : kind_of c.in-Some-Here.word ≡ Live = search rules in
     let may : c.args.replace ≡ true = search rules in
-    replaces_it g.K.PartialEq.eq (hash_of g.K.Hash.hash_input g.S.BuildHasher.build_hasher g.S.Hasher.Hasher.write g.S.Hasher.Hasher.finish) c.args.store.now c.args.key c.args.value c.args.hash c.in-Some-Here.place mode initial c.in-Some-Here.word live (here g (goal.at.returns-else-not-replace-clause-ok g c).In-Some-Here) c.args.replace may c.write-in-Some-Here.result c.write-in-Some-Here.new.store c.write-in-Some-Here.ensures
+    replaces_it g.K.PartialEq.eq (hash_of g.K.Hash.hash_input g.S.BuildHasher.build_hasher g.S.Hasher.Hasher.write g.S.Hasher.Hasher.finish)
+    c.args.store.now c.args.key c.args.value c.args.hash c.in-Some-Here.place mode initial c.in-Some-Here.word live
+    (here g (goal.at.returns-else-not-replace-clause-ok g c).In-Some-Here) c.args.replace may c.write-in-Some-Here.result
+    c.write-in-Some-Here.new.store c.write-in-Some-Here.ensures
 
 pub returns-in-Some-Over-clause-err : goal.returns-in-Some-Over-clause-err
 returns-in-Some-Over-clause-err g c =
-    let over : IsRootTurn (g.K.PartialEq.eq c.args.key) c.args.store.now c.args.hash (turns.Over c.in-Some-Over.table) = subst (λ (t : Turn). IsRootTurn (g.K.PartialEq.eq c.args.key) c.args.store.now c.args.hash t) (search rules) (c.search_root.ensures c.in-Some-Over.field-0 c.in-Some-Over.is) in
+    let over : IsRootTurn (g.K.PartialEq.eq c.args.key) c.args.store.now c.args.hash
+    (turns.Over c.in-Some-Over.table) = subst (λ (t : Turn). IsRootTurn (g.K.PartialEq.eq c.args.key) c.args.store.now c.args.hash t) (search rules)
+    (c.search_root.ensures c.in-Some-Over.field-0 c.in-Some-Over.is) in
     (refl, refl, refl, λ mode initial limit. over.sees (started (Insert c.args.replace) c.args.hash mode initial limit))
 
 pub returns-in_default-clause-err : goal.returns-in_default-clause-err

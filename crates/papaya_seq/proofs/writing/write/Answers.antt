@@ -22,24 +22,32 @@ abbrev handed : (g : Over) (c : After-perform g) → Running g.row.K.Denot g.row
 handed g c = record { machine = c.new.result; key = Own c.args.key; value = Some (Own c.args.value); answers = None }
 
 -- the pair was wanted for this place
-performs : (g : Over) (c : After-perform g) → Performs g.K.PartialEq.eq (said g) false (wants c.args.write.old) c.args.store.now (handed g c) c.perform.result c.perform.new.self c.perform.new.running
-performs g c = subst (λ ask. Performs g.K.PartialEq.eq (said g) false ask c.args.store.now (handed g c) c.perform.result c.perform.new.self c.perform.new.running) (search rules) c.perform.ensures.performs
+performs : (g : Over) (c : After-perform g)
+    → Performs g.K.PartialEq.eq (said g) false (wants c.args.write.old) c.args.store.now (handed g c) c.perform.result c.perform.new.self c.perform.new.running
+performs g c = subst (λ ask. Performs g.K.PartialEq.eq (said g) false ask c.args.store.now (handed g c) c.perform.result c.perform.new.self
+    c.perform.new.running) (search rules) c.perform.ensures.performs
 
 pub returns-in-Refused : goal.returns-in-Refused
 returns-in-Refused g c =
     let at = (goal.at.returns-in-Refused g c).After-perform in
-    pair_was_refused g.K.PartialEq.eq (said g) c.args.store.now c.args.key c.args.value (handed g at) refl refl c.perform.result c.perform.new.self c.perform.new.running c.args.write.old (performs g at) c.in-Refused.refused c.in-Refused.is c.value_left.result c.value_left.ensures
+    pair_was_refused g.K.PartialEq.eq (said g) c.args.store.now c.args.key c.args.value (handed g at) refl refl c.perform.result c.perform.new.self
+    c.perform.new.running c.args.write.old (performs g at) c.in-Refused.refused c.in-Refused.is c.value_left.result c.value_left.ensures
 
 pub returns-then-write-eq0-2 : goal.returns-then-write-eq0-2
 returns-then-write-eq0-2 g c =
     let at = (goal.at.returns-then-write-eq0-2 g c).After-perform in
-    let logged = pair_was_logged g.K.PartialEq.eq (said g) c.args.store.now c.args.key c.args.value (handed g at) refl refl c.perform.result c.perform.new.self c.perform.new.running c.args.write.old c.in-Made.pair (performs g at) c.in-Made.is in
-    was_inserted g.K.PartialEq.eq (said g) c.args.store.now c.args.key c.args.value (handed g at) refl refl c.perform.result c.perform.new.self c.perform.new.running c.args.write c.in-Made.pair logged c.requires.stands
-    c.live.result.0 c.live.ensures c.exchange.result c.exchange.new.self c.exchange.ensures (search rules) c.args.hash c.add_to_shard.new.self c.note.new.self c.add_to_shard.ensures c.hint.result c.hint.ensures c.note.ensures
+    let logged = pair_was_logged g.K.PartialEq.eq (said g) c.args.store.now c.args.key c.args.value (handed g at) refl refl c.perform.result
+    c.perform.new.self c.perform.new.running c.args.write.old c.in-Made.pair (performs g at) c.in-Made.is in
+    was_inserted g.K.PartialEq.eq (said g) c.args.store.now c.args.key c.args.value (handed g at) refl refl c.perform.result c.perform.new.self
+    c.perform.new.running c.args.write c.in-Made.pair logged c.requires.stands
+    c.live.result.0 c.live.ensures c.exchange.result c.exchange.new.self c.exchange.ensures (search rules) c.args.hash c.add_to_shard.new.self
+    c.note.new.self c.add_to_shard.ensures c.hint.result c.hint.ensures c.note.ensures
 
 pub returns : goal.returns
 returns g c =
     let at = (goal.at.returns g c).After-perform in
-    let logged = pair_was_logged g.K.PartialEq.eq (said g) c.args.store.now c.args.key c.args.value (handed g at) refl refl c.perform.result c.perform.new.self c.perform.new.running c.args.write.old c.in-Made.pair (performs g at) c.in-Made.is in
-    was_replaced g.K.PartialEq.eq (said g) c.args.store.now c.args.key c.args.value (handed g at) refl refl c.perform.result c.perform.new.self c.perform.new.running c.args.write c.in-Made.pair logged c.requires.stands
+    let logged = pair_was_logged g.K.PartialEq.eq (said g) c.args.store.now c.args.key c.args.value (handed g at) refl refl c.perform.result
+    c.perform.new.self c.perform.new.running c.args.write.old c.in-Made.pair (performs g at) c.in-Made.is in
+    was_replaced g.K.PartialEq.eq (said g) c.args.store.now c.args.key c.args.value (handed g at) refl refl c.perform.result c.perform.new.self
+    c.perform.new.running c.args.write c.in-Made.pair logged c.requires.stands
     c.live.result.0 c.live.ensures c.exchange.result c.exchange.new.self c.exchange.ensures (λ e. search rules) c.args.hash c.pair-old.result c.pair-old.ensures

@@ -12,5 +12,6 @@ returns g c =
       found = c.get.result;
       answered = c.get.ensures.answered;
       read_is = sym copied;
-      alone = λ same. copied ∙ read_alone c.args.setting c.args.value c.args.settings.now.history c.insert.new.self.history c.in_ok-insert.field-0 c.in_ok-insert.ensures.put c.get.new.self.history c.get.result c.get.ensures.answered same;
+      alone = λ same. copied ∙ read_alone c.args.setting c.args.value c.args.settings.now.history c.insert.new.self.history c.in_ok-insert.field-0
+          c.in_ok-insert.ensures.put c.get.new.self.history c.get.result c.get.ensures.answered same;
     }

@@ -17,4 +17,5 @@ loop-word-preserved g c =
     let most = count_by-le-length (g.W.PartialEq.eq word) (take i words) in
     let seen = length-take i words in
     let small : count_in g.W.PartialEq.eq c.loop-word.counts.store word + 1 ≤ 2 ^ 64 - 1 = omega (arith, counted, most, seen, fits, inside) in
-    one_on g.W.PartialEq.eq g.met.W.Eq.laws words i word inside is c.loop-word.counts _ c.loop-word.invariant _ _ (λ shown n is. is) small c.update_or_insert.result c.in_ok-update_or_insert.field-0 c.in_ok-update_or_insert.was c.update_or_insert.follows.holds-at-none
+    one_on g.W.PartialEq.eq g.met.W.Eq.laws words i word inside is c.loop-word.counts _ c.loop-word.invariant _ _ (λ shown n is. is) small
+    c.update_or_insert.result c.in_ok-update_or_insert.field-0 c.in_ok-update_or_insert.was c.update_or_insert.follows.holds-at-none

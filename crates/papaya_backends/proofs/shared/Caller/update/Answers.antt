@@ -5,10 +5,28 @@ use Rattle.papaya_backends.proofs.SharedLemmas.{followed, plain}
 use Rattle.papaya_backends.proofs.shared.Caller.update.Goals as goal
 
 pub returns-in-Ok-Some : goal.returns-in-Ok-Some
-returns-in-Ok-Some g c = (c.update.result, sym (ap (λ r. of_update (old_answered r)) (c.in-Ok-Some.is ∙ ap Ok c.in-Ok-Some.field-0-is)), followed c.args.key _ _ (λ shown next is. is) c.update.result c.update.ensures.updated, plain _ c.update.result c.args.self.now.unlimited c.update.ensures.refused)
+returns-in-Ok-Some g c = (
+  c.update.result,
+  sym (ap (λ r. of_update (old_answered r)) (c.in-Ok-Some.is ∙ ap Ok c.in-Ok-Some.field-0-is)),
+  followed
+      c.args.key _ _ (λ shown next is. is) c.update.result c.update.ensures.updated,
+  plain _ c.update.result c.args.self.now.unlimited c.update.ensures.refused,
+)
 
 pub returns-in-Ok-None : goal.returns-in-Ok-None
-returns-in-Ok-None g c = (c.update.result, sym (ap (λ r. of_update (old_answered r)) (c.in-Ok-None.is ∙ ap Ok c.in-Ok-None.field-0-is)), followed c.args.key _ _ (λ shown next is. is) c.update.result c.update.ensures.updated, plain _ c.update.result c.args.self.now.unlimited c.update.ensures.refused)
+returns-in-Ok-None g c = (
+  c.update.result,
+  sym (ap (λ r. of_update (old_answered r)) (c.in-Ok-None.is ∙ ap Ok c.in-Ok-None.field-0-is)),
+  followed
+      c.args.key _ _ (λ shown next is. is) c.update.result c.update.ensures.updated,
+  plain _ c.update.result c.args.self.now.unlimited c.update.ensures.refused,
+)
 
 pub returns-in-Err : goal.returns-in-Err
-returns-in-Err g c = (c.update.result, sym (ap (λ r. of_update (old_answered r)) c.in-Err.is), followed c.args.key _ _ (λ shown next is. is) c.update.result c.update.ensures.updated, plain _ c.update.result c.args.self.now.unlimited c.update.ensures.refused)
+returns-in-Err g c = (
+  c.update.result,
+  sym (ap (λ r. of_update (old_answered r)) c.in-Err.is),
+  followed c.args.key _ _ (λ shown next is. is)
+      c.update.result c.update.ensures.updated,
+  plain _ c.update.result c.args.self.now.unlimited c.update.ensures.refused,
+)

@@ -25,7 +25,8 @@ open_row-begun-requires g c =
 pub with_row-offer-requires : goal.with_row-offer-requires
 with_row-offer-requires g c =
     let row = c.open_row-begun.ensures in let one = c.take-pen.ensures.rest in let two = c.take-pen-2.ensures.rest in let three = c.take-pen-3.ensures.rest in
-    let first = row.3 in let count = row.4 in let a = one.1 in let b = two.1 in let d = three.1 in let a' = one.2 in let b' = two.2 in let d' = three.2 in let r = row_is in
+    let first = row.3 in let count = row.4 in let a = one.1 in let b = two.1 in let d = three.1 in let a' = one.2 in let b' = two.2 in
+    let d' = three.2 in let r = row_is in
     (omega arith, omega arith)
 
 pub compare_exchange-found-requires : goal.compare_exchange-found-requires
@@ -33,7 +34,8 @@ compare_exchange-found-requires g c =
     let hash = hash_of g.K.Hash.hash_input g.S.BuildHasher.build_hasher g.S.Hasher.Hasher.write g.S.Hasher.Hasher.finish in
     let row = c.open_row-begun in let second = c.take-pen-2.ensures.pen in let rest = c.take-pen.ensures.rest in
     let book : c.tracked-maker.result.book ≡ row.result.0.book = ap (λ w. w.book) c.tracked-maker.ensures.0 ∙ (second.0 ∙ (rest.0 ∙ row.ensures.2)) in
-    let key : c.tracked-maker.result.key ≡ 1 = ap (λ w. w.key) c.tracked-maker.ensures.0 ∙ (ap (λ (p : Nib). p.key) second.1 ∙ (rest.1 ∙ ap (λ n. n + 1) row.ensures.3)) in
+    let key : c.tracked-maker.result.key ≡ 1 = ap (λ w. w.key) c.tracked-maker.ensures.0
+    ∙ (ap (λ (p : Nib). p.key) second.1 ∙ (rest.1 ∙ ap (λ n. n + 1) row.ensures.3)) in
     let whole : c.take-pen-3.new.self.book ≡ row.result.0.book = c.take-pen-3.ensures.rest.0 ∙ (c.take-pen-2.ensures.rest.0 ∙ (rest.0 ∙ row.ensures.2)) in
     let ask = c.with_row-offer.ensures.1 ∙ ap (λ b. Called b) whole in (
       ap (λ w. w.tracked) c.tracked-maker.ensures.0,

@@ -21,12 +21,14 @@ compare_exchange-found-requires g c =
     let maker = c.args.self.now.maker_is in let i = c.loop.invariant in let v = c.loop.sight in
     let book : v.book ≡ c.args.self.now.maker.book = i.book ∙ sym (ap (λ w. w.book) maker) in
     let called : name_in v.log ≡ Some v.book = i.called ∙ ap (λ b. Some b) (sym i.book) in
-    let room : c.loop.old + c.args.count ≤ 1 + row_len = let few = c.if-count-gt-ROW_LEN.false in let low = c.if-old-count.false in let r = row_is in omega arith in (
+    let room : c.loop.old + c.args.count ≤ 1 + row_len = let few = c.if-count-gt-ROW_LEN.false in let low = c.if-old-count.false in let r = row_is in
+    omega arith in (
       ap (λ w. w.tracked) maker,
       book,
       c.no_pen-pen.ensures.0 ∙ book,
       c.drawing-draw.ensures.0,
-      rw (ap (λ w. w.key) maker, c.no_pen-pen.ensures.1, c.drawing-draw.ensures.1, c.drawing-draw.ensures.3) (deals_moves g.K.PartialEq.eq hash v.log v.book called c.loop.old c.args.count room),
+      rw (ap (λ w. w.key) maker, c.no_pen-pen.ensures.1, c.drawing-draw.ensures.1, c.drawing-draw.ensures.3)
+          (deals_moves g.K.PartialEq.eq hash v.log v.book called c.loop.old c.args.count room),
     )
 
 pub loop-preserved : goal.loop-preserved

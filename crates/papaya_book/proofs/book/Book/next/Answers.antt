@@ -16,7 +16,9 @@ read-found-requires-clause-word g c =
     let w = c.args.self.now in let v = c.learn.new.self.log in let b = begun_of w.parts in
     let hash = hash_of g.K.Hash.hash_input g.S.BuildHasher.build_hasher g.S.Hasher.Hasher.write g.S.Hasher.Hasher.finish in
     let table = c.args.table.now in let word = c.next.ensures in
-    let held = c.learn.ensures.4 in let lawful : IsLawfulLog g.K.PartialEq.eq hash b v = subst (λ (z : _). IsLawfulLog g.K.PartialEq.eq hash z v) (opened_with g.K.PartialEq.eq hash b held.1.begun v (prefix_trans (Begin b ∷ []) w.begun.log v (first_prefix (Begin b) w.begun.log w.begins) c.learn.ensures.3) held.1.lawful) held.1.lawful in
+    let held = c.learn.ensures.4 in let lawful : IsLawfulLog g.K.PartialEq.eq hash b v = subst (λ (z : _). IsLawfulLog g.K.PartialEq.eq hash z v)
+    (opened_with g.K.PartialEq.eq hash b held.1.begun v
+    (prefix_trans (Begin b ∷ []) w.begun.log v (first_prefix (Begin b) w.begun.log w.begins) c.learn.ensures.3) held.1.lawful) held.1.lawful in
     let called = name_since w.begun.log v w.begun.book c.learn.ensures.3 w.called in
     let came = table_since c.args.sight.now.log v c.args.number table c.learn.ensures.2 c.requires.table in
     let book = table_book g.K.PartialEq.eq hash b v w.begun.book lawful called c.args.number table came in
@@ -27,7 +29,9 @@ read-found-requires-clause-key g c =
     let w = c.args.self.now in let v = c.learn.new.self.log in let b = begun_of w.parts in
     let hash = hash_of g.K.Hash.hash_input g.S.BuildHasher.build_hasher g.S.Hasher.Hasher.write g.S.Hasher.Hasher.finish in
     let table = c.args.table.now in let word = c.next.ensures in
-    let held = c.learn.ensures.4 in let lawful : IsLawfulLog g.K.PartialEq.eq hash b v = subst (λ (z : _). IsLawfulLog g.K.PartialEq.eq hash z v) (opened_with g.K.PartialEq.eq hash b held.1.begun v (prefix_trans (Begin b ∷ []) w.begun.log v (first_prefix (Begin b) w.begun.log w.begins) c.learn.ensures.3) held.1.lawful) held.1.lawful in
+    let held = c.learn.ensures.4 in let lawful : IsLawfulLog g.K.PartialEq.eq hash b v = subst (λ (z : _). IsLawfulLog g.K.PartialEq.eq hash z v)
+    (opened_with g.K.PartialEq.eq hash b held.1.begun v
+    (prefix_trans (Begin b ∷ []) w.begun.log v (first_prefix (Begin b) w.begun.log w.begins) c.learn.ensures.3) held.1.lawful) held.1.lawful in
     let called = name_since w.begun.log v w.begun.book c.learn.ensures.3 w.called in
     let came = table_since c.args.sight.now.log v c.args.number table c.learn.ensures.2 c.requires.table in
     let book = table_book g.K.PartialEq.eq hash b v w.begun.book lawful called c.args.number table came in
@@ -36,18 +40,24 @@ read-found-requires-clause-key g c =
 pub table_known-known-requires : goal.table_known-known-requires
 table_known-known-requires g c =
     let hash = hash_of g.K.Hash.hash_input g.S.BuildHasher.build_hasher g.S.Hasher.Hasher.write g.S.Hasher.Hasher.finish in
-    let w = c.args.self.now in let b = begun_of w.parts in let log = c.read-found.new.sight.log in let found = c.read-found.result.0 in let r = c.read-found.ensures.read in
-    let hashed = is_hashed g.K.PartialEq.eq g.K.Hash.hash_input g.S.BuildHasher.build_hasher g.S.Hasher.Hasher.write g.S.Hasher.Hasher.finish g.met.K.Eq.laws g.met.K.Hash.respects_eq b log r.lawful in
-    let called = name_since w.begun.log log w.begun.book (prefix_trans w.begun.log c.learn.new.self.log log c.learn.ensures.3 c.read-found.ensures.seen) w.called in
+    let w = c.args.self.now in let b = begun_of w.parts in let log = c.read-found.new.sight.log in let found = c.read-found.result.0 in
+    let r = c.read-found.ensures.read in
+    let hashed = is_hashed g.K.PartialEq.eq g.K.Hash.hash_input g.S.BuildHasher.build_hasher g.S.Hasher.Hasher.write g.S.Hasher.Hasher.finish
+    g.met.K.Eq.laws g.met.K.Hash.respects_eq b log r.lawful in
+    let called = name_since w.begun.log log w.begun.book
+    (prefix_trans w.begun.log c.learn.new.self.log log c.learn.ensures.3 c.read-found.ensures.seen) w.called in
     let told = next_told g.K.PartialEq.eq hash b log hashed w.begun.book called found c.read-found.result.1.state c.args.number r c.if-found-eq0.false in
     (told.table, cc (c.into_gain.ensures.2, told.gained))
 
 pub token-token-requires-clause-index : goal.token-token-requires-clause-index
 token-token-requires-clause-index g c =
     let hash = hash_of g.K.Hash.hash_input g.S.BuildHasher.build_hasher g.S.Hasher.Hasher.write g.S.Hasher.Hasher.finish in
-    let w = c.args.self.now in let b = begun_of w.parts in let log = c.read-found.new.sight.log in let found = c.read-found.result.0 in let r = c.read-found.ensures.read in
-    let hashed = is_hashed g.K.PartialEq.eq g.K.Hash.hash_input g.S.BuildHasher.build_hasher g.S.Hasher.Hasher.write g.S.Hasher.Hasher.finish g.met.K.Eq.laws g.met.K.Hash.respects_eq b log r.lawful in
-    let called = name_since w.begun.log log w.begun.book (prefix_trans w.begun.log c.learn.new.self.log log c.learn.ensures.3 c.read-found.ensures.seen) w.called in
+    let w = c.args.self.now in let b = begun_of w.parts in let log = c.read-found.new.sight.log in let found = c.read-found.result.0 in
+    let r = c.read-found.ensures.read in
+    let hashed = is_hashed g.K.PartialEq.eq g.K.Hash.hash_input g.S.BuildHasher.build_hasher g.S.Hasher.Hasher.write g.S.Hasher.Hasher.finish
+    g.met.K.Eq.laws g.met.K.Hash.respects_eq b log r.lawful in
+    let called = name_since w.begun.log log w.begun.book
+    (prefix_trans w.begun.log c.learn.new.self.log log c.learn.ensures.3 c.read-found.ensures.seen) w.called in
     let told = next_told g.K.PartialEq.eq hash b log hashed w.begun.book called found c.read-found.result.1.state c.args.number r c.if-found-eq0.false in
     let answer : c.into_gain.result.answer ≡ Table told.table = cc (c.into_gain.ensures.2, told.gained) in
     let known : c.table_known-known.result.at ≡ told.table = cc (c.table_known-known.ensures, answer) in
@@ -57,18 +67,24 @@ token-token-requires-clause-index g c =
 pub token-token-requires-clause-fits : goal.token-token-requires-clause-fits
 token-token-requires-clause-fits g c =
     let hash = hash_of g.K.Hash.hash_input g.S.BuildHasher.build_hasher g.S.Hasher.Hasher.write g.S.Hasher.Hasher.finish in
-    let w = c.args.self.now in let b = begun_of w.parts in let log = c.read-found.new.sight.log in let found = c.read-found.result.0 in let r = c.read-found.ensures.read in
-    let hashed = is_hashed g.K.PartialEq.eq g.K.Hash.hash_input g.S.BuildHasher.build_hasher g.S.Hasher.Hasher.write g.S.Hasher.Hasher.finish g.met.K.Eq.laws g.met.K.Hash.respects_eq b log r.lawful in
-    let called = name_since w.begun.log log w.begun.book (prefix_trans w.begun.log c.learn.new.self.log log c.learn.ensures.3 c.read-found.ensures.seen) w.called in
+    let w = c.args.self.now in let b = begun_of w.parts in let log = c.read-found.new.sight.log in let found = c.read-found.result.0 in
+    let r = c.read-found.ensures.read in
+    let hashed = is_hashed g.K.PartialEq.eq g.K.Hash.hash_input g.S.BuildHasher.build_hasher g.S.Hasher.Hasher.write g.S.Hasher.Hasher.finish
+    g.met.K.Eq.laws g.met.K.Hash.respects_eq b log r.lawful in
+    let called = name_since w.begun.log log w.begun.book
+    (prefix_trans w.begun.log c.learn.new.self.log log c.learn.ensures.3 c.read-found.ensures.seen) w.called in
     let told = next_told g.K.PartialEq.eq hash b log hashed w.begun.book called found c.read-found.result.1.state c.args.number r c.if-found-eq0.false in
     let number = told.number in let fits = told.fits in omega arith
 
 pub value-requires : goal.value-requires
 value-requires g c =
     let hash = hash_of g.K.Hash.hash_input g.S.BuildHasher.build_hasher g.S.Hasher.Hasher.write g.S.Hasher.Hasher.finish in
-    let w = c.args.self.now in let b = begun_of w.parts in let log = c.read-found.new.sight.log in let found = c.read-found.result.0 in let r = c.read-found.ensures.read in
-    let hashed = is_hashed g.K.PartialEq.eq g.K.Hash.hash_input g.S.BuildHasher.build_hasher g.S.Hasher.Hasher.write g.S.Hasher.Hasher.finish g.met.K.Eq.laws g.met.K.Hash.respects_eq b log r.lawful in
-    let called = name_since w.begun.log log w.begun.book (prefix_trans w.begun.log c.learn.new.self.log log c.learn.ensures.3 c.read-found.ensures.seen) w.called in
+    let w = c.args.self.now in let b = begun_of w.parts in let log = c.read-found.new.sight.log in let found = c.read-found.result.0 in
+    let r = c.read-found.ensures.read in
+    let hashed = is_hashed g.K.PartialEq.eq g.K.Hash.hash_input g.S.BuildHasher.build_hasher g.S.Hasher.Hasher.write g.S.Hasher.Hasher.finish
+    g.met.K.Eq.laws g.met.K.Hash.respects_eq b log r.lawful in
+    let called = name_since w.begun.log log w.begun.book
+    (prefix_trans w.begun.log c.learn.new.self.log log c.learn.ensures.3 c.read-found.ensures.seen) w.called in
     let told = next_told g.K.PartialEq.eq hash b log hashed w.begun.book called found c.read-found.result.1.state c.args.number r c.if-found-eq0.false in
     let answer : c.into_gain.result.answer ≡ Table told.table = cc (c.into_gain.ensures.2, told.gained) in
     let known : c.table_known-known.result.at ≡ told.table = cc (c.table_known-known.ensures, answer) in
@@ -78,9 +94,12 @@ value-requires g c =
 pub returns-clause-next : goal.returns-clause-next
 returns-clause-next g c =
     let hash = hash_of g.K.Hash.hash_input g.S.BuildHasher.build_hasher g.S.Hasher.Hasher.write g.S.Hasher.Hasher.finish in
-    let w = c.args.self.now in let b = begun_of w.parts in let log = c.read-found.new.sight.log in let found = c.read-found.result.0 in let r = c.read-found.ensures.read in
-    let hashed = is_hashed g.K.PartialEq.eq g.K.Hash.hash_input g.S.BuildHasher.build_hasher g.S.Hasher.Hasher.write g.S.Hasher.Hasher.finish g.met.K.Eq.laws g.met.K.Hash.respects_eq b log r.lawful in
-    let called = name_since w.begun.log log w.begun.book (prefix_trans w.begun.log c.learn.new.self.log log c.learn.ensures.3 c.read-found.ensures.seen) w.called in
+    let w = c.args.self.now in let b = begun_of w.parts in let log = c.read-found.new.sight.log in let found = c.read-found.result.0 in
+    let r = c.read-found.ensures.read in
+    let hashed = is_hashed g.K.PartialEq.eq g.K.Hash.hash_input g.S.BuildHasher.build_hasher g.S.Hasher.Hasher.write g.S.Hasher.Hasher.finish
+    g.met.K.Eq.laws g.met.K.Hash.respects_eq b log r.lawful in
+    let called = name_since w.begun.log log w.begun.book
+    (prefix_trans w.begun.log c.learn.new.self.log log c.learn.ensures.3 c.read-found.ensures.seen) w.called in
     let told = next_told g.K.PartialEq.eq hash b log hashed w.begun.book called found c.read-found.result.1.state c.args.number r c.if-found-eq0.false in
     let answer : c.into_gain.result.answer ≡ Table told.table = cc (c.into_gain.ensures.2, told.gained) in
     let known : c.table_known-known.result.at ≡ told.table = cc (c.table_known-known.ensures, answer) in

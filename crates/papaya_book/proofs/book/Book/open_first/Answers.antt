@@ -18,6 +18,7 @@ pub returns-clause-came : goal.returns-clause-came
 returns-clause-came g c =
     let hash = hash_of g.K.Hash.hash_input g.S.BuildHasher.build_hasher g.S.Hasher.Hasher.write g.S.Hasher.Hasher.finish in
     let w = c.in-Ok.table in let log = c.open-found.new.sight.log in
-    let here = opened_here g.K.PartialEq.eq hash (begun_of c.args.self.now.parts) (w.index + 1) w c.make_table.new.sight.log c.open-found.result.0 log c.open-found.result.1.state c.open-found.ensures.tried (ap (λ n. n == 0) c.if-found-ne0.false) refl in
+    let here = opened_here g.K.PartialEq.eq hash (begun_of c.args.self.now.parts) (w.index + 1) w c.make_table.new.sight.log c.open-found.result.0 log
+    c.open-found.result.1.state c.open-found.ensures.tried (ap (λ n. n == 0) c.if-found-ne0.false) refl in
     let long : length w.value.slots ≡ max c.args.initial 8 = c.in-Ok.ensures.size.0 ∙ c.table_len-len.ensures in
     (length w.value.slots, omega (arith, long), table_slots log (w.index + 1) w.value here)

@@ -19,14 +19,17 @@ pub returns-then-found-eq0-clause-held : goal.returns-then-found-eq0-clause-held
 returns-then-found-eq0-clause-held g c =
     let hash = hash_of g.K.Hash.hash_input g.S.BuildHasher.build_hasher g.S.Hasher.Hasher.write g.S.Hasher.Hasher.finish in
     let b = begun_of c.args.self.now.parts in let w = c.args.table.now in
-    let here = opened_here g.K.PartialEq.eq hash b (w.index + 1) w c.learn.new.self.log c.open-found.result.0 c.open-found.new.sight.log c.open-found.result.1.state c.open-found.ensures.tried (ap (λ n. n == 0) c.if-found-eq0.true) refl in
+    let here = opened_here g.K.PartialEq.eq hash b (w.index + 1) w c.learn.new.self.log c.open-found.result.0 c.open-found.new.sight.log
+    c.open-found.result.1.state c.open-found.ensures.tried (ap (λ n. n == 0) c.if-found-eq0.true) refl in
     subst (λ (z : _). IsTable c.open-found.new.sight.log (w.index + 1) z) (sym c.value.ensures) here
 
 pub table_known-known-requires : goal.table_known-known-requires
 table_known-known-requires g c =
     let hash = hash_of g.K.Hash.hash_input g.S.BuildHasher.build_hasher g.S.Hasher.Hasher.write g.S.Hasher.Hasher.finish in
-    let w = c.args.self.now in let b = begun_of w.parts in let t = c.open-found.ensures.tried in let found = c.open-found.result.0 in let state = c.open-found.result.1.state in
-    let hashed = is_hashed g.K.PartialEq.eq g.K.Hash.hash_input g.S.BuildHasher.build_hasher g.S.Hasher.Hasher.write g.S.Hasher.Hasher.finish g.met.K.Eq.laws g.met.K.Hash.respects_eq b t.before t.lawful in
+    let w = c.args.self.now in let b = begun_of w.parts in let t = c.open-found.ensures.tried in let found = c.open-found.result.0 in
+    let state = c.open-found.result.1.state in
+    let hashed = is_hashed g.K.PartialEq.eq g.K.Hash.hash_input g.S.BuildHasher.build_hasher g.S.Hasher.Hasher.write g.S.Hasher.Hasher.finish
+    g.met.K.Eq.laws g.met.K.Hash.respects_eq b t.before t.lawful in
     let called = name_since w.begun.log t.before w.begun.book (prefix_trans w.begun.log c.learn.new.self.log t.before c.learn.ensures.3 t.since) w.called in
     let read : IsRead g.K.PartialEq.eq hash b Root found t.before state = record { lawful = t.lawful; is = t.is; state_is = t.state_is } in
     let told = root_told g.K.PartialEq.eq hash b t.before hashed w.begun.book called found state read c.if-found-eq0.false in
@@ -35,8 +38,10 @@ table_known-known-requires g c =
 pub token-token-requires-clause-index : goal.token-token-requires-clause-index
 token-token-requires-clause-index g c =
     let hash = hash_of g.K.Hash.hash_input g.S.BuildHasher.build_hasher g.S.Hasher.Hasher.write g.S.Hasher.Hasher.finish in
-    let w = c.args.self.now in let b = begun_of w.parts in let t = c.open-found.ensures.tried in let found = c.open-found.result.0 in let state = c.open-found.result.1.state in
-    let hashed = is_hashed g.K.PartialEq.eq g.K.Hash.hash_input g.S.BuildHasher.build_hasher g.S.Hasher.Hasher.write g.S.Hasher.Hasher.finish g.met.K.Eq.laws g.met.K.Hash.respects_eq b t.before t.lawful in
+    let w = c.args.self.now in let b = begun_of w.parts in let t = c.open-found.ensures.tried in let found = c.open-found.result.0 in
+    let state = c.open-found.result.1.state in
+    let hashed = is_hashed g.K.PartialEq.eq g.K.Hash.hash_input g.S.BuildHasher.build_hasher g.S.Hasher.Hasher.write g.S.Hasher.Hasher.finish
+    g.met.K.Eq.laws g.met.K.Hash.respects_eq b t.before t.lawful in
     let called = name_since w.begun.log t.before w.begun.book (prefix_trans w.begun.log c.learn.new.self.log t.before c.learn.ensures.3 t.since) w.called in
     let read : IsRead g.K.PartialEq.eq hash b Root found t.before state = record { lawful = t.lawful; is = t.is; state_is = t.state_is } in
     let told = root_told g.K.PartialEq.eq hash b t.before hashed w.begun.book called found state read c.if-found-eq0.false in
@@ -48,8 +53,10 @@ token-token-requires-clause-index g c =
 pub token-token-requires-clause-fits : goal.token-token-requires-clause-fits
 token-token-requires-clause-fits g c =
     let hash = hash_of g.K.Hash.hash_input g.S.BuildHasher.build_hasher g.S.Hasher.Hasher.write g.S.Hasher.Hasher.finish in
-    let w = c.args.self.now in let b = begun_of w.parts in let t = c.open-found.ensures.tried in let found = c.open-found.result.0 in let state = c.open-found.result.1.state in
-    let hashed = is_hashed g.K.PartialEq.eq g.K.Hash.hash_input g.S.BuildHasher.build_hasher g.S.Hasher.Hasher.write g.S.Hasher.Hasher.finish g.met.K.Eq.laws g.met.K.Hash.respects_eq b t.before t.lawful in
+    let w = c.args.self.now in let b = begun_of w.parts in let t = c.open-found.ensures.tried in let found = c.open-found.result.0 in
+    let state = c.open-found.result.1.state in
+    let hashed = is_hashed g.K.PartialEq.eq g.K.Hash.hash_input g.S.BuildHasher.build_hasher g.S.Hasher.Hasher.write g.S.Hasher.Hasher.finish
+    g.met.K.Eq.laws g.met.K.Hash.respects_eq b t.before t.lawful in
     let called = name_since w.begun.log t.before w.begun.book (prefix_trans w.begun.log c.learn.new.self.log t.before c.learn.ensures.3 t.since) w.called in
     let read : IsRead g.K.PartialEq.eq hash b Root found t.before state = record { lawful = t.lawful; is = t.is; state_is = t.state_is } in
     let told = root_told g.K.PartialEq.eq hash b t.before hashed w.begun.book called found state read c.if-found-eq0.false in
@@ -58,8 +65,10 @@ token-token-requires-clause-fits g c =
 pub value-requires-2 : goal.value-requires-2
 value-requires-2 g c =
     let hash = hash_of g.K.Hash.hash_input g.S.BuildHasher.build_hasher g.S.Hasher.Hasher.write g.S.Hasher.Hasher.finish in
-    let w = c.args.self.now in let b = begun_of w.parts in let t = c.open-found.ensures.tried in let found = c.open-found.result.0 in let state = c.open-found.result.1.state in
-    let hashed = is_hashed g.K.PartialEq.eq g.K.Hash.hash_input g.S.BuildHasher.build_hasher g.S.Hasher.Hasher.write g.S.Hasher.Hasher.finish g.met.K.Eq.laws g.met.K.Hash.respects_eq b t.before t.lawful in
+    let w = c.args.self.now in let b = begun_of w.parts in let t = c.open-found.ensures.tried in let found = c.open-found.result.0 in
+    let state = c.open-found.result.1.state in
+    let hashed = is_hashed g.K.PartialEq.eq g.K.Hash.hash_input g.S.BuildHasher.build_hasher g.S.Hasher.Hasher.write g.S.Hasher.Hasher.finish
+    g.met.K.Eq.laws g.met.K.Hash.respects_eq b t.before t.lawful in
     let called = name_since w.begun.log t.before w.begun.book (prefix_trans w.begun.log c.learn.new.self.log t.before c.learn.ensures.3 t.since) w.called in
     let read : IsRead g.K.PartialEq.eq hash b Root found t.before state = record { lawful = t.lawful; is = t.is; state_is = t.state_is } in
     let told = root_told g.K.PartialEq.eq hash b t.before hashed w.begun.book called found state read c.if-found-eq0.false in
@@ -71,9 +80,11 @@ value-requires-2 g c =
 pub returns-clause-held : goal.returns-clause-held
 returns-clause-held g c =
     let hash = hash_of g.K.Hash.hash_input g.S.BuildHasher.build_hasher g.S.Hasher.Hasher.write g.S.Hasher.Hasher.finish in
-    let w = c.args.self.now in let b = begun_of w.parts in let t = c.open-found.ensures.tried in let found = c.open-found.result.0 in let state = c.open-found.result.1.state in
+    let w = c.args.self.now in let b = begun_of w.parts in let t = c.open-found.ensures.tried in let found = c.open-found.result.0 in
+    let state = c.open-found.result.1.state in
     let log = c.open-found.new.sight.log in
-    let hashed = is_hashed g.K.PartialEq.eq g.K.Hash.hash_input g.S.BuildHasher.build_hasher g.S.Hasher.Hasher.write g.S.Hasher.Hasher.finish g.met.K.Eq.laws g.met.K.Hash.respects_eq b t.before t.lawful in
+    let hashed = is_hashed g.K.PartialEq.eq g.K.Hash.hash_input g.S.BuildHasher.build_hasher g.S.Hasher.Hasher.write g.S.Hasher.Hasher.finish
+    g.met.K.Eq.laws g.met.K.Hash.respects_eq b t.before t.lawful in
     let called = name_since w.begun.log t.before w.begun.book (prefix_trans w.begun.log c.learn.new.self.log t.before c.learn.ensures.3 t.since) w.called in
     let read : IsRead g.K.PartialEq.eq hash b Root found t.before state = record { lawful = t.lawful; is = t.is; state_is = t.state_is } in
     let told = root_told g.K.PartialEq.eq hash b t.before hashed w.begun.book called found state read c.if-found-eq0.false in

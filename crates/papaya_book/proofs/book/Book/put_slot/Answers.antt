@@ -17,7 +17,9 @@ put-found-requires-clause-word g c =
     let w = c.args.self.now in let v = c.learn.new.self.log in let b = begun_of w.parts in
     let hash = hash_of g.K.Hash.hash_input g.S.BuildHasher.build_hasher g.S.Hasher.Hasher.write g.S.Hasher.Hasher.finish in
     let table = c.args.table.now in let word = c.slot.ensures in
-    let held = c.learn.ensures.4 in let lawful : IsLawfulLog g.K.PartialEq.eq hash b v = subst (λ (z : _). IsLawfulLog g.K.PartialEq.eq hash z v) (opened_with g.K.PartialEq.eq hash b held.1.begun v (prefix_trans (Begin b ∷ []) w.begun.log v (first_prefix (Begin b) w.begun.log w.begins) c.learn.ensures.3) held.1.lawful) held.1.lawful in
+    let held = c.learn.ensures.4 in let lawful : IsLawfulLog g.K.PartialEq.eq hash b v = subst (λ (z : _). IsLawfulLog g.K.PartialEq.eq hash z v)
+    (opened_with g.K.PartialEq.eq hash b held.1.begun v
+    (prefix_trans (Begin b ∷ []) w.begun.log v (first_prefix (Begin b) w.begun.log w.begins) c.learn.ensures.3) held.1.lawful) held.1.lawful in
     let called = name_since w.begun.log v w.begun.book c.learn.ensures.3 w.called in
     let came = table_since c.args.sight.now.log v c.args.number table c.learn.ensures.2 c.requires.table in
     let book = table_book g.K.PartialEq.eq hash b v w.begun.book lawful called c.args.number table came in
@@ -28,7 +30,9 @@ put-found-requires-clause-key g c =
     let w = c.args.self.now in let v = c.learn.new.self.log in let b = begun_of w.parts in
     let hash = hash_of g.K.Hash.hash_input g.S.BuildHasher.build_hasher g.S.Hasher.Hasher.write g.S.Hasher.Hasher.finish in
     let table = c.args.table.now in let word = c.slot.ensures in
-    let held = c.learn.ensures.4 in let lawful : IsLawfulLog g.K.PartialEq.eq hash b v = subst (λ (z : _). IsLawfulLog g.K.PartialEq.eq hash z v) (opened_with g.K.PartialEq.eq hash b held.1.begun v (prefix_trans (Begin b ∷ []) w.begun.log v (first_prefix (Begin b) w.begun.log w.begins) c.learn.ensures.3) held.1.lawful) held.1.lawful in
+    let held = c.learn.ensures.4 in let lawful : IsLawfulLog g.K.PartialEq.eq hash b v = subst (λ (z : _). IsLawfulLog g.K.PartialEq.eq hash z v)
+    (opened_with g.K.PartialEq.eq hash b held.1.begun v
+    (prefix_trans (Begin b ∷ []) w.begun.log v (first_prefix (Begin b) w.begun.log w.begins) c.learn.ensures.3) held.1.lawful) held.1.lawful in
     let called = name_since w.begun.log v w.begun.book c.learn.ensures.3 w.called in
     let came = table_since c.args.sight.now.log v c.args.number table c.learn.ensures.2 c.requires.table in
     let book = table_book g.K.PartialEq.eq hash b v w.begun.book lawful called c.args.number table came in
@@ -41,22 +45,36 @@ put-found-requires-clause-can g c =
 pub pair_in-requires : goal.pair_in-requires
 pair_in-requires g c =
     let hash = hash_of g.K.Hash.hash_input g.S.BuildHasher.build_hasher g.S.Hasher.Hasher.write g.S.Hasher.Hasher.finish in
-    let w = c.args.self.now in let b = begun_of w.parts in let t = c.put-found.ensures.tried in let found = c.put-found.result.0 in let state = c.put-found.result.1.state in
-    let hashed = is_hashed g.K.PartialEq.eq g.K.Hash.hash_input g.S.BuildHasher.build_hasher g.S.Hasher.Hasher.write g.S.Hasher.Hasher.finish g.met.K.Eq.laws g.met.K.Hash.respects_eq b t.before t.lawful in
+    let w = c.args.self.now in let b = begun_of w.parts in let t = c.put-found.ensures.tried in let found = c.put-found.result.0 in
+    let state = c.put-found.result.1.state in
+    let hashed = is_hashed g.K.PartialEq.eq g.K.Hash.hash_input g.S.BuildHasher.build_hasher g.S.Hasher.Hasher.write g.S.Hasher.Hasher.finish
+    g.met.K.Eq.laws g.met.K.Hash.respects_eq b t.before t.lawful in
     let called = name_since w.begun.log t.before w.begun.book (prefix_trans w.begun.log c.learn.new.self.log t.before c.learn.ensures.3 t.since) w.called in
-    let read : IsRead g.K.PartialEq.eq hash b (Slot c.args.number c.args.place) found t.before state = record { lawful = t.lawful; is = t.is; state_is = t.state_is } in
+    let read : IsRead g.K.PartialEq.eq hash b (Slot c.args.number c.args.place) found t.before
+    state = record { lawful = t.lawful; is = t.is; state_is = t.state_is } in
     names_pair g.K.PartialEq.eq hash b t.before hashed w.begun.book called found state c.args.number c.args.place read
 
 pub returns-clause-tried : goal.returns-clause-tried
 returns-clause-tried g c =
     let hash = hash_of g.K.Hash.hash_input g.S.BuildHasher.build_hasher g.S.Hasher.Hasher.write g.S.Hasher.Hasher.finish in
-    let w = c.args.self.now in let b = begun_of w.parts in let t = c.put-found.ensures.tried in let found = c.put-found.result.0 in let state = c.put-found.result.1.state in
-    let hashed = is_hashed g.K.PartialEq.eq g.K.Hash.hash_input g.S.BuildHasher.build_hasher g.S.Hasher.Hasher.write g.S.Hasher.Hasher.finish g.met.K.Eq.laws g.met.K.Hash.respects_eq b t.before t.lawful in
+    let w = c.args.self.now in let b = begun_of w.parts in let t = c.put-found.ensures.tried in let found = c.put-found.result.0 in
+    let state = c.put-found.result.1.state in
+    let hashed = is_hashed g.K.PartialEq.eq g.K.Hash.hash_input g.S.BuildHasher.build_hasher g.S.Hasher.Hasher.write g.S.Hasher.Hasher.finish
+    g.met.K.Eq.laws g.met.K.Hash.respects_eq b t.before t.lawful in
     let called = name_since w.begun.log t.before w.begun.book (prefix_trans w.begun.log c.learn.new.self.log t.before c.learn.ensures.3 t.since) w.called in
-    let read : IsRead g.K.PartialEq.eq hash b (Slot c.args.number c.args.place) found t.before state = record { lawful = t.lawful; is = t.is; state_is = t.state_is } in
+    let read : IsRead g.K.PartialEq.eq hash b (Slot c.args.number c.args.place) found t.before
+    state = record { lawful = t.lawful; is = t.is; state_is = t.state_is } in
     let names = found_pair g.K.PartialEq.eq hash b t.before found state c.args.number c.args.place read c.pair_in.result c.pair_in.ensures in record {
       state = state;
-      tried = record { before = t.before; since = prefix_trans c.args.sight.now.log c.learn.new.self.log t.before c.learn.ensures.2 t.since; lawful = t.lawful; now = t.now; is = t.is; state_is = t.state_is; after = t.after };
+      tried = record {
+        before = t.before;
+        since = prefix_trans c.args.sight.now.log c.learn.new.self.log t.before c.learn.ensures.2 t.since;
+        lawful = t.lawful;
+        now = t.now;
+        is = t.is;
+        state_is = t.state_is;
+        after = t.after;
+      };
       names = names;
       placed = found_placed g.K.PartialEq.eq hash b t.before hashed w.begun.book called found state c.args.number c.args.place read c.pair_in.result names;
     }

@@ -10,18 +10,24 @@ use Rattle.papaya_book.proofs.book.Book.root.Goals as goal
 pub table_known-known-requires : goal.table_known-known-requires
 table_known-known-requires g c =
     let hash = hash_of g.K.Hash.hash_input g.S.BuildHasher.build_hasher g.S.Hasher.Hasher.write g.S.Hasher.Hasher.finish in
-    let w = c.args.self.now in let b = begun_of w.parts in let log = c.read-found.new.sight.log in let found = c.read-found.result.0 in let r = c.read-found.ensures.read in
-    let hashed = is_hashed g.K.PartialEq.eq g.K.Hash.hash_input g.S.BuildHasher.build_hasher g.S.Hasher.Hasher.write g.S.Hasher.Hasher.finish g.met.K.Eq.laws g.met.K.Hash.respects_eq b log r.lawful in
-    let called = name_since w.begun.log log w.begun.book (prefix_trans w.begun.log c.learn.new.self.log log c.learn.ensures.3 c.read-found.ensures.seen) w.called in
+    let w = c.args.self.now in let b = begun_of w.parts in let log = c.read-found.new.sight.log in let found = c.read-found.result.0 in
+    let r = c.read-found.ensures.read in
+    let hashed = is_hashed g.K.PartialEq.eq g.K.Hash.hash_input g.S.BuildHasher.build_hasher g.S.Hasher.Hasher.write g.S.Hasher.Hasher.finish
+    g.met.K.Eq.laws g.met.K.Hash.respects_eq b log r.lawful in
+    let called = name_since w.begun.log log w.begun.book
+    (prefix_trans w.begun.log c.learn.new.self.log log c.learn.ensures.3 c.read-found.ensures.seen) w.called in
     let told = root_told g.K.PartialEq.eq hash b log hashed w.begun.book called found c.read-found.result.1.state r c.if-found-eq0.false in
     (told.table, cc (c.into_gain.ensures.2, told.gained))
 
 pub token-token-requires-clause-index : goal.token-token-requires-clause-index
 token-token-requires-clause-index g c =
     let hash = hash_of g.K.Hash.hash_input g.S.BuildHasher.build_hasher g.S.Hasher.Hasher.write g.S.Hasher.Hasher.finish in
-    let w = c.args.self.now in let b = begun_of w.parts in let log = c.read-found.new.sight.log in let found = c.read-found.result.0 in let r = c.read-found.ensures.read in
-    let hashed = is_hashed g.K.PartialEq.eq g.K.Hash.hash_input g.S.BuildHasher.build_hasher g.S.Hasher.Hasher.write g.S.Hasher.Hasher.finish g.met.K.Eq.laws g.met.K.Hash.respects_eq b log r.lawful in
-    let called = name_since w.begun.log log w.begun.book (prefix_trans w.begun.log c.learn.new.self.log log c.learn.ensures.3 c.read-found.ensures.seen) w.called in
+    let w = c.args.self.now in let b = begun_of w.parts in let log = c.read-found.new.sight.log in let found = c.read-found.result.0 in
+    let r = c.read-found.ensures.read in
+    let hashed = is_hashed g.K.PartialEq.eq g.K.Hash.hash_input g.S.BuildHasher.build_hasher g.S.Hasher.Hasher.write g.S.Hasher.Hasher.finish
+    g.met.K.Eq.laws g.met.K.Hash.respects_eq b log r.lawful in
+    let called = name_since w.begun.log log w.begun.book
+    (prefix_trans w.begun.log c.learn.new.self.log log c.learn.ensures.3 c.read-found.ensures.seen) w.called in
     let told = root_told g.K.PartialEq.eq hash b log hashed w.begun.book called found c.read-found.result.1.state r c.if-found-eq0.false in
     let answer : c.into_gain.result.answer ≡ Table told.table = cc (c.into_gain.ensures.2, told.gained) in
     let known : c.table_known-known.result.at ≡ told.table = cc (c.table_known-known.ensures, answer) in
@@ -31,18 +37,24 @@ token-token-requires-clause-index g c =
 pub token-token-requires-clause-fits : goal.token-token-requires-clause-fits
 token-token-requires-clause-fits g c =
     let hash = hash_of g.K.Hash.hash_input g.S.BuildHasher.build_hasher g.S.Hasher.Hasher.write g.S.Hasher.Hasher.finish in
-    let w = c.args.self.now in let b = begun_of w.parts in let log = c.read-found.new.sight.log in let found = c.read-found.result.0 in let r = c.read-found.ensures.read in
-    let hashed = is_hashed g.K.PartialEq.eq g.K.Hash.hash_input g.S.BuildHasher.build_hasher g.S.Hasher.Hasher.write g.S.Hasher.Hasher.finish g.met.K.Eq.laws g.met.K.Hash.respects_eq b log r.lawful in
-    let called = name_since w.begun.log log w.begun.book (prefix_trans w.begun.log c.learn.new.self.log log c.learn.ensures.3 c.read-found.ensures.seen) w.called in
+    let w = c.args.self.now in let b = begun_of w.parts in let log = c.read-found.new.sight.log in let found = c.read-found.result.0 in
+    let r = c.read-found.ensures.read in
+    let hashed = is_hashed g.K.PartialEq.eq g.K.Hash.hash_input g.S.BuildHasher.build_hasher g.S.Hasher.Hasher.write g.S.Hasher.Hasher.finish
+    g.met.K.Eq.laws g.met.K.Hash.respects_eq b log r.lawful in
+    let called = name_since w.begun.log log w.begun.book
+    (prefix_trans w.begun.log c.learn.new.self.log log c.learn.ensures.3 c.read-found.ensures.seen) w.called in
     let told = root_told g.K.PartialEq.eq hash b log hashed w.begun.book called found c.read-found.result.1.state r c.if-found-eq0.false in
     let number = told.number in let fits = told.fits in omega arith
 
 pub value-requires : goal.value-requires
 value-requires g c =
     let hash = hash_of g.K.Hash.hash_input g.S.BuildHasher.build_hasher g.S.Hasher.Hasher.write g.S.Hasher.Hasher.finish in
-    let w = c.args.self.now in let b = begun_of w.parts in let log = c.read-found.new.sight.log in let found = c.read-found.result.0 in let r = c.read-found.ensures.read in
-    let hashed = is_hashed g.K.PartialEq.eq g.K.Hash.hash_input g.S.BuildHasher.build_hasher g.S.Hasher.Hasher.write g.S.Hasher.Hasher.finish g.met.K.Eq.laws g.met.K.Hash.respects_eq b log r.lawful in
-    let called = name_since w.begun.log log w.begun.book (prefix_trans w.begun.log c.learn.new.self.log log c.learn.ensures.3 c.read-found.ensures.seen) w.called in
+    let w = c.args.self.now in let b = begun_of w.parts in let log = c.read-found.new.sight.log in let found = c.read-found.result.0 in
+    let r = c.read-found.ensures.read in
+    let hashed = is_hashed g.K.PartialEq.eq g.K.Hash.hash_input g.S.BuildHasher.build_hasher g.S.Hasher.Hasher.write g.S.Hasher.Hasher.finish
+    g.met.K.Eq.laws g.met.K.Hash.respects_eq b log r.lawful in
+    let called = name_since w.begun.log log w.begun.book
+    (prefix_trans w.begun.log c.learn.new.self.log log c.learn.ensures.3 c.read-found.ensures.seen) w.called in
     let told = root_told g.K.PartialEq.eq hash b log hashed w.begun.book called found c.read-found.result.1.state r c.if-found-eq0.false in
     let answer : c.into_gain.result.answer ≡ Table told.table = cc (c.into_gain.ensures.2, told.gained) in
     let known : c.table_known-known.result.at ≡ told.table = cc (c.table_known-known.ensures, answer) in
@@ -52,9 +64,12 @@ value-requires g c =
 pub returns-clause-root : goal.returns-clause-root
 returns-clause-root g c =
     let hash = hash_of g.K.Hash.hash_input g.S.BuildHasher.build_hasher g.S.Hasher.Hasher.write g.S.Hasher.Hasher.finish in
-    let w = c.args.self.now in let b = begun_of w.parts in let log = c.read-found.new.sight.log in let found = c.read-found.result.0 in let r = c.read-found.ensures.read in
-    let hashed = is_hashed g.K.PartialEq.eq g.K.Hash.hash_input g.S.BuildHasher.build_hasher g.S.Hasher.Hasher.write g.S.Hasher.Hasher.finish g.met.K.Eq.laws g.met.K.Hash.respects_eq b log r.lawful in
-    let called = name_since w.begun.log log w.begun.book (prefix_trans w.begun.log c.learn.new.self.log log c.learn.ensures.3 c.read-found.ensures.seen) w.called in
+    let w = c.args.self.now in let b = begun_of w.parts in let log = c.read-found.new.sight.log in let found = c.read-found.result.0 in
+    let r = c.read-found.ensures.read in
+    let hashed = is_hashed g.K.PartialEq.eq g.K.Hash.hash_input g.S.BuildHasher.build_hasher g.S.Hasher.Hasher.write g.S.Hasher.Hasher.finish
+    g.met.K.Eq.laws g.met.K.Hash.respects_eq b log r.lawful in
+    let called = name_since w.begun.log log w.begun.book
+    (prefix_trans w.begun.log c.learn.new.self.log log c.learn.ensures.3 c.read-found.ensures.seen) w.called in
     let told = root_told g.K.PartialEq.eq hash b log hashed w.begun.book called found c.read-found.result.1.state r c.if-found-eq0.false in
     let answer : c.into_gain.result.answer ≡ Table told.table = cc (c.into_gain.ensures.2, told.gained) in
     let known : c.table_known-known.result.at ≡ told.table = cc (c.table_known-known.ensures, answer) in

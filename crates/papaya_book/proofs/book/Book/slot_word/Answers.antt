@@ -17,7 +17,9 @@ read-requires-clause-word g c =
     let w = c.args.self.now in let v = c.learn.new.self.log in let b = begun_of w.parts in
     let hash = hash_of g.K.Hash.hash_input g.S.BuildHasher.build_hasher g.S.Hasher.Hasher.write g.S.Hasher.Hasher.finish in
     let table = c.args.table.now in let word = c.slot.ensures in
-    let held = c.learn.ensures.4 in let lawful : IsLawfulLog g.K.PartialEq.eq hash b v = subst (λ (z : _). IsLawfulLog g.K.PartialEq.eq hash z v) (opened_with g.K.PartialEq.eq hash b held.1.begun v (prefix_trans (Begin b ∷ []) w.begun.log v (first_prefix (Begin b) w.begun.log w.begins) c.learn.ensures.3) held.1.lawful) held.1.lawful in
+    let held = c.learn.ensures.4 in let lawful : IsLawfulLog g.K.PartialEq.eq hash b v = subst (λ (z : _). IsLawfulLog g.K.PartialEq.eq hash z v)
+    (opened_with g.K.PartialEq.eq hash b held.1.begun v
+    (prefix_trans (Begin b ∷ []) w.begun.log v (first_prefix (Begin b) w.begun.log w.begins) c.learn.ensures.3) held.1.lawful) held.1.lawful in
     let called = name_since w.begun.log v w.begun.book c.learn.ensures.3 w.called in
     let came = table_since c.args.sight.now.log v c.args.number table c.learn.ensures.2 c.requires.table in
     let book = table_book g.K.PartialEq.eq hash b v w.begun.book lawful called c.args.number table came in
@@ -28,7 +30,9 @@ read-requires-clause-key g c =
     let w = c.args.self.now in let v = c.learn.new.self.log in let b = begun_of w.parts in
     let hash = hash_of g.K.Hash.hash_input g.S.BuildHasher.build_hasher g.S.Hasher.Hasher.write g.S.Hasher.Hasher.finish in
     let table = c.args.table.now in let word = c.slot.ensures in
-    let held = c.learn.ensures.4 in let lawful : IsLawfulLog g.K.PartialEq.eq hash b v = subst (λ (z : _). IsLawfulLog g.K.PartialEq.eq hash z v) (opened_with g.K.PartialEq.eq hash b held.1.begun v (prefix_trans (Begin b ∷ []) w.begun.log v (first_prefix (Begin b) w.begun.log w.begins) c.learn.ensures.3) held.1.lawful) held.1.lawful in
+    let held = c.learn.ensures.4 in let lawful : IsLawfulLog g.K.PartialEq.eq hash b v = subst (λ (z : _). IsLawfulLog g.K.PartialEq.eq hash z v)
+    (opened_with g.K.PartialEq.eq hash b held.1.begun v
+    (prefix_trans (Begin b ∷ []) w.begun.log v (first_prefix (Begin b) w.begun.log w.begins) c.learn.ensures.3) held.1.lawful) held.1.lawful in
     let called = name_since w.begun.log v w.begun.book c.learn.ensures.3 w.called in
     let came = table_since c.args.sight.now.log v c.args.number table c.learn.ensures.2 c.requires.table in
     let book = table_book g.K.PartialEq.eq hash b v w.begun.book lawful called c.args.number table came in
@@ -37,10 +41,14 @@ read-requires-clause-key g c =
 pub returns-clause-slot : goal.returns-clause-slot
 returns-clause-slot g c =
     let hash = hash_of g.K.Hash.hash_input g.S.BuildHasher.build_hasher g.S.Hasher.Hasher.write g.S.Hasher.Hasher.finish in
-    let w = c.args.self.now in let b = begun_of w.parts in let log = c.read.new.sight.log in let found = c.read.result.0 in let state = c.read.result.1.state in let r = c.read.ensures.read in
-    let hashed = is_hashed g.K.PartialEq.eq g.K.Hash.hash_input g.S.BuildHasher.build_hasher g.S.Hasher.Hasher.write g.S.Hasher.Hasher.finish g.met.K.Eq.laws g.met.K.Hash.respects_eq b log r.lawful in
-    let called = name_since w.begun.log log w.begun.book (prefix_trans w.begun.log c.learn.new.self.log log c.learn.ensures.3 c.read.ensures.seen) w.called in record {
+    let w = c.args.self.now in let b = begun_of w.parts in let log = c.read.new.sight.log in let found = c.read.result.0 in
+    let state = c.read.result.1.state in let r = c.read.ensures.read in
+    let hashed = is_hashed g.K.PartialEq.eq g.K.Hash.hash_input g.S.BuildHasher.build_hasher g.S.Hasher.Hasher.write g.S.Hasher.Hasher.finish
+    g.met.K.Eq.laws g.met.K.Hash.respects_eq b log r.lawful in
+    let called = name_since w.begun.log log w.begun.book (prefix_trans w.begun.log c.learn.new.self.log log c.learn.ensures.3 c.read.ensures.seen)
+    w.called in record {
       read = r;
       some = names_pair g.K.PartialEq.eq hash b log hashed w.begun.book called found state c.args.number c.args.place r;
-      placed = found_placed g.K.PartialEq.eq hash b log hashed w.begun.book called found state c.args.number c.args.place r (named ((state_of log).slot c.args.number c.args.place)) refl;
+      placed = found_placed g.K.PartialEq.eq hash b log hashed w.begun.book called found state c.args.number c.args.place r
+          (named ((state_of log).slot c.args.number c.args.place)) refl;
     }

@@ -14,7 +14,8 @@ loop-preserved g c =
     let keys : map key c.push.new.self.items ≡ map key old ++ word.key ∷ [] = ap (map key) items ∙ map-append key old (word ∷ []) in
     let long : length (map key old) ≡ length old = length-map old key in
     let is : word ≡ word_named b word.key = w.word ∙ ((λ j. word_named (i.book j) c.loop.row.next) ∙ ap (word_named b) (sym (ap key w.word))) in
-    let at : word.key ≡ c.args.row.now.next + length (map key old) = ap key w.word ∙ (i.next ∙ ap (λ (n : ℕ). c.args.row.now.next + n) (sym (long ∙ i.count))) in record {
+    let at : word.key ≡ c.args.row.now.next + length (map key old) = ap key w.word
+    ∙ (i.next ∙ ap (λ (n : ℕ). c.args.row.now.next + n) (sym (long ∙ i.count))) in record {
       count = ap (λ (l : List Named). length l) items ∙ (length-append old (word ∷ []) ∙ ap (λ (n : ℕ). n + 1) i.count);
       book = w.rest.0 ∙ i.book;
       next = let a = w.rest.1 in let n = i.next in omega arith;

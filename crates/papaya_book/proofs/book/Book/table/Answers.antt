@@ -21,7 +21,8 @@ load-requires g c =
       ap (λ w. w.tracked) root,
       c.learn.ensures.0 ∙ (c.requires.book ∙ sym (ap (λ w. w.book) root)),
       c.bare-offer.ensures.0,
-      rw (ap (λ w. w.key) root, c.bare-offer.ensures.1, c.bare-offer.ensures.3) (fetches_moves g.K.PartialEq.eq hash c.learn.new.self.log (Wish (Next c.args.number) None None Nothing) tt),
+      rw (ap (λ w. w.key) root, c.bare-offer.ensures.1, c.bare-offer.ensures.3)
+          (fetches_moves g.K.PartialEq.eq hash c.learn.new.self.log (Wish (Next c.args.number) None None Nothing) tt),
     )
 
 pub table_known-known-requires : goal.table_known-known-requires
@@ -29,10 +30,15 @@ table_known-known-requires g c =
     let hash = hash_of g.K.Hash.hash_input g.S.BuildHasher.build_hasher g.S.Hasher.Hasher.write g.S.Hasher.Hasher.finish in
     let w = c.args.self.now in let b = begun_of w.parts in let log = c.load.new.seen.log in let number = c.args.number in
     let learned = prefix_trans w.begun.log c.learn.new.self.log log c.learn.ensures.3 c.load.ensures.5 in
-    let fetched : Fetched g.K.PartialEq.eq hash number log c.load.new.offer.state = subst (λ (z : _). Fetched g.K.PartialEq.eq hash (table_of (place_of z)) log c.load.new.offer.state) c.bare-offer.ensures.1 c.load.ensures.6.1 in
+    let fetched : Fetched g.K.PartialEq.eq hash number log
+    c.load.new.offer.state = subst (λ (z : _). Fetched g.K.PartialEq.eq hash (table_of (place_of z)) log c.load.new.offer.state)
+    c.bare-offer.ensures.1 c.load.ensures.6.1 in
     let began = prefix_trans (Begin b ∷ []) w.begun.log log (first_prefix (Begin b) w.begun.log w.begins) learned in
-    let hashed = is_hashed g.K.PartialEq.eq g.K.Hash.hash_input g.S.BuildHasher.build_hasher g.S.Hasher.Hasher.write g.S.Hasher.Hasher.finish g.met.K.Eq.laws g.met.K.Hash.respects_eq b log (fetched_lawful g.K.PartialEq.eq hash b log began number c.load.new.offer.state fetched) in
-    let told = fetched_told g.K.PartialEq.eq hash b log began number c.load.new.offer.state fetched hashed w.begun.book (name_since w.begun.log log w.begun.book learned w.called) c.args.sight.now.log (prefix_trans c.args.sight.now.log c.learn.new.self.log log c.learn.ensures.2 c.load.ensures.5) c.requires.come in
+    let hashed = is_hashed g.K.PartialEq.eq g.K.Hash.hash_input g.S.BuildHasher.build_hasher g.S.Hasher.Hasher.write g.S.Hasher.Hasher.finish
+    g.met.K.Eq.laws g.met.K.Hash.respects_eq b log (fetched_lawful g.K.PartialEq.eq hash b log began number c.load.new.offer.state fetched) in
+    let told = fetched_told g.K.PartialEq.eq hash b log began number c.load.new.offer.state fetched hashed w.begun.book
+    (name_since w.begun.log log w.begun.book learned w.called) c.args.sight.now.log
+    (prefix_trans c.args.sight.now.log c.learn.new.self.log log c.learn.ensures.2 c.load.ensures.5) c.requires.come in
     (told.table, cc (c.into_gain.ensures.2, told.gained))
 
 pub token-token-requires-clause-index : goal.token-token-requires-clause-index
@@ -40,10 +46,15 @@ token-token-requires-clause-index g c =
     let hash = hash_of g.K.Hash.hash_input g.S.BuildHasher.build_hasher g.S.Hasher.Hasher.write g.S.Hasher.Hasher.finish in
     let w = c.args.self.now in let b = begun_of w.parts in let log = c.load.new.seen.log in let number = c.args.number in
     let learned = prefix_trans w.begun.log c.learn.new.self.log log c.learn.ensures.3 c.load.ensures.5 in
-    let fetched : Fetched g.K.PartialEq.eq hash number log c.load.new.offer.state = subst (λ (z : _). Fetched g.K.PartialEq.eq hash (table_of (place_of z)) log c.load.new.offer.state) c.bare-offer.ensures.1 c.load.ensures.6.1 in
+    let fetched : Fetched g.K.PartialEq.eq hash number log
+    c.load.new.offer.state = subst (λ (z : _). Fetched g.K.PartialEq.eq hash (table_of (place_of z)) log c.load.new.offer.state)
+    c.bare-offer.ensures.1 c.load.ensures.6.1 in
     let began = prefix_trans (Begin b ∷ []) w.begun.log log (first_prefix (Begin b) w.begun.log w.begins) learned in
-    let hashed = is_hashed g.K.PartialEq.eq g.K.Hash.hash_input g.S.BuildHasher.build_hasher g.S.Hasher.Hasher.write g.S.Hasher.Hasher.finish g.met.K.Eq.laws g.met.K.Hash.respects_eq b log (fetched_lawful g.K.PartialEq.eq hash b log began number c.load.new.offer.state fetched) in
-    let told = fetched_told g.K.PartialEq.eq hash b log began number c.load.new.offer.state fetched hashed w.begun.book (name_since w.begun.log log w.begun.book learned w.called) c.args.sight.now.log (prefix_trans c.args.sight.now.log c.learn.new.self.log log c.learn.ensures.2 c.load.ensures.5) c.requires.come in
+    let hashed = is_hashed g.K.PartialEq.eq g.K.Hash.hash_input g.S.BuildHasher.build_hasher g.S.Hasher.Hasher.write g.S.Hasher.Hasher.finish
+    g.met.K.Eq.laws g.met.K.Hash.respects_eq b log (fetched_lawful g.K.PartialEq.eq hash b log began number c.load.new.offer.state fetched) in
+    let told = fetched_told g.K.PartialEq.eq hash b log began number c.load.new.offer.state fetched hashed w.begun.book
+    (name_since w.begun.log log w.begun.book learned w.called) c.args.sight.now.log
+    (prefix_trans c.args.sight.now.log c.learn.new.self.log log c.learn.ensures.2 c.load.ensures.5) c.requires.come in
     let answer : c.into_gain.result.answer ≡ Table told.table = cc (c.into_gain.ensures.2, told.gained) in
     let known : c.table_known-known.result.at ≡ told.table = cc (c.table_known-known.ensures, answer) in
     let index : c.table_known-known.result.at.index ≡ told.table.index = ap (λ z. z.index) known in let is = told.number in
@@ -54,10 +65,15 @@ overflow_sub-number g c =
     let hash = hash_of g.K.Hash.hash_input g.S.BuildHasher.build_hasher g.S.Hasher.Hasher.write g.S.Hasher.Hasher.finish in
     let w = c.args.self.now in let b = begun_of w.parts in let log = c.load.new.seen.log in let number = c.args.number in
     let learned = prefix_trans w.begun.log c.learn.new.self.log log c.learn.ensures.3 c.load.ensures.5 in
-    let fetched : Fetched g.K.PartialEq.eq hash number log c.load.new.offer.state = subst (λ (z : _). Fetched g.K.PartialEq.eq hash (table_of (place_of z)) log c.load.new.offer.state) c.bare-offer.ensures.1 c.load.ensures.6.1 in
+    let fetched : Fetched g.K.PartialEq.eq hash number log
+    c.load.new.offer.state = subst (λ (z : _). Fetched g.K.PartialEq.eq hash (table_of (place_of z)) log c.load.new.offer.state)
+    c.bare-offer.ensures.1 c.load.ensures.6.1 in
     let began = prefix_trans (Begin b ∷ []) w.begun.log log (first_prefix (Begin b) w.begun.log w.begins) learned in
-    let hashed = is_hashed g.K.PartialEq.eq g.K.Hash.hash_input g.S.BuildHasher.build_hasher g.S.Hasher.Hasher.write g.S.Hasher.Hasher.finish g.met.K.Eq.laws g.met.K.Hash.respects_eq b log (fetched_lawful g.K.PartialEq.eq hash b log began number c.load.new.offer.state fetched) in
-    let told = fetched_told g.K.PartialEq.eq hash b log began number c.load.new.offer.state fetched hashed w.begun.book (name_since w.begun.log log w.begun.book learned w.called) c.args.sight.now.log (prefix_trans c.args.sight.now.log c.learn.new.self.log log c.learn.ensures.2 c.load.ensures.5) c.requires.come in
+    let hashed = is_hashed g.K.PartialEq.eq g.K.Hash.hash_input g.S.BuildHasher.build_hasher g.S.Hasher.Hasher.write g.S.Hasher.Hasher.finish
+    g.met.K.Eq.laws g.met.K.Hash.respects_eq b log (fetched_lawful g.K.PartialEq.eq hash b log began number c.load.new.offer.state fetched) in
+    let told = fetched_told g.K.PartialEq.eq hash b log began number c.load.new.offer.state fetched hashed w.begun.book
+    (name_since w.begun.log log w.begun.book learned w.called) c.args.sight.now.log
+    (prefix_trans c.args.sight.now.log c.learn.new.self.log log c.learn.ensures.2 c.load.ensures.5) c.requires.come in
     let is = told.number in omega arith
 
 pub token-token-requires-clause-fits : goal.token-token-requires-clause-fits
@@ -65,10 +81,15 @@ token-token-requires-clause-fits g c =
     let hash = hash_of g.K.Hash.hash_input g.S.BuildHasher.build_hasher g.S.Hasher.Hasher.write g.S.Hasher.Hasher.finish in
     let w = c.args.self.now in let b = begun_of w.parts in let log = c.load.new.seen.log in let number = c.args.number in
     let learned = prefix_trans w.begun.log c.learn.new.self.log log c.learn.ensures.3 c.load.ensures.5 in
-    let fetched : Fetched g.K.PartialEq.eq hash number log c.load.new.offer.state = subst (λ (z : _). Fetched g.K.PartialEq.eq hash (table_of (place_of z)) log c.load.new.offer.state) c.bare-offer.ensures.1 c.load.ensures.6.1 in
+    let fetched : Fetched g.K.PartialEq.eq hash number log
+    c.load.new.offer.state = subst (λ (z : _). Fetched g.K.PartialEq.eq hash (table_of (place_of z)) log c.load.new.offer.state)
+    c.bare-offer.ensures.1 c.load.ensures.6.1 in
     let began = prefix_trans (Begin b ∷ []) w.begun.log log (first_prefix (Begin b) w.begun.log w.begins) learned in
-    let hashed = is_hashed g.K.PartialEq.eq g.K.Hash.hash_input g.S.BuildHasher.build_hasher g.S.Hasher.Hasher.write g.S.Hasher.Hasher.finish g.met.K.Eq.laws g.met.K.Hash.respects_eq b log (fetched_lawful g.K.PartialEq.eq hash b log began number c.load.new.offer.state fetched) in
-    let told = fetched_told g.K.PartialEq.eq hash b log began number c.load.new.offer.state fetched hashed w.begun.book (name_since w.begun.log log w.begun.book learned w.called) c.args.sight.now.log (prefix_trans c.args.sight.now.log c.learn.new.self.log log c.learn.ensures.2 c.load.ensures.5) c.requires.come in
+    let hashed = is_hashed g.K.PartialEq.eq g.K.Hash.hash_input g.S.BuildHasher.build_hasher g.S.Hasher.Hasher.write g.S.Hasher.Hasher.finish
+    g.met.K.Eq.laws g.met.K.Hash.respects_eq b log (fetched_lawful g.K.PartialEq.eq hash b log began number c.load.new.offer.state fetched) in
+    let told = fetched_told g.K.PartialEq.eq hash b log began number c.load.new.offer.state fetched hashed w.begun.book
+    (name_since w.begun.log log w.begun.book learned w.called) c.args.sight.now.log
+    (prefix_trans c.args.sight.now.log c.learn.new.self.log log c.learn.ensures.2 c.load.ensures.5) c.requires.come in
     let is = told.number in let fits = told.fits in omega arith
 
 pub value-requires : goal.value-requires
@@ -76,10 +97,15 @@ value-requires g c =
     let hash = hash_of g.K.Hash.hash_input g.S.BuildHasher.build_hasher g.S.Hasher.Hasher.write g.S.Hasher.Hasher.finish in
     let w = c.args.self.now in let b = begun_of w.parts in let log = c.load.new.seen.log in let number = c.args.number in
     let learned = prefix_trans w.begun.log c.learn.new.self.log log c.learn.ensures.3 c.load.ensures.5 in
-    let fetched : Fetched g.K.PartialEq.eq hash number log c.load.new.offer.state = subst (λ (z : _). Fetched g.K.PartialEq.eq hash (table_of (place_of z)) log c.load.new.offer.state) c.bare-offer.ensures.1 c.load.ensures.6.1 in
+    let fetched : Fetched g.K.PartialEq.eq hash number log
+    c.load.new.offer.state = subst (λ (z : _). Fetched g.K.PartialEq.eq hash (table_of (place_of z)) log c.load.new.offer.state)
+    c.bare-offer.ensures.1 c.load.ensures.6.1 in
     let began = prefix_trans (Begin b ∷ []) w.begun.log log (first_prefix (Begin b) w.begun.log w.begins) learned in
-    let hashed = is_hashed g.K.PartialEq.eq g.K.Hash.hash_input g.S.BuildHasher.build_hasher g.S.Hasher.Hasher.write g.S.Hasher.Hasher.finish g.met.K.Eq.laws g.met.K.Hash.respects_eq b log (fetched_lawful g.K.PartialEq.eq hash b log began number c.load.new.offer.state fetched) in
-    let told = fetched_told g.K.PartialEq.eq hash b log began number c.load.new.offer.state fetched hashed w.begun.book (name_since w.begun.log log w.begun.book learned w.called) c.args.sight.now.log (prefix_trans c.args.sight.now.log c.learn.new.self.log log c.learn.ensures.2 c.load.ensures.5) c.requires.come in
+    let hashed = is_hashed g.K.PartialEq.eq g.K.Hash.hash_input g.S.BuildHasher.build_hasher g.S.Hasher.Hasher.write g.S.Hasher.Hasher.finish
+    g.met.K.Eq.laws g.met.K.Hash.respects_eq b log (fetched_lawful g.K.PartialEq.eq hash b log began number c.load.new.offer.state fetched) in
+    let told = fetched_told g.K.PartialEq.eq hash b log began number c.load.new.offer.state fetched hashed w.begun.book
+    (name_since w.begun.log log w.begun.book learned w.called) c.args.sight.now.log
+    (prefix_trans c.args.sight.now.log c.learn.new.self.log log c.learn.ensures.2 c.load.ensures.5) c.requires.come in
     let answer : c.into_gain.result.answer ≡ Table told.table = cc (c.into_gain.ensures.2, told.gained) in
     let known : c.table_known-known.result.at ≡ told.table = cc (c.table_known-known.ensures, answer) in
     let token : c.token-token.result ≡ told.table = c.token-token.ensures ∙ known in
@@ -90,10 +116,15 @@ returns-clause-table g c =
     let hash = hash_of g.K.Hash.hash_input g.S.BuildHasher.build_hasher g.S.Hasher.Hasher.write g.S.Hasher.Hasher.finish in
     let w = c.args.self.now in let b = begun_of w.parts in let log = c.load.new.seen.log in let number = c.args.number in
     let learned = prefix_trans w.begun.log c.learn.new.self.log log c.learn.ensures.3 c.load.ensures.5 in
-    let fetched : Fetched g.K.PartialEq.eq hash number log c.load.new.offer.state = subst (λ (z : _). Fetched g.K.PartialEq.eq hash (table_of (place_of z)) log c.load.new.offer.state) c.bare-offer.ensures.1 c.load.ensures.6.1 in
+    let fetched : Fetched g.K.PartialEq.eq hash number log
+    c.load.new.offer.state = subst (λ (z : _). Fetched g.K.PartialEq.eq hash (table_of (place_of z)) log c.load.new.offer.state)
+    c.bare-offer.ensures.1 c.load.ensures.6.1 in
     let began = prefix_trans (Begin b ∷ []) w.begun.log log (first_prefix (Begin b) w.begun.log w.begins) learned in
-    let hashed = is_hashed g.K.PartialEq.eq g.K.Hash.hash_input g.S.BuildHasher.build_hasher g.S.Hasher.Hasher.write g.S.Hasher.Hasher.finish g.met.K.Eq.laws g.met.K.Hash.respects_eq b log (fetched_lawful g.K.PartialEq.eq hash b log began number c.load.new.offer.state fetched) in
-    let told = fetched_told g.K.PartialEq.eq hash b log began number c.load.new.offer.state fetched hashed w.begun.book (name_since w.begun.log log w.begun.book learned w.called) c.args.sight.now.log (prefix_trans c.args.sight.now.log c.learn.new.self.log log c.learn.ensures.2 c.load.ensures.5) c.requires.come in
+    let hashed = is_hashed g.K.PartialEq.eq g.K.Hash.hash_input g.S.BuildHasher.build_hasher g.S.Hasher.Hasher.write g.S.Hasher.Hasher.finish
+    g.met.K.Eq.laws g.met.K.Hash.respects_eq b log (fetched_lawful g.K.PartialEq.eq hash b log began number c.load.new.offer.state fetched) in
+    let told = fetched_told g.K.PartialEq.eq hash b log began number c.load.new.offer.state fetched hashed w.begun.book
+    (name_since w.begun.log log w.begun.book learned w.called) c.args.sight.now.log
+    (prefix_trans c.args.sight.now.log c.learn.new.self.log log c.learn.ensures.2 c.load.ensures.5) c.requires.come in
     let answer : c.into_gain.result.answer ≡ Table told.table = cc (c.into_gain.ensures.2, told.gained) in
     let known : c.table_known-known.result.at ≡ told.table = cc (c.table_known-known.ensures, answer) in
     let token : c.token-token.result ≡ told.table = c.token-token.ensures ∙ known in

@@ -46,20 +46,38 @@ use Rattle.papaya_book.proofs.rule.offer.drawing.Code as code
 
 pub drawing_spec : {M : Type 1} → statement M
 drawing_spec 𝓤 𝓛 𝓜 𝓡 wired K V S I _ _ _ _ gh dh ge de gp dp gb db gi di dd _ _ _ _ _ _ =
-    let H = 𝓛.H in let 𝓣 = tables 𝓤 H 𝓜 𝓡 𝓡.env in let R : RattleType = Pair.the_row (param 0 K) (param 1 V) in let En = ended K V S I gh dh ge de gp dp gb db gi di dd in
-    let inst = bounded (a_type ∷ a_type ∷ a_type ∷ a_type ∷ []) (K, (V, (S, (I, tt)))) (dcons dh (dcons de (dcons dp (dcons db (dcons di (dcons dd dnil)))))) in let fn = inst_fn inst code.function in let c = clauses K V S I gh dh ge de gp dp gb db gi di dd 𝓛 𝓜.mem 𝓡.returns in
-    let S' : RattleType = Seen.the_row (Event.the_row (param 0 K) (param 1 V) (param 2 S)) (Named.the_row (param 0 K) (param 1 V)) (Law.the_row (param 0 K) (param 1 V) (param 2 S)) (LawRule.ghosts (param 0 K) (param 1 V) (param 2 S) (param 3 I) gh LawRule.no_dict ge LawRule.no_dict gp LawRule.no_dict gb LawRule.no_dict gi LawRule.no_dict LawRule.no_dict) in
+    let H = 𝓛.H in let 𝓣 = tables 𝓤 H 𝓜 𝓡 𝓡.env in let R : RattleType = Pair.the_row (param 0 K) (param 1 V) in
+    let En = ended K V S I gh dh ge de gp dp gb db gi di dd in
+    let inst = bounded (a_type ∷ a_type ∷ a_type ∷ a_type ∷ []) (K, (V, (S, (I, tt))))
+    (dcons dh (dcons de (dcons dp (dcons db (dcons di (dcons dd dnil)))))) in let fn = inst_fn inst code.function in
+    let c = clauses K V S I gh dh ge de gp dp gb db gi di dd 𝓛 𝓜.mem 𝓡.returns in
+    let S' : RattleType = Seen.the_row (Event.the_row (param 0 K) (param 1 V) (param 2 S)) (Named.the_row (param 0 K) (param 1 V))
+    (Law.the_row (param 0 K) (param 1 V) (param 2 S))
+    (LawRule.ghosts (param 0 K) (param 1 V) (param 2 S) (param 3 I) gh LawRule.no_dict ge LawRule.no_dict gp LawRule.no_dict gb LawRule.no_dict gi
+    LawRule.no_dict LawRule.no_dict) in
     let self = RefOf (0 ∷ []) tt (plain (λ _. S')) (λ _. tt) in let num = plain (λ _. u64) in
     let hs : Stays En.signature.params En.kept = (stay_dropped self yes, (stay_dropped num yes, (stay_dropped num yes, tt))) in
-    proved 𝓛 En hs c 𝓜 𝓡 (Goes-dropped 𝓛 5 self yes (λ κs x f. refl), (Goes-dropped 𝓛 5 num yes (λ κs x f. refl), (Goes-dropped 𝓛 5 num yes (λ κs x f. refl), tt))) (#self inst) fn (code.unfolded 𝓤 H 𝓜 𝓡 wired (K, (V, (S, (I, tt)))) dh de dp db di dd)
-    (λ κs. (shr_vals, (uint_vals w64, (uint_vals w64, tt)))) (λ κs. (shr_Tells (named 0) κs.0 S', (uint_Tells w64, (uint_Tells w64, tt)))) (λ κs qs bounds a gh are.
+    proved 𝓛 En hs c 𝓜 𝓡 (
+      Goes-dropped 𝓛 5 self yes (λ κs x f. refl),
+      (Goes-dropped 𝓛 5 num yes (λ κs x f. refl), (Goes-dropped 𝓛 5 num yes (λ κs x f. refl), tt)),
+    ) (#self inst) fn
+    (code.unfolded 𝓤 H 𝓜 𝓡 wired (K, (V, (S, (I, tt)))) dh de dp db di dd)
+    (λ κs. (shr_vals, (uint_vals w64, (uint_vals w64, tt)))) (λ κs. (shr_Tells (named 0) κs.0 S', (uint_Tells w64, (uint_Tells w64, tt))))
+    (λ κs qs bounds a gh are.
     let p : Val = vptr a.0.ref_ptr.0 a.0.ref_ptr.1 in let first : ℕ = a.1.0 in let count : ℕ = a.1.1.0 in
-    let y : (walk_of 𝓛 En hs c).Ghost = ((κs, qs, bounds, a, (p ∷ [], (vint w64 first ∷ [], (vint w64 count ∷ [], tt)))), gh) in let Post : Val → SProp 𝓤 = (walk_of 𝓛 En hs c).post y in
+    let y : (walk_of 𝓛 En hs c).Ghost = ((κs, qs, bounds, a, (p ∷ [], (vint w64 first ∷ [], (vint w64 count ∷ [], tt)))), gh) in
+    let Post : Val → SProp 𝓤 = (walk_of 𝓛 En hs c).post y in
     let ask : Entry K.Denot V.Denot S.Denot = Draw a.0.now.book first count in
-    qed 𝓛 ((raw (denote.Triple.Entry.alive 𝓛 En.signature κs qs) ⊛ ‵ (owns (types_at En.signature.params κs) a y.0.4)) ∷ raw ((c κs a).requires gh) ∷ []) ∵ split ! $ keep ! (0 ∷ []) $
-    enter ! 𝓣.C 𝓣.Λ fn (p ∷ vint w64 first ∷ vint w64 count ∷ []) Post $ alloc_all ! (λ l. pass_all ! refl ((tt, tt), ((tt, record { fits = are.1.0.1 }), ((tt, record { fits = are.1.1.0.1 }), tt))) $
-    use0 𝓛 (‵ (offer (held (pair_stands R) (stands SheetRow)) (Moved ask) (λ n. pens_own a.0.now.book.cells_name first count))) (draw_offer 𝓛 {K = K.Denot} {V = V.Denot} (pair_stands R) (stands SheetRow) (pair_stands_twice 𝓛 R) (stands_twice 𝓛 SheetRow) S.Denot a.0.now.book first count) $
+    qed 𝓛 ((raw (denote.Triple.Entry.alive 𝓛 En.signature κs qs) ⊛ ‵ (owns (types_at En.signature.params κs) a y.0.4)) ∷ raw ((c κs a).requires gh) ∷
+    []) ∵ split ! $ keep ! (0 ∷ []) $
+    enter ! 𝓣.C 𝓣.Λ fn (p ∷ vint w64 first ∷ vint w64 count ∷ []) Post $ alloc_all !
+    (λ l. pass_all ! refl ((tt, tt), ((tt, record { fits = are.1.0.1 }), ((tt, record { fits = are.1.1.0.1 }), tt))) $
+    use0 𝓛 (‵ (offer (held (pair_stands R) (stands SheetRow)) (Moved ask) (λ n. pens_own a.0.now.book.cells_name first count)))
+    (draw_offer 𝓛 {K = K.Denot} {V = V.Denot} (pair_stands R) (stands SheetRow) (pair_stands_twice 𝓛 R) (stands_twice 𝓛 SheetRow) S.Denot
+    a.0.now.book first count) $
     use0 𝓛 (‵ ((Token R).own_val (record {}, tt) (token ∷ []))) (token_made R 𝓛) $ fjoin ! $
     sets ! (agg ! (no_more !)) refl (tt, tt) $ sets ! (agg ! (and_then ! (get ! refl) (no_more !))) refl (tt, (tt, tt)) $
     nothing ! $ nothing ! $ fjoin ! $ nothing ! $ fjoin ! $ nothing ! $ fjoin ! $
-    returns ! (look_at ! 0 refl) $ free_all ! refl $ keep ! (2 ∷ 0 ∷ 1 ∷ []) $ by ! (ends 𝓛 En hs c y token (record { marker = record {}; names = a.0.now.names; ask = ask; about = ask ∷ []; state = None }) (tt, (tt, (tt, tt))) (tt, (tt, (tt, tt))) (fact_i 𝓤 _ (emp 𝓤) (refl, refl, refl, refl)))))
+    returns ! (look_at ! 0 refl) $ free_all ! refl $ keep ! (2 ∷ 0 ∷ 1 ∷ []) $ by !
+    (ends 𝓛 En hs c y token (record { marker = record {}; names = a.0.now.names; ask = ask; about = ask ∷ []; state = None }) (tt, (tt, (tt, tt)))
+    (tt, (tt, (tt, tt))) (fact_i 𝓤 _ (emp 𝓤) (refl, refl, refl, refl)))))

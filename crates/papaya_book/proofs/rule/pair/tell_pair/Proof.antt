@@ -40,11 +40,15 @@ tell_pair_spec 𝓤 𝓛 𝓜 𝓡 wired K V _ _ =
     (λ κs. (shr_vals, tt)) (λ κs. (shr_Tells (named 0) κs.0 P', tt)) (λ κs qs bounds a gh are.
     let p : Val = vptr a.0.ref_ptr.0 a.0.ref_ptr.1 in
     let y : (walk_of 𝓛 En hs c).Ghost = ((κs, qs, bounds, a, (p ∷ [], tt)), gh) in let Post : Val → SProp 𝓤 = (walk_of 𝓛 En hs c).post y in
-    qed 𝓛 ((raw (denote.Triple.Entry.alive 𝓛 En.signature κs qs) ⊛ ‵ (owns (types_at En.signature.params κs) a y.0.4)) ∷ raw ((c κs a).requires gh) ∷ []) ∵ split ! $ keep ! (1 ∷ 0 ∷ []) $
-    fsplit ! $ fsplit ! $ keep ! (1 ∷ 3 ∷ []) $ unhide ! $ fpick ! (λ x. fsplit ! $ fsplit ! $ fsplit ! $ drop ! $ fsplit ! $ fsplit ! $ drop ! $ move ! (1 ∷ []) $ fsplit ! $ fsplit ! $ drop ! $ move ! (2 ∷ 0 ∷ []) $ fjoin ! $
+    qed 𝓛 ((raw (denote.Triple.Entry.alive 𝓛 En.signature κs qs) ⊛ ‵ (owns (types_at En.signature.params κs) a y.0.4)) ∷ raw ((c κs a).requires gh) ∷
+    []) ∵ split ! $ keep ! (1 ∷ 0 ∷ []) $
+    fsplit ! $ fsplit ! $ keep ! (1 ∷ 3 ∷ []) $ unhide ! $ fpick !
+    (λ x. fsplit ! $ fsplit ! $ fsplit ! $ drop ! $ fsplit ! $ fsplit ! $ drop ! $ move ! (1 ∷ []) $ fsplit ! $ fsplit ! $ drop ! $ move !
+    (2 ∷ 0 ∷ []) $ fjoin ! $
     fpack ! (Fields R a.0.now) (λ (y : Fields R a.0.now). fsep (written (row_row R) y.0.row.of y.0.row.value) (written R y.0.item.of y.0.item.value)) x $
     use0 𝓛 (‵ ((Token R).own_val (record {}, tt) (token ∷ []))) (token_made R 𝓛) $ fjoin ! $ keep ! (0 ∷ 4 ∷ []) $
     enter ! 𝓣.C 𝓣.Λ fn (p ∷ []) Post $ alloc_all ! (λ l. pass_all ! refl ((tt, tt), tt) $
     sets ! (agg ! (no_more !)) refl (tt, tt) $ sets ! (agg ! (and_then ! (get ! refl) (no_more !))) refl (tt, (tt, tt)) $
     nothing ! $ nothing ! $ fjoin ! $
-    returns ! (look_at ! 0 refl) $ free_all ! refl $ keep ! (2 ∷ 0 ∷ 1 ∷ []) $ by ! (ends 𝓛 En hs c y token (record { marker = record {}; at = a.0.now }) (tt, tt) (tt, tt) (fact_i 𝓤 _ (emp 𝓤) refl)))))
+    returns ! (look_at ! 0 refl) $ free_all ! refl $ keep ! (2 ∷ 0 ∷ 1 ∷ []) $ by !
+    (ends 𝓛 En hs c y token (record { marker = record {}; at = a.0.now }) (tt, tt) (tt, tt) (fact_i 𝓤 _ (emp 𝓤) refl)))))

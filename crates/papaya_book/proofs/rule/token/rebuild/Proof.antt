@@ -43,12 +43,35 @@ rebuild_spec 𝓤 𝓛 𝓜 𝓡 wired T L =
     let S : RattleType = Known.the_row R in
     let self = plain (λ _. S) in let num = plain (λ _. usize) in
     let hs : Stays En.signature.params En.kept = (stay_dropped self no, (stay_dropped num yes, (stay_dropped num yes, (stay_dropped num yes, tt)))) in
-    proved 𝓛 En hs c 𝓜 𝓡 (Goes-dropped 𝓛 1 self no (λ κs x f. refl), (Goes-dropped 𝓛 1 num yes (λ κs x f. refl), (Goes-dropped 𝓛 1 num yes (λ κs x f. refl), (Goes-dropped 𝓛 1 num yes (λ κs x f. refl), tt)))) (#self inst) fn (code.unfolded 𝓤 H 𝓜 𝓡 wired (T, tt))
-    (λ κs. ((λ x. token ∷ []), (uint_vals w64, (uint_vals w64, (uint_vals w64, tt))))) (λ κs. ((λ x vs is. token_told R vs is.0), (uint_Tells w64, (uint_Tells w64, (uint_Tells w64, tt))))) (λ κs qs bounds a gh are.
-    let y : (walk_of 𝓛 En hs c).Ghost = ((κs, qs, bounds, a, (token ∷ [], (uint_vals w64 a.1.0, (uint_vals w64 a.1.1.0, (uint_vals w64 a.1.1.1.0, tt))))), gh) in let Post : Val → SProp 𝓤 = (walk_of 𝓛 En hs c).post y in
-    qed 𝓛 ((raw (denote.Triple.Entry.alive 𝓛 En.signature κs qs) ⊛ ‵ (owns (types_at En.signature.params κs) a y.0.4)) ∷ raw (fact 𝓤 _) ∷ given _ (‵ ftrue) ∷ []) ∵ move ! (2 ∷ []) $ learn ! (λ asked. drop ! $ split ! $ keep ! (1 ∷ 0 ∷ []) $
+    proved 𝓛 En hs c 𝓜 𝓡 (
+      Goes-dropped 𝓛 1 self no (λ κs x f. refl),
+      (Goes-dropped 𝓛 1 num yes (λ κs x f. refl), (Goes-dropped 𝓛 1 num yes (λ κs x f. refl), (Goes-dropped 𝓛 1 num yes (λ κs x f. refl), tt))),
+    )
+    (#self inst) fn (code.unfolded 𝓤 H 𝓜 𝓡 wired (T, tt))
+    (λ κs. ((λ x. token ∷ []), (uint_vals w64, (uint_vals w64, (uint_vals w64, tt)))))
+    (λ κs. ((λ x vs is. token_told R vs is.0), (uint_Tells w64, (uint_Tells w64, (uint_Tells w64, tt))))) (λ κs qs bounds a gh are.
+    let y : (walk_of 𝓛 En hs c).Ghost = (
+      (
+        κs,
+        qs,
+        bounds,
+        a,
+        (token ∷ [], (uint_vals w64 a.1.0, (uint_vals w64 a.1.1.0, (uint_vals w64 a.1.1.1.0, tt)))),
+      ),
+      gh,
+    ) in
+    let Post : Val → SProp 𝓤 = (walk_of 𝓛 En hs c).post y in
+    qed 𝓛 ((raw (denote.Triple.Entry.alive 𝓛 En.signature κs qs) ⊛ ‵ (owns (types_at En.signature.params κs) a y.0.4)) ∷ raw (fact 𝓤 _) ∷ given _
+    (‵ ftrue) ∷ []) ∵ move ! (2 ∷ []) $ learn ! (λ asked. drop ! $ split ! $ keep ! (1 ∷ 0 ∷ []) $
     fsplit ! $ fsplit ! $ keep ! (1 ∷ 3 ∷ []) $ fpick ! (λ x.
-    enter ! 𝓣.C 𝓣.Λ fn (token ∷ vint w64 a.1.0 ∷ vint w64 a.1.1.0 ∷ vint w64 a.1.1.1.0 ∷ []) Post $ alloc_all ! (λ l. pass_all ! refl ((tt, (tt, tt)), ((tt, record { fits = are.1.0.1 }), ((tt, record { fits = are.1.1.0.1 }), ((tt, record { fits = are.1.1.1.0.1 }), tt)))) $
+    enter ! 𝓣.C 𝓣.Λ fn (token ∷ vint w64 a.1.0 ∷ vint w64 a.1.1.0 ∷ vint w64 a.1.1.1.0 ∷ []) Post $ alloc_all !
+    (λ l. pass_all ! refl (
+      (tt, (tt, tt)),
+      (
+        (tt, record { fits = are.1.0.1 }),
+        ((tt, record { fits = are.1.1.0.1 }), ((tt, record { fits = are.1.1.1.0.1 }), tt)),
+      ),
+    ) $
     let Ev = env fn.locals l in
     let w = a.0.at in let i = a.1.0 in let b = a.1.1.0 in let s = a.1.1.1.0 in
     let e : x.0.index ≡ w.index = ap (λ u. u.index) x.1.0 in
@@ -58,10 +81,18 @@ rebuild_spec 𝓤 𝓛 𝓜 𝓡 wired T L =
     fsplit ! $ use2 𝓛 (‵ ((token_row R).own_val w (v ∷ []))) (placed_made 𝓛 R w x i b s ei one.0 one.1 are.1.0.1 are.1.1.0.1 are.1.1.1.0.1) $
     sets ! (agg ! (no_more !)) refl (tt, tt) $ sets ! (agg ! (and_then ! (get ! refl) (no_more !))) refl (tt, (tt, tt)) $
     sets ! (agg ! (no_more !)) refl (tt, tt) $ sets ! (agg ! (and_then ! (get ! refl) (no_more !))) refl (tt, (tt, tt)) $
-    sets ! (agg ! (and_then ! (get ! refl) (and_then ! (get ! refl) (and_then ! (get ! refl) (and_then ! (get ! refl) (and_then ! (get ! refl) (no_more !))))))) refl (tt, (record { fits = are.1.0.1 }, (record { fits = are.1.1.0.1 }, (record { fits = are.1.1.1.0.1 }, ((tt, tt), ((tt, tt), tt)))))) $
+    sets ! (agg ! (and_then ! (get ! refl) (and_then ! (get ! refl)
+    (and_then ! (get ! refl) (and_then ! (get ! refl) (and_then ! (get ! refl) (no_more !))))))) refl
+    (tt, (record { fits = are.1.0.1 }, (record { fits = are.1.1.0.1 }, (record { fits = are.1.1.1.0.1 }, ((tt, tt), ((tt, tt), tt)))))) $
     first ! $ blocks ! $ sets ! (addr ! (from ! (stop !))) refl (tt, tt) $
-    sets_last ! (of_opd ! (load ! (through ! refl (stop !)) (retyped 𝓛 (lone (mine R).mir) (lone (token_row R).mir) refl (l 5) 0 v (look_at ! 5 refl)))) refl (tt, (record { fits = are.1.0.1 }, (record { fits = are.1.1.0.1 }, (record { fits = are.1.1.1.0.1 }, ((tt, tt), ((tt, tt), tt)))))) $
+    sets_last ! (of_opd ! (load ! (through ! refl (stop !))
+    (retyped 𝓛 (lone (mine R).mir) (lone (token_row R).mir) refl (l 5) 0 v (look_at ! 5 refl)))) refl
+    (tt, (record { fits = are.1.0.1 }, (record { fits = are.1.1.0.1 }, (record { fits = are.1.1.1.0.1 }, ((tt, tt), ((tt, tt), tt)))))) $
     exec ! 𝓣.C 𝓣.Λ Ev (seq (assign_to (place 0 []) (rv_opd (copy (place 10 [])))) return) (at_ret Ev Post) $
-    sets ! (of_opd ! (get ! refl)) refl (tt, (record { fits = are.1.0.1 }, (record { fits = are.1.1.0.1 }, (record { fits = are.1.1.1.0.1 }, ((tt, tt), ((tt, tt), tt)))))) $
+    sets ! (of_opd ! (get ! refl)) refl (
+      tt,
+      (record { fits = are.1.0.1 }, (record { fits = are.1.1.0.1 }, (record { fits = are.1.1.1.0.1 }, ((tt, tt), ((tt, tt), tt))))),
+    ) $
     nothing ! $ nothing ! $ fjoin ! $ nothing ! $ fjoin ! $ nothing ! $ fjoin ! $ nothing ! $ fjoin ! $
-    returns ! (look_at ! 0 refl) $ free_all ! refl $ keep ! (2 ∷ 0 ∷ 1 ∷ []) $ by ! (ends 𝓛 En hs c y v w (tt, (tt, (tt, (tt, tt)))) (tt, (tt, (tt, (tt, tt)))) (fact_i 𝓤 _ (emp 𝓤) refl))))))
+    returns ! (look_at ! 0 refl) $ free_all ! refl $ keep ! (2 ∷ 0 ∷ 1 ∷ []) $ by !
+    (ends 𝓛 En hs c y v w (tt, (tt, (tt, (tt, tt)))) (tt, (tt, (tt, (tt, tt)))) (fact_i 𝓤 _ (emp 𝓤) refl))))))

@@ -4,5 +4,6 @@ use Rattle.papaya_book.proofs.table.Table.slot.Goals as goal
 
 pub returns : goal.returns
 returns g c =
-    let word = seen_word _ c.args.self.now c.self.inside.slots.items c.args.place c.index.result.now c.self.view_is refl c.self.invariant.3 c.requires c.index.ensures in
+    let word = seen_word _ c.args.self.now c.self.inside.slots.items c.args.place c.index.result.now c.self.view_is refl c.self.invariant.3 c.requires
+    c.index.ensures in
     (word.0, word.1, c.word.ensures ∙ word.2)

@@ -19,7 +19,8 @@ is_none (Some a) none = absurd (none a refl)
 
 pub table-table-requires : goal.table-table-requires
 table-table-requires g c =
-    let there = asked c.args.window.now c.args.mode (stop_in c.args.window.now (at_slot c.args.aim c.args.chunk Looking) c.args.self.now) c.requires.can in record { come = (there.0, there.1) }
+    let there = asked c.args.window.now c.args.mode (stop_in c.args.window.now (at_slot c.args.aim c.args.chunk Looking) c.args.self.now)
+    c.requires.can in record { come = (there.0, there.1) }
 
 pub loop-halt-init : goal.loop-halt-init
 loop-halt-init g c =
@@ -31,7 +32,8 @@ loop-halt-init g c =
       placed = record { table = c.table-table.ensures.table; standing = c.requires.standing };
       seen = w.sight.log;
       since = c.table-table.ensures.sees.log;
-      leads = leads_none g.K.PartialEq.eq (hash_of g.K.Hash.hash_input g.S.BuildHasher.build_hasher g.S.Hasher.Hasher.write g.S.Hasher.Hasher.finish) (begun_of w'.book.now.parts) w'.book.now.begun.book c.args.mode s;
+      leads = leads_none g.K.PartialEq.eq (hash_of g.K.Hash.hash_input g.S.BuildHasher.build_hasher g.S.Hasher.Hasher.write g.S.Hasher.Hasher.finish)
+          (begun_of w'.book.now.parts) w'.book.now.begun.book c.args.mode s;
       can = can_still w w' same c.args.mode s c.requires.can;
     }
 
@@ -40,8 +42,10 @@ settle-requires-clause-waits g c = (c.loop-halt.invariant.seen, c.loop-halt.inva
 
 pub returns-in-Some-clause-standing : goal.returns-in-Some-clause-standing
 returns-in-Some-clause-standing g c =
-    let l = c.loop-halt in let w₀ = c.args.window.now in let w = l.window in let one = c.settle in let w' = one.new.window in let h = one.new.self in let site = l.site in
-    let eq = g.K.PartialEq.eq in let hash = hash_of g.K.Hash.hash_input g.S.BuildHasher.build_hasher g.S.Hasher.Hasher.write g.S.Hasher.Hasher.finish in let b = begun_of w'.book.now.parts in let name = w'.book.now.begun.book in
+    let l = c.loop-halt in let w₀ = c.args.window.now in let w = l.window in let one = c.settle in let w' = one.new.window in let h = one.new.self in
+    let site = l.site in
+    let eq = g.K.PartialEq.eq in let hash = hash_of g.K.Hash.hash_input g.S.BuildHasher.build_hasher g.S.Hasher.Hasher.write g.S.Hasher.Hasher.finish
+    in let b = begun_of w'.book.now.parts in let name = w'.book.now.begun.book in
     let same = one.ensures.sees.book ∙ l.invariant.sees.book in
     let s : Stop _ _ _ _ = stop_in w₀ (at_slot c.args.aim c.args.chunk Looking) c.args.self.now in
     let t : Stop _ _ _ _ = stop_seen l.invariant.seen site l.self in
@@ -55,8 +59,10 @@ returns-in-Some-clause-standing g c =
 
 pub returns-in-Some-clause-fit : goal.returns-in-Some-clause-fit
 returns-in-Some-clause-fit g c =
-    let l = c.loop-halt in let w₀ = c.args.window.now in let w = l.window in let one = c.settle in let w' = one.new.window in let h = one.new.self in let site = l.site in
-    let eq = g.K.PartialEq.eq in let hash = hash_of g.K.Hash.hash_input g.S.BuildHasher.build_hasher g.S.Hasher.Hasher.write g.S.Hasher.Hasher.finish in let b = begun_of w'.book.now.parts in let name = w'.book.now.begun.book in
+    let l = c.loop-halt in let w₀ = c.args.window.now in let w = l.window in let one = c.settle in let w' = one.new.window in let h = one.new.self in
+    let site = l.site in
+    let eq = g.K.PartialEq.eq in let hash = hash_of g.K.Hash.hash_input g.S.BuildHasher.build_hasher g.S.Hasher.Hasher.write g.S.Hasher.Hasher.finish
+    in let b = begun_of w'.book.now.parts in let name = w'.book.now.begun.book in
     let same = one.ensures.sees.book ∙ l.invariant.sees.book in
     let s : Stop _ _ _ _ = stop_in w₀ (at_slot c.args.aim c.args.chunk Looking) c.args.self.now in
     let t : Stop _ _ _ _ = stop_seen l.invariant.seen site l.self in
@@ -70,8 +76,10 @@ returns-in-Some-clause-fit g c =
 
 pub returns-in-Some-clause-ends : goal.returns-in-Some-clause-ends
 returns-in-Some-clause-ends g c =
-    let l = c.loop-halt in let w₀ = c.args.window.now in let w = l.window in let one = c.settle in let w' = one.new.window in let h = one.new.self in let site = l.site in
-    let eq = g.K.PartialEq.eq in let hash = hash_of g.K.Hash.hash_input g.S.BuildHasher.build_hasher g.S.Hasher.Hasher.write g.S.Hasher.Hasher.finish in let b = begun_of w'.book.now.parts in let name = w'.book.now.begun.book in
+    let l = c.loop-halt in let w₀ = c.args.window.now in let w = l.window in let one = c.settle in let w' = one.new.window in let h = one.new.self in
+    let site = l.site in
+    let eq = g.K.PartialEq.eq in let hash = hash_of g.K.Hash.hash_input g.S.BuildHasher.build_hasher g.S.Hasher.Hasher.write g.S.Hasher.Hasher.finish
+    in let b = begun_of w'.book.now.parts in let name = w'.book.now.begun.book in
     let same = one.ensures.sees.book ∙ l.invariant.sees.book in
     let s : Stop _ _ _ _ = stop_in w₀ (at_slot c.args.aim c.args.chunk Looking) c.args.self.now in
     let t : Stop _ _ _ _ = stop_seen l.invariant.seen site l.self in
@@ -86,8 +94,10 @@ returns-in-Some-clause-ends g c =
 
 pub exchange-answer-requires : goal.exchange-answer-requires
 exchange-answer-requires g c =
-    let l = c.loop-halt in let w₀ = c.args.window.now in let w = l.window in let one = c.settle in let w' = one.new.window in let h = one.new.self in let site = l.site in
-    let eq = g.K.PartialEq.eq in let hash = hash_of g.K.Hash.hash_input g.S.BuildHasher.build_hasher g.S.Hasher.Hasher.write g.S.Hasher.Hasher.finish in let b = begun_of w'.book.now.parts in let name = w'.book.now.begun.book in
+    let l = c.loop-halt in let w₀ = c.args.window.now in let w = l.window in let one = c.settle in let w' = one.new.window in let h = one.new.self in
+    let site = l.site in
+    let eq = g.K.PartialEq.eq in let hash = hash_of g.K.Hash.hash_input g.S.BuildHasher.build_hasher g.S.Hasher.Hasher.write g.S.Hasher.Hasher.finish
+    in let b = begun_of w'.book.now.parts in let name = w'.book.now.begun.book in
     let same = one.ensures.sees.book ∙ l.invariant.sees.book in
     let s : Stop _ _ _ _ = stop_in w₀ (at_slot c.args.aim c.args.chunk Looking) c.args.self.now in
     let t : Stop _ _ _ _ = stop_seen l.invariant.seen site l.self in
@@ -109,8 +119,10 @@ returns-then-site-clause-standing g c = c.loop-halt.invariant.placed.standing.cu
 
 pub returns-then-site-clause-ends : goal.returns-then-site-clause-ends
 returns-then-site-clause-ends g c =
-    let l = c.loop-halt in let w₀ = c.args.window.now in let w = l.window in let one = c.settle in let w' = one.new.window in let h = one.new.self in let site = l.site in
-    let eq = g.K.PartialEq.eq in let hash = hash_of g.K.Hash.hash_input g.S.BuildHasher.build_hasher g.S.Hasher.Hasher.write g.S.Hasher.Hasher.finish in let b = begun_of w'.book.now.parts in let name = w'.book.now.begun.book in
+    let l = c.loop-halt in let w₀ = c.args.window.now in let w = l.window in let one = c.settle in let w' = one.new.window in let h = one.new.self in
+    let site = l.site in
+    let eq = g.K.PartialEq.eq in let hash = hash_of g.K.Hash.hash_input g.S.BuildHasher.build_hasher g.S.Hasher.Hasher.write g.S.Hasher.Hasher.finish
+    in let b = begun_of w'.book.now.parts in let name = w'.book.now.begun.book in
     let same = one.ensures.sees.book ∙ l.invariant.sees.book in
     let s : Stop _ _ _ _ = stop_in w₀ (at_slot c.args.aim c.args.chunk Looking) c.args.self.now in
     let t : Stop _ _ _ _ = stop_seen l.invariant.seen site l.self in
@@ -128,14 +140,19 @@ returns-then-site-clause-ends g c =
     let two = c.exchange-answer in let w'' = two.new.window in
     let to = subst (λ (z : Copying). Leads eq hash b name site.mode s (stop_in w' z h)) ends further in
     let by = ends_then eq hash b name site.mode s u (stop_in w'' (Stepping site.aim (Advancing site.chunk.cursor)) two.new.self) two.result to
-    (ends_here eq hash b name site.mode u w''.sight.log two.new.self two.result two.ensures.sees.log two.ensures.answers l.invariant.placed.standing.cursor two.ensures.fit) in
-    subst (λ (z : _). Ends eq hash (begun_of z.now.parts) z.now.begun.book c.args.mode s (stop_in w'' (Stepping site.aim (Advancing site.chunk.cursor)) two.new.self) two.result) same
-    (subst (λ (z : ResizeMode). Ends eq hash b name z s (stop_in w'' (Stepping site.aim (Advancing site.chunk.cursor)) two.new.self) two.result) l.invariant.mode by)
+    (ends_here eq hash b name site.mode u w''.sight.log two.new.self two.result two.ensures.sees.log two.ensures.answers
+    l.invariant.placed.standing.cursor two.ensures.fit) in
+    subst (λ (z : _). Ends eq hash (begun_of z.now.parts) z.now.begun.book c.args.mode s
+    (stop_in w'' (Stepping site.aim (Advancing site.chunk.cursor)) two.new.self) two.result) same
+    (subst (λ (z : ResizeMode). Ends eq hash b name z s (stop_in w'' (Stepping site.aim (Advancing site.chunk.cursor)) two.new.self) two.result)
+    l.invariant.mode by)
 
 pub loop-halt-preserved : goal.loop-halt-preserved
 loop-halt-preserved g c =
-    let l = c.loop-halt in let w₀ = c.args.window.now in let w = l.window in let one = c.settle in let w' = one.new.window in let h = one.new.self in let site = l.site in
-    let eq = g.K.PartialEq.eq in let hash = hash_of g.K.Hash.hash_input g.S.BuildHasher.build_hasher g.S.Hasher.Hasher.write g.S.Hasher.Hasher.finish in let b = begun_of w'.book.now.parts in let name = w'.book.now.begun.book in
+    let l = c.loop-halt in let w₀ = c.args.window.now in let w = l.window in let one = c.settle in let w' = one.new.window in let h = one.new.self in
+    let site = l.site in
+    let eq = g.K.PartialEq.eq in let hash = hash_of g.K.Hash.hash_input g.S.BuildHasher.build_hasher g.S.Hasher.Hasher.write g.S.Hasher.Hasher.finish
+    in let b = begun_of w'.book.now.parts in let name = w'.book.now.begun.book in
     let same = one.ensures.sees.book ∙ l.invariant.sees.book in
     let s : Stop _ _ _ _ = stop_in w₀ (at_slot c.args.aim c.args.chunk Looking) c.args.self.now in
     let t : Stop _ _ _ _ = stop_seen l.invariant.seen site l.self in
@@ -151,7 +168,10 @@ loop-halt-preserved g c =
       sees = sees_trans _ _ _ l.invariant.sees one.ensures.sees;
       own = one.ensures.own ∙ l.invariant.own;
       mode = l.invariant.mode;
-      placed = record { table = (placed_on w w' one.ensures.sees site l.invariant.placed).table; standing = record { cursor = l.invariant.placed.standing.cursor; at = more; within = l.invariant.placed.standing.within } };
+      placed = record {
+        table = (placed_on w w' one.ensures.sees site l.invariant.placed).table;
+        standing = record { cursor = l.invariant.placed.standing.cursor; at = more; within = l.invariant.placed.standing.within };
+      };
       seen = w'.sight.log;
       since = ([], append-nil w'.sight.log);
       leads = subst (λ (z : Copying). Leads eq hash b name site.mode s (stop_in w' z h)) next further;

@@ -11,7 +11,8 @@ pub exchange_slot-requires-clause-place : goal.exchange_slot-requires-clause-pla
 exchange_slot-requires-clause-place g c =
     let w = c.args.window.now in let site = c.args.site.now in let h = c.args.self.now in
     let eq = g.K.PartialEq.eq in let hash = hash_of g.K.Hash.hash_input g.S.BuildHasher.build_hasher g.S.Hasher.Hasher.write g.S.Hasher.Hasher.finish in
-    low w.sight.log w.sight.log ([], append-nil w.sight.log) site.chunk.cursor.from site.chunk.at (asked w site.mode (stop_at w site (Finishing c.args.marked) h) c.requires.can).0 site.table.now c.requires.placed.table
+    low w.sight.log w.sight.log ([], append-nil w.sight.log) site.chunk.cursor.from site.chunk.at
+    (asked w site.mode (stop_at w site (Finishing c.args.marked) h) c.requires.can).0 site.table.now c.requires.placed.table
 
 pub exchange_slot-requires-clause-can : goal.exchange_slot-requires-clause-can
 exchange_slot-requires-clause-can g c =
@@ -26,4 +27,5 @@ returns-clause-leaves g c =
     let one = c.exchange_slot in let w1 = one.new.window in
     let tried = rw c.with_copy-copied.ensures at one.ensures.tried in
     settled_on w w1 one.ensures.sees.book site (stop_at w site (Finishing c.args.marked) h) one.new.self
-    (finished eq hash (begun_of w.book.now.parts) w.book.now.begun.book site.mode site.aim site.chunk c.requires.placed.standing w.sight.log h w1.sight.log one.new.self one.ensures.sees.log one.ensures.rest c.args.marked one.result tried)
+    (finished eq hash (begun_of w.book.now.parts) w.book.now.begun.book site.mode site.aim site.chunk c.requires.placed.standing w.sight.log h
+    w1.sight.log one.new.self one.ensures.sees.log one.ensures.rest c.args.marked one.result tried)

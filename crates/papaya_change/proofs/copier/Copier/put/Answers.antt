@@ -16,14 +16,16 @@ pub load_slot-word-requires-clause-place : goal.load_slot-word-requires-clause-p
 load_slot-word-requires-clause-place g c =
     let w = c.args.window.now in let site = c.args.site.now in let h = c.args.self.now in
     let eq = g.K.PartialEq.eq in let hash = hash_of g.K.Hash.hash_input g.S.BuildHasher.build_hasher g.S.Hasher.Hasher.write g.S.Hasher.Hasher.finish in
-    low w.sight.log w.sight.log ([], append-nil w.sight.log) c.args.place.table c.args.place.probe.i (asked w site.mode (stop_at w site (Carrying c.args.marked (Reading c.args.hash c.args.place)) h) c.requires.can) c.args.to.now c.requires.table
+    low w.sight.log w.sight.log ([], append-nil w.sight.log) c.args.place.table c.args.place.probe.i
+    (asked w site.mode (stop_at w site (Carrying c.args.marked (Reading c.args.hash c.args.place)) h) c.requires.can) c.args.to.now c.requires.table
 
 pub returns-then-word-ne0-clause-leaves : goal.returns-then-word-ne0-clause-leaves
 returns-then-word-ne0-clause-leaves g c =
     let w = c.args.window.now in let site = c.args.site.now in let h = c.args.self.now in
     let eq = g.K.PartialEq.eq in let hash = hash_of g.K.Hash.hash_input g.S.BuildHasher.build_hasher g.S.Hasher.Hasher.write g.S.Hasher.Hasher.finish in
     let one = c.load_slot-word in let w1 = one.new.window in let h1 = one.new.self in
-    left_on w w1 one.ensures.sees.book site (Carrying c.args.marked (Reading c.args.hash c.args.place)) w.sight.log h h1 (Call (Word one.result)) one.ensures.sees.log
+    left_on w w1 one.ensures.sees.book site (Carrying c.args.marked (Reading c.args.hash c.args.place)) w.sight.log h h1 (Call (Word one.result))
+    one.ensures.sees.log
     (record { word = one.result; is = refl; as_loaded = one.ensures.as_loaded; rest = one.ensures.rest }) (c.requires.placed.standing, c.requires.within) tt
 
 pub fill-requires-clause-placed : goal.fill-requires-clause-placed
@@ -46,8 +48,12 @@ fill-requires-clause-can g c =
     let eq = g.K.PartialEq.eq in let hash = hash_of g.K.Hash.hash_input g.S.BuildHasher.build_hasher g.S.Hasher.Hasher.write g.S.Hasher.Hasher.finish in
     let one = c.load_slot-word in let w1 = one.new.window in let h1 = one.new.self in
     let is : (one.result == 0) ≡ true = search rules in
-    let turn : TurnsBy w site.mode (stop_at w site (Carrying c.args.marked (Reading c.args.hash c.args.place)) h) (stop_at w1 site (Carrying c.args.marked (Placing c.args.hash c.args.place)) h1) = finds eq hash (begun_of w.book.now.parts) w.book.now.begun.book site.mode site.aim site.chunk c.requires.placed.standing w.sight.log h w1.sight.log h1 one.ensures.sees.log one.ensures.rest one.result c.args.marked c.args.hash c.args.place c.requires.within one.ensures.as_loaded (eqb-true one.result 0 is) in
-    can_on w w1 one.ensures.sees.book site.mode (stop_at w site (Carrying c.args.marked (Reading c.args.hash c.args.place)) h) (stop_at w1 site (Carrying c.args.marked (Placing c.args.hash c.args.place)) h1) c.requires.can turn
+    let turn : TurnsBy w site.mode (stop_at w site (Carrying c.args.marked (Reading c.args.hash c.args.place)) h)
+    (stop_at w1 site (Carrying c.args.marked (Placing c.args.hash c.args.place)) h1) = finds eq hash (begun_of w.book.now.parts)
+    w.book.now.begun.book site.mode site.aim site.chunk c.requires.placed.standing w.sight.log h w1.sight.log h1 one.ensures.sees.log
+    one.ensures.rest one.result c.args.marked c.args.hash c.args.place c.requires.within one.ensures.as_loaded (eqb-true one.result 0 is) in
+    can_on w w1 one.ensures.sees.book site.mode (stop_at w site (Carrying c.args.marked (Reading c.args.hash c.args.place)) h)
+    (stop_at w1 site (Carrying c.args.marked (Placing c.args.hash c.args.place)) h1) c.requires.can turn
 
 pub returns-clause-leaves : goal.returns-clause-leaves
 returns-clause-leaves g c =
@@ -55,5 +61,10 @@ returns-clause-leaves g c =
     let eq = g.K.PartialEq.eq in let hash = hash_of g.K.Hash.hash_input g.S.BuildHasher.build_hasher g.S.Hasher.Hasher.write g.S.Hasher.Hasher.finish in
     let one = c.load_slot-word in let w1 = one.new.window in let h1 = one.new.self in
     let is : (one.result == 0) ≡ true = search rules in
-    let turn : TurnsBy w site.mode (stop_at w site (Carrying c.args.marked (Reading c.args.hash c.args.place)) h) (stop_at w1 site (Carrying c.args.marked (Placing c.args.hash c.args.place)) h1) = finds eq hash (begun_of w.book.now.parts) w.book.now.begun.book site.mode site.aim site.chunk c.requires.placed.standing w.sight.log h w1.sight.log h1 one.ensures.sees.log one.ensures.rest one.result c.args.marked c.args.hash c.args.place c.requires.within one.ensures.as_loaded (eqb-true one.result 0 is) in
-    let end = c.fill in leaves_on w end.new.window (end.ensures.sees.book ∙ one.ensures.sees.book) site (stop_at w site (Carrying c.args.marked (Reading c.args.hash c.args.place)) h) (stop_at w1 site (Carrying c.args.marked (Placing c.args.hash c.args.place)) h1) end.new.self end.result turn end.ensures.leaves
+    let turn : TurnsBy w site.mode (stop_at w site (Carrying c.args.marked (Reading c.args.hash c.args.place)) h)
+    (stop_at w1 site (Carrying c.args.marked (Placing c.args.hash c.args.place)) h1) = finds eq hash (begun_of w.book.now.parts)
+    w.book.now.begun.book site.mode site.aim site.chunk c.requires.placed.standing w.sight.log h w1.sight.log h1 one.ensures.sees.log
+    one.ensures.rest one.result c.args.marked c.args.hash c.args.place c.requires.within one.ensures.as_loaded (eqb-true one.result 0 is) in
+    let end = c.fill in leaves_on w end.new.window (end.ensures.sees.book ∙ one.ensures.sees.book) site
+    (stop_at w site (Carrying c.args.marked (Reading c.args.hash c.args.place)) h)
+    (stop_at w1 site (Carrying c.args.marked (Placing c.args.hash c.args.place)) h1) end.new.self end.result turn end.ensures.leaves

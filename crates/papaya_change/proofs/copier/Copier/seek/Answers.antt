@@ -16,13 +16,16 @@ loop-next-init g c = record {
   within = c.requires.within;
   table = c.requires.table;
   can = c.requires.can;
-  leads = leads_none g.K.PartialEq.eq (hash_of g.K.Hash.hash_input g.S.BuildHasher.build_hasher g.S.Hasher.Hasher.write g.S.Hasher.Hasher.finish) (begun_of c.args.window.now.book.now.parts) c.args.window.now.book.now.begun.book c.args.site.now.mode (stop_at c.args.window.now c.args.site.now (looking c.args.marked c.args.hash c.args.first) c.args.self.now);
+  leads = leads_none g.K.PartialEq.eq (hash_of g.K.Hash.hash_input g.S.BuildHasher.build_hasher g.S.Hasher.Hasher.write g.S.Hasher.Hasher.finish)
+      (begun_of c.args.window.now.book.now.parts) c.args.window.now.book.now.begun.book c.args.site.now.mode
+      (stop_at c.args.window.now c.args.site.now (looking c.args.marked c.args.hash c.args.first) c.args.self.now);
 }
 
 pub loop-next-preserved : goal.loop-next-preserved
 loop-next-preserved g c =
     let l = c.loop-next in let w₀ = c.args.window.now in let w = l.window in let site = c.args.site.now in let look = c.look in let w' = look.new.window in
-    let eq = g.K.PartialEq.eq in let hash = hash_of g.K.Hash.hash_input g.S.BuildHasher.build_hasher g.S.Hasher.Hasher.write g.S.Hasher.Hasher.finish in let b = begun_of w'.book.now.parts in let name = w'.book.now.begun.book in
+    let eq = g.K.PartialEq.eq in let hash = hash_of g.K.Hash.hash_input g.S.BuildHasher.build_hasher g.S.Hasher.Hasher.write g.S.Hasher.Hasher.finish
+    in let b = begun_of w'.book.now.parts in let name = w'.book.now.begun.book in
     let s : Stop _ _ _ _ = stop_at w₀ site (looking c.args.marked c.args.hash c.args.first) c.args.self.now in
     let t : Stop _ _ _ _ = stop_at w site (looking c.args.marked c.args.hash l.place) l.self in
     let led = leads_still w w' look.ensures.sees.book site.mode s t l.invariant.leads in
@@ -41,7 +44,8 @@ loop-next-preserved g c =
 pub loop-next-smaller : goal.loop-next-smaller
 loop-next-smaller g c =
     let l = c.loop-next in let w₀ = c.args.window.now in let w = l.window in let site = c.args.site.now in let look = c.look in let w' = look.new.window in
-    let eq = g.K.PartialEq.eq in let hash = hash_of g.K.Hash.hash_input g.S.BuildHasher.build_hasher g.S.Hasher.Hasher.write g.S.Hasher.Hasher.finish in let b = begun_of w'.book.now.parts in let name = w'.book.now.begun.book in
+    let eq = g.K.PartialEq.eq in let hash = hash_of g.K.Hash.hash_input g.S.BuildHasher.build_hasher g.S.Hasher.Hasher.write g.S.Hasher.Hasher.finish
+    in let b = begun_of w'.book.now.parts in let name = w'.book.now.begun.book in
     let s : Stop _ _ _ _ = stop_at w₀ site (looking c.args.marked c.args.hash c.args.first) c.args.self.now in
     let t : Stop _ _ _ _ = stop_at w site (looking c.args.marked c.args.hash l.place) l.self in
     let led = leads_still w w' look.ensures.sees.book site.mode s t l.invariant.leads in
@@ -52,7 +56,8 @@ loop-next-smaller g c =
 pub returns-in-Left-clause-leaves : goal.returns-in-Left-clause-leaves
 returns-in-Left-clause-leaves g c =
     let l = c.loop-next in let w₀ = c.args.window.now in let w = l.window in let site = c.args.site.now in let look = c.look in let w' = look.new.window in
-    let eq = g.K.PartialEq.eq in let hash = hash_of g.K.Hash.hash_input g.S.BuildHasher.build_hasher g.S.Hasher.Hasher.write g.S.Hasher.Hasher.finish in let b = begun_of w'.book.now.parts in let name = w'.book.now.begun.book in
+    let eq = g.K.PartialEq.eq in let hash = hash_of g.K.Hash.hash_input g.S.BuildHasher.build_hasher g.S.Hasher.Hasher.write g.S.Hasher.Hasher.finish
+    in let b = begun_of w'.book.now.parts in let name = w'.book.now.begun.book in
     let s : Stop _ _ _ _ = stop_at w₀ site (looking c.args.marked c.args.hash c.args.first) c.args.self.now in
     let t : Stop _ _ _ _ = stop_at w site (looking c.args.marked c.args.hash l.place) l.self in
     let led = leads_still w w' look.ensures.sees.book site.mode s t l.invariant.leads in

@@ -14,7 +14,8 @@ invariant-loop-next g l = record {
   within : IsWithin l.place;
   table : IsTable l.window l.place.table l.to;
   can : CanLeadAt l.window l.site (looking l.marked l.hash l.place) l.self;
-  leads : Leads l.window l.site.mode (stop_at l.fn.window l.site (looking l.marked l.hash l.fn.first) l.fn.self) (stop_at l.window l.site (looking l.marked l.hash l.place) l.self);
+  leads : Leads l.window l.site.mode (stop_at l.fn.window l.site (looking l.marked l.hash l.fn.first) l.fn.self)
+      (stop_at l.window l.site (looking l.marked l.hash l.place) l.self);
 }
 
 -- the places that are left

@@ -15,7 +15,8 @@ load_slot-word-requires-clause-place g c =
     let w = c.args.window.now in let site = c.args.site.now in let h = c.args.self.now in
     let eq = g.K.PartialEq.eq in let hash = hash_of g.K.Hash.hash_input g.S.BuildHasher.build_hasher g.S.Hasher.Hasher.write g.S.Hasher.Hasher.finish in
     let seen = c.requires.waits.0 in let pre = c.requires.waits.1 in
-    low seen w.sight.log pre site.chunk.cursor.from site.chunk.at (asked w site.mode (stop_seen seen site h) c.requires.waits.2) site.table.now c.requires.placed.table
+    low seen w.sight.log pre site.chunk.cursor.from site.chunk.at (asked w site.mode (stop_seen seen site h) c.requires.waits.2) site.table.now
+    c.requires.placed.table
 
 pub close-requires-clause-placed : goal.close-requires-clause-placed
 close-requires-clause-placed g c =
@@ -30,7 +31,10 @@ close-requires-clause-can g c =
     let eq = g.K.PartialEq.eq in let hash = hash_of g.K.Hash.hash_input g.S.BuildHasher.build_hasher g.S.Hasher.Hasher.write g.S.Hasher.Hasher.finish in
     let one = c.load_slot-word in let w1 = one.new.window in let h1 = one.new.self in
     let seen = c.requires.waits.0 in let pre = c.requires.waits.1 in
-    let turn : TurnsBy w site.mode (stop_seen seen site h) (stop_at w1 site Closing h1) = sees_empty eq hash (begun_of w.book.now.parts) w.book.now.begun.book site.mode site.aim site.chunk c.requires.placed.standing seen h w1.sight.log h1 (prefix_trans seen w.sight.log w1.sight.log pre one.ensures.sees.log) one.ensures.rest one.result one.ensures.as_loaded (sym c.kind.ensures ∙ c.in-Empty.is) in
+    let turn : TurnsBy w site.mode (stop_seen seen site h) (stop_at w1 site Closing h1) = sees_empty eq hash (begun_of w.book.now.parts)
+    w.book.now.begun.book site.mode site.aim site.chunk c.requires.placed.standing seen h w1.sight.log h1
+    (prefix_trans seen w.sight.log w1.sight.log pre one.ensures.sees.log) one.ensures.rest one.result one.ensures.as_loaded
+    (sym c.kind.ensures ∙ c.in-Empty.is) in
     can_on w w1 one.ensures.sees.book site.mode (stop_seen seen site h) (stop_at w1 site Closing h1) c.requires.waits.2 turn
 
 pub returns-in-Empty-clause-leaves : goal.returns-in-Empty-clause-leaves
@@ -39,8 +43,12 @@ returns-in-Empty-clause-leaves g c =
     let w = c.args.window.now in let site = c.args.site.now in let h = c.args.self.now in
     let eq = g.K.PartialEq.eq in let hash = hash_of g.K.Hash.hash_input g.S.BuildHasher.build_hasher g.S.Hasher.Hasher.write g.S.Hasher.Hasher.finish in
     let one = c.load_slot-word in let w1 = one.new.window in let h1 = one.new.self in
-    let turn : TurnsBy w site.mode (stop_seen seen site h) (stop_at w1 site Closing h1) = sees_empty eq hash (begun_of w.book.now.parts) w.book.now.begun.book site.mode site.aim site.chunk c.requires.placed.standing seen h w1.sight.log h1 (prefix_trans seen w.sight.log w1.sight.log pre one.ensures.sees.log) one.ensures.rest one.result one.ensures.as_loaded (sym c.kind.ensures ∙ c.in-Empty.is) in
-    let end = c.close in leaves_on w end.new.window (end.ensures.sees.book ∙ one.ensures.sees.book) site (stop_seen seen site h) (stop_at w1 site Closing h1) end.new.self end.result turn end.ensures.leaves
+    let turn : TurnsBy w site.mode (stop_seen seen site h) (stop_at w1 site Closing h1) = sees_empty eq hash (begun_of w.book.now.parts)
+    w.book.now.begun.book site.mode site.aim site.chunk c.requires.placed.standing seen h w1.sight.log h1
+    (prefix_trans seen w.sight.log w1.sight.log pre one.ensures.sees.log) one.ensures.rest one.result one.ensures.as_loaded
+    (sym c.kind.ensures ∙ c.in-Empty.is) in
+    let end = c.close in leaves_on w end.new.window (end.ensures.sees.book ∙ one.ensures.sees.book) site (stop_seen seen site h)
+    (stop_at w1 site Closing h1) end.new.self end.result turn end.ensures.leaves
 
 pub mark-requires-clause-placed : goal.mark-requires-clause-placed
 mark-requires-clause-placed g c =
@@ -55,7 +63,10 @@ mark-requires-clause-can g c =
     let eq = g.K.PartialEq.eq in let hash = hash_of g.K.Hash.hash_input g.S.BuildHasher.build_hasher g.S.Hasher.Hasher.write g.S.Hasher.Hasher.finish in
     let one = c.load_slot-word in let w1 = one.new.window in let h1 = one.new.self in
     let seen = c.requires.waits.0 in let pre = c.requires.waits.1 in
-    let turn : TurnsBy w site.mode (stop_seen seen site h) (stop_at w1 site (Marking one.result) h1) = sees_live eq hash (begun_of w.book.now.parts) w.book.now.begun.book site.mode site.aim site.chunk c.requires.placed.standing seen h w1.sight.log h1 (prefix_trans seen w.sight.log w1.sight.log pre one.ensures.sees.log) one.ensures.rest one.result one.ensures.as_loaded (sym c.kind.ensures ∙ c.in-Live.is) in
+    let turn : TurnsBy w site.mode (stop_seen seen site h) (stop_at w1 site (Marking one.result) h1) = sees_live eq hash (begun_of w.book.now.parts)
+    w.book.now.begun.book site.mode site.aim site.chunk c.requires.placed.standing seen h w1.sight.log h1
+    (prefix_trans seen w.sight.log w1.sight.log pre one.ensures.sees.log) one.ensures.rest one.result one.ensures.as_loaded
+    (sym c.kind.ensures ∙ c.in-Live.is) in
     can_on w w1 one.ensures.sees.book site.mode (stop_seen seen site h) (stop_at w1 site (Marking one.result) h1) c.requires.waits.2 turn
 
 pub returns-in-Live-clause-leaves : goal.returns-in-Live-clause-leaves
@@ -64,8 +75,12 @@ returns-in-Live-clause-leaves g c =
     let w = c.args.window.now in let site = c.args.site.now in let h = c.args.self.now in
     let eq = g.K.PartialEq.eq in let hash = hash_of g.K.Hash.hash_input g.S.BuildHasher.build_hasher g.S.Hasher.Hasher.write g.S.Hasher.Hasher.finish in
     let one = c.load_slot-word in let w1 = one.new.window in let h1 = one.new.self in
-    let turn : TurnsBy w site.mode (stop_seen seen site h) (stop_at w1 site (Marking one.result) h1) = sees_live eq hash (begun_of w.book.now.parts) w.book.now.begun.book site.mode site.aim site.chunk c.requires.placed.standing seen h w1.sight.log h1 (prefix_trans seen w.sight.log w1.sight.log pre one.ensures.sees.log) one.ensures.rest one.result one.ensures.as_loaded (sym c.kind.ensures ∙ c.in-Live.is) in
-    let end = c.mark in leaves_on w end.new.window (end.ensures.sees.book ∙ one.ensures.sees.book) site (stop_seen seen site h) (stop_at w1 site (Marking one.result) h1) end.new.self end.result turn end.ensures.leaves
+    let turn : TurnsBy w site.mode (stop_seen seen site h) (stop_at w1 site (Marking one.result) h1) = sees_live eq hash (begun_of w.book.now.parts)
+    w.book.now.begun.book site.mode site.aim site.chunk c.requires.placed.standing seen h w1.sight.log h1
+    (prefix_trans seen w.sight.log w1.sight.log pre one.ensures.sees.log) one.ensures.rest one.result one.ensures.as_loaded
+    (sym c.kind.ensures ∙ c.in-Live.is) in
+    let end = c.mark in leaves_on w end.new.window (end.ensures.sees.book ∙ one.ensures.sees.book) site (stop_seen seen site h)
+    (stop_at w1 site (Marking one.result) h1) end.new.self end.result turn end.ensures.leaves
 
 pub returns-in-Marked-clause-leaves : goal.returns-in-Marked-clause-leaves
 returns-in-Marked-clause-leaves g c =
@@ -83,4 +98,6 @@ returns-in_default-clause-leaves g c =
     let eq = g.K.PartialEq.eq in let hash = hash_of g.K.Hash.hash_input g.S.BuildHasher.build_hasher g.S.Hasher.Hasher.write g.S.Hasher.Hasher.finish in
     let one = c.load_slot-word in let w1 = one.new.window in let h1 = one.new.self in
     settled_on w w1 one.ensures.sees.book site (stop_seen seen site h) h1
-    (sees_settled eq hash (begun_of w.book.now.parts) w.book.now.begun.book site.mode site.aim site.chunk c.requires.placed.standing seen h w1.sight.log h1 (prefix_trans seen w.sight.log w1.sight.log pre one.ensures.sees.log) one.ensures.rest one.result one.ensures.as_loaded (λ e. c.in_default.not-Empty (c.kind.ensures ∙ e)) (λ e. c.in_default.not-Live (c.kind.ensures ∙ e)) (λ e. c.in_default.not-Marked (c.kind.ensures ∙ e)))
+    (sees_settled eq hash (begun_of w.book.now.parts) w.book.now.begun.book site.mode site.aim site.chunk c.requires.placed.standing seen h
+    w1.sight.log h1 (prefix_trans seen w.sight.log w1.sight.log pre one.ensures.sees.log) one.ensures.rest one.result one.ensures.as_loaded
+    (λ e. c.in_default.not-Empty (c.kind.ensures ∙ e)) (λ e. c.in_default.not-Live (c.kind.ensures ∙ e)) (λ e. c.in_default.not-Marked (c.kind.ensures ∙ e)))

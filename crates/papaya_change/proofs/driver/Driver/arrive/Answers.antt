@@ -11,4 +11,5 @@ returns-in-Searching-Sizing-clause-held g c = λ n is.
     let inner : c.in-Searching-Sizing.field-0 ≡ Sizing c.in-Searching-Sizing.number = rw c.in-Searching-Sizing.is at c.in-Searching-Sizing.field-0-is in
     let same : Searching (Sizing c.in-Searching-Sizing.number) ≡ Searching (Sizing n) = sym (c.in-Searching-Sizing.is ∙ ap Searching inner) ∙ is.1 in
     let number : c.in-Searching-Sizing.number ≡ n = cc same in
-    subst (λ (t : ℕ). IsTable log t c.table.result.now) number (table_since one log c.in-Searching-Sizing.number c.table.result.now c.learn.ensures.sees.log c.table.ensures.table)
+    subst (λ (t : ℕ). IsTable log t c.table.result.now) number
+    (table_since one log c.in-Searching-Sizing.number c.table.result.now c.learn.ensures.sees.log c.table.ensures.table)

@@ -17,7 +17,9 @@ use Rattle.papaya_change.proofs.driver.Driver.copy_slots.Goals as goal
 
 pub copy_slots-copying-requires-clause-standing : goal.copy_slots-copying-requires-clause-standing
 copy_slots-copying-requires-clause-standing g c =
-    let w = c.args.window.now in let c₀ = c.args.self.now in let eq = g.K.PartialEq.eq in let hash = hash_of g.K.Hash.hash_input g.S.BuildHasher.build_hasher g.S.Hasher.Hasher.write g.S.Hasher.Hasher.finish in let b = begun_of w.book.now.parts in let name = w.book.now.begun.book in
+    let w = c.args.window.now in let c₀ = c.args.self.now in let eq = g.K.PartialEq.eq in
+    let hash = hash_of g.K.Hash.hash_input g.S.BuildHasher.build_hasher g.S.Hasher.Hasher.write g.S.Hasher.Hasher.finish in
+    let b = begun_of w.book.now.parts in let name = w.book.now.begun.book in
     let at : Copying = at_slot c.args.aim c.args.chunk Looking in
     let s : Stop _ _ _ _ = record { copying = at; log = w.sight.log; loaded = copier_of c₀ } in
     let stands : IsStandingPhase (Copying_root at) = subst IsStandingPhase c.requires.phase c.requires.standing.phase in
@@ -26,17 +28,24 @@ copy_slots-copying-requires-clause-standing g c =
 
 pub copy_slots-copying-requires-clause-can : goal.copy_slots-copying-requires-clause-can
 copy_slots-copying-requires-clause-can g c =
-    let w = c.args.window.now in let c₀ = c.args.self.now in let eq = g.K.PartialEq.eq in let hash = hash_of g.K.Hash.hash_input g.S.BuildHasher.build_hasher g.S.Hasher.Hasher.write g.S.Hasher.Hasher.finish in let b = begun_of w.book.now.parts in let name = w.book.now.begun.book in
+    let w = c.args.window.now in let c₀ = c.args.self.now in let eq = g.K.PartialEq.eq in
+    let hash = hash_of g.K.Hash.hash_input g.S.BuildHasher.build_hasher g.S.Hasher.Hasher.write g.S.Hasher.Hasher.finish in
+    let b = begun_of w.book.now.parts in let name = w.book.now.begun.book in
     let at : Copying = at_slot c.args.aim c.args.chunk Looking in
     let s : Stop _ _ _ _ = record { copying = at; log = w.sight.log; loaded = copier_of c₀ } in
     let stands : IsStandingPhase (Copying_root at) = subst IsStandingPhase c.requires.phase c.requires.standing.phase in
     let same : driver_at c₀ s ≡ c₀ = ap (λ (p : Phase). with_machine c₀ (record c₀.machine { phase = p })) (sym c.requires.phase) in
-    subst (λ (h : Copier _ _ _ _). CanLead eq hash b name c₀.machine.call.mode (record { copying = at; log = w.sight.log; loaded = h })) (sym c.lend-copier.ensures.value)
-    (can_lead g.K.PartialEq.eq g.K.Hash.hash_input g.S.BuildHasher.build_hasher g.S.Hasher.Hasher.write g.S.Hasher.Hasher.finish g.met.K.Eq.laws g.met.K.Hash.respects_eq b name c₀ c.requires.standing s stands (subst (λ (z : Driver _ _ _ _). CanGoOn eq hash b name w.sight.log z) (sym same) c.requires.can))
+    subst (λ (h : Copier _ _ _ _). CanLead eq hash b name c₀.machine.call.mode (record { copying = at; log = w.sight.log; loaded = h }))
+    (sym c.lend-copier.ensures.value)
+    (can_lead g.K.PartialEq.eq g.K.Hash.hash_input g.S.BuildHasher.build_hasher g.S.Hasher.Hasher.write g.S.Hasher.Hasher.finish g.met.K.Eq.laws
+    g.met.K.Hash.respects_eq b name c₀ c.requires.standing s stands
+    (subst (λ (z : Driver _ _ _ _). CanGoOn eq hash b name w.sight.log z) (sym same) c.requires.can))
 
 pub returns-clause-standing : goal.returns-clause-standing
 returns-clause-standing g c =
-    let w = c.args.window.now in let c₀ = c.args.self.now in let eq = g.K.PartialEq.eq in let hash = hash_of g.K.Hash.hash_input g.S.BuildHasher.build_hasher g.S.Hasher.Hasher.write g.S.Hasher.Hasher.finish in let b = begun_of w.book.now.parts in let name = w.book.now.begun.book in
+    let w = c.args.window.now in let c₀ = c.args.self.now in let eq = g.K.PartialEq.eq in
+    let hash = hash_of g.K.Hash.hash_input g.S.BuildHasher.build_hasher g.S.Hasher.Hasher.write g.S.Hasher.Hasher.finish in
+    let b = begun_of w.book.now.parts in let name = w.book.now.begun.book in
     let at : Copying = at_slot c.args.aim c.args.chunk Looking in
     let s : Stop _ _ _ _ = record { copying = at; log = w.sight.log; loaded = copier_of c₀ } in
     let stands : IsStandingPhase (Copying_root at) = subst IsStandingPhase c.requires.phase c.requires.standing.phase in
@@ -50,7 +59,9 @@ returns-clause-standing g c =
 
 pub returns-clause-goes : goal.returns-clause-goes
 returns-clause-goes g c =
-    let w = c.args.window.now in let c₀ = c.args.self.now in let eq = g.K.PartialEq.eq in let hash = hash_of g.K.Hash.hash_input g.S.BuildHasher.build_hasher g.S.Hasher.Hasher.write g.S.Hasher.Hasher.finish in let b = begun_of w.book.now.parts in let name = w.book.now.begun.book in
+    let w = c.args.window.now in let c₀ = c.args.self.now in let eq = g.K.PartialEq.eq in
+    let hash = hash_of g.K.Hash.hash_input g.S.BuildHasher.build_hasher g.S.Hasher.Hasher.write g.S.Hasher.Hasher.finish in
+    let b = begun_of w.book.now.parts in let name = w.book.now.begun.book in
     let at : Copying = at_slot c.args.aim c.args.chunk Looking in
     let s : Stop _ _ _ _ = record { copying = at; log = w.sight.log; loaded = copier_of c₀ } in
     let stands : IsStandingPhase (Copying_root at) = subst IsStandingPhase c.requires.phase c.requires.standing.phase in
@@ -60,15 +71,20 @@ returns-clause-goes g c =
     let back = c.take_back.ensures ∙ ap (λ (z : Driver _ _ _ _). with_copier z h) c.lend-copier.ensures.rest in
     let final = with_machine c.take_back.new.self (record c.take_back.new.self.machine { phase = Copying_root two.result.0 }) in
     let is : final ≡ driver_at c₀ s' = ap (λ (z : Driver _ _ _ _). with_machine z (record z.machine { phase = Copying_root two.result.0 })) back in
-    let ends = subst (λ (z : Copier _ _ _ _). Ends eq hash b name c₀.machine.call.mode (record { copying = at; log = w.sight.log; loaded = z }) s' two.result.1) c.lend-copier.ensures.value two.ensures.ends in
+    let ends = subst (λ (z : Copier _ _ _ _).
+    Ends eq hash b name c₀.machine.call.mode (record { copying = at; log = w.sight.log; loaded = z }) s' two.result.1) c.lend-copier.ensures.value
+    two.ensures.ends in
     let last : Stop _ _ _ _ = record { copying = two.result.0; log = ends.log; loaded = ends.loaded } in
     subst (λ (z : Driver _ _ _ _). GoesBy eq hash b name w.sight.log c₀ w'.sight.log z two.result.1) (sym is)
     (record {
       seen = ends.log;
       mid = driver_at c₀ last;
-      goes_on = subst (λ (z : Driver _ _ _ _). GoesOn eq hash b name w.sight.log z ends.log (driver_at c₀ last)) same (goes g.K.PartialEq.eq g.K.Hash.hash_input g.S.BuildHasher.build_hasher g.S.Hasher.Hasher.write g.S.Hasher.Hasher.finish g.met.K.Eq.laws g.met.K.Hash.respects_eq b name c₀ c.requires.standing s s' stands two.result.1 ends);
+      goes_on = subst (λ (z : Driver _ _ _ _). GoesOn eq hash b name w.sight.log z ends.log (driver_at c₀ last)) same
+          (goes g.K.PartialEq.eq g.K.Hash.hash_input g.S.BuildHasher.build_hasher g.S.Hasher.Hasher.write g.S.Hasher.Hasher.finish g.met.K.Eq.laws
+          g.met.K.Hash.respects_eq b name c₀ c.requires.standing s s' stands two.result.1 ends);
       since = ends.since;
-      copies = goes_by g.K.PartialEq.eq g.K.Hash.hash_input g.S.BuildHasher.build_hasher g.S.Hasher.Hasher.write g.S.Hasher.Hasher.finish g.met.K.Eq.laws g.met.K.Hash.respects_eq b name c₀ c.requires.standing s s' stands two.result.1 ends two.ensures.standing;
+      copies = goes_by g.K.PartialEq.eq g.K.Hash.hash_input g.S.BuildHasher.build_hasher g.S.Hasher.Hasher.write g.S.Hasher.Hasher.finish
+          g.met.K.Eq.laws g.met.K.Hash.respects_eq b name c₀ c.requires.standing s s' stands two.result.1 ends two.ensures.standing;
       machine = refl;
       call = refl;
       table = refl;
@@ -76,7 +92,9 @@ returns-clause-goes g c =
 
 pub returns-clause-rest : goal.returns-clause-rest
 returns-clause-rest g c =
-    let w = c.args.window.now in let c₀ = c.args.self.now in let eq = g.K.PartialEq.eq in let hash = hash_of g.K.Hash.hash_input g.S.BuildHasher.build_hasher g.S.Hasher.Hasher.write g.S.Hasher.Hasher.finish in let b = begun_of w.book.now.parts in let name = w.book.now.begun.book in
+    let w = c.args.window.now in let c₀ = c.args.self.now in let eq = g.K.PartialEq.eq in
+    let hash = hash_of g.K.Hash.hash_input g.S.BuildHasher.build_hasher g.S.Hasher.Hasher.write g.S.Hasher.Hasher.finish in
+    let b = begun_of w.book.now.parts in let name = w.book.now.begun.book in
     let at : Copying = at_slot c.args.aim c.args.chunk Looking in
     let s : Stop _ _ _ _ = record { copying = at; log = w.sight.log; loaded = copier_of c₀ } in
     let stands : IsStandingPhase (Copying_root at) = subst IsStandingPhase c.requires.phase c.requires.standing.phase in

@@ -8,11 +8,13 @@ use Rattle.papaya_change.proofs.Doing.{tried}
 use Rattle.papaya_change.proofs.driver.Driver.delete.Goals as goal
 
 pub unreachable-requires : goal.unreachable-requires
-unreachable-requires g c = subst (λ (o : Option (Bor Sheet)). MatchOption o ⊥ (λ z. IsTable c.args.window.now.sight.log c.args.number z.now × (c.args.place < length z.now.slots))) c.in_default.is c.requires.held
+unreachable-requires g c = subst (λ (o : Option (Bor Sheet)).
+    MatchOption o ⊥ (λ z. IsTable c.args.window.now.sight.log c.args.number z.now × (c.args.place < length z.now.slots))) c.in_default.is c.requires.held
 
 pub exchange_slot-found-requires : goal.exchange_slot-found-requires
 exchange_slot-found-requires g c =
-    let held = subst (λ (o : Option (Bor Sheet)). MatchOption o ⊥ (λ z. IsTable c.args.window.now.sight.log c.args.number z.now × (c.args.place < length z.now.slots))) c.in-Some.is c.requires.held in
+    let held = subst (λ (o : Option (Bor Sheet)).
+    MatchOption o ⊥ (λ z. IsTable c.args.window.now.sight.log c.args.number z.now × (c.args.place < length z.now.slots))) c.in-Some.is c.requires.held in
     record { table = held.0; place = held.1; can = rw c.kind-kind.ensures c.requires.can }
 
 pub returns-clause-deletes : goal.returns-clause-deletes
@@ -20,9 +22,11 @@ returns-clause-deletes g c =
     let found = c.exchange_slot-found in (
       found.result.0,
       found.result.1,
-      subst (λ (z : Option StepKind). TriesSlot c.args.window.now found.new.self c.args.number c.args.place z c.args.words found.result.0 found.result.1) c.kind-kind.ensures found.ensures.tried,
+      subst (λ (z : Option StepKind). TriesSlot c.args.window.now found.new.self c.args.number c.args.place z c.args.words found.result.0
+          found.result.1) c.kind-kind.ensures found.ensures.tried,
       c.tried.ensures,
     )
 
 pub returns-clause-does : goal.returns-clause-does
-returns-clause-does g c = tried (c.exchange_slot-found.result.0 == c.args.words.0) c.tried.result _ _ c.exchange_slot-found.result.0 c.tried.ensures c.args.window.now c.exchange_slot-found.new.self c.exchange_slot-found.ensures.does
+returns-clause-does g c = tried (c.exchange_slot-found.result.0 == c.args.words.0) c.tried.result _ _ c.exchange_slot-found.result.0 c.tried.ensures
+    c.args.window.now c.exchange_slot-found.new.self c.exchange_slot-found.ensures.does

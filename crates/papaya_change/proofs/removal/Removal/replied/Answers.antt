@@ -6,7 +6,12 @@ use Rattle.papaya_chain.specs.Machine.{ask_of}
 use Rattle.papaya_chain.specs.declared.ask.Ask.TheVariants.{Call}
 use Rattle.papaya_book.specs.Parts.{begun_of}
 use Rattle.papaya_change.proofs.RemovingReplies.{IsNoRemoval, tells_no_other}
-use Rattle.papaya_change.proofs.removal.Removal.replied.Goals.{in_default-via-in-Call+in-Done+in-Removed+in-Some+in_default, in_default-via-in-Call+in-Done+in-Removed+in_default, in_default-via-in-Call+in-Done+in-Kept+in_default, in_default-via-in-Call+in-Done+in_default, in_default-via-in-Call+in_default, in_default-via-in_default}
+use Rattle.papaya_change.proofs.removal.Removal.replied.Goals.{in_default-via-in-Call+in-Done+in-Removed+in-Some+in_default}
+use Rattle.papaya_change.proofs.removal.Removal.replied.Goals.{in_default-via-in-Call+in-Done+in-Removed+in_default}
+use Rattle.papaya_change.proofs.removal.Removal.replied.Goals.{in_default-via-in-Call+in-Done+in-Kept+in_default}
+use Rattle.papaya_change.proofs.removal.Removal.replied.Goals.{in_default-via-in-Call+in-Done+in_default}
+use Rattle.papaya_change.proofs.removal.Removal.replied.Goals.{in_default-via-in-Call+in_default}
+use Rattle.papaya_change.proofs.removal.Removal.replied.Goals.{in_default-via-in_default}
 use Rattle.papaya_change.proofs.removal.Removal.replied.Goals as goal
 
 pub agrees-requires : goal.agrees-requires
@@ -37,10 +42,19 @@ entry-requires-in-Call-Done-Kept-Some-default g c =
 pub unreachable-requires : goal.unreachable-requires
 unreachable-requires g c =
     elim c.in_default.branch [
-      | in_default-via-in-Call+in-Done+in-Removed+in-Some+in_default w ↦ let asks : (n : ℕ) × (ask_of c.args.self.now.call.machine ≡ Call (Done (Removed n))) = search rules in let t = c.requires.can (Removed asks.0) asks.1 in let none = sym t.3 ∙ w.in_default.is-2 in cc none
-      | in_default-via-in-Call+in-Done+in-Removed+in_default w ↦ let asks : (n : ℕ) × (ask_of c.args.self.now.call.machine ≡ Call (Done (Removed n))) = search rules in let t = c.requires.can (Removed asks.0) asks.1 in let none = sym t.2 ∙ w.in_default.is-1 in cc none
-      | in_default-via-in-Call+in-Done+in-Kept+in_default w ↦ let asks : (n : ℕ) × (ask_of c.args.self.now.call.machine ≡ Call (Done (Kept n))) = search rules in let t = c.requires.can (Kept asks.0) asks.1 in let none = sym t.1 ∙ w.in_default.is-1 in cc none
-      | in_default-via-in-Call+in-Done+in_default w ↦ let asks : (reply : Reply) × IsNoRemoval reply × (ask_of c.args.self.now.call.machine ≡ Call (Done reply)) = search rules in tells_no_other (begun_of c.args.window.now.book.now.parts) c.args.window.now.book.now.begun.book c.args.self.now asks.0 asks.1 (c.requires.can asks.0 asks.2)
+      | in_default-via-in-Call+in-Done+in-Removed+in-Some+in_default w ↦ let asks : (n : ℕ)
+          × (ask_of c.args.self.now.call.machine ≡ Call (Done (Removed n))) = search rules in let t = c.requires.can (Removed asks.0) asks.1 in
+          let none = sym t.3 ∙ w.in_default.is-2 in cc none
+      | in_default-via-in-Call+in-Done+in-Removed+in_default w ↦ let asks : (n : ℕ)
+          × (ask_of c.args.self.now.call.machine ≡ Call (Done (Removed n))) = search rules in let t = c.requires.can (Removed asks.0) asks.1 in
+          let none = sym t.2 ∙ w.in_default.is-1 in cc none
+      | in_default-via-in-Call+in-Done+in-Kept+in_default w ↦ let asks : (n : ℕ)
+          × (ask_of c.args.self.now.call.machine ≡ Call (Done (Kept n))) = search rules in let t = c.requires.can (Kept asks.0) asks.1 in
+          let none = sym t.1 ∙ w.in_default.is-1 in cc none
+      | in_default-via-in-Call+in-Done+in_default w ↦ let asks : (reply : Reply) × IsNoRemoval reply
+          × (ask_of c.args.self.now.call.machine ≡ Call (Done reply)) = search rules in
+          tells_no_other (begun_of c.args.window.now.book.now.parts) c.args.window.now.book.now.begun.book c.args.self.now asks.0 asks.1
+          (c.requires.can asks.0 asks.2)
       | in_default-via-in-Call+in_default w ↦ let same : c.ask.result ≡ Call (Done c.requires.done.0) = c.ask.ensures.value ∙ c.requires.done.1 in search rules
       | in_default-via-in_default w ↦ let same : c.ask.result ≡ Call (Done c.requires.done.0) = c.ask.ensures.value ∙ c.requires.done.1 in search rules
     ]
@@ -55,7 +69,19 @@ pub returns-in-Call-Done-Kept-Some-default : goal.returns-in-Call-Done-Kept-Some
 returns-in-Call-Done-Kept-Some-default g c =
     let at = c.in-Call-Done-Kept-Some-default in
     let asks : (n : ℕ) × (ask_of c.args.self.now.call.machine ≡ Call (Done (Kept n))) = search rules in
-    record { tells = (Kept asks.0, asks.1, (at.shown, c.entry-in-Call-Done-Kept-Some-default.result, at.is-1, c.entry-in-Call-Done-Kept-Some-default.ensures, refl)) }
+    record {
+      tells = (
+        Kept asks.0,
+        asks.1,
+        (
+          at.shown,
+          c.entry-in-Call-Done-Kept-Some-default.result,
+          at.is-1,
+          c.entry-in-Call-Done-Kept-Some-default.ensures,
+          refl,
+        ),
+      );
+    }
 
 pub returns-in-Call-Done-Absent-default-default : goal.returns-in-Call-Done-Absent-default-default
 returns-in-Call-Done-Absent-default-default g c =

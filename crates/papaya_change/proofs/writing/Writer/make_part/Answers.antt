@@ -9,7 +9,11 @@ returns g c = record {
   unsaid = λ cause e. absurd (cc e);
   makes = λ w key made begun r.
       ⊎_elim
-      (λ asks. key_made g.K.PartialEq.eq g.K.Hash.hash_input g.S.BuildHasher.build_hasher g.S.Hasher.Hasher.write g.S.Hasher.Hasher.finish g.met.K.Eq.laws g.met.K.Hash.respects_eq (begun_of w.book.now.parts) w.book.now.begun.book key made begun w.sight.log c.args.self.now r (Made 0) asks (omega arith))
-      (λ asks. value_made g.K.PartialEq.eq g.K.Hash.hash_input g.S.BuildHasher.build_hasher g.S.Hasher.Hasher.write g.S.Hasher.Hasher.finish g.met.K.Eq.laws g.met.K.Hash.respects_eq (begun_of w.book.now.parts) w.book.now.begun.book key made begun w.sight.log c.args.self.now r (Made 0) asks (omega arith))
+      (λ asks. key_made g.K.PartialEq.eq g.K.Hash.hash_input g.S.BuildHasher.build_hasher g.S.Hasher.Hasher.write g.S.Hasher.Hasher.finish
+      g.met.K.Eq.laws g.met.K.Hash.respects_eq (begun_of w.book.now.parts) w.book.now.begun.book key made begun w.sight.log c.args.self.now r
+      (Made 0) asks (omega arith))
+      (λ asks. value_made g.K.PartialEq.eq g.K.Hash.hash_input g.S.BuildHasher.build_hasher g.S.Hasher.Hasher.write g.S.Hasher.Hasher.finish
+      g.met.K.Eq.laws g.met.K.Hash.respects_eq (begun_of w.book.now.parts) w.book.now.begun.book key made begun w.sight.log c.args.self.now r
+      (Made 0) asks (omega arith))
       c.requires.asks;
 }

@@ -11,36 +11,66 @@ use Rattle.papaya_change.proofs.writing.Writer.open.Goals as goal
 
 pub unreachable-requires : goal.unreachable-requires
 unreachable-requires g c =
-    let o = opening g.K.PartialEq.eq g.K.Hash.hash_input g.S.BuildHasher.build_hasher g.S.Hasher.Hasher.write g.S.Hasher.Hasher.finish g.met.K.Eq.laws g.met.K.Hash.respects_eq (begun_of c.args.window.now.book.now.parts) c.args.window.now.book.now.begun.book c.requires.can.0 c.requires.can.1 c.requires.can.2 c.args.window.now.sight.log c.args.self.now c.requires.can.3 c.requires.standing c.requires.asks.0 c.requires.asks.1 c.requires.asks.2 in
+    let o = opening g.K.PartialEq.eq g.K.Hash.hash_input g.S.BuildHasher.build_hasher g.S.Hasher.Hasher.write g.S.Hasher.Hasher.finish g.met.K.Eq.laws
+    g.met.K.Hash.respects_eq (begun_of c.args.window.now.book.now.parts) c.args.window.now.book.now.begun.book c.requires.can.0 c.requires.can.1
+    c.requires.can.2 c.args.window.now.sight.log c.args.self.now c.requires.can.3 c.requires.standing c.requires.asks.0 c.requires.asks.1 c.requires.asks.2 in
     let none = sym o.is ∙ (sym c.take.ensures.value ∙ c.in_default.is) in cc none
 
 pub open_root-found-requires-clause-placed : goal.open_root-found-requires-clause-placed
-open_root-found-requires-clause-placed g c = (opening_of g.K.PartialEq.eq g.K.Hash.hash_input g.S.BuildHasher.build_hasher g.S.Hasher.Hasher.write g.S.Hasher.Hasher.finish g.met.K.Eq.laws g.met.K.Hash.respects_eq (begun_of c.args.window.now.book.now.parts) c.args.window.now.book.now.begun.book c.requires.can.0 c.requires.can.1 c.requires.can.2 c.args.window.now.sight.log c.args.self.now c.requires.can.3 c.requires.standing c.requires.asks.0 c.requires.asks.1 c.requires.asks.2 c.in-Some.table c.in-Some.seal (sym c.take.ensures.value ∙ c.in-Some.is)).2
+open_root-found-requires-clause-placed g
+    c = (opening_of g.K.PartialEq.eq g.K.Hash.hash_input g.S.BuildHasher.build_hasher g.S.Hasher.Hasher.write g.S.Hasher.Hasher.finish g.met.K.Eq.laws
+    g.met.K.Hash.respects_eq (begun_of c.args.window.now.book.now.parts) c.args.window.now.book.now.begun.book c.requires.can.0 c.requires.can.1
+    c.requires.can.2 c.args.window.now.sight.log c.args.self.now c.requires.can.3 c.requires.standing c.requires.asks.0 c.requires.asks.1
+    c.requires.asks.2 c.in-Some.table c.in-Some.seal (sym c.take.ensures.value ∙ c.in-Some.is)).2
 
 pub open_root-found-requires-clause-made : goal.open_root-found-requires-clause-made
-open_root-found-requires-clause-made g c = (opening_of g.K.PartialEq.eq g.K.Hash.hash_input g.S.BuildHasher.build_hasher g.S.Hasher.Hasher.write g.S.Hasher.Hasher.finish g.met.K.Eq.laws g.met.K.Hash.respects_eq (begun_of c.args.window.now.book.now.parts) c.args.window.now.book.now.begun.book c.requires.can.0 c.requires.can.1 c.requires.can.2 c.args.window.now.sight.log c.args.self.now c.requires.can.3 c.requires.standing c.requires.asks.0 c.requires.asks.1 c.requires.asks.2 c.in-Some.table c.in-Some.seal (sym c.take.ensures.value ∙ c.in-Some.is)).1
+open_root-found-requires-clause-made g c =
+    (opening_of g.K.PartialEq.eq g.K.Hash.hash_input g.S.BuildHasher.build_hasher g.S.Hasher.Hasher.write g.S.Hasher.Hasher.finish g.met.K.Eq.laws
+    g.met.K.Hash.respects_eq (begun_of c.args.window.now.book.now.parts) c.args.window.now.book.now.begun.book c.requires.can.0 c.requires.can.1
+    c.requires.can.2 c.args.window.now.sight.log c.args.self.now c.requires.can.3 c.requires.standing c.requires.asks.0 c.requires.asks.1
+    c.requires.asks.2 c.in-Some.table c.in-Some.seal (sym c.take.ensures.value ∙ c.in-Some.is)).1
 
 pub open_root-found-requires-clause-pen : goal.open_root-found-requires-clause-pen
-open_root-found-requires-clause-pen g c = let o = opening_of g.K.PartialEq.eq g.K.Hash.hash_input g.S.BuildHasher.build_hasher g.S.Hasher.Hasher.write g.S.Hasher.Hasher.finish g.met.K.Eq.laws g.met.K.Hash.respects_eq (begun_of c.args.window.now.book.now.parts) c.args.window.now.book.now.begun.book c.requires.can.0 c.requires.can.1 c.requires.can.2 c.args.window.now.sight.log c.args.self.now c.requires.can.3 c.requires.standing c.requires.asks.0 c.requires.asks.1 c.requires.asks.2 c.in-Some.table c.in-Some.seal (sym c.take.ensures.value ∙ c.in-Some.is) in (o.3, o.4)
+open_root-found-requires-clause-pen g c = let o = opening_of g.K.PartialEq.eq g.K.Hash.hash_input g.S.BuildHasher.build_hasher g.S.Hasher.Hasher.write
+    g.S.Hasher.Hasher.finish g.met.K.Eq.laws g.met.K.Hash.respects_eq (begun_of c.args.window.now.book.now.parts)
+    c.args.window.now.book.now.begun.book c.requires.can.0 c.requires.can.1 c.requires.can.2 c.args.window.now.sight.log c.args.self.now
+    c.requires.can.3 c.requires.standing c.requires.asks.0 c.requires.asks.1 c.requires.asks.2 c.in-Some.table c.in-Some.seal
+    (sym c.take.ensures.value ∙ c.in-Some.is) in (o.3, o.4)
 
 pub returns-then-found-eq0-clause-writes : goal.returns-then-found-eq0-clause-writes
 returns-then-found-eq0-clause-writes g c = λ key made begun r.
-    let hash = hash_of g.K.Hash.hash_input g.S.BuildHasher.build_hasher g.S.Hasher.Hasher.write g.S.Hasher.Hasher.finish in let b = begun_of c.args.window.now.book.now.parts in
+    let hash = hash_of g.K.Hash.hash_input g.S.BuildHasher.build_hasher g.S.Hasher.Hasher.write g.S.Hasher.Hasher.finish in
+    let b = begun_of c.args.window.now.book.now.parts in
     let old = c.requires.asks.0 in let new = c.requires.asks.1 in let asks = c.requires.asks.2 in
-    let number = (opening_of g.K.PartialEq.eq g.K.Hash.hash_input g.S.BuildHasher.build_hasher g.S.Hasher.Hasher.write g.S.Hasher.Hasher.finish g.met.K.Eq.laws g.met.K.Hash.respects_eq (begun_of c.args.window.now.book.now.parts) c.args.window.now.book.now.begun.book key made begun c.args.window.now.sight.log c.args.self.now r c.requires.standing old new asks c.in-Some.table c.in-Some.seal (sym c.take.ensures.value ∙ c.in-Some.is)).0 in
+    let number = (opening_of g.K.PartialEq.eq g.K.Hash.hash_input g.S.BuildHasher.build_hasher g.S.Hasher.Hasher.write g.S.Hasher.Hasher.finish
+    g.met.K.Eq.laws g.met.K.Hash.respects_eq (begun_of c.args.window.now.book.now.parts) c.args.window.now.book.now.begun.book key made begun
+    c.args.window.now.sight.log c.args.self.now r c.requires.standing old new asks c.in-Some.table c.in-Some.seal
+    (sym c.take.ensures.value ∙ c.in-Some.is)).0 in
     let log = c.open_root-found.new.self.sight.log in let found = c.open_root-found.result.0 in let root = c.open_root-found.result.1 in
     let zero = ap (λ n. n == 0) c.if-found-eq0.true in
-    let tried = subst (λ (n : ℕ). IsTried g.K.PartialEq.eq hash b Root (Some Open) 0 n None (Table c.in-Some.table) c.args.window.now.sight.log found log c.open_root-found.ensures.tried.0) number c.open_root-found.ensures.tried.1 in
+    let tried = subst (λ (n : ℕ). IsTried g.K.PartialEq.eq hash b Root (Some Open) 0 n None (Table c.in-Some.table) c.args.window.now.sight.log found
+    log c.open_root-found.ensures.tried.0) number c.open_root-found.ensures.tried.1 in
     let held = subst (λ z. IsTable log (cond z (c.in-Some.table.index + 1) found) root.now) zero c.open_root-found.ensures.held in
-    opened_here g.K.PartialEq.eq g.K.Hash.hash_input g.S.BuildHasher.build_hasher g.S.Hasher.Hasher.write g.S.Hasher.Hasher.finish g.met.K.Eq.laws g.met.K.Hash.respects_eq (begun_of c.args.window.now.book.now.parts) c.args.window.now.book.now.begun.book key made begun c.args.window.now.sight.log c.args.self.now r c.requires.standing old new asks log found c.in-Some.table c.open_root-found.ensures.tried.0 root c.take.new.self tried zero (subst (λ (n : ℕ). IsTable log n root.now) number held)
+    opened_here g.K.PartialEq.eq g.K.Hash.hash_input g.S.BuildHasher.build_hasher g.S.Hasher.Hasher.write g.S.Hasher.Hasher.finish g.met.K.Eq.laws
+    g.met.K.Hash.respects_eq (begun_of c.args.window.now.book.now.parts) c.args.window.now.book.now.begun.book key made begun
+    c.args.window.now.sight.log c.args.self.now r c.requires.standing old new asks log found c.in-Some.table c.open_root-found.ensures.tried.0 root
+    c.take.new.self tried zero (subst (λ (n : ℕ). IsTable log n root.now) number held)
 
 pub returns-clause-writes : goal.returns-clause-writes
 returns-clause-writes g c = λ key made begun r.
-    let hash = hash_of g.K.Hash.hash_input g.S.BuildHasher.build_hasher g.S.Hasher.Hasher.write g.S.Hasher.Hasher.finish in let b = begun_of c.args.window.now.book.now.parts in
+    let hash = hash_of g.K.Hash.hash_input g.S.BuildHasher.build_hasher g.S.Hasher.Hasher.write g.S.Hasher.Hasher.finish in
+    let b = begun_of c.args.window.now.book.now.parts in
     let old = c.requires.asks.0 in let new = c.requires.asks.1 in let asks = c.requires.asks.2 in
-    let number = (opening_of g.K.PartialEq.eq g.K.Hash.hash_input g.S.BuildHasher.build_hasher g.S.Hasher.Hasher.write g.S.Hasher.Hasher.finish g.met.K.Eq.laws g.met.K.Hash.respects_eq (begun_of c.args.window.now.book.now.parts) c.args.window.now.book.now.begun.book key made begun c.args.window.now.sight.log c.args.self.now r c.requires.standing old new asks c.in-Some.table c.in-Some.seal (sym c.take.ensures.value ∙ c.in-Some.is)).0 in
+    let number = (opening_of g.K.PartialEq.eq g.K.Hash.hash_input g.S.BuildHasher.build_hasher g.S.Hasher.Hasher.write g.S.Hasher.Hasher.finish
+    g.met.K.Eq.laws g.met.K.Hash.respects_eq (begun_of c.args.window.now.book.now.parts) c.args.window.now.book.now.begun.book key made begun
+    c.args.window.now.sight.log c.args.self.now r c.requires.standing old new asks c.in-Some.table c.in-Some.seal
+    (sym c.take.ensures.value ∙ c.in-Some.is)).0 in
     let log = c.open_root-found.new.self.sight.log in let found = c.open_root-found.result.0 in let root = c.open_root-found.result.1 in
     let zero = not_zero found c.if-found-eq0.false in
-    let tried = subst (λ (n : ℕ). IsTried g.K.PartialEq.eq hash b Root (Some Open) 0 n None (Table c.in-Some.table) c.args.window.now.sight.log found log c.open_root-found.ensures.tried.0) number c.open_root-found.ensures.tried.1 in
+    let tried = subst (λ (n : ℕ). IsTried g.K.PartialEq.eq hash b Root (Some Open) 0 n None (Table c.in-Some.table) c.args.window.now.sight.log found
+    log c.open_root-found.ensures.tried.0) number c.open_root-found.ensures.tried.1 in
     let held = subst (λ z. IsTable log (cond z (c.in-Some.table.index + 1) found) root.now) zero c.open_root-found.ensures.held in
-    opened_there g.K.PartialEq.eq g.K.Hash.hash_input g.S.BuildHasher.build_hasher g.S.Hasher.Hasher.write g.S.Hasher.Hasher.finish g.met.K.Eq.laws g.met.K.Hash.respects_eq (begun_of c.args.window.now.book.now.parts) c.args.window.now.book.now.begun.book key made begun c.args.window.now.sight.log c.args.self.now r c.requires.standing old new asks log found c.in-Some.table c.open_root-found.ensures.tried.0 root c.take.new.self tried zero held
+    opened_there g.K.PartialEq.eq g.K.Hash.hash_input g.S.BuildHasher.build_hasher g.S.Hasher.Hasher.write g.S.Hasher.Hasher.finish g.met.K.Eq.laws
+    g.met.K.Hash.respects_eq (begun_of c.args.window.now.book.now.parts) c.args.window.now.book.now.begun.book key made begun
+    c.args.window.now.sight.log c.args.self.now r c.requires.standing old new asks log found c.in-Some.table c.open_root-found.ensures.tried.0 root
+    c.take.new.self tried zero held

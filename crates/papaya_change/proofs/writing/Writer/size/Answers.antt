@@ -7,13 +7,23 @@ use Rattle.papaya_change.proofs.WritingSteps.{size_held, sized_on}
 use Rattle.papaya_change.proofs.writing.Writer.size.Goals as goal
 
 pub size-requires : goal.size-requires
-size-requires g c = record { held = size_held g.K.PartialEq.eq g.K.Hash.hash_input g.S.BuildHasher.build_hasher g.S.Hasher.Hasher.write g.S.Hasher.Hasher.finish g.met.K.Eq.laws g.met.K.Hash.respects_eq (begun_of c.args.window.now.book.now.parts) c.args.window.now.book.now.begun.book c.requires.can.0 c.requires.can.1 c.requires.can.2 c.args.window.now.sight.log c.args.self.now c.requires.can.3 c.requires.asks.0 c.requires.asks.1 }
+size-requires g c = record {
+  held = size_held g.K.PartialEq.eq g.K.Hash.hash_input g.S.BuildHasher.build_hasher g.S.Hasher.Hasher.write
+      g.S.Hasher.Hasher.finish g.met.K.Eq.laws g.met.K.Hash.respects_eq (begun_of c.args.window.now.book.now.parts)
+      c.args.window.now.book.now.begun.book c.requires.can.0 c.requires.can.1 c.requires.can.2 c.args.window.now.sight.log c.args.self.now
+      c.requires.can.3 c.requires.asks.0 c.requires.asks.1;
+}
 
 pub returns : goal.returns
 returns g c =
     let s = c.size.ensures.size in record {
       unsaid = λ cause e. let f = sym s.4 ∙ e in absurd (cc f);
       writes = λ key made begun r.
-          subst (λ (z : Answer). IsWritingOn g.K.PartialEq.eq (hash_of g.K.Hash.hash_input g.S.BuildHasher.build_hasher g.S.Hasher.Hasher.write g.S.Hasher.Hasher.finish) (begun_of c.args.window.now.book.now.parts) c.args.window.now.book.now.begun.book key made begun c.args.window.now.sight.log c.args.self.now z) (sym s.4)
-          (sized_on g.K.PartialEq.eq g.K.Hash.hash_input g.S.BuildHasher.build_hasher g.S.Hasher.Hasher.write g.S.Hasher.Hasher.finish g.met.K.Eq.laws g.met.K.Hash.respects_eq (begun_of c.args.window.now.book.now.parts) c.args.window.now.book.now.begun.book key made begun c.args.window.now.sight.log c.args.self.now r c.requires.asks.0 s.0 s.3 s.1 s.2 s.5 s.6 s.7 c.requires.asks.1);
+          subst (λ (z : Answer). IsWritingOn g.K.PartialEq.eq
+          (hash_of g.K.Hash.hash_input g.S.BuildHasher.build_hasher g.S.Hasher.Hasher.write g.S.Hasher.Hasher.finish)
+          (begun_of c.args.window.now.book.now.parts) c.args.window.now.book.now.begun.book key made begun c.args.window.now.sight.log
+          c.args.self.now z) (sym s.4)
+          (sized_on g.K.PartialEq.eq g.K.Hash.hash_input g.S.BuildHasher.build_hasher g.S.Hasher.Hasher.write g.S.Hasher.Hasher.finish g.met.K.Eq.laws
+          g.met.K.Hash.respects_eq (begun_of c.args.window.now.book.now.parts) c.args.window.now.book.now.begun.book key made begun
+          c.args.window.now.sight.log c.args.self.now r c.requires.asks.0 s.0 s.3 s.1 s.2 s.5 s.6 s.7 c.requires.asks.1);
     }

@@ -33,7 +33,10 @@ returns-clause-resumes g c = λ begun seen was.
     let placed : IsPlaced (begun_of w.parts) (Some w.begun.book) (names.Pair q) = c.requires.placed in
     let held : Remembered = record { fill = Some q.index; choice = None } in
     let is : record { fill = Some c.index.result; choice = None } ≡ held = ap (λ n. record { fill = Some n; choice = None }) c.index.ensures in
-    let machine = c.resume.ensures.machine ∙ (ap (resumed_at c.args.hash w.parts.mode c.args.initial w.parts.limit) is ∙ ap (λ h. resumed_at h w.parts.mode c.args.initial w.parts.limit held) c.requires.hashed) in
-    resumes_filled g.K.PartialEq.eq hash (begun_of w.parts) w.begun.book (key_of q) begun log seen c.requires.lawful _ c.args.initial c.resume.ensures.table c.resume.ensures.pairs
+    let machine = c.resume.ensures.machine ∙
+    (ap (resumed_at c.args.hash w.parts.mode c.args.initial w.parts.limit) is
+    ∙ ap (λ h. resumed_at h w.parts.mode c.args.initial w.parts.limit held) c.requires.hashed) in
+    resumes_filled g.K.PartialEq.eq hash (begun_of w.parts) w.begun.book (key_of q) begun log seen c.requires.lawful _ c.args.initial
+    c.resume.ensures.table c.resume.ensures.pairs
     (subst (λ (z : Stored _ _). HasKey (begun_of w.parts) w.begun.book (key_of q) (Some (keys.Of z))) (sym c.again.ensures) (refl, placed)) tt
     q placed (g.met.K.Eq.laws.refl (key_of q)) refl was refl refl refl machine

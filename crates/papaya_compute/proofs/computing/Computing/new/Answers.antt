@@ -24,4 +24,5 @@ pub returns-clause-begins : goal.returns-clause-begins
 returns-clause-begins g c =
     let w = c.args.window.now.book.now in let log = c.args.window.now.sight.log in
     let machine = c.new.ensures.machine ∙ ap (λ h. started Compute h w.parts.mode c.args.initial 0 w.parts.limit) c.hash-hash.ensures in
-    begins g.K.PartialEq.eq (hash_of g.K.Hash.hash_input g.S.BuildHasher.build_hasher g.S.Hasher.Hasher.write g.S.Hasher.Hasher.finish) (begun_of w.parts) w.begun.book c.args.key log _ c.requires.lawful c.args.initial machine c.new.ensures.table c.new.ensures.pairs refl refl refl refl refl
+    begins g.K.PartialEq.eq (hash_of g.K.Hash.hash_input g.S.BuildHasher.build_hasher g.S.Hasher.Hasher.write g.S.Hasher.Hasher.finish)
+    (begun_of w.parts) w.begun.book c.args.key log _ c.requires.lawful c.args.initial machine c.new.ensures.table c.new.ensures.pairs refl refl refl refl refl

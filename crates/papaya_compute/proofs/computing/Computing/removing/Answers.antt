@@ -26,7 +26,11 @@ returns-clause-resumes g c = λ begun seen was.
     let hash = (hash_of g.K.Hash.hash_input g.S.BuildHasher.build_hasher g.S.Hasher.Hasher.write g.S.Hasher.Hasher.finish) in
     let w = c.args.window.now.book.now in let log = c.args.window.now.sight.log in let p = c.args.shown in
     let held : Remembered = record { fill = None; choice = Some (To_remove p.index) } in
-    let is : record { fill = None; choice = Some (To_remove c.index.result) } ≡ held = ap (λ n. record { fill = None; choice = Some (To_remove n) }) c.index.ensures in
-    let machine = c.resume.ensures.machine ∙ (ap (resumed_at c.args.hash w.parts.mode c.args.initial w.parts.limit) is ∙ ap (λ h. resumed_at h w.parts.mode c.args.initial w.parts.limit held) c.requires.hashed) in
-    resumes_removing g.K.PartialEq.eq hash (begun_of w.parts) w.begun.book c.args.key begun log seen c.requires.lawful _ c.args.initial c.resume.ensures.table c.resume.ensures.pairs
+    let is : record { fill = None; choice = Some (To_remove c.index.result) } ≡ held = ap (λ n. record { fill = None; choice = Some (To_remove n) })
+    c.index.ensures in
+    let machine = c.resume.ensures.machine ∙
+    (ap (resumed_at c.args.hash w.parts.mode c.args.initial w.parts.limit) is
+    ∙ ap (λ h. resumed_at h w.parts.mode c.args.initial w.parts.limit held) c.requires.hashed) in
+    resumes_removing g.K.PartialEq.eq hash (begun_of w.parts) w.begun.book c.args.key begun log seen c.requires.lawful _ c.args.initial
+    c.resume.ensures.table c.resume.ensures.pairs
     (refl, tt) tt p c.requires.shown was (ap (λ z. Some z) c.again.ensures) refl refl machine

@@ -19,7 +19,8 @@ use Rattle.papaya_compute.proofs.computing.Computing.replaced.Goals as goal
 pub resume-requires-clause-remembered : goal.resume-requires-clause-remembered
 resume-requires-clause-remembered g c =
     let met = c.args.met in
-    let of_is : c.of.result ≡ record { pair = c.args.pair.index; table = met.place.table; index = met.place.probe.i } = c.of.ensures ∙ ap (made_of (record { place = met.place; old = met.word })) c.index-2.ensures in
+    let of_is : c.of.result ≡ record { pair = c.args.pair.index; table = met.place.table; index = met.place.probe.i } = c.of.ensures
+    ∙ ap (made_of (record { place = met.place; old = met.word })) c.index-2.ensures in
     record { fill = tt; choice = subst (λ (o : Of). o.pair < 2 ^ 48) (sym of_is) c.requires.number }
 
 pub returns-clause-calling : goal.returns-clause-calling
@@ -39,8 +40,13 @@ returns-clause-resumes g c = λ begun seen was.
     let of : Of = record { pair = q.index; table = met.place.table; index = met.place.probe.i } in
     let of_is : c.of.result ≡ of = c.of.ensures ∙ ap (made_of (record { place = met.place; old = met.word })) c.index-2.ensures in
     let held : Remembered = record { fill = None; choice = Some (To_replace p.index of) } in
-    let is : record { fill = None; choice = Some (To_replace c.index.result c.of.result) } ≡ held = λ i. record { fill = None; choice = Some (To_replace (c.index.ensures i) (of_is i)) } in
-    let machine = c.resume.ensures.machine ∙ (ap (resumed_at c.args.hash w.parts.mode c.args.initial w.parts.limit) is ∙ ap (λ h. resumed_at h w.parts.mode c.args.initial w.parts.limit held) c.requires.hashed) in
-    resumes_replaced g.K.PartialEq.eq hash (begun_of w.parts) w.begun.book c.args.key begun log seen c.requires.lawful _ c.args.initial c.resume.ensures.table c.resume.ensures.pairs
+    let is : record { fill = None; choice = Some (To_replace c.index.result c.of.result) } ≡ held = λ i.
+    record { fill = None; choice = Some (To_replace (c.index.ensures i) (of_is i)) } in
+    let machine = c.resume.ensures.machine ∙
+    (ap (resumed_at c.args.hash w.parts.mode c.args.initial w.parts.limit) is
+    ∙ ap (λ h. resumed_at h w.parts.mode c.args.initial w.parts.limit held) c.requires.hashed) in
+    resumes_replaced g.K.PartialEq.eq hash (begun_of w.parts) w.begun.book c.args.key begun log seen c.requires.lawful _ c.args.initial
+    c.resume.ensures.table c.resume.ensures.pairs
     (refl, tt) (subst (λ (z : Stored _ _). HasValue (begun_of w.parts) w.begun.book (Some (values.Of z))) (sym c.again.ensures) placed)
-    q placed c.requires.same p c.requires.kept c.requires.shown was (ap (λ z. Some z) c.again-2.ensures) refl refl refl (ap (λ (z : Stored _ _). held_value (Some (values.Of z))) c.again.ensures) met.place.table met.place.probe.i c.requires.there machine
+    q placed c.requires.same p c.requires.kept c.requires.shown was (ap (λ z. Some z) c.again-2.ensures) refl refl refl
+    (ap (λ (z : Stored _ _). held_value (Some (values.Of z))) c.again.ensures) met.place.table met.place.probe.i c.requires.there machine

@@ -19,11 +19,16 @@ pub help-requires-clause-can : goal.help-requires-clause-can
 help-requires-clause-can g c =
     let key = c.requires.can.0 in let begun = c.requires.can.1 in let r = c.requires.can.3.0 in
     let w = c.args.window.now.book.now in let b = begun_of w.parts in
-    let on = subst (λ (z : Driver _ _ _ _). IsDriven g.K.PartialEq.eq (hash_of g.K.Hash.hash_input g.S.BuildHasher.build_hasher g.S.Hasher.Hasher.write g.S.Hasher.Hasher.finish) b w.begun.book (g.K.PartialEq.eq key) ((hash_of g.K.Hash.hash_input g.S.BuildHasher.build_hasher g.S.Hasher.Hasher.write g.S.Hasher.Hasher.finish) b.hasher key) (Some key) begun c.args.window.now.sight.log r.made z) (sym c.answer.ensures.after) r.writing.calling in
-    let query = own_query g.K.PartialEq.eq g.K.Hash.hash_input g.S.BuildHasher.build_hasher g.S.Hasher.Hasher.write g.S.Hasher.Hasher.finish g.met.K.Eq.laws g.met.K.Hash.respects_eq b w.begun.book key in (
+    let on = subst (λ (z : Driver _ _ _ _). IsDriven g.K.PartialEq.eq
+    (hash_of g.K.Hash.hash_input g.S.BuildHasher.build_hasher g.S.Hasher.Hasher.write g.S.Hasher.Hasher.finish) b w.begun.book
+    (g.K.PartialEq.eq key) ((hash_of g.K.Hash.hash_input g.S.BuildHasher.build_hasher g.S.Hasher.Hasher.write g.S.Hasher.Hasher.finish) b.hasher
+    key) (Some key) begun c.args.window.now.sight.log r.made z) (sym c.answer.ensures.after) r.writing.calling in
+    let query = own_query g.K.PartialEq.eq g.K.Hash.hash_input g.S.BuildHasher.build_hasher g.S.Hasher.Hasher.write g.S.Hasher.Hasher.finish
+    g.met.K.Eq.laws g.met.K.Hash.respects_eq b w.begun.book key in (
       g.K.PartialEq.eq key,
       (hash_of g.K.Hash.hash_input g.S.BuildHasher.build_hasher g.S.Hasher.Hasher.write g.S.Hasher.Hasher.finish) b.hasher key,
-      form g.K.PartialEq.eq g.K.Hash.hash_input g.S.BuildHasher.build_hasher g.S.Hasher.Hasher.write g.S.Hasher.Hasher.finish g.met.K.Eq.laws g.met.K.Hash.respects_eq b (g.K.PartialEq.eq key) (g.K.Hash.hash_input key) query (Some key) w.begun.book begun,
+      form g.K.PartialEq.eq g.K.Hash.hash_input g.S.BuildHasher.build_hasher g.S.Hasher.Hasher.write g.S.Hasher.Hasher.finish g.met.K.Eq.laws
+          g.met.K.Hash.respects_eq b (g.K.PartialEq.eq key) (g.K.Hash.hash_input key) query (Some key) w.begun.book begun,
       Some key,
       begun,
       r.made,
@@ -31,7 +36,9 @@ help-requires-clause-can g c =
     )
 
 pub returns-clause-helped : goal.returns-clause-helped
-returns-clause-helped g c = subst (λ (z : Machine). HasHelped z c.help.new.self.machine (tables_of c.help.new.window.sight.log) c.help.new.self.given.done) (ap (λ (d : Driver _ _ _ _). d.machine) c.answer.ensures.after) c.help.ensures.helped
+returns-clause-helped g c = subst (λ (z : Machine).
+    HasHelped z c.help.new.self.machine (tables_of c.help.new.window.sight.log) c.help.new.self.given.done)
+    (ap (λ (d : Driver _ _ _ _). d.machine) c.answer.ensures.after) c.help.ensures.helped
 
 pub returns-clause-still : goal.returns-clause-still
 returns-clause-still g c = λ calling. (c.help.ensures.still (ap (λ (d : Driver _ _ _ _). d.machine.phase) c.answer.ensures.after ∙ calling)).1
@@ -40,7 +47,17 @@ pub returns-clause-takes : goal.returns-clause-takes
 returns-clause-takes g c = λ key begun heard r.
     let w = c.args.window.now.book.now in let b = begun_of w.parts in let then = c.help.new.self in let log = c.help.new.window.sight.log in
     let x = record c.args.self.now { writer = record c.args.self.now.writer { call = c.answer.new.self } } in
-    let on = subst (λ (z : Driver _ _ _ _). IsComputing g.K.PartialEq.eq (hash_of g.K.Hash.hash_input g.S.BuildHasher.build_hasher g.S.Hasher.Hasher.write g.S.Hasher.Hasher.finish) b w.begun.book key begun c.args.window.now.sight.log (record c.args.self.now { writer = record c.args.self.now.writer { call = z } }) heard) (sym c.answer.ensures.after) r.0 in
-    let query = own_query g.K.PartialEq.eq g.K.Hash.hash_input g.S.BuildHasher.build_hasher g.S.Hasher.Hasher.write g.S.Hasher.Hasher.finish g.met.K.Eq.laws g.met.K.Hash.respects_eq b w.begun.book key in
-    let driven = c.help.ensures.goes_on (g.K.PartialEq.eq key) ((hash_of g.K.Hash.hash_input g.S.BuildHasher.build_hasher g.S.Hasher.Hasher.write g.S.Hasher.Hasher.finish) b.hasher key) (form g.K.PartialEq.eq g.K.Hash.hash_input g.S.BuildHasher.build_hasher g.S.Hasher.Hasher.write g.S.Hasher.Hasher.finish g.met.K.Eq.laws g.met.K.Hash.respects_eq b (g.K.PartialEq.eq key) (g.K.Hash.hash_input key) query (Some key) w.begun.book begun) (Some key) begun on.made on.writing.calling in
-    computing_helped g.K.PartialEq.eq g.K.Hash.hash_input g.S.BuildHasher.build_hasher g.S.Hasher.Hasher.write g.S.Hasher.Hasher.finish g.met.K.Eq.laws g.met.K.Hash.respects_eq b w.begun.book key begun c.args.window.now.sight.log log c.help.ensures.sees.log x heard on then driven c.help.ensures.rest.1 c.help.ensures.calling (λ e. let same = c.help.ensures.still e in (same.0, ap (λ (z : _). z.sight.log) same.1)) c.help.ensures.helped
+    let on = subst (λ (z : Driver _ _ _ _). IsComputing g.K.PartialEq.eq
+    (hash_of g.K.Hash.hash_input g.S.BuildHasher.build_hasher g.S.Hasher.Hasher.write g.S.Hasher.Hasher.finish) b w.begun.book key begun
+    c.args.window.now.sight.log (record c.args.self.now { writer = record c.args.self.now.writer { call = z } }) heard) (sym c.answer.ensures.after) r.0 in
+    let query = own_query g.K.PartialEq.eq g.K.Hash.hash_input g.S.BuildHasher.build_hasher g.S.Hasher.Hasher.write g.S.Hasher.Hasher.finish
+    g.met.K.Eq.laws g.met.K.Hash.respects_eq b w.begun.book key in
+    let driven = c.help.ensures.goes_on (g.K.PartialEq.eq key)
+    ((hash_of g.K.Hash.hash_input g.S.BuildHasher.build_hasher g.S.Hasher.Hasher.write g.S.Hasher.Hasher.finish) b.hasher key)
+    (form g.K.PartialEq.eq g.K.Hash.hash_input g.S.BuildHasher.build_hasher g.S.Hasher.Hasher.write g.S.Hasher.Hasher.finish g.met.K.Eq.laws
+    g.met.K.Hash.respects_eq b (g.K.PartialEq.eq key) (g.K.Hash.hash_input key) query (Some key) w.begun.book begun) (Some key) begun on.made
+    on.writing.calling in
+    computing_helped g.K.PartialEq.eq g.K.Hash.hash_input g.S.BuildHasher.build_hasher g.S.Hasher.Hasher.write g.S.Hasher.Hasher.finish
+    g.met.K.Eq.laws g.met.K.Hash.respects_eq b w.begun.book key begun c.args.window.now.sight.log log c.help.ensures.sees.log x heard on then driven
+    c.help.ensures.rest.1 c.help.ensures.calling (λ e. let same = c.help.ensures.still e in (same.0, ap (λ (z : _). z.sight.log) same.1))
+    c.help.ensures.helped

@@ -15,17 +15,29 @@ pub returns-in-AddToShard-clause-turns : goal.returns-in-AddToShard-clause-turns
 returns-in-AddToShard-clause-turns g c =
     let asks : ask_of c.args.self.now.writer.call.machine ≡ Call (AddToShard c.in-AddToShard.by) = search rules in (
       λ key begun heard r.
-          let on = counted_on g.K.PartialEq.eq g.K.Hash.hash_input g.S.BuildHasher.build_hasher g.S.Hasher.Hasher.write g.S.Hasher.Hasher.finish g.met.K.Eq.laws g.met.K.Hash.respects_eq (begun_of c.args.window.now.book.now.parts) c.args.window.now.book.now.begun.book key r.made begun c.args.window.now.sight.log c.args.self.now.writer r.writing c.in-AddToShard.by asks in
-          goes_untold g.K.PartialEq.eq g.K.Hash.hash_input g.S.BuildHasher.build_hasher g.S.Hasher.Hasher.write g.S.Hasher.Hasher.finish g.met.K.Eq.laws g.met.K.Hash.respects_eq (begun_of c.args.window.now.book.now.parts) c.args.window.now.book.now.begun.book key begun c.args.window.now.sight.log c.args.self.now heard r c.requires.standing (AddToShard c.in-AddToShard.by) asks tt Ok (λ number. number) c.args.window.now.sight.log ([], append-nil c.args.window.now.sight.log) c.args.self.now.writer refl refl (λ cause e. absurd (cc e)) on,
+          let on = counted_on g.K.PartialEq.eq g.K.Hash.hash_input g.S.BuildHasher.build_hasher g.S.Hasher.Hasher.write g.S.Hasher.Hasher.finish
+          g.met.K.Eq.laws g.met.K.Hash.respects_eq (begun_of c.args.window.now.book.now.parts) c.args.window.now.book.now.begun.book key r.made
+          begun c.args.window.now.sight.log c.args.self.now.writer r.writing c.in-AddToShard.by asks in
+          goes_untold g.K.PartialEq.eq g.K.Hash.hash_input g.S.BuildHasher.build_hasher g.S.Hasher.Hasher.write g.S.Hasher.Hasher.finish
+          g.met.K.Eq.laws g.met.K.Hash.respects_eq (begun_of c.args.window.now.book.now.parts) c.args.window.now.book.now.begun.book key begun
+          c.args.window.now.sight.log c.args.self.now heard r c.requires.standing (AddToShard c.in-AddToShard.by) asks tt Ok (λ number. number)
+          c.args.window.now.sight.log ([], append-nil c.args.window.now.sight.log) c.args.self.now.writer refl refl (λ cause e. absurd (cc e)) on,
       left_alone (AddToShard c.in-AddToShard.by) tt _ (sym (call_asks c.args.self.now.writer.call.machine _ asks).1) (Some Ok) c.args.window.now,
     )
 
 pub returns-in-WriteHint-clause-turns : goal.returns-in-WriteHint-clause-turns
 returns-in-WriteHint-clause-turns g c =
-    let asks : ask_of c.args.self.now.writer.call.machine ≡ Call (WriteHint c.in-WriteHint.number c.in-WriteHint.place c.in-WriteHint.hint) = search rules in let e = c.note.ensures in (
+    let asks : ask_of c.args.self.now.writer.call.machine ≡ Call
+    (WriteHint c.in-WriteHint.number c.in-WriteHint.place c.in-WriteHint.hint) = search rules in let e = c.note.ensures in (
       λ key begun heard r.
-          goes_untold g.K.PartialEq.eq g.K.Hash.hash_input g.S.BuildHasher.build_hasher g.S.Hasher.Hasher.write g.S.Hasher.Hasher.finish g.met.K.Eq.laws g.met.K.Hash.respects_eq (begun_of c.args.window.now.book.now.parts) c.args.window.now.book.now.begun.book key begun c.args.window.now.sight.log c.args.self.now heard r c.requires.standing (WriteHint c.in-WriteHint.number c.in-WriteHint.place c.in-WriteHint.hint) asks tt c.note.result (λ number. number) c.args.window.now.sight.log ([], append-nil c.args.window.now.sight.log) c.args.self.now.writer refl refl e.unsaid (e.writes key r.made begun r.writing),
-      left_alone (WriteHint c.in-WriteHint.number c.in-WriteHint.place c.in-WriteHint.hint) tt _ (sym (call_asks c.args.self.now.writer.call.machine _ asks).1) (Some c.note.result) c.args.window.now,
+          goes_untold g.K.PartialEq.eq g.K.Hash.hash_input g.S.BuildHasher.build_hasher g.S.Hasher.Hasher.write g.S.Hasher.Hasher.finish
+          g.met.K.Eq.laws g.met.K.Hash.respects_eq (begun_of c.args.window.now.book.now.parts) c.args.window.now.book.now.begun.book key begun
+          c.args.window.now.sight.log c.args.self.now heard r c.requires.standing
+          (WriteHint c.in-WriteHint.number c.in-WriteHint.place c.in-WriteHint.hint) asks tt c.note.result (λ number. number)
+          c.args.window.now.sight.log ([], append-nil c.args.window.now.sight.log) c.args.self.now.writer refl refl e.unsaid
+          (e.writes key r.made begun r.writing),
+      left_alone (WriteHint c.in-WriteHint.number c.in-WriteHint.place c.in-WriteHint.hint) tt _
+          (sym (call_asks c.args.self.now.writer.call.machine _ asks).1) (Some c.note.result) c.args.window.now,
     )
 
 pub write-requires-clause-asks : goal.write-requires-clause-asks
@@ -35,9 +47,29 @@ write-requires-clause-asks g c =
       elim c.in_default-ask.branch [
         | in_default-ask-via-in-Exchange+in_default w ↦
             let n = w.in_default-ask in
-            left_to_write c.args.self.now.writer.call.machine c.requires.standing c.in-Call.ask asks (record { hint = n.not-WriteHint; none = n.not-ShowNone; pair = n.not-ShowPair; makes = n.not-MakePair; makes_of = n.not-MakePairOf; adds = n.not-AddToShard; done = n.not-Done; slot = λ t x old new e. search rules })
+            left_to_write c.args.self.now.writer.call.machine c.requires.standing c.in-Call.ask asks
+            (record {
+              hint = n.not-WriteHint;
+              none = n.not-ShowNone;
+              pair = n.not-ShowPair;
+              makes = n.not-MakePair;
+              makes_of = n.not-MakePairOf;
+              adds = n.not-AddToShard;
+              done = n.not-Done;
+              slot = λ t x old new e. search rules;
+            })
         | in_default-ask-via-in_default w ↦
             let n = w.in_default-ask in
-            left_to_write c.args.self.now.writer.call.machine c.requires.standing c.in-Call.ask asks (record { hint = n.not-WriteHint; none = n.not-ShowNone; pair = n.not-ShowPair; makes = n.not-MakePair; makes_of = n.not-MakePairOf; adds = n.not-AddToShard; done = n.not-Done; slot = λ t x old new e. search rules })
+            left_to_write c.args.self.now.writer.call.machine c.requires.standing c.in-Call.ask asks
+            (record {
+              hint = n.not-WriteHint;
+              none = n.not-ShowNone;
+              pair = n.not-ShowPair;
+              makes = n.not-MakePair;
+              makes_of = n.not-MakePairOf;
+              adds = n.not-AddToShard;
+              done = n.not-Done;
+              slot = λ t x old new e. search rules;
+            })
       ],
     )

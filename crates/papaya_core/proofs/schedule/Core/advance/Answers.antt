@@ -20,7 +20,10 @@ says g = record { op = g.A.Answers.op_gives; yes = g.A.Answers.yes_gives }
 
 -- what was under way stands
 pub advance_work-event-requires-clause-standing : goal.advance_work-event-requires-clause-standing
-advance_work-event-requires-clause-standing g c = work_stands g.K.PartialEq.eq g.K.Hash.hash_input g.S.BuildHasher.build_hasher g.S.Hasher.Hasher.write g.S.Hasher.Hasher.finish g.met.K.Eq.laws g.met.K.Hash.respects_eq (says g) (record { store = c.self.inside.store; callers = c.self.inside.callers; mode = c.self.inside.mode; initial = c.self.inside.initial }) c.self.invariant.0 c.args.caller c.take-work.result c.take-work.ensures.call
+advance_work-event-requires-clause-standing g c = work_stands g.K.PartialEq.eq g.K.Hash.hash_input g.S.BuildHasher.build_hasher
+    g.S.Hasher.Hasher.write g.S.Hasher.Hasher.finish g.met.K.Eq.laws g.met.K.Hash.respects_eq (says g)
+    (record { store = c.self.inside.store; callers = c.self.inside.callers; mode = c.self.inside.mode; initial = c.self.inside.initial })
+    c.self.invariant.0 c.args.caller c.take-work.result c.take-work.ensures.call
 
 -- the callers after it: one has what goes on under way
 callers_are : (g : Over) (c : After-put g) → c.put.new.self ≡ with_work c.self.inside.callers c.args.caller c.advance_work-event.result.2
@@ -29,11 +32,26 @@ callers_are g c =
     ∙ with_work-twice c.self.inside.callers c.args.caller None c.advance_work-event.result.2
 
 -- the step is sound
-sound : (g : Over) (c : After-put g) → IsSound g.K.PartialEq.eq g.K.Hash.hash_input g.S.BuildHasher.build_hasher g.S.Hasher.Hasher.write g.S.Hasher.Hasher.finish g.met.K.Eq.laws g.met.K.Hash.respects_eq (says g) c.args.refuse c.args.self.now c.args.caller (record { store = c.advance_work-event.new.store; callers = c.put.new.self; mode = c.self.inside.mode; initial = c.self.inside.initial }) c.advance_work-event.result.0 (as_reply c.advance_work-event.result.1)
+sound : (g : Over) (c : After-put g) → IsSound g.K.PartialEq.eq g.K.Hash.hash_input g.S.BuildHasher.build_hasher g.S.Hasher.Hasher.write
+    g.S.Hasher.Hasher.finish g.met.K.Eq.laws g.met.K.Hash.respects_eq (says g) c.args.refuse c.args.self.now c.args.caller
+    (record { store = c.advance_work-event.new.store; callers = c.put.new.self; mode = c.self.inside.mode; initial = c.self.inside.initial })
+    c.advance_work-event.result.0 (as_reply c.advance_work-event.result.1)
 sound g c =
-    subst (λ s. IsSound g.K.PartialEq.eq g.K.Hash.hash_input g.S.BuildHasher.build_hasher g.S.Hasher.Hasher.write g.S.Hasher.Hasher.finish g.met.K.Eq.laws g.met.K.Hash.respects_eq (says g) c.args.refuse s c.args.caller (record { store = c.advance_work-event.new.store; callers = c.put.new.self; mode = c.self.inside.mode; initial = c.self.inside.initial }) c.advance_work-event.result.0 (as_reply c.advance_work-event.result.1)) c.self.view_is
-    (work_sound g.K.PartialEq.eq g.K.Hash.hash_input g.S.BuildHasher.build_hasher g.S.Hasher.Hasher.write g.S.Hasher.Hasher.finish g.met.K.Eq.laws g.met.K.Hash.respects_eq (says g) c.args.refuse (record { store = c.self.inside.store; callers = c.self.inside.callers; mode = c.self.inside.mode; initial = c.self.inside.initial }) c.args.caller (record { store = c.advance_work-event.new.store; callers = c.put.new.self; mode = c.self.inside.mode; initial = c.self.inside.initial }) c.advance_work-event.result.0 (as_reply c.advance_work-event.result.1)
-    c.self.invariant.0 c.self.invariant.1 c.advance_work-event.result.2 (callers_are g c) refl refl c.take-work.result c.take-work.ensures.call c.advance_work-event.ensures.goes)
+    subst (λ s. IsSound g.K.PartialEq.eq g.K.Hash.hash_input g.S.BuildHasher.build_hasher g.S.Hasher.Hasher.write g.S.Hasher.Hasher.finish
+    g.met.K.Eq.laws g.met.K.Hash.respects_eq (says g) c.args.refuse s c.args.caller
+    (record { store = c.advance_work-event.new.store; callers = c.put.new.self; mode = c.self.inside.mode; initial = c.self.inside.initial })
+    c.advance_work-event.result.0 (as_reply c.advance_work-event.result.1)) c.self.view_is
+    (work_sound g.K.PartialEq.eq g.K.Hash.hash_input g.S.BuildHasher.build_hasher g.S.Hasher.Hasher.write g.S.Hasher.Hasher.finish g.met.K.Eq.laws
+    g.met.K.Hash.respects_eq (says g) c.args.refuse
+    (record { store = c.self.inside.store; callers = c.self.inside.callers; mode = c.self.inside.mode; initial = c.self.inside.initial })
+    c.args.caller (record {
+      store = c.advance_work-event.new.store;
+      callers = c.put.new.self;
+      mode = c.self.inside.mode;
+      initial = c.self.inside.initial;
+    }) c.advance_work-event.result.0 (as_reply c.advance_work-event.result.1)
+    c.self.invariant.0 c.self.invariant.1 c.advance_work-event.result.2 (callers_are g c) refl refl c.take-work.result c.take-work.ensures.call
+    c.advance_work-event.ensures.goes)
 
 pub invariant_of-self : goal.invariant_of-self
 invariant_of-self g c = let x = sound g (goal.at.invariant_of-self g c).After-put in (x.lawful, x.counted, c.self.invariant.2)
@@ -67,15 +85,23 @@ abbrev core_after : (g : Over) → After-put g → CoreState g.row.K.Denot g.row
 core_after g c = record { store = c.advance_work-event.new.store; callers = c.put.new.self; mode = c.self.inside.mode; initial = c.self.inside.initial }
 
 -- the core before the step is lawful, as what it shows
-lawful_before : (g : Over) (c : After-put g) → IsLawfulCore g.K.PartialEq.eq (hash_of g.K.Hash.hash_input g.S.BuildHasher.build_hasher g.S.Hasher.Hasher.write g.S.Hasher.Hasher.finish c.args.self.now.store.hasher) c.args.self.now.store c.args.self.now.callers c.args.self.now.mode
-lawful_before g c = subst (λ (s : CoreState _ _ _ _). IsLawfulCore g.K.PartialEq.eq (hash_of g.K.Hash.hash_input g.S.BuildHasher.build_hasher g.S.Hasher.Hasher.write g.S.Hasher.Hasher.finish s.store.hasher) s.store s.callers s.mode) c.self.view_is c.self.invariant.0
+lawful_before : (g : Over) (c : After-put g)
+    → IsLawfulCore g.K.PartialEq.eq (hash_of g.K.Hash.hash_input g.S.BuildHasher.build_hasher g.S.Hasher.Hasher.write g.S.Hasher.Hasher.finish
+    c.args.self.now.store.hasher) c.args.self.now.store c.args.self.now.callers c.args.self.now.mode
+lawful_before g c = subst (λ (s : CoreState _ _ _ _).
+    IsLawfulCore g.K.PartialEq.eq (hash_of g.K.Hash.hash_input g.S.BuildHasher.build_hasher g.S.Hasher.Hasher.write g.S.Hasher.Hasher.finish
+    s.store.hasher) s.store s.callers s.mode) c.self.view_is c.self.invariant.0
 
 pub returns-clause-limit : goal.returns-clause-limit
 returns-clause-limit g c e =
     let at = (goal.at.returns-clause-limit g c).After-put in
-    refused_spent g.K.PartialEq.eq (says g) (hash_of g.K.Hash.hash_input g.S.BuildHasher.build_hasher g.S.Hasher.Hasher.write g.S.Hasher.Hasher.finish) c.args.refuse c.args.self.now c.args.caller (core_after g at) at.advance_work-event.result.0 (as_reply at.advance_work-event.result.1) (lawful_before g at) e (sound g at).steps
+    refused_spent g.K.PartialEq.eq (says g) (hash_of g.K.Hash.hash_input g.S.BuildHasher.build_hasher g.S.Hasher.Hasher.write
+    g.S.Hasher.Hasher.finish) c.args.refuse c.args.self.now c.args.caller (core_after g at) at.advance_work-event.result.0
+    (as_reply at.advance_work-event.result.1) (lawful_before g at) e (sound g at).steps
 
 pub returns-clause-spent : goal.returns-clause-spent
 returns-clause-spent g c needs spent =
     let at = (goal.at.returns-clause-spent g c).After-put in
-    spent_refuses g.K.PartialEq.eq (says g) (hash_of g.K.Hash.hash_input g.S.BuildHasher.build_hasher g.S.Hasher.Hasher.write g.S.Hasher.Hasher.finish) c.args.refuse c.args.self.now c.args.caller (core_after g at) at.advance_work-event.result.0 (as_reply at.advance_work-event.result.1) (lawful_before g at) (sound g at).steps needs spent
+    spent_refuses g.K.PartialEq.eq (says g) (hash_of g.K.Hash.hash_input g.S.BuildHasher.build_hasher g.S.Hasher.Hasher.write
+    g.S.Hasher.Hasher.finish) c.args.refuse c.args.self.now c.args.caller (core_after g at) at.advance_work-event.result.0
+    (as_reply at.advance_work-event.result.1) (lawful_before g at) (sound g at).steps needs spent

@@ -9,9 +9,11 @@ pub invariant_of-result : goal.invariant_of-result
 invariant_of-result g c =
     let (allowed, made, few) = c.in_ok-store.ensures.ok in
     let mode : Mode = record { resize = c.args.mode; limit = c.args.limit } in (
-      new_lawful g.K.PartialEq.eq g.K.Hash.hash_input g.S.BuildHasher.build_hasher g.S.Hasher.Hasher.write g.S.Hasher.Hasher.finish g.met.K.Eq.laws g.met.K.Hash.respects_eq
+      new_lawful g.K.PartialEq.eq g.K.Hash.hash_input g.S.BuildHasher.build_hasher g.S.Hasher.Hasher.write g.S.Hasher.Hasher.finish g.met.K.Eq.laws
+          g.met.K.Hash.respects_eq
           mode c.args.capacity c.in_ok-store.initial c.in_ok-store.store c.new.result
-          (new-core c.in_ok-store.store c.new.result mode c.args.capacity c.in_ok-store.initial allowed.0 c.requires made.initial.0 few made.words c.new.ensures)
+          (new-core c.in_ok-store.store c.new.result mode c.args.capacity c.in_ok-store.initial allowed.0 c.requires made.initial.0 few made.words
+          c.new.ensures)
           made.words made.pairs c.new.ensures,
       counted_new c.in_ok-store.store made.pairs g.K.PartialEq.eq c.new.result made.sum c.new.ensures,
       made.initial.0,

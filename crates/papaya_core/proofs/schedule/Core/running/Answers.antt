@@ -10,12 +10,24 @@ use Rattle.papaya_core.proofs.schedule.Core.running.Goals as goal
 
 pub returns-clause-apart : goal.returns-clause-apart
 returns-clause-apart g c =
-    let s : CoreState _ _ _ _ = record { store = c.self.inside.store; callers = c.self.inside.callers; mode = c.self.inside.mode; initial = c.self.inside.initial } in
+    let s : CoreState _ _ _ _ = record {
+      store = c.self.inside.store;
+      callers = c.self.inside.callers;
+      mode = c.self.inside.mode;
+      initial = c.self.inside.initial;
+    } in
     subst (λ (y : CoreState _ _ _ _). AreApart g.K.PartialEq.eq (λ p. p.key) (content g.K.PartialEq.eq y.store)) c.self.view_is
-    (lawful_apart g.K.PartialEq.eq g.K.Hash.hash_input g.S.BuildHasher.build_hasher g.S.Hasher.Hasher.write g.S.Hasher.Hasher.finish g.met.K.Eq.laws g.met.K.Hash.respects_eq s c.self.invariant.0)
+    (lawful_apart g.K.PartialEq.eq g.K.Hash.hash_input g.S.BuildHasher.build_hasher g.S.Hasher.Hasher.write g.S.Hasher.Hasher.finish g.met.K.Eq.laws
+    g.met.K.Hash.respects_eq s c.self.invariant.0)
 
 pub returns-clause-limit : goal.returns-clause-limit
 returns-clause-limit g c =
-    let s : CoreState _ _ _ _ = record { store = c.self.inside.store; callers = c.self.inside.callers; mode = c.self.inside.mode; initial = c.self.inside.initial } in
+    let s : CoreState _ _ _ _ = record {
+      store = c.self.inside.store;
+      callers = c.self.inside.callers;
+      mode = c.self.inside.mode;
+      initial = c.self.inside.initial;
+    } in
     subst (λ (y : CoreState _ _ _ _). IsWithin y) c.self.view_is
-    (core_within g.K.PartialEq.eq (hash_of g.K.Hash.hash_input g.S.BuildHasher.build_hasher g.S.Hasher.Hasher.write g.S.Hasher.Hasher.finish c.self.inside.store.hasher) s c.self.invariant.0)
+    (core_within g.K.PartialEq.eq (hash_of g.K.Hash.hash_input g.S.BuildHasher.build_hasher g.S.Hasher.Hasher.write g.S.Hasher.Hasher.finish
+    c.self.inside.store.hasher) s c.self.invariant.0)

@@ -5,7 +5,9 @@ use mir.Val.{Val, vint, vptr}
 use mir.MapTy.{inst_fn}
 use base.Logic.{SProp, wand, emp, id⊢, via, apply∗}
 use base.Fml.{Share, Fml, ftrue, fsep, flft, fhide}
-use types.Kit.{‵, raw, ◌⊛◌, some, given, later, mean, at_ret, ◌$◌, ◌∵◌, !, qed, by, move, keep, drop, split, fsplit, fsplit3, fjoin, fpick, pick, learn, use1, use2, use3, await, rewrite, feq_i, flt_i}
+use types.Kit.{‵, raw, ◌⊛◌, some, given, later, mean, at_ret, ◌$◌, ◌∵◌, !, qed, by, move, keep}
+use types.Kit.{drop, split, fsplit, fsplit3, fjoin, fpick, pick, learn, use1, use2, use3, await}
+use types.Kit.{rewrite, feq_i, flt_i}
 use types.Run.{stop, addr, of_opd, no_more, and_then, first, blocks, exec, Calls-last, returns, enter}
 use types.ByLocal.{alloc_all, pass_all, free_all, look_at, get, through, sets, lands_last, env}
 use contract.Monad.{fact}

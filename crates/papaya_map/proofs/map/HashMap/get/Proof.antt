@@ -34,17 +34,50 @@ use Rattle.papaya_map.proofs.map.HashMap.get.Statement.{statement}
 use Rattle.papaya_map.proofs.map.HashMap.get.Code as code
 
 pub get_spec : {M : Type 1} → statement M
-get_spec 𝓤 𝓛 𝓜 𝓡 wired K V S S-Hasher Q G LK LV LS LH LQ LG K-Hash K-Hash-dict K-Eq K-Eq-dict K-PartialEq K-PartialEq-dict S-BuildHasher S-BuildHasher-dict S-Hasher-Hasher S-Hasher-Hasher-dict S-Hasher-Destruct-dict Q-Equivalent Q-Equivalent-dict Q-Hash Q-Hash-dict Q-Eq Q-Eq-dict Q-PartialEq Q-PartialEq-dict G-Guard G-Guard-dict m1 m2 m3 m4 m5 m6 m7 m8 m9 m10 m11 =
-    let inst = bounded (a_type ∷ a_type ∷ a_type ∷ a_type ∷ a_type ∷ a_type ∷ []) (K, (V, (S, (S-Hasher, (Q, (G, tt)))))) (dcons K-Hash-dict (dcons K-Eq-dict (dcons K-PartialEq-dict (dcons S-BuildHasher-dict (dcons S-Hasher-Hasher-dict (dcons S-Hasher-Destruct-dict (dcons Q-Equivalent-dict (dcons Q-Hash-dict (dcons Q-Eq-dict (dcons Q-PartialEq-dict (dcons G-Guard-dict dnil))))))))))) in
-    let E = event.the_row (param 0 K) (param 1 V) (param 2 S) in let N = naming.the_row (param 0 K) (param 1 V) in let P = law.the_row (param 0 K) (param 1 V) (param 2 S) in let g = LawRule.ghosts (param 0 K) (param 1 V) (param 2 S) (param 3 S-Hasher) K-Hash LawRule.no_dict K-Eq LawRule.no_dict K-PartialEq LawRule.no_dict S-BuildHasher LawRule.no_dict S-Hasher-Hasher LawRule.no_dict LawRule.no_dict in
-    let Ends = ended K V S S-Hasher Q G K-Hash K-Hash-dict K-Eq K-Eq-dict K-PartialEq K-PartialEq-dict S-BuildHasher S-BuildHasher-dict S-Hasher-Hasher S-Hasher-Hasher-dict S-Hasher-Destruct-dict Q-Equivalent Q-Equivalent-dict Q-Hash Q-Hash-dict Q-Eq Q-Eq-dict Q-PartialEq Q-PartialEq-dict G-Guard G-Guard-dict in
-    meets E N P g Ends 𝓛 𝓜 𝓡 (clauses K V S S-Hasher Q G K-Hash K-Hash-dict K-Eq K-Eq-dict K-PartialEq K-PartialEq-dict S-BuildHasher S-BuildHasher-dict S-Hasher-Hasher S-Hasher-Hasher-dict S-Hasher-Destruct-dict Q-Equivalent Q-Equivalent-dict Q-Hash Q-Hash-dict Q-Eq Q-Eq-dict Q-PartialEq Q-PartialEq-dict G-Guard G-Guard-dict 𝓛 𝓜.mem 𝓡.returns) (callee.clauses K V S S-Hasher Q G K-Hash K-Hash-dict K-Eq K-Eq-dict K-PartialEq K-PartialEq-dict S-BuildHasher S-BuildHasher-dict S-Hasher-Hasher S-Hasher-Hasher-dict S-Hasher-Destruct-dict Q-Equivalent Q-Equivalent-dict Q-Hash Q-Hash-dict Q-Eq Q-Eq-dict Q-PartialEq Q-PartialEq-dict G-Guard G-Guard-dict 𝓛 𝓜.mem 𝓡.returns)
-    (λ κs a r. (r.book ≡ a.0.now.book) × IsLegalHistory K-PartialEq.eq key_of (history_of r.log) × IsPrefix a.0.now.seen (history_of r.log) × IfOk r.answer (IsAnsweredBetween K-PartialEq.eq (Q-Equivalent.matches a.1.0.now) a.0.now.seen (history_of r.log)) × ((G-Guard.collector_number a.1.1.0.now ≡ a.0.now.collector) → is_ok r.answer ≡ true) × (((G-Guard.collector_number a.1.1.0.now ≡ a.0.now.collector) → ⊥) → r.answer ≡ Err WrongGuard))
+get_spec 𝓤 𝓛 𝓜 𝓡 wired K V S S-Hasher Q G LK LV LS LH LQ LG K-Hash K-Hash-dict K-Eq K-Eq-dict K-PartialEq K-PartialEq-dict S-BuildHasher
+    S-BuildHasher-dict S-Hasher-Hasher S-Hasher-Hasher-dict S-Hasher-Destruct-dict Q-Equivalent Q-Equivalent-dict Q-Hash Q-Hash-dict Q-Eq Q-Eq-dict
+    Q-PartialEq Q-PartialEq-dict G-Guard G-Guard-dict m1 m2 m3 m4 m5 m6 m7 m8 m9 m10 m11 =
+    let inst = bounded (a_type ∷ a_type ∷ a_type ∷ a_type ∷ a_type ∷ a_type ∷ []) (K, (V, (S, (S-Hasher, (Q, (G, tt))))))
+    (dcons K-Hash-dict (dcons K-Eq-dict (dcons K-PartialEq-dict
+    (dcons S-BuildHasher-dict (dcons S-Hasher-Hasher-dict
+    (dcons S-Hasher-Destruct-dict (dcons Q-Equivalent-dict (dcons Q-Hash-dict (dcons Q-Eq-dict (dcons Q-PartialEq-dict (dcons G-Guard-dict dnil))))))))))) in
+    let E = event.the_row (param 0 K) (param 1 V) (param 2 S) in let N = naming.the_row (param 0 K) (param 1 V) in
+    let P = law.the_row (param 0 K) (param 1 V) (param 2 S) in
+    let g = LawRule.ghosts (param 0 K) (param 1 V) (param 2 S) (param 3 S-Hasher) K-Hash LawRule.no_dict K-Eq LawRule.no_dict K-PartialEq
+    LawRule.no_dict S-BuildHasher LawRule.no_dict S-Hasher-Hasher LawRule.no_dict LawRule.no_dict in
+    let Ends = ended K V S S-Hasher Q G K-Hash K-Hash-dict K-Eq K-Eq-dict K-PartialEq K-PartialEq-dict S-BuildHasher S-BuildHasher-dict
+    S-Hasher-Hasher S-Hasher-Hasher-dict S-Hasher-Destruct-dict Q-Equivalent Q-Equivalent-dict Q-Hash Q-Hash-dict Q-Eq Q-Eq-dict Q-PartialEq
+    Q-PartialEq-dict G-Guard G-Guard-dict in
+    meets E N P g Ends 𝓛 𝓜 𝓡 (clauses K V S S-Hasher Q G K-Hash K-Hash-dict K-Eq K-Eq-dict K-PartialEq K-PartialEq-dict S-BuildHasher
+    S-BuildHasher-dict S-Hasher-Hasher S-Hasher-Hasher-dict S-Hasher-Destruct-dict Q-Equivalent Q-Equivalent-dict Q-Hash Q-Hash-dict Q-Eq Q-Eq-dict
+    Q-PartialEq Q-PartialEq-dict G-Guard G-Guard-dict 𝓛 𝓜.mem 𝓡.returns)
+    (callee.clauses K V S S-Hasher Q G K-Hash K-Hash-dict K-Eq K-Eq-dict K-PartialEq K-PartialEq-dict S-BuildHasher S-BuildHasher-dict
+    S-Hasher-Hasher S-Hasher-Hasher-dict S-Hasher-Destruct-dict Q-Equivalent Q-Equivalent-dict Q-Hash Q-Hash-dict Q-Eq Q-Eq-dict Q-PartialEq
+    Q-PartialEq-dict G-Guard G-Guard-dict 𝓛 𝓜.mem 𝓡.returns)
+    (λ κs a r. (r.book ≡ a.0.now.book) × IsLegalHistory K-PartialEq.eq key_of (history_of r.log) × IsPrefix a.0.now.seen (history_of r.log)
+    × IfOk r.answer (IsAnsweredBetween K-PartialEq.eq (Q-Equivalent.matches a.1.0.now) a.0.now.seen (history_of r.log))
+    × ((G-Guard.collector_number a.1.1.0.now ≡ a.0.now.collector) → is_ok r.answer ≡ true)
+    × (((G-Guard.collector_number a.1.1.0.now ≡ a.0.now.collector) → ⊥) → r.answer ≡ Err WrongGuard))
     (λ κs a u. (tt, id⊢ 𝓤 _)) (λ κs a u r ws. six_facts 𝓤)
-    (λ κs a u r ws f. handed_2 𝓛 E.coded.code (rule_of g) r.names r.log (λ log. IsSince (unpinned a.0.now) K-PartialEq.eq (λ h. IfOk r.answer (IsAnsweredBetween K-PartialEq.eq (Q-Equivalent.matches a.1.0.now) a.0.now.seen h)) (history_of log)) f.0 (f.1, f.2, f.3)
-    (λ right. done_of (λ answer is. record { history = (history_of r.log); legal = f.1; told = found a.0.now.seen (history_of r.log) K-PartialEq.eq (Q-Equivalent.matches a.1.0.now) (λ value p. value.now ≡ p.value.value) is }) r.answer f.3 (f.4 right)) f.5)
-    (λ κs. let ℓ : NamedLft = record { mir = named 0; lft = κs.0 } in result_laws (Option.the_row (ref_row ℓ 1 V)) RefusedRow (option_laws (ref_row ℓ 1 V) (ref_laws ℓ 1 V LV)) refused_laws)
-    (λ κs x f. refl, (λ κs x f. refl, (λ κs x f. refl, tt))) (#self inst) (#callee inst) (inst_fn inst code.function) (code.unfolded 𝓤 𝓛.H 𝓜 𝓡 wired (K, (V, (S, (S-Hasher, (Q, (G, tt)))))) K-Hash-dict K-Eq-dict K-PartialEq-dict S-BuildHasher-dict S-Hasher-Hasher-dict S-Hasher-Destruct-dict Q-Equivalent-dict Q-Hash-dict Q-Eq-dict Q-PartialEq-dict G-Guard-dict)
-    (met 𝓤 𝓛 𝓜 𝓡 (code.calls-papaya_map::map::HashMap::get_told 𝓡.env wired) K V S S-Hasher Q G LK LV LS LH LQ LG K-Hash K-Hash-dict K-Eq K-Eq-dict K-PartialEq K-PartialEq-dict S-BuildHasher S-BuildHasher-dict S-Hasher-Hasher S-Hasher-Hasher-dict S-Hasher-Destruct-dict Q-Equivalent Q-Equivalent-dict Q-Hash Q-Hash-dict Q-Eq Q-Eq-dict Q-PartialEq Q-PartialEq-dict G-Guard G-Guard-dict m1 m2 m3 m4 m5 m6 m7 m8 m9 m10 m11)
-    (λ y are. walk_rrr 𝓤 𝓛 𝓜 𝓡 (one_ref (named 0) y.0.0.0 (HashMap.the_row (param 0 K) (param 1 V) (param 2 S) (param 3 S-Hasher) K-Hash K-Eq K-PartialEq S-BuildHasher S-Hasher-Hasher) y.0.3.0 y.0.4.0 are.0 _ _) (one_ref (named 1) y.0.0.1.0 (param 4 Q) y.0.3.1.0 y.0.4.1.0 are.1.0 _ _) (one_ref (named 0) y.0.0.0 (param 5 G) y.0.3.1.1.0 y.0.4.1.1.0 are.1.1.0 _ _)
+    (λ κs a u r ws f. handed_2 𝓛 E.coded.code (rule_of g) r.names r.log
+    (λ log. IsSince (unpinned a.0.now) K-PartialEq.eq
+    (λ h. IfOk r.answer (IsAnsweredBetween K-PartialEq.eq (Q-Equivalent.matches a.1.0.now) a.0.now.seen h)) (history_of log)) f.0 (f.1, f.2, f.3)
+    (λ right. done_of (λ answer is. record {
+      history = (history_of r.log);
+      legal = f.1;
+      told = found a.0.now.seen (history_of r.log) K-PartialEq.eq
+          (Q-Equivalent.matches a.1.0.now) (λ value p. value.now ≡ p.value.value) is;
+    }) r.answer f.3 (f.4 right)) f.5)
+    (λ κs. let ℓ : NamedLft = record { mir = named 0; lft = κs.0 } in
+    result_laws (Option.the_row (ref_row ℓ 1 V)) RefusedRow (option_laws (ref_row ℓ 1 V) (ref_laws ℓ 1 V LV)) refused_laws)
+    (λ κs x f. refl, (λ κs x f. refl, (λ κs x f. refl, tt))) (#self inst) (#callee inst) (inst_fn inst code.function)
+    (code.unfolded 𝓤 𝓛.H 𝓜 𝓡 wired (K, (V, (S, (S-Hasher, (Q, (G, tt)))))) K-Hash-dict K-Eq-dict K-PartialEq-dict S-BuildHasher-dict
+    S-Hasher-Hasher-dict S-Hasher-Destruct-dict Q-Equivalent-dict Q-Hash-dict Q-Eq-dict Q-PartialEq-dict G-Guard-dict)
+    (met 𝓤 𝓛 𝓜 𝓡 (code.calls-papaya_map::map::HashMap::get_told 𝓡.env wired) K V S S-Hasher Q G LK LV LS LH LQ LG K-Hash K-Hash-dict K-Eq K-Eq-dict
+    K-PartialEq K-PartialEq-dict S-BuildHasher S-BuildHasher-dict S-Hasher-Hasher S-Hasher-Hasher-dict S-Hasher-Destruct-dict Q-Equivalent
+    Q-Equivalent-dict Q-Hash Q-Hash-dict Q-Eq Q-Eq-dict Q-PartialEq Q-PartialEq-dict G-Guard G-Guard-dict m1 m2 m3 m4 m5 m6 m7 m8 m9 m10 m11)
+    (λ y are. walk_rrr 𝓤 𝓛 𝓜 𝓡 (one_ref (named 0) y.0.0.0
+    (HashMap.the_row (param 0 K) (param 1 V) (param 2 S) (param 3 S-Hasher) K-Hash K-Eq K-PartialEq S-BuildHasher S-Hasher-Hasher) y.0.3.0 y.0.4.0
+    are.0 _ _) (one_ref (named 1) y.0.0.1.0 (param 4 Q) y.0.3.1.0 y.0.4.1.0 are.1.0 _ _)
+    (one_ref (named 0) y.0.0.0 (param 5 G) y.0.3.1.1.0 y.0.4.1.1.0 are.1.1.0 _ _)
     (λ w good. (good, good, held_good (Answer E N P g Ends y.0.0) E N P g w good)))

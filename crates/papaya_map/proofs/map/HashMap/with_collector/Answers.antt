@@ -11,7 +11,12 @@ returns-in_err-opened-clause-err g c =
     (λ (more : MAX_SHARDS < c.args.shards). let both : Ok c.in_ok-count.count ≡ Err Capacity = c.in_ok-count.ensures.many more in absurd cc)
     (λ (few : c.args.shards ≤ MAX_SHARDS). few)
     (cases_lt MAX_SHARDS c.args.shards) in
-    let allowed : IsAllowed c.args.mode c.args.capacity c.args.shards = (c.in_ok-check_chunk.ensures.ok, (c.in_ok-initial.ensures.ok.0, c.in_ok-initial.initial, c.in_ok-initial.ensures.ok.1, c.in_ok-initial.ensures.ok.2), few) in
+    let allowed : IsAllowed c.args.mode c.args.capacity
+    c.args.shards = (
+      c.in_ok-check_chunk.ensures.ok,
+      (c.in_ok-initial.ensures.ok.0, c.in_ok-initial.initial, c.in_ok-initial.ensures.ok.1, c.in_ok-initial.ensures.ok.2),
+      few,
+    ) in
     search rules
 
 pub returns-clause-ok : goal.returns-clause-ok

@@ -9,16 +9,28 @@ pub returns-in-Ok-Ok-clause-there : goal.returns-in-Ok-Ok-clause-there
 returns-in-Ok-Ok-clause-there g c =
     let at = c.in-Ok-Ok in
     let is : c.try_insert_with_as.result ≡ Ok (Ok at.stored) = at.is ∙ ap (λ z. Ok z) at.field-0-is in
-    inl (subst (λ r. IfOk r (IsTriedWith g.K.PartialEq.eq c.args.key c.args.pass.now.history c.try_insert_with_as.new.pass.history (goal.F-post g c.args.f))) is c.try_insert_with_as.ensures.tried, subst (λ r. Makes (stored r) c.args.pass.now.made c.try_insert_with_as.new.pass.made c.try_insert_with_as.new.pass.history) is c.try_insert_with_as.ensures.made)
+    inl (
+      subst (λ r. IfOk r (IsTriedWith g.K.PartialEq.eq c.args.key c.args.pass.now.history c.try_insert_with_as.new.pass.history
+          (goal.F-post g c.args.f))) is c.try_insert_with_as.ensures.tried,
+      subst (λ r. Makes (stored r) c.args.pass.now.made c.try_insert_with_as.new.pass.made c.try_insert_with_as.new.pass.history) is
+          c.try_insert_with_as.ensures.made,
+    )
 
 pub returns-in-Ok-Err-clause-there : goal.returns-in-Ok-Err-clause-there
 returns-in-Ok-Err-clause-there g c =
     let at = c.in-Ok-Err in
     let is : c.try_insert_with_as.result ≡ Ok (Err at.current) = at.is ∙ ap (λ z. Ok z) at.field-0-is in
-    inr (subst (λ r. IfOk r (IsTriedWith g.K.PartialEq.eq c.args.key c.args.pass.now.history c.try_insert_with_as.new.pass.history (goal.F-post g c.args.f))) is c.try_insert_with_as.ensures.tried, subst (λ r. Makes (stored r) c.args.pass.now.made c.try_insert_with_as.new.pass.made c.try_insert_with_as.new.pass.history) is c.try_insert_with_as.ensures.made)
+    inr (
+      subst (λ r. IfOk r (IsTriedWith g.K.PartialEq.eq c.args.key c.args.pass.now.history c.try_insert_with_as.new.pass.history
+          (goal.F-post g c.args.f))) is c.try_insert_with_as.ensures.tried,
+      subst (λ r. Makes (stored r) c.args.pass.now.made c.try_insert_with_as.new.pass.made c.try_insert_with_as.new.pass.history) is
+          c.try_insert_with_as.ensures.made,
+    )
 
 pub returns-in-Err-clause-there : goal.returns-in-Err-clause-there
-returns-in-Err-clause-there g c = subst (λ r. Makes (stored r) c.args.pass.now.made c.try_insert_with_as.new.pass.made c.try_insert_with_as.new.pass.history) c.in-Err.is c.try_insert_with_as.ensures.made
+returns-in-Err-clause-there g c = subst (λ r.
+    Makes (stored r) c.args.pass.now.made c.try_insert_with_as.new.pass.made c.try_insert_with_as.new.pass.history) c.in-Err.is
+    c.try_insert_with_as.ensures.made
 
 pub returns-in-Err-clause-crowded : goal.returns-in-Err-clause-crowded
 returns-in-Err-clause-crowded g c = λ e.

@@ -5,10 +5,14 @@ use Rattle.papaya_map.proofs.Ruled.{update_put, update_replaced}
 use Rattle.papaya_map.proofs.map.HashMapRef.update_as.Goals as goal
 
 pub returns-in-Ok-Replaced-clause-updated : goal.returns-in-Ok-Replaced-clause-updated
-returns-in-Ok-Replaced-clause-updated g c = let at = c.in-Ok-Replaced in update_replaced g.row.K.Denot (FnReturnsAt g.F.Fn) g.K.PartialEq.eq c.args.key c.args.pass.now.history c.decide_as.new.pass.history (record { update = c.args.f }) c.decide_as.new.rule c.decide_as.result c.decide_as.ensures.decided at.value (at.is ∙ ap (λ z. Ok z) at.field-0-is)
+returns-in-Ok-Replaced-clause-updated g c = let at = c.in-Ok-Replaced in
+    update_replaced g.row.K.Denot (FnReturnsAt g.F.Fn) g.K.PartialEq.eq c.args.key c.args.pass.now.history c.decide_as.new.pass.history
+    (record { update = c.args.f }) c.decide_as.new.rule c.decide_as.result c.decide_as.ensures.decided at.value (at.is ∙ ap (λ z. Ok z) at.field-0-is)
 
 pub unreachable-requires : goal.unreachable-requires
-unreachable-requires g c = let at = c.in-Ok-Put in update_put g.row.K.Denot (FnReturnsAt g.F.Fn) g.K.PartialEq.eq c.args.key c.args.pass.now.history c.decide_as.new.pass.history (record { update = c.args.f }) c.decide_as.new.rule c.decide_as.result c.decide_as.ensures.decided at.field-0-0 (at.is ∙ ap (λ z. Ok z) at.field-0-is)
+unreachable-requires g c = let at = c.in-Ok-Put in
+    update_put g.row.K.Denot (FnReturnsAt g.F.Fn) g.K.PartialEq.eq c.args.key c.args.pass.now.history c.decide_as.new.pass.history
+    (record { update = c.args.f }) c.decide_as.new.rule c.decide_as.result c.decide_as.ensures.decided at.field-0-0 (at.is ∙ ap (λ z. Ok z) at.field-0-is)
 
 pub returns-clause-crowded : goal.returns-clause-crowded
 returns-clause-crowded g c = λ e.

@@ -5,13 +5,22 @@ use Rattle.papaya_map.proofs.Ruled.{upsert_left, upsert_put, upsert_replaced}
 use Rattle.papaya_map.proofs.map.HashMapRef.upsert_as.Goals as goal
 
 pub returns-in-Ok-Replaced-clause-upserted : goal.returns-in-Ok-Replaced-clause-upserted
-returns-in-Ok-Replaced-clause-upserted g c = let at = c.in-Ok-Replaced in inl (upsert_replaced g.row.K.Denot (FnReturnsAt g.F.Fn) g.G.Supply.gives g.K.PartialEq.eq c.args.key c.args.pass.now.history c.decide_as.new.pass.history (record { update = c.args.update; supply = Some c.args.supply }) c.decide_as.new.rule c.args.supply refl c.decide_as.result c.decide_as.ensures.decided at.value (at.is ∙ ap (λ z. Ok z) at.field-0-is))
+returns-in-Ok-Replaced-clause-upserted g c = let at = c.in-Ok-Replaced in
+    inl (upsert_replaced g.row.K.Denot (FnReturnsAt g.F.Fn) g.G.Supply.gives g.K.PartialEq.eq c.args.key c.args.pass.now.history
+    c.decide_as.new.pass.history (record { update = c.args.update; supply = Some c.args.supply }) c.decide_as.new.rule c.args.supply refl
+    c.decide_as.result c.decide_as.ensures.decided at.value (at.is ∙ ap (λ z. Ok z) at.field-0-is))
 
 pub returns-in-Ok-Put-clause-upserted : goal.returns-in-Ok-Put-clause-upserted
-returns-in-Ok-Put-clause-upserted g c = let at = c.in-Ok-Put in inr (upsert_put g.row.K.Denot (FnReturnsAt g.F.Fn) g.G.Supply.gives g.K.PartialEq.eq c.args.key c.args.pass.now.history c.decide_as.new.pass.history (record { update = c.args.update; supply = Some c.args.supply }) c.decide_as.new.rule c.args.supply refl c.decide_as.result c.decide_as.ensures.decided at.value (at.is ∙ ap (λ z. Ok z) at.field-0-is))
+returns-in-Ok-Put-clause-upserted g c = let at = c.in-Ok-Put in
+    inr (upsert_put g.row.K.Denot (FnReturnsAt g.F.Fn) g.G.Supply.gives g.K.PartialEq.eq c.args.key c.args.pass.now.history
+    c.decide_as.new.pass.history (record { update = c.args.update; supply = Some c.args.supply }) c.decide_as.new.rule c.args.supply refl
+    c.decide_as.result c.decide_as.ensures.decided at.value (at.is ∙ ap (λ z. Ok z) at.field-0-is))
 
 pub unreachable-requires : goal.unreachable-requires
-unreachable-requires g c = let at = c.in-Ok-Left in upsert_left g.row.K.Denot (FnReturnsAt g.F.Fn) g.G.Supply.gives g.K.PartialEq.eq c.args.key c.args.pass.now.history c.decide_as.new.pass.history (record { update = c.args.update; supply = Some c.args.supply }) c.decide_as.new.rule c.args.supply refl c.decide_as.result c.decide_as.ensures.decided at.field-0-0 at.field-0-1 (at.is ∙ ap (λ z. Ok z) at.field-0-is)
+unreachable-requires g c = let at = c.in-Ok-Left in
+    upsert_left g.row.K.Denot (FnReturnsAt g.F.Fn) g.G.Supply.gives g.K.PartialEq.eq c.args.key c.args.pass.now.history c.decide_as.new.pass.history
+    (record { update = c.args.update; supply = Some c.args.supply }) c.decide_as.new.rule c.args.supply refl c.decide_as.result
+    c.decide_as.ensures.decided at.field-0-0 at.field-0-1 (at.is ∙ ap (λ z. Ok z) at.field-0-is)
 
 pub returns-clause-crowded : goal.returns-clause-crowded
 returns-clause-crowded g c = λ e.

@@ -12,4 +12,5 @@ returns-clause-value c p =
 pub returns-clause-back : goal.returns-clause-back
 returns-clause-back c p below =
     ap (λ x. (x * 14962265741255716689) % c.args.self.keys) (returns-clause-value c p)
-    ∙ brought_back c.args.self.keys 2654435761 14962265741255716689 c.args.turn (still_inverse c.args.self.keys (2654435761 * 14962265741255716689) p (omega arith) refl) below
+    ∙ brought_back c.args.self.keys 2654435761 14962265741255716689 c.args.turn
+    (still_inverse c.args.self.keys (2654435761 * 14962265741255716689) p (omega arith) refl) below

@@ -8,7 +8,8 @@ use Rattle.papaya_seq.proofs.collecting.HashMap+K+V+BuildHasherDefault+FoldHashe
 pub returns-in-Ok-clause-ok : goal.returns-in-Ok-clause-ok
 returns-in-Ok-clause-ok g c =
     IfOk-weaker c.from_iter.result _ _
-    (λ map came. subst (λ (ps : List (g.row.K.Denot × g.row.V.Denot)). HasJust g.K.PartialEq.eq (λ p. p) ps map) (All-taken came.first came.items (came.is.0, (came.left, came.came, came.is.1)) ∙ (came.made.0 ∙ c.in-Ok.ensures.items)) came.is.2)
+    (λ map came. subst (λ (ps : List (g.row.K.Denot × g.row.V.Denot)). HasJust g.K.PartialEq.eq (λ p. p) ps map)
+    (All-taken came.first came.items (came.is.0, (came.left, came.came, came.is.1)) ∙ (came.made.0 ∙ c.in-Ok.ensures.items)) came.is.2)
     c.from_iter.ensures.ok
 
 pub returns-in-Ok-clause-err : goal.returns-in-Ok-clause-err

@@ -30,7 +30,10 @@ use Rattle.papaya_seq.proofs.Ending.{left_of}
 use Rattle.papaya_seq.proofs.Steps.{made_alone, made_tables}
 use Rattle.papaya_seq.proofs.Turns.{IsOver}
 use Rattle.papaya_seq.proofs.seq.HashMap.compute_slow.Goals as goal
-use Rattle.papaya_seq.proofs.seq.HashMap.compute_slow.Goals.{After-answer, After-answer-arg-1, After-copy_for_call, After-new, In-Call-Done, in-Call-ShowNone, in-Call-ShowPair, in_default}
+use Rattle.papaya_seq.proofs.seq.HashMap.compute_slow.Goals.{After-answer, After-answer-arg-1}
+use Rattle.papaya_seq.proofs.seq.HashMap.compute_slow.Goals.{After-copy_for_call, After-new}
+use Rattle.papaya_seq.proofs.seq.HashMap.compute_slow.Goals.{In-Call-Done, in-Call-ShowNone}
+use Rattle.papaya_seq.proofs.seq.HashMap.compute_slow.Goals.{in-Call-ShowPair, in_default}
 use Rattle.papaya_seq.proofs.seq.HashMap.compute_slow.Given as given
 use Rattle.papaya_seq.proofs.KeyCalls.{keyed_compute}
 use Rattle.papaya_seq.proofs.seq.HashMap.compute_slow.Given.{Over}
@@ -48,25 +51,34 @@ said g = record {
 
 -- equal keys hash alike
 keys : (g : Over) (hasher : g.row.S.Denot) → IsLawfulKeys g.K.PartialEq.eq (hash g hasher)
-keys g hasher = keys_lawful g.K.PartialEq.eq g.K.Hash.hash_input g.S.BuildHasher.build_hasher g.S.Hasher.Hasher.write g.S.Hasher.Hasher.finish g.met.K.Eq.laws g.met.K.Hash.respects_eq hasher
+keys g hasher = keys_lawful g.K.PartialEq.eq g.K.Hash.hash_input g.S.BuildHasher.build_hasher g.S.Hasher.Hasher.write g.S.Hasher.Hasher.finish
+    g.met.K.Eq.laws g.met.K.Hash.respects_eq hasher
 
 -- what the closure may answer
 abbrev post : (g : Over) → g.row.F.Denot → Option (Bor g.row.K.Denot × Bor g.row.V.Denot) → Operation g.row.V.Denot g.row.T.Denot → Type 0
 post g = λ f shown operation. given.F-post g f shown operation
 
 -- the map is in order when the call begins
-lawful : (g : Over) (c : After-new g) → IsLawfulMap g.K.PartialEq.eq (hash g c.args.self.now.store.hasher) c.args.self.now.store c.args.self.now.mode c.args.self.now.initial
+lawful : (g : Over) (c : After-new g) → IsLawfulMap g.K.PartialEq.eq (hash g c.args.self.now.store.hasher) c.args.self.now.store c.args.self.now.mode
+    c.args.self.now.initial
 lawful g c = subst (λ (m : MapState _ _ _). IsLawfulMap g.K.PartialEq.eq (hash g m.store.hasher) m.store m.mode m.initial) c.self.view_is c.self.invariant
 
 -- the key's hash has 64 bits
 fits : (g : Over) (c : After-new g) → hash g c.args.self.now.store.hasher c.args.key < 2 ^ 64
-fits g c = subst (λ (n : ℕ). n < 2 ^ 64) (c.hash-hash.ensures.value ∙ ap (λ (m : MapState _ _ _). hash g m.store.hasher c.args.key) c.self.view_is) c.hash-hash.ensures.fits
+fits g c = subst (λ (n : ℕ). n < 2 ^ 64) (c.hash-hash.ensures.value ∙ ap (λ (m : MapState _ _ _). hash g m.store.hasher c.args.key) c.self.view_is)
+    c.hash-hash.ensures.fits
 
 pub loop-self-init : goal.loop-self-init
 loop-self-init g c =
     let view : MapState _ _ _ = record { store = c.self.inside.store; mode = c.self.inside.mode; initial = c.self.inside.initial } in
-    subst (λ (m : MapState _ _ _). IsComputing g.K.PartialEq.eq (hash g) m c.args.key (post g) c.args.f c.self.inside.store (record { machine = c.new.result; key = Own c.args.key; value = None; answers = None }) (Some c.args.f) None None × (c.self.inside.mode ≡ m.mode) × (c.self.inside.initial ≡ m.initial)) c.self.view_is
-    (computing_begin g.K.PartialEq.eq (hash g) view c.args.key (post g) c.args.f c.new.result c.hash-hash.result c.copies_from-number.result None c.new.ensures.value c.hash-hash.ensures.value c.new.ensures.standing, refl, refl)
+    subst (λ (m : MapState _ _ _). IsComputing g.K.PartialEq.eq (hash g) m c.args.key (post g) c.args.f c.self.inside.store
+    (record { machine = c.new.result; key = Own c.args.key; value = None; answers = None }) (Some c.args.f) None None
+    × (c.self.inside.mode ≡ m.mode) × (c.self.inside.initial ≡ m.initial)) c.self.view_is (
+      computing_begin g.K.PartialEq.eq (hash g) view c.args.key (post g) c.args.f c.new.result c.hash-hash.result c.copies_from-number.result None
+          c.new.ensures.value c.hash-hash.ensures.value c.new.ensures.standing,
+      refl,
+      refl,
+    )
 
 pub ask-ask-requires : goal.ask-ask-requires
 ask-ask-requires g c = c.loop-self.invariant.0.standing
@@ -76,43 +88,76 @@ show-requires g c =
     let none : c.in-Call-ShowNone.field-0 ≡ ShowNone = rw c.in-Call-ShowNone.is at c.in-Call-ShowNone.field-0-is in
     let shows : ask_of c.loop-self.running.machine ≡ asks.Call ShowNone = sym c.ask-ask.ensures.value ∙ c.in-Call-ShowNone.is ∙ ap asks.Call none in (
       c.args.f,
-      closure_none g.K.PartialEq.eq g.K.Hash.hash_input g.S.BuildHasher.build_hasher g.S.Hasher.Hasher.write g.S.Hasher.Hasher.finish g.met.K.Eq.laws g.met.K.Hash.respects_eq c.args.self.now (lawful g (goal.at.show-requires g c).After-new) c.args.key (fits g (goal.at.show-requires g c).After-new) (post g) c.args.f c.loop-self.self-inside.store c.loop-self.running c.loop-self.closure c.loop-self.shown c.loop-self.aborted c.loop-self.invariant.0 shows,
-      c.requires c.no_pair-entry.result (none_are g.K.PartialEq.eq g.K.Hash.hash_input g.S.BuildHasher.build_hasher g.S.Hasher.Hasher.write g.S.Hasher.Hasher.finish g.met.K.Eq.laws g.met.K.Hash.respects_eq c.args.self.now (lawful g (goal.at.show-requires g c).After-new) c.args.key (fits g (goal.at.show-requires g c).After-new) (post g) c.args.f c.loop-self.self-inside.store c.loop-self.running c.loop-self.closure c.loop-self.shown c.loop-self.aborted c.loop-self.invariant.0 c.no_pair-entry.result c.no_pair-entry.ensures shows),
+      closure_none g.K.PartialEq.eq g.K.Hash.hash_input g.S.BuildHasher.build_hasher g.S.Hasher.Hasher.write g.S.Hasher.Hasher.finish g.met.K.Eq.laws
+          g.met.K.Hash.respects_eq c.args.self.now (lawful g (goal.at.show-requires g c).After-new) c.args.key
+          (fits g (goal.at.show-requires g c).After-new) (post g) c.args.f c.loop-self.self-inside.store c.loop-self.running c.loop-self.closure
+          c.loop-self.shown c.loop-self.aborted c.loop-self.invariant.0 shows,
+      c.requires c.no_pair-entry.result (none_are g.K.PartialEq.eq g.K.Hash.hash_input g.S.BuildHasher.build_hasher g.S.Hasher.Hasher.write
+          g.S.Hasher.Hasher.finish g.met.K.Eq.laws g.met.K.Hash.respects_eq c.args.self.now (lawful g (goal.at.show-requires g c).After-new) c.args.key
+          (fits g (goal.at.show-requires g c).After-new) (post g) c.args.f c.loop-self.self-inside.store c.loop-self.running c.loop-self.closure
+          c.loop-self.shown c.loop-self.aborted c.loop-self.invariant.0 c.no_pair-entry.result c.no_pair-entry.ensures shows),
     )
 
 pub show-requires-in-Call-ShowPair : goal.show-requires-in-Call-ShowPair
 show-requires-in-Call-ShowPair g c =
     let pair : c.in-Call-ShowPair.field-0 ≡ ShowPair c.in-Call-ShowPair.pair = rw c.in-Call-ShowPair.is at c.in-Call-ShowPair.field-0-is in
-    let shows : ask_of c.loop-self.running.machine ≡ asks.Call (ShowPair c.in-Call-ShowPair.pair) = sym c.ask-ask.ensures.value ∙ c.in-Call-ShowPair.is ∙ ap asks.Call pair in (
+    let shows : ask_of c.loop-self.running.machine ≡ asks.Call (ShowPair c.in-Call-ShowPair.pair) = sym c.ask-ask.ensures.value
+    ∙ c.in-Call-ShowPair.is ∙ ap asks.Call pair in (
       c.args.f,
-      closure_pair g.K.PartialEq.eq g.K.Hash.hash_input g.S.BuildHasher.build_hasher g.S.Hasher.Hasher.write g.S.Hasher.Hasher.finish g.met.K.Eq.laws g.met.K.Hash.respects_eq c.args.self.now (lawful g (goal.at.show-requires-in-Call-ShowPair g c).After-new) c.args.key (fits g (goal.at.show-requires-in-Call-ShowPair g c).After-new) (post g) c.args.f c.loop-self.self-inside.store c.loop-self.running c.loop-self.closure c.loop-self.shown c.loop-self.aborted c.loop-self.invariant.0 c.in-Call-ShowPair.pair shows,
-      c.requires c.pair-entry.result (entry_are g.K.PartialEq.eq g.K.Hash.hash_input g.S.BuildHasher.build_hasher g.S.Hasher.Hasher.write g.S.Hasher.Hasher.finish g.met.K.Eq.laws g.met.K.Hash.respects_eq c.args.self.now (lawful g (goal.at.show-requires-in-Call-ShowPair g c).After-new) c.args.key (fits g (goal.at.show-requires-in-Call-ShowPair g c).After-new) (post g) c.args.f c.loop-self.self-inside.store c.loop-self.running c.loop-self.closure c.loop-self.shown c.loop-self.aborted c.loop-self.invariant.0 c.pair-entry.result c.in-Call-ShowPair.pair c.pair-entry.ensures shows),
+      closure_pair g.K.PartialEq.eq g.K.Hash.hash_input g.S.BuildHasher.build_hasher g.S.Hasher.Hasher.write g.S.Hasher.Hasher.finish g.met.K.Eq.laws
+          g.met.K.Hash.respects_eq c.args.self.now (lawful g (goal.at.show-requires-in-Call-ShowPair g c).After-new) c.args.key
+          (fits g (goal.at.show-requires-in-Call-ShowPair g c).After-new) (post g) c.args.f c.loop-self.self-inside.store c.loop-self.running
+          c.loop-self.closure c.loop-self.shown c.loop-self.aborted c.loop-self.invariant.0 c.in-Call-ShowPair.pair shows,
+      c.requires c.pair-entry.result (entry_are g.K.PartialEq.eq g.K.Hash.hash_input g.S.BuildHasher.build_hasher g.S.Hasher.Hasher.write
+          g.S.Hasher.Hasher.finish g.met.K.Eq.laws g.met.K.Hash.respects_eq c.args.self.now
+          (lawful g (goal.at.show-requires-in-Call-ShowPair g c).After-new) c.args.key (fits g (goal.at.show-requires-in-Call-ShowPair g c).After-new)
+          (post g) c.args.f c.loop-self.self-inside.store c.loop-self.running c.loop-self.closure c.loop-self.shown c.loop-self.aborted
+          c.loop-self.invariant.0 c.pair-entry.result c.in-Call-ShowPair.pair c.pair-entry.ensures shows),
     )
 
 -- what an answer leaves, whoever gave it
-went : (g : Over) (c : After-answer-arg-1 g) → IsLawfulMap g.K.PartialEq.eq (hash g c.args.self.now.store.hasher) c.args.self.now.store c.args.self.now.mode c.args.self.now.initial → hash g c.args.self.now.store.hasher c.args.key < 2 ^ 64
-    → Went g.K.PartialEq.eq (hash g) c.args.self.now c.args.key (post g) c.args.f c.loop-self.self-inside.store c.loop-self.running.machine c.match-ask.answer c.match-ask.self-inside.store c.match-ask.running c.match-ask.closure c.match-ask.shown c.match-ask.aborted
+went : (g : Over) (c : After-answer-arg-1 g)
+    → IsLawfulMap g.K.PartialEq.eq (hash g c.args.self.now.store.hasher) c.args.self.now.store c.args.self.now.mode c.args.self.now.initial
+    → hash g c.args.self.now.store.hasher c.args.key < 2 ^ 64
+    → Went g.K.PartialEq.eq (hash g) c.args.self.now c.args.key (post g) c.args.f c.loop-self.self-inside.store c.loop-self.running.machine
+    c.match-ask.answer c.match-ask.self-inside.store c.match-ask.running c.match-ask.closure c.match-ask.shown c.match-ask.aborted
 went g c orderly fit =
     let store = c.loop-self.self-inside.store in
     let r = c.loop-self.running in
     elim c.match-ask.branch [
       | in-Call-ShowNone w ↦
           let none : w.in-Call-ShowNone.field-0 ≡ ShowNone = rw w.in-Call-ShowNone.is at w.in-Call-ShowNone.field-0-is in
-          went_so g.K.PartialEq.eq (hash g) c.args.self.now c.args.key (post g) c.args.f store r.machine w.answer-is (ap (λ i. i.store) w.self-inside-is) w.running-is w.closure-is w.shown-is w.aborted-is
-          (none_went g.K.PartialEq.eq g.K.Hash.hash_input g.S.BuildHasher.build_hasher g.S.Hasher.Hasher.write g.S.Hasher.Hasher.finish g.met.K.Eq.laws g.met.K.Hash.respects_eq c.args.self.now orderly c.args.key fit (post g) c.args.f store r c.loop-self.closure c.loop-self.shown c.loop-self.aborted c.loop-self.invariant.0 w.show.result w.show.new.value w.show.new.closure w.show.new.aborted w.no_pair-entry.result w.show.ensures.0 w.show.ensures.1 w.show.ensures.2 w.show.ensures.4 w.show.ensures.5 (sym c.ask-ask.ensures.value ∙ w.in-Call-ShowNone.is ∙ ap asks.Call none) w.no_pair-entry.ensures)
+          went_so g.K.PartialEq.eq (hash g) c.args.self.now c.args.key (post g) c.args.f store r.machine w.answer-is
+          (ap (λ i. i.store) w.self-inside-is) w.running-is w.closure-is w.shown-is w.aborted-is
+          (none_went g.K.PartialEq.eq g.K.Hash.hash_input g.S.BuildHasher.build_hasher g.S.Hasher.Hasher.write g.S.Hasher.Hasher.finish
+          g.met.K.Eq.laws g.met.K.Hash.respects_eq c.args.self.now orderly c.args.key fit (post g) c.args.f store r c.loop-self.closure
+          c.loop-self.shown c.loop-self.aborted c.loop-self.invariant.0 w.show.result w.show.new.value w.show.new.closure w.show.new.aborted
+          w.no_pair-entry.result w.show.ensures.0 w.show.ensures.1 w.show.ensures.2 w.show.ensures.4 w.show.ensures.5
+          (sym c.ask-ask.ensures.value ∙ w.in-Call-ShowNone.is ∙ ap asks.Call none) w.no_pair-entry.ensures)
       | in-Call-ShowPair w ↦
           let shows : w.in-Call-ShowPair.field-0 ≡ ShowPair w.in-Call-ShowPair.pair = rw w.in-Call-ShowPair.is at w.in-Call-ShowPair.field-0-is in
-          went_so g.K.PartialEq.eq (hash g) c.args.self.now c.args.key (post g) c.args.f store r.machine w.answer-is (ap (λ i. i.store) w.self-inside-is) w.running-is w.closure-is w.shown-is w.aborted-is
-          (pair_went g.K.PartialEq.eq g.K.Hash.hash_input g.S.BuildHasher.build_hasher g.S.Hasher.Hasher.write g.S.Hasher.Hasher.finish g.met.K.Eq.laws g.met.K.Hash.respects_eq c.args.self.now orderly c.args.key fit (post g) c.args.f store r c.loop-self.closure c.loop-self.shown c.loop-self.aborted c.loop-self.invariant.0 w.show-in-Call-ShowPair.result w.show-in-Call-ShowPair.new.value w.show-in-Call-ShowPair.new.closure w.show-in-Call-ShowPair.new.aborted w.pair-entry.result w.show-in-Call-ShowPair.ensures.0 w.show-in-Call-ShowPair.ensures.1 w.show-in-Call-ShowPair.ensures.2 w.show-in-Call-ShowPair.ensures.4 w.show-in-Call-ShowPair.ensures.5 w.in-Call-ShowPair.pair (sym c.ask-ask.ensures.value ∙ w.in-Call-ShowPair.is ∙ ap asks.Call shows) w.pair-entry.ensures)
+          went_so g.K.PartialEq.eq (hash g) c.args.self.now c.args.key (post g) c.args.f store r.machine w.answer-is
+          (ap (λ i. i.store) w.self-inside-is) w.running-is w.closure-is w.shown-is w.aborted-is
+          (pair_went g.K.PartialEq.eq g.K.Hash.hash_input g.S.BuildHasher.build_hasher g.S.Hasher.Hasher.write g.S.Hasher.Hasher.finish
+          g.met.K.Eq.laws g.met.K.Hash.respects_eq c.args.self.now orderly c.args.key fit (post g) c.args.f store r c.loop-self.closure
+          c.loop-self.shown c.loop-self.aborted c.loop-self.invariant.0 w.show-in-Call-ShowPair.result w.show-in-Call-ShowPair.new.value
+          w.show-in-Call-ShowPair.new.closure w.show-in-Call-ShowPair.new.aborted w.pair-entry.result w.show-in-Call-ShowPair.ensures.0
+          w.show-in-Call-ShowPair.ensures.1 w.show-in-Call-ShowPair.ensures.2 w.show-in-Call-ShowPair.ensures.4 w.show-in-Call-ShowPair.ensures.5
+          w.in-Call-ShowPair.pair (sym c.ask-ask.ensures.value ∙ w.in-Call-ShowPair.is ∙ ap asks.Call shows) w.pair-entry.ensures)
       | in_default w ↦
           let no_reply : (reply : Reply) → c.ask-ask.result ≡ asks.Call (Ask_done reply) → ⊥ = λ reply e. search rules in
           let no_none : c.ask-ask.result ≡ asks.Call ShowNone → ⊥ = λ e. search rules in
           let no_pair : (i : ℕ) → c.ask-ask.result ≡ asks.Call (ShowPair i) → ⊥ = λ i e. search rules in
-          went_so g.K.PartialEq.eq (hash g) c.args.self.now c.args.key (post g) c.args.f store r.machine w.answer-is (ap (λ i. i.store) w.self-inside-is) w.running-is w.closure-is w.shown-is w.aborted-is
-          (computing_went g.K.PartialEq.eq (hash g) c.args.self.now c.args.key (said g) store r w.perform_ask-answer.result w.perform_ask-answer.new.self w.perform_ask-answer.new.running
-          (unreplied_ask (ask_of r.machine) (λ reply e. no_reply reply (c.ask-ask.ensures.value ∙ e))) (λ e. no_none (c.ask-ask.ensures.value ∙ e)) (λ i e. no_pair i (c.ask-ask.ensures.value ∙ e))
-          (subst (λ y. PerformsAsk g.K.PartialEq.eq (said g) (hash g) false y store r w.perform_ask-answer.result w.perform_ask-answer.new.self w.perform_ask-answer.new.running) c.ask-ask.ensures.value w.perform_ask-answer.ensures.performs) w.perform_ask-answer.ensures.machine
-          (post g) c.args.f c.loop-self.closure c.loop-self.shown c.loop-self.aborted (keys g c.args.self.now.store.hasher) orderly fit c.loop-self.invariant.0 (subst IsFitAsk c.ask-ask.ensures.value c.ask-ask.ensures.size))
+          went_so g.K.PartialEq.eq (hash g) c.args.self.now c.args.key (post g) c.args.f store r.machine w.answer-is
+          (ap (λ i. i.store) w.self-inside-is) w.running-is w.closure-is w.shown-is w.aborted-is
+          (computing_went g.K.PartialEq.eq (hash g) c.args.self.now c.args.key (said g) store r w.perform_ask-answer.result
+          w.perform_ask-answer.new.self w.perform_ask-answer.new.running
+          (unreplied_ask (ask_of r.machine) (λ reply e. no_reply reply (c.ask-ask.ensures.value ∙ e))) (λ e. no_none (c.ask-ask.ensures.value ∙ e))
+          (λ i e. no_pair i (c.ask-ask.ensures.value ∙ e))
+          (subst (λ y. PerformsAsk g.K.PartialEq.eq (said g) (hash g) false y store r w.perform_ask-answer.result w.perform_ask-answer.new.self
+          w.perform_ask-answer.new.running) c.ask-ask.ensures.value w.perform_ask-answer.ensures.performs) w.perform_ask-answer.ensures.machine
+          (post g) c.args.f c.loop-self.closure c.loop-self.shown c.loop-self.aborted (keys g c.args.self.now.store.hasher) orderly fit
+          c.loop-self.invariant.0 (subst IsFitAsk c.ask-ask.ensures.value c.ask-ask.ensures.size))
     ]
 
 -- the machine after the answer
@@ -128,24 +173,35 @@ pub answer-requires-clause-fit : goal.answer-requires-clause-fit
 answer-requires-clause-fit g c = let n = (goal.at.answer-requires-clause-fit g c).After-new in (went g c (lawful g n) (fits g n)).fit
 
 -- the compute after the answer
-gone : (g : Over) (c : After-answer g) → IsComputing g.K.PartialEq.eq (hash g) c.args.self.now c.args.key (post g) c.args.f c.match-ask.self-inside.store (record c.match-ask.running { machine = c.answer.new.self }) c.match-ask.closure c.match-ask.shown c.match-ask.aborted
+gone : (g : Over) (c : After-answer g) → IsComputing g.K.PartialEq.eq (hash g) c.args.self.now c.args.key (post g) c.args.f
+    c.match-ask.self-inside.store (record c.match-ask.running { machine = c.answer.new.self }) c.match-ask.closure c.match-ask.shown c.match-ask.aborted
 gone g c =
     let n = (goal.at.After-answer g c).After-new in
     let goes = went g (goal.at.After-answer g c).After-answer-arg-1 (lawful g n) (fits g n) in
     let is = answered c.loop-self.running.machine c.match-ask.running.machine c.answer.new.self c.match-ask.answer c.answer.ensures.after goes.same in
-    subst (λ (m : Machine). IsComputing g.K.PartialEq.eq (hash g) c.args.self.now c.args.key (post g) c.args.f c.match-ask.self-inside.store (record c.match-ask.running { machine = m }) c.match-ask.closure c.match-ask.shown c.match-ask.aborted) (sym is) (goes.goes (subst IsStanding is c.answer.ensures.standing))
+    subst (λ (m : Machine). IsComputing g.K.PartialEq.eq (hash g) c.args.self.now c.args.key (post g) c.args.f c.match-ask.self-inside.store
+    (record c.match-ask.running { machine = m }) c.match-ask.closure c.match-ask.shown c.match-ask.aborted) (sym is)
+    (goes.goes (subst IsStanding is c.answer.ensures.standing))
 
 pub copy_for_call-requires-clause-sized : goal.copy_for_call-requires-clause-sized
 copy_for_call-requires-clause-sized g c =
     let n = (goal.at.copy_for_call-requires-clause-sized g c).After-new in
-    computing_sized g.K.PartialEq.eq (hash g) c.args.self.now c.args.key (post g) c.args.f c.match-ask.closure c.match-ask.shown c.match-ask.aborted (keys g c.args.self.now.store.hasher) (lawful g n) (fits g n) c.match-ask.self-inside.store (record c.match-ask.running { machine = c.answer.new.self }) (gone g (goal.at.copy_for_call-requires-clause-sized g c).After-answer)
+    computing_sized g.K.PartialEq.eq (hash g) c.args.self.now c.args.key (post g) c.args.f c.match-ask.closure c.match-ask.shown c.match-ask.aborted
+    (keys g c.args.self.now.store.hasher) (lawful g n) (fits g n) c.match-ask.self-inside.store
+    (record c.match-ask.running { machine = c.answer.new.self }) (gone g (goal.at.copy_for_call-requires-clause-sized g c).After-answer)
 
 -- and after the slots that were copied
-copied : (g : Over) (c : After-copy_for_call g) → IsComputing g.K.PartialEq.eq (hash g) c.args.self.now c.args.key (post g) c.args.f c.copy_for_call.new.store (record c.match-ask.running { machine = c.copy_for_call.new.machine }) c.match-ask.closure c.match-ask.shown c.match-ask.aborted × (left_of c.copy_for_call.new.store c.copy_for_call.new.machine ≤ left_of c.match-ask.self-inside.store c.answer.new.self)
+copied : (g : Over) (c : After-copy_for_call g)
+    → IsComputing g.K.PartialEq.eq (hash g) c.args.self.now c.args.key (post g) c.args.f c.copy_for_call.new.store
+    (record c.match-ask.running { machine = c.copy_for_call.new.machine }) c.match-ask.closure c.match-ask.shown c.match-ask.aborted
+    × (left_of c.copy_for_call.new.store c.copy_for_call.new.machine ≤ left_of c.match-ask.self-inside.store c.answer.new.self)
 copied g c =
     let n = (goal.at.After-copy_for_call g c).After-new in
     let (told, led) = c.copy_for_call.ensures in
-    computing_copies g.K.PartialEq.eq (hash g) c.args.self.now c.args.key (post g) c.args.f c.match-ask.closure c.match-ask.shown c.match-ask.aborted (keys g c.args.self.now.store.hasher) (lawful g n) (fits g n) told c.match-ask.self-inside.store (record c.match-ask.running { machine = c.answer.new.self }) c.copy_for_call.new.store c.copy_for_call.new.machine led (gone g (goal.at.After-copy_for_call g c).After-answer)
+    computing_copies g.K.PartialEq.eq (hash g) c.args.self.now c.args.key (post g) c.args.f c.match-ask.closure c.match-ask.shown c.match-ask.aborted
+    (keys g c.args.self.now.store.hasher) (lawful g n) (fits g n) told c.match-ask.self-inside.store
+    (record c.match-ask.running { machine = c.answer.new.self }) c.copy_for_call.new.store c.copy_for_call.new.machine led
+    (gone g (goal.at.After-copy_for_call g c).After-answer)
 
 pub loop-self-smaller : goal.loop-self-smaller
 loop-self-smaller g c =
@@ -153,11 +209,14 @@ loop-self-smaller g c =
     let goes = went g (goal.at.loop-self-smaller g c).After-answer-arg-1 (lawful g n) (fits g n) in
     let near = (copied g (goal.at.loop-self-smaller g c).After-copy_for_call).1 in
     let nearer : left_of c.match-ask.self-inside.store c.answer.new.self < left_of c.loop-self.self-inside.store c.loop-self.running.machine =
-    subst (λ (m : Machine). left_of c.match-ask.self-inside.store m < left_of c.loop-self.self-inside.store c.loop-self.running.machine) (sym (answered c.loop-self.running.machine c.match-ask.running.machine c.answer.new.self c.match-ask.answer c.answer.ensures.after goes.same)) goes.nears in
+    subst (λ (m : Machine). left_of c.match-ask.self-inside.store m < left_of c.loop-self.self-inside.store c.loop-self.running.machine)
+    (sym (answered c.loop-self.running.machine c.match-ask.running.machine c.answer.new.self c.match-ask.answer c.answer.ensures.after goes.same))
+    goes.nears in
     omega (arith, near, nearer)
 
 -- the map keeps its mode and its initial capacity
-settings : (g : Over) (c : After-answer-arg-1 g) → (c.match-ask.self-inside.mode ≡ c.args.self.now.mode) × (c.match-ask.self-inside.initial ≡ c.args.self.now.initial)
+settings : (g : Over) (c : After-answer-arg-1 g) → (c.match-ask.self-inside.mode ≡ c.args.self.now.mode)
+    × (c.match-ask.self-inside.initial ≡ c.args.self.now.initial)
 settings g c = elim c.match-ask.branch [
   | in-Call-ShowNone w ↦ (ap (λ i. i.mode) w.self-inside-is ∙ c.loop-self.invariant.1, ap (λ i. i.initial) w.self-inside-is ∙ c.loop-self.invariant.2)
   | in-Call-ShowPair w ↦ (ap (λ i. i.mode) w.self-inside-is ∙ c.loop-self.invariant.1, ap (λ i. i.initial) w.self-inside-is ∙ c.loop-self.invariant.2)
@@ -176,48 +235,63 @@ replied g c =
     ap reply_in (sym c.ask-ask.ensures.value ∙ c.in-Call-Done.is ∙ ap asks.Call done)
 
 -- so the call was made alone
-alone : (g : Over) (c : In-Call-Done g) → IsLawfulMap g.K.PartialEq.eq (hash g c.args.self.now.store.hasher) c.args.self.now.store c.args.self.now.mode c.args.self.now.initial → hash g c.args.self.now.store.hasher c.args.key < 2 ^ 64 → IsOver g.K.PartialEq.eq (hash g) c.args.self.now (compute_of c.args.key) c.loop-self.self-inside.store c.in-Call-Done.reply
-alone g c orderly fit = made_alone g.K.PartialEq.eq (hash g) c.args.self.now (keyed_compute c.args.key) (keys g c.args.self.now.store.hasher) orderly fit c.loop-self.self-inside.store (asking c.loop-self.running) c.in-Call-Done.reply (replied g c) c.loop-self.invariant.0.steps
+alone : (g : Over) (c : In-Call-Done g) → IsLawfulMap g.K.PartialEq.eq (hash g c.args.self.now.store.hasher) c.args.self.now.store
+    c.args.self.now.mode c.args.self.now.initial → hash g c.args.self.now.store.hasher c.args.key < 2 ^ 64
+    → IsOver g.K.PartialEq.eq (hash g) c.args.self.now (compute_of c.args.key) c.loop-self.self-inside.store c.in-Call-Done.reply
+alone g c orderly fit = made_alone g.K.PartialEq.eq (hash g) c.args.self.now (keyed_compute c.args.key) (keys g c.args.self.now.store.hasher) orderly
+    fit c.loop-self.self-inside.store (asking c.loop-self.running) c.in-Call-Done.reply (replied g c) c.loop-self.invariant.0.steps
 
 -- the map that it left
 abbrev left : (g : Over) (c : In-Call-Done g) → MapState g.row.K.Denot g.row.V.Denot g.row.S.Denot
 left g c = record { store = c.loop-self.self-inside.store; mode = c.loop-self.self-inside.mode; initial = c.loop-self.self-inside.initial }
 
 -- what it left beside the finite map
-keeps : (g : Over) (c : In-Call-Done g) → IsLawfulMap g.K.PartialEq.eq (hash g c.args.self.now.store.hasher) c.args.self.now.store c.args.self.now.mode c.args.self.now.initial → hash g c.args.self.now.store.hasher c.args.key < 2 ^ 64 → KeepsAndGrows c.args.self.now (left g c)
+keeps : (g : Over) (c : In-Call-Done g) → IsLawfulMap g.K.PartialEq.eq (hash g c.args.self.now.store.hasher) c.args.self.now.store
+    c.args.self.now.mode c.args.self.now.initial → hash g c.args.self.now.store.hasher c.args.key < 2 ^ 64 → KeepsAndGrows c.args.self.now (left g c)
 keeps g c orderly fit =
     let over = alone g c orderly fit in (
       record {
-        hasher = map_hasher g.K.PartialEq.eq g.K.Hash.hash_input g.S.BuildHasher.build_hasher g.S.Hasher.Hasher.write g.S.Hasher.Hasher.finish g.met.K.Eq.laws g.met.K.Hash.respects_eq c.args.self.now (compute_of c.args.key) c.in-Call-Done.reply c.loop-self.self-inside.store orderly over;
+        hasher = map_hasher g.K.PartialEq.eq g.K.Hash.hash_input g.S.BuildHasher.build_hasher g.S.Hasher.Hasher.write g.S.Hasher.Hasher.finish
+            g.met.K.Eq.laws g.met.K.Hash.respects_eq c.args.self.now (compute_of c.args.key) c.in-Call-Done.reply c.loop-self.self-inside.store orderly over;
         mode = c.loop-self.invariant.1;
         initial = c.loop-self.invariant.2;
-        pairs = (map_logged g.K.PartialEq.eq g.K.Hash.hash_input g.S.BuildHasher.build_hasher g.S.Hasher.Hasher.write g.S.Hasher.Hasher.finish g.met.K.Eq.laws g.met.K.Hash.respects_eq c.args.self.now (compute_of c.args.key) c.in-Call-Done.reply c.loop-self.self-inside.store orderly over).1;
+        pairs = (map_logged g.K.PartialEq.eq g.K.Hash.hash_input g.S.BuildHasher.build_hasher g.S.Hasher.Hasher.write g.S.Hasher.Hasher.finish
+            g.met.K.Eq.laws g.met.K.Hash.respects_eq c.args.self.now (compute_of c.args.key) c.in-Call-Done.reply c.loop-self.self-inside.store orderly over).1;
       },
-      made_tables g.K.PartialEq.eq (hash g) c.args.self.now (keyed_compute c.args.key) (keys g c.args.self.now.store.hasher) orderly fit c.loop-self.self-inside.store (asking c.loop-self.running) c.loop-self.invariant.0.steps,
+      made_tables g.K.PartialEq.eq (hash g) c.args.self.now (keyed_compute c.args.key) (keys g c.args.self.now.store.hasher) orderly fit
+          c.loop-self.self-inside.store (asking c.loop-self.running) c.loop-self.invariant.0.steps,
     )
 
 pub computed-requires : goal.computed-requires
 computed-requires g c =
     let n = (goal.at.computed-requires g c).After-new in
     let over = alone g c (lawful g n) (fits g n) in
-    over_replies g.K.PartialEq.eq g.met.K.Eq.laws (hash g) c.args.self.now (left g c) (keeps g c (lawful g n) (fits g n)) c.args.key (post g) c.args.f c.loop-self.running c.loop-self.closure c.loop-self.shown c.loop-self.aborted c.in-Call-Done.reply (replied g c) c.loop-self.invariant.0
-    (map_answered g.K.PartialEq.eq g.K.Hash.hash_input g.S.BuildHasher.build_hasher g.S.Hasher.Hasher.write g.S.Hasher.Hasher.finish g.met.K.Eq.laws g.met.K.Hash.respects_eq c.args.self.now (compute_of c.args.key) c.in-Call-Done.reply c.loop-self.self-inside.store (lawful g n) over)
+    over_replies g.K.PartialEq.eq g.met.K.Eq.laws (hash g) c.args.self.now (left g c) (keeps g c (lawful g n) (fits g n)) c.args.key (post g) c.args.f
+    c.loop-self.running c.loop-self.closure c.loop-self.shown c.loop-self.aborted c.in-Call-Done.reply (replied g c) c.loop-self.invariant.0
+    (map_answered g.K.PartialEq.eq g.K.Hash.hash_input g.S.BuildHasher.build_hasher g.S.Hasher.Hasher.write g.S.Hasher.Hasher.finish g.met.K.Eq.laws
+    g.met.K.Hash.respects_eq c.args.self.now (compute_of c.args.key) c.in-Call-Done.reply c.loop-self.self-inside.store (lawful g n) over)
 
 pub invariant_of-self : goal.invariant_of-self
 invariant_of-self g c =
     let n = (goal.at.invariant_of-self g c).After-new in
     let done = (goal.at.invariant_of-self g c).In-Call-Done in
-    subst (λ mode. IsLawfulMap g.K.PartialEq.eq (hash g c.loop-self.self-inside.store.hasher) c.loop-self.self-inside.store mode c.loop-self.self-inside.initial) (sym c.loop-self.invariant.1)
-    (subst (λ initial. IsLawfulMap g.K.PartialEq.eq (hash g c.loop-self.self-inside.store.hasher) c.loop-self.self-inside.store c.args.self.now.mode initial) (sym c.loop-self.invariant.2)
-    (map_lawful g.K.PartialEq.eq g.K.Hash.hash_input g.S.BuildHasher.build_hasher g.S.Hasher.Hasher.write g.S.Hasher.Hasher.finish g.met.K.Eq.laws g.met.K.Hash.respects_eq c.args.self.now (compute_of c.args.key) c.in-Call-Done.reply c.loop-self.self-inside.store (lawful g n) (alone g done (lawful g n) (fits g n))))
+    subst (λ mode. IsLawfulMap g.K.PartialEq.eq (hash g c.loop-self.self-inside.store.hasher) c.loop-self.self-inside.store mode
+    c.loop-self.self-inside.initial) (sym c.loop-self.invariant.1)
+    (subst (λ initial. IsLawfulMap g.K.PartialEq.eq (hash g c.loop-self.self-inside.store.hasher) c.loop-self.self-inside.store c.args.self.now.mode
+    initial) (sym c.loop-self.invariant.2)
+    (map_lawful g.K.PartialEq.eq g.K.Hash.hash_input g.S.BuildHasher.build_hasher g.S.Hasher.Hasher.write g.S.Hasher.Hasher.finish g.met.K.Eq.laws
+    g.met.K.Hash.respects_eq c.args.self.now (compute_of c.args.key) c.in-Call-Done.reply c.loop-self.self-inside.store (lawful g n)
+    (alone g done (lawful g n) (fits g n))))
 
 pub returns-in-Call-Done-clause-shown : goal.returns-in-Call-Done-clause-shown
 returns-in-Call-Done-clause-shown g c =
     let n = (goal.at.returns-in-Call-Done-clause-shown g c).After-new in
     let done = (goal.at.returns-in-Call-Done-clause-shown g c).In-Call-Done in
     let over = alone g done (lawful g n) (fits g n) in
-    over_shown g.K.PartialEq.eq g.met.K.Eq.laws (hash g) c.args.self.now (left g done) (keeps g done (lawful g n) (fits g n)) c.args.key (post g) c.args.f c.loop-self.running c.loop-self.closure c.loop-self.shown c.loop-self.aborted c.in-Call-Done.reply (replied g done) c.loop-self.invariant.0
-    (map_answered g.K.PartialEq.eq g.K.Hash.hash_input g.S.BuildHasher.build_hasher g.S.Hasher.Hasher.write g.S.Hasher.Hasher.finish g.met.K.Eq.laws g.met.K.Hash.respects_eq c.args.self.now (compute_of c.args.key) c.in-Call-Done.reply c.loop-self.self-inside.store (lawful g n) over)
+    over_shown g.K.PartialEq.eq g.met.K.Eq.laws (hash g) c.args.self.now (left g done) (keeps g done (lawful g n) (fits g n)) c.args.key (post g)
+    c.args.f c.loop-self.running c.loop-self.closure c.loop-self.shown c.loop-self.aborted c.in-Call-Done.reply (replied g done) c.loop-self.invariant.0
+    (map_answered g.K.PartialEq.eq g.K.Hash.hash_input g.S.BuildHasher.build_hasher g.S.Hasher.Hasher.write g.S.Hasher.Hasher.finish g.met.K.Eq.laws
+    g.met.K.Hash.respects_eq c.args.self.now (compute_of c.args.key) c.in-Call-Done.reply c.loop-self.self-inside.store (lawful g n) over)
     c.computed.result c.computed.ensures
 
 -- which has the mode and the initial capacity of before
@@ -232,7 +306,8 @@ returns-in-Call-Done-clause-alone g c =
     let end = (goal.at.returns-in-Call-Done-clause-alone g c).In-Call-Done in
     record {
       reply = c.in-Call-Done.reply;
-      alone = subst (IsMadeAlone g.K.PartialEq.eq (hash g) c.args.self.now (compute_of c.args.key) c.in-Call-Done.reply) (left_is g end) (record { runs = (alone g end (lawful g n) (fits g n)).ran });
+      alone = subst (IsMadeAlone g.K.PartialEq.eq (hash g) c.args.self.now (compute_of c.args.key) c.in-Call-Done.reply) (left_is g end)
+          (record { runs = (alone g end (lawful g n) (fits g n)).ran });
       refused = told_refused c.in-Call-Done.reply c.loop-self.aborted c.computed.result c.computed.ensures;
     }
 
@@ -241,7 +316,10 @@ returns-in-Call-Done-clause-computes g c =
     let n = (goal.at.returns-in-Call-Done-clause-computes g c).After-new in
     let done = (goal.at.returns-in-Call-Done-clause-computes g c).In-Call-Done in
     let over = alone g done (lawful g n) (fits g n) in
-    over_computes g.K.PartialEq.eq g.met.K.Eq.laws (hash g) c.args.self.now (left g done) (keeps g done (lawful g n) (fits g n)) c.args.key (post g) c.args.f c.loop-self.running c.loop-self.closure c.loop-self.shown c.loop-self.aborted c.in-Call-Done.reply (replied g done) c.loop-self.invariant.0
-    (map_answered g.K.PartialEq.eq g.K.Hash.hash_input g.S.BuildHasher.build_hasher g.S.Hasher.Hasher.write g.S.Hasher.Hasher.finish g.met.K.Eq.laws g.met.K.Hash.respects_eq c.args.self.now (compute_of c.args.key) c.in-Call-Done.reply c.loop-self.self-inside.store (lawful g n) over)
-    (map_logged g.K.PartialEq.eq g.K.Hash.hash_input g.S.BuildHasher.build_hasher g.S.Hasher.Hasher.write g.S.Hasher.Hasher.finish g.met.K.Eq.laws g.met.K.Hash.respects_eq c.args.self.now (compute_of c.args.key) c.in-Call-Done.reply c.loop-self.self-inside.store (lawful g n) over).0
+    over_computes g.K.PartialEq.eq g.met.K.Eq.laws (hash g) c.args.self.now (left g done) (keeps g done (lawful g n) (fits g n)) c.args.key (post g)
+    c.args.f c.loop-self.running c.loop-self.closure c.loop-self.shown c.loop-self.aborted c.in-Call-Done.reply (replied g done) c.loop-self.invariant.0
+    (map_answered g.K.PartialEq.eq g.K.Hash.hash_input g.S.BuildHasher.build_hasher g.S.Hasher.Hasher.write g.S.Hasher.Hasher.finish g.met.K.Eq.laws
+    g.met.K.Hash.respects_eq c.args.self.now (compute_of c.args.key) c.in-Call-Done.reply c.loop-self.self-inside.store (lawful g n) over)
+    (map_logged g.K.PartialEq.eq g.K.Hash.hash_input g.S.BuildHasher.build_hasher g.S.Hasher.Hasher.write g.S.Hasher.Hasher.finish g.met.K.Eq.laws
+    g.met.K.Hash.respects_eq c.args.self.now (compute_of c.args.key) c.in-Call-Done.reply c.loop-self.self-inside.store (lawful g n) over).0
     c.computed.result c.computed.ensures

@@ -11,18 +11,29 @@ loop-key-init g c = copied_none g.K.PartialEq.eq g.K.Clone.is_clone g.V.Clone.is
 
 pub loop-key-preserved : goal.loop-key-preserved
 loop-key-preserved g c =
-    subst (λ (es : List (g.row.K.Denot × g.row.V.Denot)). IsCopied g.K.PartialEq.eq g.K.Clone.is_clone g.V.Clone.is_clone c.args.self.now es c.put.new.self) (sym (map_push deref_pair c.loop-key.yielded (c.in-Some.key, c.in-Some.value)))
-    (copied_more g.K.PartialEq.eq g.K.Clone.is_clone g.V.Clone.is_clone c.args.self.now (map deref_pair c.loop-key.yielded) c.loop-key.self c.loop-key.invariant (c.in-Some.key.now, c.in-Some.value.now) (c.in-Ok.own_key, c.in-Ok-clone.own_value) c.in-Ok.ensures.cases c.in-Ok-clone.ensures.cases c.in-Ok-put.field-0 c.put.new.self c.in-Ok-put.ensures.puts c.put.ensures.logs)
+    subst (λ (es : List (g.row.K.Denot × g.row.V.Denot)).
+    IsCopied g.K.PartialEq.eq g.K.Clone.is_clone g.V.Clone.is_clone c.args.self.now es c.put.new.self)
+    (sym (map_push deref_pair c.loop-key.yielded (c.in-Some.key, c.in-Some.value)))
+    (copied_more g.K.PartialEq.eq g.K.Clone.is_clone g.V.Clone.is_clone c.args.self.now (map deref_pair c.loop-key.yielded) c.loop-key.self
+    c.loop-key.invariant (c.in-Some.key.now, c.in-Some.value.now) (c.in-Ok.own_key, c.in-Ok-clone.own_value) c.in-Ok.ensures.cases
+    c.in-Ok-clone.ensures.cases c.in-Ok-put.field-0 c.put.new.self c.in-Ok-put.ensures.puts c.put.ensures.logs)
 
 pub returns-in-Err-clause-err : goal.returns-in-Err-clause-err
 returns-in-Err-clause-err g c =
-    let whole : map entry_of (content g.K.PartialEq.eq c.args.from.now.store) ≡ map deref_pair c.loop-key.yielded ++ (c.in-Some.key.now, c.in-Some.value.now) ∷ c.next.new.self =
-    sym (c.into_iter-key-iterator.ensures.into_iter_gives ∙ c.iter-key-items.ensures) ∙ comes_next deref_pair c.into_iter-key-iterator.result c.loop-key.yielded c.loop-key.key-iterator (c.in-Some.key, c.in-Some.value) c.next.new.self c.loop-key.yielded_by c.in-Some.ensures.steps in
-    inr (copy_cut g.K.PartialEq.eq g.K.Clone.is_clone g.V.Clone.is_clone c.args.self.now (map deref_pair c.loop-key.yielded) c.loop-key.self c.loop-key.invariant (c.in-Some.key.now, c.in-Some.value.now) (c.in-Ok.own_key, c.in-Ok-clone.own_value) c.in-Ok.ensures.cases c.in-Ok-clone.ensures.cases
+    let whole : map entry_of (content g.K.PartialEq.eq c.args.from.now.store) ≡ map deref_pair c.loop-key.yielded ++
+    (c.in-Some.key.now, c.in-Some.value.now) ∷ c.next.new.self =
+    sym (c.into_iter-key-iterator.ensures.into_iter_gives ∙ c.iter-key-items.ensures)
+    ∙ comes_next deref_pair c.into_iter-key-iterator.result c.loop-key.yielded c.loop-key.key-iterator (c.in-Some.key, c.in-Some.value)
+    c.next.new.self c.loop-key.yielded_by c.in-Some.ensures.steps in
+    inr (copy_cut g.K.PartialEq.eq g.K.Clone.is_clone g.V.Clone.is_clone c.args.self.now (map deref_pair c.loop-key.yielded) c.loop-key.self
+    c.loop-key.invariant (c.in-Some.key.now, c.in-Some.value.now) (c.in-Ok.own_key, c.in-Ok-clone.own_value) c.in-Ok.ensures.cases c.in-Ok-clone.ensures.cases
     c.args.from.now.store c.next.new.self whole c.in-Err.refused c.put.new.self c.in-Err.ensures.puts)
 
 pub returns-clause-ok : goal.returns-clause-ok
 returns-clause-ok g c =
     let whole : map entry_of (content g.K.PartialEq.eq c.args.from.now.store) ≡ map deref_pair c.loop-key.yielded =
-    sym (c.into_iter-key-iterator.ensures.into_iter_gives ∙ c.iter-key-items.ensures) ∙ came_all deref_pair c.into_iter-key-iterator.result c.loop-key.yielded c.loop-key.key-iterator c.next.new.self c.loop-key.yielded_by c.in-None.ensures.steps in
-    subst (λ (es : List (g.row.K.Denot × g.row.V.Denot)). IsCopied g.K.PartialEq.eq g.K.Clone.is_clone g.V.Clone.is_clone c.args.self.now es c.loop-key.self) (sym whole) c.loop-key.invariant
+    sym (c.into_iter-key-iterator.ensures.into_iter_gives ∙ c.iter-key-items.ensures)
+    ∙ came_all deref_pair c.into_iter-key-iterator.result c.loop-key.yielded c.loop-key.key-iterator c.next.new.self c.loop-key.yielded_by
+    c.in-None.ensures.steps in
+    subst (λ (es : List (g.row.K.Denot × g.row.V.Denot)).
+    IsCopied g.K.PartialEq.eq g.K.Clone.is_clone g.V.Clone.is_clone c.args.self.now es c.loop-key.self) (sym whole) c.loop-key.invariant

@@ -13,7 +13,12 @@ returns-in-Ok-clause-ok g c =
       items = e.items;
       left = e.left;
       came = e.came;
-      is = (e.is.0, e.is.1, just g.K.PartialEq.eq (λ p. p) c.in_ok-map.map e.items c.extend.new.self e.is.2 c.default.result c.in_ok-map.ensures.empty c.in_ok-map.ensures.ok);
+      is = (
+        e.is.0,
+        e.is.1,
+        just g.K.PartialEq.eq (λ p. p) c.in_ok-map.map e.items c.extend.new.self e.is.2 c.default.result c.in_ok-map.ensures.empty
+            c.in_ok-map.ensures.ok,
+      );
     }
 
 pub returns-in-Err-clause-err : goal.returns-in-Err-clause-err

@@ -11,24 +11,35 @@ returns-in-Some-clause-answer g c =
     let found = c.look_up.ensures in
     let n = c.in-Some.pair in
     refers_found g.K.PartialEq.eq (g.Q.Equivalent.matches c.args.key.now) c.args.self.now.store found.0 n c.pair.result found.1.0 (sym c.in-Some.is ∙ found.2)
-    (subst (λ (s : MapState g.row.K.Denot g.row.V.Denot g.row.S.Denot). MatchOption c.pair.result (pair_of s.store n ≡ None) (λ e. pair_of s.store n ≡ Some (record { number = n; key = e.0.now; value = e.1.now }))) c.self.view_is c.pair.ensures)
+    (subst (λ (s : MapState g.row.K.Denot g.row.V.Denot g.row.S.Denot).
+    MatchOption c.pair.result (pair_of s.store n ≡ None) (λ e. pair_of s.store n ≡ Some (record { number = n; key = e.0.now; value = e.1.now })))
+    c.self.view_is c.pair.ensures)
 
 pub returns-in-Some-clause-map : goal.returns-in-Some-clause-map
 returns-in-Some-clause-map g c k matched =
-    let lawful = subst (λ (s : MapState g.row.K.Denot g.row.V.Denot g.row.S.Denot). IsLawfulMap g.K.PartialEq.eq (hash_of g.K.Hash.hash_input g.S.BuildHasher.build_hasher g.S.Hasher.Hasher.write g.S.Hasher.Hasher.finish s.store.hasher) s.store s.mode s.initial) c.self.view_is c.self.invariant in
+    let lawful = subst (λ (s : MapState g.row.K.Denot g.row.V.Denot g.row.S.Denot).
+    IsLawfulMap g.K.PartialEq.eq (hash_of g.K.Hash.hash_input g.S.BuildHasher.build_hasher g.S.Hasher.Hasher.write g.S.Hasher.Hasher.finish
+    s.store.hasher) s.store s.mode s.initial) c.self.view_is c.self.invariant in
     let found = c.look_up.ensures in
     let n = c.in-Some.pair in
     refers_map g.K.PartialEq.eq g.met.K.Eq.laws (g.Q.Equivalent.matches c.args.key.now) c.args.self.now.store
-    (lawful_apart g.K.PartialEq.eq g.K.Hash.hash_input g.S.BuildHasher.build_hasher g.S.Hasher.Hasher.write g.S.Hasher.Hasher.finish g.met.K.Eq.laws g.met.K.Hash.respects_eq (core_of c.args.self.now) lawful.lawful)
+    (lawful_apart g.K.PartialEq.eq g.K.Hash.hash_input g.S.BuildHasher.build_hasher g.S.Hasher.Hasher.write g.S.Hasher.Hasher.finish g.met.K.Eq.laws
+    g.met.K.Hash.respects_eq (core_of c.args.self.now) lawful.lawful)
     k (λ l. g.met.Q.Equivalent.matches_equal_keys c.args.key.now k l matched) c.pair.result
     (refers_found g.K.PartialEq.eq (g.Q.Equivalent.matches c.args.key.now) c.args.self.now.store found.0 n c.pair.result found.1.0 (sym c.in-Some.is ∙ found.2)
-    (subst (λ (s : MapState g.row.K.Denot g.row.V.Denot g.row.S.Denot). MatchOption c.pair.result (pair_of s.store n ≡ None) (λ e. pair_of s.store n ≡ Some (record { number = n; key = e.0.now; value = e.1.now }))) c.self.view_is c.pair.ensures))
+    (subst (λ (s : MapState g.row.K.Denot g.row.V.Denot g.row.S.Denot).
+    MatchOption c.pair.result (pair_of s.store n ≡ None) (λ e. pair_of s.store n ≡ Some (record { number = n; key = e.0.now; value = e.1.now })))
+    c.self.view_is c.pair.ensures))
 
 pub returns-in-None-clause-map : goal.returns-in-None-clause-map
 returns-in-None-clause-map g c k matched =
-    let lawful = subst (λ (s : MapState g.row.K.Denot g.row.V.Denot g.row.S.Denot). IsLawfulMap g.K.PartialEq.eq (hash_of g.K.Hash.hash_input g.S.BuildHasher.build_hasher g.S.Hasher.Hasher.write g.S.Hasher.Hasher.finish s.store.hasher) s.store s.mode s.initial) c.self.view_is c.self.invariant in
+    let lawful = subst (λ (s : MapState g.row.K.Denot g.row.V.Denot g.row.S.Denot).
+    IsLawfulMap g.K.PartialEq.eq (hash_of g.K.Hash.hash_input g.S.BuildHasher.build_hasher g.S.Hasher.Hasher.write g.S.Hasher.Hasher.finish
+    s.store.hasher) s.store s.mode s.initial) c.self.view_is c.self.invariant in
     let found = c.look_up.ensures in
     refers_map g.K.PartialEq.eq g.met.K.Eq.laws (g.Q.Equivalent.matches c.args.key.now) c.args.self.now.store
-    (lawful_apart g.K.PartialEq.eq g.K.Hash.hash_input g.S.BuildHasher.build_hasher g.S.Hasher.Hasher.write g.S.Hasher.Hasher.finish g.met.K.Eq.laws g.met.K.Hash.respects_eq (core_of c.args.self.now) lawful.lawful)
+    (lawful_apart g.K.PartialEq.eq g.K.Hash.hash_input g.S.BuildHasher.build_hasher g.S.Hasher.Hasher.write g.S.Hasher.Hasher.finish g.met.K.Eq.laws
+    g.met.K.Hash.respects_eq (core_of c.args.self.now) lawful.lawful)
     k (λ l. g.met.Q.Equivalent.matches_equal_keys c.args.key.now k l matched) None
-    (contains_found g.K.PartialEq.eq (g.Q.Equivalent.matches c.args.key.now) c.args.self.now.store found.0 false found.1.0 (ap is_some (sym c.in-None.is ∙ found.2)))
+    (contains_found g.K.PartialEq.eq (g.Q.Equivalent.matches c.args.key.now) c.args.self.now.store found.0 false found.1.0
+    (ap is_some (sym c.in-None.is ∙ found.2)))

@@ -25,7 +25,8 @@ module _ (g : Over) where
   Orderly s = IsLawfulMap g.K.PartialEq.eq (key_hash s.store.hasher) s.store s.mode s.initial
 
   keys : (s : Map) → IsLawfulKeys g.K.PartialEq.eq (key_hash s.store.hasher)
-  keys s = keys_lawful g.K.PartialEq.eq g.K.Hash.hash_input g.S.BuildHasher.build_hasher g.S.Hasher.Hasher.write g.S.Hasher.Hasher.finish g.met.K.Eq.laws g.met.K.Hash.respects_eq s.store.hasher
+  keys s = keys_lawful g.K.PartialEq.eq g.K.Hash.hash_input g.S.BuildHasher.build_hasher g.S.Hasher.Hasher.write g.S.Hasher.Hasher.finish
+      g.met.K.Eq.laws g.met.K.Hash.respects_eq s.store.hasher
 
   -- the map is in order
   orderly : (c : After-kind g) → Orderly c.args.self.now
@@ -42,9 +43,18 @@ pub returns-in-Live : goal.returns-in-Live
 returns-in-Live g c =
     let s = c.args.self.now in
     let at = goal.at.returns-in-Live g c in
-    let number : c.pair-in-Live.result ≡ number_of (word_at s.store.words (Slot c.args.at.table c.args.at.slot)) = c.pair-in-Live.ensures ∙ ap number_of (word_is g at.After-kind) in
-    let kind : (kind_of (word_at s.store.words (Slot c.args.at.table c.args.at.slot)) ≡ Live) ⊎ (kind_of (word_at s.store.words (Slot c.args.at.table c.args.at.slot)) ≡ Marked) = elim c.in-Live.is [ inl live ↦ inl (sym (kind_is g at.After-kind) ∙ live) | inr marked ↦ inr (sym (kind_is g at.After-kind) ∙ marked) ] in
-    word_given g.K.PartialEq.eq (key_hash g s.store.hasher) s (orderly g at.After-kind).lawful (keys g s) c.args.at c.requires.stands c.pair-in-Live.result (record { within = held_within s.store.words c.args.at.table c.args.at.slot c.args.table.now c.requires.table c.requires.within; kind = kind; names = sym number })
+    let number : c.pair-in-Live.result ≡ number_of (word_at s.store.words (Slot c.args.at.table c.args.at.slot)) = c.pair-in-Live.ensures
+    ∙ ap number_of (word_is g at.After-kind) in
+    let kind : (kind_of (word_at s.store.words (Slot c.args.at.table c.args.at.slot)) ≡ Live)
+    ⊎ (kind_of (word_at s.store.words (Slot c.args.at.table c.args.at.slot)) ≡ Marked) = elim c.in-Live.is
+    [ inl live ↦ inl (sym (kind_is g at.After-kind) ∙ live) | inr marked ↦ inr (sym (kind_is g at.After-kind) ∙ marked) ] in
+    word_given g.K.PartialEq.eq (key_hash g s.store.hasher) s (orderly g at.After-kind).lawful (keys g s) c.args.at c.requires.stands
+    c.pair-in-Live.result (record {
+      within = held_within s.store.words c.args.at.table c.args.at.slot c.args.table.now c.requires.table
+          c.requires.within;
+      kind = kind;
+      names = sym number;
+    })
     (λ p logged. elim c.if-at-eq0.branch [
       | then-at-eq0 w ↦ ap (λ n. has_in g.K.PartialEq.eq s.store n s.store.words.root p.key) w.if-at-eq0.true
       | else-at-eq0 w ↦
@@ -57,13 +67,22 @@ pub returns-in_default : goal.returns-in_default
 returns-in_default g c =
     let s = c.args.self.now in
     let at = goal.at.returns-in_default g c in
-    let kind : (kind_of (word_at s.store.words (Slot c.args.at.table c.args.at.slot)) ≡ Live) ⊎ (kind_of (word_at s.store.words (Slot c.args.at.table c.args.at.slot)) ≡ Marked) = elim c.in-Live.is [ inl live ↦ inl (sym (kind_is g at.After-kind) ∙ live) | inr marked ↦ inr (sym (kind_is g at.After-kind) ∙ marked) ] in
+    let kind : (kind_of (word_at s.store.words (Slot c.args.at.table c.args.at.slot)) ≡ Live)
+    ⊎ (kind_of (word_at s.store.words (Slot c.args.at.table c.args.at.slot)) ≡ Marked) = elim c.in-Live.is
+    [ inl live ↦ inl (sym (kind_is g at.After-kind) ∙ live) | inr marked ↦ inr (sym (kind_is g at.After-kind) ∙ marked) ] in
     elim c.if-at-eq0.branch [
       | then-at-eq0 w ↦ absurd (search rules)
       | else-at-eq0 w ↦
-          let number : w.pair.result ≡ number_of (word_at s.store.words (Slot c.args.at.table c.args.at.slot)) = w.pair.ensures ∙ ap number_of (word_is g at.After-kind) in
+          let number : w.pair.result ≡ number_of (word_at s.store.words (Slot c.args.at.table c.args.at.slot)) = w.pair.ensures
+          ∙ ap number_of (word_is g at.After-kind) in
           let old : w.is_copy.result ≡ true = search rules in
-          word_before g.K.PartialEq.eq (key_hash g s.store.hasher) s (orderly g at.After-kind).lawful (keys g s) c.args.at c.requires.stands w.pair.result (record { within = held_within s.store.words c.args.at.table c.args.at.slot c.args.table.now c.requires.table c.requires.within; kind = kind; names = sym number })
+          word_before g.K.PartialEq.eq (key_hash g s.store.hasher) s (orderly g at.After-kind).lawful (keys g s) c.args.at c.requires.stands
+          w.pair.result (record {
+            within = held_within s.store.words c.args.at.table c.args.at.slot c.args.table.now c.requires.table
+                c.requires.within;
+            kind = kind;
+            names = sym number;
+          })
           (λ p logged. sym (w.is_copy.ensures p logged) ∙ old)
     ]
 
@@ -71,5 +90,7 @@ pub returns-in_default-2 : goal.returns-in_default-2
 returns-in_default-2 g c =
     let s = c.args.self.now in
     let at = goal.at.returns-in_default-2 g c in
-    word_bare g.K.PartialEq.eq (key_hash g s.store.hasher) s (orderly g at.After-kind).lawful (keys g s) c.args.at c.requires.stands (held_within c.args.self.now.store.words c.args.at.table c.args.at.slot c.args.table.now c.requires.table c.requires.within)
-    (λ live. let e : c.kind.result ≡ Live = kind_is g at.After-kind ∙ live in search rules) (λ marked. let e : c.kind.result ≡ Marked = kind_is g at.After-kind ∙ marked in search rules)
+    word_bare g.K.PartialEq.eq (key_hash g s.store.hasher) s (orderly g at.After-kind).lawful (keys g s) c.args.at c.requires.stands
+    (held_within c.args.self.now.store.words c.args.at.table c.args.at.slot c.args.table.now c.requires.table c.requires.within)
+    (λ live. let e : c.kind.result ≡ Live = kind_is g at.After-kind ∙ live in search rules)
+    (λ marked. let e : c.kind.result ≡ Marked = kind_is g at.After-kind ∙ marked in search rules)

@@ -19,23 +19,36 @@ hash g = hash_of g.K.Hash.hash_input g.S.BuildHasher.build_hasher g.S.Hasher.Has
 
 -- an empty slot's word is 0
 pub insert_fast-requires-clause-bare : goal.insert_fast-requires-clause-bare
-insert_fast-requires-clause-bare g c = core_bare g.K.PartialEq.eq (hash g c.self.inside.store.hasher) [] c.self.inside.mode c.self.inside.store c.self.invariant.lawful
+insert_fast-requires-clause-bare g c = core_bare g.K.PartialEq.eq (hash g c.self.inside.store.hasher) [] c.self.inside.mode c.self.inside.store
+    c.self.invariant.lawful
 
 -- the map has no limit
 free : (g : Over) (c : In-Ok g) → None ≡ c.self.inside.mode.limit
 free g c = search rules
 
 -- it was done at once
-done : (g : Over) (c : In-Ok g) → InsertionDone g.K.PartialEq.eq (hash g) c.args.self.now c.args.replace c.args.key c.args.value c.in-Ok.done.0 c.in-Ok.done.1 (record { store = c.insert_fast.new.store; mode = c.self.inside.mode; initial = c.self.inside.initial })
+done : (g : Over) (c : In-Ok g) → InsertionDone g.K.PartialEq.eq (hash g) c.args.self.now c.args.replace c.args.key c.args.value c.in-Ok.done.0
+    c.in-Ok.done.1 (record { store = c.insert_fast.new.store; mode = c.self.inside.mode; initial = c.self.inside.initial })
 done g c =
-    let view : MapState g.row.K.Denot g.row.V.Denot g.row.S.Denot = record { store = c.self.inside.store; mode = c.self.inside.mode; initial = c.self.inside.initial } in
+    let view : MapState g.row.K.Denot g.row.V.Denot
+    g.row.S.Denot = record { store = c.self.inside.store; mode = c.self.inside.mode; initial = c.self.inside.initial } in
     let hashed = hash g view.store.hasher c.args.key in
-    subst (λ (m : MapState g.row.K.Denot g.row.V.Denot g.row.S.Denot). InsertionDone g.K.PartialEq.eq (hash g) m c.args.replace c.args.key c.args.value c.in-Ok.done.0 c.in-Ok.done.1 (record { store = c.insert_fast.new.store; mode = c.self.inside.mode; initial = c.self.inside.initial })) c.self.view_is
-    (insertion_done g.K.PartialEq.eq g.K.Hash.hash_input g.S.BuildHasher.build_hasher g.S.Hasher.Hasher.write g.S.Hasher.Hasher.finish g.met.K.Eq.laws g.met.K.Hash.respects_eq view c.args.replace c.args.key c.args.value
-    (keys_lawful g.K.PartialEq.eq g.K.Hash.hash_input g.S.BuildHasher.build_hasher g.S.Hasher.Hasher.write g.S.Hasher.Hasher.finish g.met.K.Eq.laws g.met.K.Hash.respects_eq view.store.hasher) c.self.invariant (subst (λ n. n < 2 ^ 64) c.hash-hash.ensures.value c.hash-hash.ensures.fits)
-    c.in-Ok.done.0 c.in-Ok.done.1 c.insert_fast.new.store (started_stands (Insert c.args.replace) hashed view.mode.resize view.initial 0 view.mode.limit c.self.invariant.lawful.core.limit c.self.invariant.lawful.core.chunked c.self.invariant.power)
-    (subst (λ n. IsReplied g.K.PartialEq.eq (hash g) view.store (at_hand (started (Insert c.args.replace) n view.mode.resize view.initial view.mode.limit) c.args.key (Some c.args.value)) c.in-Ok.done.0 c.in-Ok.done.1 c.insert_fast.new.store) c.hash-hash.ensures.value
-    (subst (λ limit. IsReplied g.K.PartialEq.eq (hash g) view.store (at_hand (started (Insert c.args.replace) c.hash-hash.result view.mode.resize view.initial limit) c.args.key (Some c.args.value)) c.in-Ok.done.0 c.in-Ok.done.1 c.insert_fast.new.store) (free g c) (c.in-Ok.ensures.ok view.mode.resize view.initial))))
+    subst (λ (m : MapState g.row.K.Denot g.row.V.Denot g.row.S.Denot).
+    InsertionDone g.K.PartialEq.eq (hash g) m c.args.replace c.args.key c.args.value c.in-Ok.done.0 c.in-Ok.done.1
+    (record { store = c.insert_fast.new.store; mode = c.self.inside.mode; initial = c.self.inside.initial })) c.self.view_is
+    (insertion_done g.K.PartialEq.eq g.K.Hash.hash_input g.S.BuildHasher.build_hasher g.S.Hasher.Hasher.write g.S.Hasher.Hasher.finish g.met.K.Eq.laws
+    g.met.K.Hash.respects_eq view c.args.replace c.args.key c.args.value
+    (keys_lawful g.K.PartialEq.eq g.K.Hash.hash_input g.S.BuildHasher.build_hasher g.S.Hasher.Hasher.write g.S.Hasher.Hasher.finish g.met.K.Eq.laws
+    g.met.K.Hash.respects_eq view.store.hasher) c.self.invariant (subst (λ n. n < 2 ^ 64) c.hash-hash.ensures.value c.hash-hash.ensures.fits)
+    c.in-Ok.done.0 c.in-Ok.done.1 c.insert_fast.new.store
+    (started_stands (Insert c.args.replace) hashed view.mode.resize view.initial 0 view.mode.limit c.self.invariant.lawful.core.limit
+    c.self.invariant.lawful.core.chunked c.self.invariant.power)
+    (subst (λ n. IsReplied g.K.PartialEq.eq (hash g) view.store
+    (at_hand (started (Insert c.args.replace) n view.mode.resize view.initial view.mode.limit) c.args.key (Some c.args.value)) c.in-Ok.done.0
+    c.in-Ok.done.1 c.insert_fast.new.store) c.hash-hash.ensures.value
+    (subst (λ limit. IsReplied g.K.PartialEq.eq (hash g) view.store
+    (at_hand (started (Insert c.args.replace) c.hash-hash.result view.mode.resize view.initial limit) c.args.key (Some c.args.value)) c.in-Ok.done.0
+    c.in-Ok.done.1 c.insert_fast.new.store) (free g c) (c.in-Ok.ensures.ok view.mode.resize view.initial))))
 
 pub invariant_of-self : goal.invariant_of-self
 invariant_of-self g c = (done g (goal.at.invariant_of-self g c).In-Ok).orderly
@@ -70,7 +83,8 @@ insert_slow-requires g c = λ mode initial limit. ([], refl)
 
 -- What was given back is what was handed in, with where the search has led, and the store is as it was.
 abbrev IsGivenBack : (g : Over) → In-Err g → (g.row.K.Denot × g.row.V.Denot × State) → Type 0
-IsGivenBack g c back = (back.0 ≡ c.args.key) × (back.1 ≡ c.args.value) × (c.insert_fast.new.store ≡ c.self.inside.store) × IsLedTo (g.K.PartialEq.eq c.args.key) c.self.inside.store c.hash-hash.result c.args.replace back.2
+IsGivenBack g c back = (back.0 ≡ c.args.key) × (back.1 ≡ c.args.value) × (c.insert_fast.new.store ≡ c.self.inside.store)
+    × IsLedTo (g.K.PartialEq.eq c.args.key) c.self.inside.store c.hash-hash.result c.args.replace back.2
 
 given_back : (g : Over) (c : In-Err g) → IsGivenBack g c (c.in-Err.key, c.in-Err.value, c.in-Err.state)
 given_back g c =

@@ -18,11 +18,14 @@ returns-clause-count g c =
 pub returns-clause-apart : goal.returns-clause-apart
 returns-clause-apart g c =
     subst (λ (s : MapState g.row.K.Denot g.row.V.Denot g.row.S.Denot). AreApart g.K.PartialEq.eq (λ p. p.key) (content g.K.PartialEq.eq s.store)) c.self.view_is
-    (lawful_apart g.K.PartialEq.eq g.K.Hash.hash_input g.S.BuildHasher.build_hasher g.S.Hasher.Hasher.write g.S.Hasher.Hasher.finish g.met.K.Eq.laws g.met.K.Hash.respects_eq (core_of (record { store = c.self.inside.store; mode = c.self.inside.mode; initial = c.self.inside.initial })) c.self.invariant.lawful)
+    (lawful_apart g.K.PartialEq.eq g.K.Hash.hash_input g.S.BuildHasher.build_hasher g.S.Hasher.Hasher.write g.S.Hasher.Hasher.finish g.met.K.Eq.laws
+    g.met.K.Hash.respects_eq (core_of (record { store = c.self.inside.store; mode = c.self.inside.mode; initial = c.self.inside.initial }))
+    c.self.invariant.lawful)
 
 pub returns-clause-limit : goal.returns-clause-limit
 returns-clause-limit g c =
     subst (λ (s : MapState g.row.K.Denot g.row.V.Denot g.row.S.Denot). (n : ℕ) → s.mode.limit ≡ Some n → length s.store.pairs ≤ n) c.self.view_is (λ n is.
     let each = c.self.invariant.numbered n is in
-    let most = made_most g.K.PartialEq.eq (hash_of g.K.Hash.hash_input g.S.BuildHasher.build_hasher g.S.Hasher.Hasher.write g.S.Hasher.Hasher.finish c.self.inside.store.hasher) [] c.self.inside.mode c.self.inside.store c.self.invariant.lawful n is in
+    let most = made_most g.K.PartialEq.eq (hash_of g.K.Hash.hash_input g.S.BuildHasher.build_hasher g.S.Hasher.Hasher.write g.S.Hasher.Hasher.finish
+    c.self.inside.store.hasher) [] c.self.inside.mode c.self.inside.store c.self.invariant.lawful n is in
     omega (arith, each, most))

@@ -40,77 +40,116 @@ module _ (g : Over) where
   query_hash = hash_of g.Q.Hash.hash_input g.S.BuildHasher.build_hasher g.S.Hasher.Hasher.write g.S.Hasher.Hasher.finish
 
   -- the map is in order
-  in_order : (c : After-hash-hash g) → IsLawfulMap g.K.PartialEq.eq (key_hash c.args.self.now.store.hasher) c.args.self.now.store c.args.self.now.mode c.args.self.now.initial
+  in_order : (c : After-hash-hash g) → IsLawfulMap g.K.PartialEq.eq (key_hash c.args.self.now.store.hasher) c.args.self.now.store c.args.self.now.mode
+      c.args.self.now.initial
   in_order c = subst (λ (s : Map). IsLawfulMap g.K.PartialEq.eq (key_hash s.store.hasher) s.store s.mode s.initial) c.self.view_is c.self.invariant
 
   keys : (c : After-hash-hash g) → IsLawfulKeys g.K.PartialEq.eq (key_hash c.args.self.now.store.hasher)
-  keys c = keys_lawful g.K.PartialEq.eq g.K.Hash.hash_input g.S.BuildHasher.build_hasher g.S.Hasher.Hasher.write g.S.Hasher.Hasher.finish g.met.K.Eq.laws g.met.K.Hash.respects_eq c.args.self.now.store.hasher
+  keys c = keys_lawful g.K.PartialEq.eq g.K.Hash.hash_input g.S.BuildHasher.build_hasher g.S.Hasher.Hasher.write g.S.Hasher.Hasher.finish
+      g.met.K.Eq.laws g.met.K.Hash.respects_eq c.args.self.now.store.hasher
 
   -- in a map that is in order, the machine of the lookup came here
   abbrev Orderly : Map → Type 0
   Orderly s = IsLawfulMap g.K.PartialEq.eq (key_hash s.store.hasher) s.store s.mode s.initial
 
   same_keys : (s : Map) → IsLawfulKeys g.K.PartialEq.eq (key_hash s.store.hasher)
-  same_keys s = keys_lawful g.K.PartialEq.eq g.K.Hash.hash_input g.S.BuildHasher.build_hasher g.S.Hasher.Hasher.write g.S.Hasher.Hasher.finish g.met.K.Eq.laws g.met.K.Hash.respects_eq s.store.hasher
+  same_keys s = keys_lawful g.K.PartialEq.eq g.K.Hash.hash_input g.S.BuildHasher.build_hasher g.S.Hasher.Hasher.write g.S.Hasher.Hasher.finish
+      g.met.K.Eq.laws g.met.K.Hash.respects_eq s.store.hasher
 
   module _ (s : Map) (key : g.row.Q.Denot) (h : ℕ) where
     abbrev Comes : State → Type 0
-    Comes stage = IsLookUp (g.Q.Equivalent.matches key) s.store (started Get h s.mode.resize s.initial s.mode.limit) (record (started Get h s.mode.resize s.initial s.mode.limit) { state = stage })
+    Comes stage = IsLookUp (g.Q.Equivalent.matches key) s.store (started Get h s.mode.resize s.initial s.mode.limit)
+        (record (started Get h s.mode.resize s.initial s.mode.limit) { state = stage })
 
     abbrev left : State → ℕ
     left stage = lookup_left (length s.store.words.tables) (record (started Get h s.mode.resize s.initial s.mode.limit) { state = stage })
 
     -- what the machine replied is what was found
-    found_so : Orderly s → h ≡ query_hash s.store.hasher key → h < 2 ^ 64 → (reply : Reply) (answer : Option ℕ) → answer ≡ found_number reply → Comes (Ended reply)
-        → (found : _) × LooksUp g.K.PartialEq.eq (g.Q.Equivalent.matches key) s.store (started Get (query_hash s.store.hasher key) s.mode.resize s.initial s.mode.limit) found × (answer ≡ option_map (λ p. p.number) found)
+    found_so : Orderly s → h ≡ query_hash s.store.hasher key → h < 2 ^ 64 → (reply : Reply) (answer : Option ℕ) → answer ≡ found_number reply
+        → Comes (Ended reply)
+        → (found : _) × LooksUp g.K.PartialEq.eq (g.Q.Equivalent.matches key) s.store
+        (started Get (query_hash s.store.hasher key) s.mode.resize s.initial s.mode.limit) found × (answer ≡ option_map (λ p. p.number) found)
     found_so orderly hash_is fits reply answer is came =
-        let found = look_up_finds g.K.PartialEq.eq g.K.Hash.hash_input g.S.BuildHasher.build_hasher g.S.Hasher.Hasher.write g.S.Hasher.Hasher.finish g.met.K.Eq.laws g.met.K.Hash.respects_eq
-        s orderly.lawful orderly.power (g.Q.Equivalent.matches key) h (g.met.Q.Equivalent.matches_equal_keys key) (λ k e. hash_is ∙ ap (λ i. g.S.Hasher.Hasher.finish (fold g.S.Hasher.Hasher.write (g.S.BuildHasher.build_hasher s.store.hasher) i)) (g.met.Q.Equivalent.hashes_as_key key k e)) fits
-        (record (started Get h s.mode.resize s.initial s.mode.limit) { state = Ended reply }) came reply refl in
-        (found.0, subst (λ n. LooksUp g.K.PartialEq.eq (g.Q.Equivalent.matches key) s.store (started Get n s.mode.resize s.initial s.mode.limit) found.0) hash_is found.1, is ∙ sym (ap found_number found.2) ∙ number_found found.0)
+        let found = look_up_finds g.K.PartialEq.eq g.K.Hash.hash_input g.S.BuildHasher.build_hasher g.S.Hasher.Hasher.write g.S.Hasher.Hasher.finish
+        g.met.K.Eq.laws g.met.K.Hash.respects_eq
+        s orderly.lawful orderly.power (g.Q.Equivalent.matches key) h (g.met.Q.Equivalent.matches_equal_keys key)
+        (λ k e. hash_is ∙ ap (λ i. g.S.Hasher.Hasher.finish (fold g.S.Hasher.Hasher.write (g.S.BuildHasher.build_hasher s.store.hasher) i))
+        (g.met.Q.Equivalent.hashes_as_key key k e)) fits
+        (record (started Get h s.mode.resize s.initial s.mode.limit) { state = Ended reply }) came reply refl in (
+          found.0,
+          subst (λ n. LooksUp g.K.PartialEq.eq (g.Q.Equivalent.matches key) s.store (started Get n s.mode.resize s.initial s.mode.limit)
+              found.0) hash_is found.1,
+          is ∙ sym (ap found_number found.2) ∙ number_found found.0,
+        )
 
   -- the hash that was made
   hash_made : (c : After-hash-hash g) → c.hash-hash.result ≡ query_hash c.args.self.now.store.hasher c.args.key.now
   hash_made c = c.hash-hash.ensures.value ∙ ap (λ (y : Map). query_hash y.store.hasher c.args.key.now) c.self.view_is
 
   -- a table was searched
-  led : (c : After-search g) → Orderly c.args.self.now → Comes c.args.self.now c.args.key.now c.hash-hash.result (goes (started Get c.hash-hash.result c.args.self.now.mode.resize c.args.self.now.initial c.args.self.now.mode.limit) (seen_by c.search.result))
-      × (left c.args.self.now c.args.key.now c.hash-hash.result (goes (started Get c.hash-hash.result c.args.self.now.mode.resize c.args.self.now.initial c.args.self.now.mode.limit) (seen_by c.search.result)) < left c.args.self.now c.args.key.now c.hash-hash.result (numbered c.loop-len.table))
+  led : (c : After-search g) → Orderly c.args.self.now
+      → Comes c.args.self.now c.args.key.now c.hash-hash.result
+      (goes (started Get c.hash-hash.result c.args.self.now.mode.resize c.args.self.now.initial c.args.self.now.mode.limit) (seen_by c.search.result))
+      × (left c.args.self.now c.args.key.now c.hash-hash.result
+      (goes (started Get c.hash-hash.result c.args.self.now.mode.resize c.args.self.now.initial c.args.self.now.mode.limit)
+      (seen_by c.search.result)) < left c.args.self.now c.args.key.now c.hash-hash.result (numbered c.loop-len.table))
   led c orderly =
       let s = c.args.self.now in
-      searched g.K.PartialEq.eq (key_hash s.store.hasher) s.mode s.store orderly.lawful (same_keys s) (g.Q.Equivalent.matches c.args.key.now) c.hash-hash.result s.initial c.loop-len.table c.in-Size.len c.in-Size.limit
-      (ap (λ (y : Map). size_of (table_of y.store.words.tables c.loop-len.table)) (sym c.self.view_is) ∙ sym c.size_of.ensures ∙ c.in-Size.is) c.loop-len.invariant c.first-first.result c.first-first.ensures.value c.search.result
-      (subst (λ (y : Map). IsTurn (g.Q.Equivalent.matches c.args.key.now) y.store c.hash-hash.result c.first-first.result c.search.result) c.self.view_is c.search.ensures.turn)
+      searched g.K.PartialEq.eq (key_hash s.store.hasher) s.mode s.store orderly.lawful (same_keys s) (g.Q.Equivalent.matches c.args.key.now)
+      c.hash-hash.result s.initial c.loop-len.table c.in-Size.len c.in-Size.limit
+      (ap (λ (y : Map). size_of (table_of y.store.words.tables c.loop-len.table)) (sym c.self.view_is) ∙ sym c.size_of.ensures ∙ c.in-Size.is)
+      c.loop-len.invariant c.first-first.result c.first-first.ensures.value c.search.result
+      (subst (λ (y : Map). IsTurn (g.Q.Equivalent.matches c.args.key.now) y.store c.hash-hash.result c.first-first.result c.search.result)
+      c.self.view_is c.search.ensures.turn)
 
 pub loop-len-init : goal.loop-len-init
 loop-len-init g c =
     let s = c.args.self.now in
-    subst (λ n. Comes g s c.args.key.now c.hash-hash.result (numbered n)) (sym (c.word-table.ensures ∙ ap (λ (y : Map g). word_at y.store.words Root) c.self.view_is))
-    (root_loaded g.K.PartialEq.eq (key_hash g s.store.hasher) s.mode s.store (in_order g (goal.at.loop-len-init g c).After-hash-hash).lawful (same_keys g s) (g.Q.Equivalent.matches c.args.key.now) c.hash-hash.result s.initial)
+    subst (λ n. Comes g s c.args.key.now c.hash-hash.result (numbered n))
+    (sym (c.word-table.ensures ∙ ap (λ (y : Map g). word_at y.store.words Root) c.self.view_is))
+    (root_loaded g.K.PartialEq.eq (key_hash g s.store.hasher) s.mode s.store (in_order g (goal.at.loop-len-init g c).After-hash-hash).lawful
+    (same_keys g s) (g.Q.Equivalent.matches c.args.key.now) c.hash-hash.result s.initial)
 
 pub returns-in-Here : goal.returns-in-Here
 returns-in-Here g c =
     let h = (goal.at.returns-in-Here g c).After-hash-hash in
     let came = (led g (goal.at.returns-in-Here g c).After-search (in_order g h)).0 in
-    found_so g c.args.self.now c.args.key.now c.hash-hash.result (in_order g h) (hash_made g h) c.hash-hash.ensures.fits (Found (number_of c.in-Here.word)) (Some c.pair.result) (ap Some c.pair.ensures)
-    (subst (λ (t : Turn). Comes g c.args.self.now c.args.key.now c.hash-hash.result (goes (started Get c.hash-hash.result c.args.self.now.mode.resize c.args.self.now.initial c.args.self.now.mode.limit) (seen_by t))) c.in-Here.is came)
+    found_so g c.args.self.now c.args.key.now c.hash-hash.result (in_order g h) (hash_made g h) c.hash-hash.ensures.fits
+    (Found (number_of c.in-Here.word)) (Some c.pair.result) (ap Some c.pair.ensures)
+    (subst (λ (t : Turn). Comes g c.args.self.now c.args.key.now c.hash-hash.result
+    (goes (started Get c.hash-hash.result c.args.self.now.mode.resize c.args.self.now.initial c.args.self.now.mode.limit) (seen_by t))) c.in-Here.is came)
 
 -- past a table
-passed : (g : Over) (c : In-Over g) → Orderly g c.args.self.now → Comes g c.args.self.now c.args.key.now c.hash-hash.result (passes Get c.args.self.now.mode.resize None c.in-Over.passed) × (left g c.args.self.now c.args.key.now c.hash-hash.result (passes Get c.args.self.now.mode.resize None c.in-Over.passed) < left g c.args.self.now c.args.key.now c.hash-hash.result (numbered c.loop-len.table))
+passed : (g : Over) (c : In-Over g) → Orderly g c.args.self.now
+    → Comes g c.args.self.now c.args.key.now c.hash-hash.result (passes Get c.args.self.now.mode.resize None c.in-Over.passed)
+    × (left g c.args.self.now c.args.key.now c.hash-hash.result (passes Get c.args.self.now.mode.resize None c.in-Over.passed) < left g
+    c.args.self.now c.args.key.now c.hash-hash.result (numbered c.loop-len.table))
 passed g c orderly =
     let s = c.args.self.now in
-    subst (λ (t : Turn). Comes g s c.args.key.now c.hash-hash.result (goes (started Get c.hash-hash.result s.mode.resize s.initial s.mode.limit) (seen_by t)) × (left g s c.args.key.now c.hash-hash.result (goes (started Get c.hash-hash.result s.mode.resize s.initial s.mode.limit) (seen_by t)) < left g s c.args.key.now c.hash-hash.result (numbered c.loop-len.table))) c.in-Over.is
+    subst (λ (t : Turn). Comes g s c.args.key.now c.hash-hash.result
+    (goes (started Get c.hash-hash.result s.mode.resize s.initial s.mode.limit) (seen_by t))
+    × (left g s c.args.key.now c.hash-hash.result (goes (started Get c.hash-hash.result s.mode.resize s.initial s.mode.limit) (seen_by t)) < left g
+    s c.args.key.now c.hash-hash.result (numbered c.loop-len.table))) c.in-Over.is
     (led g (goal.at.In-Over g c).After-search orderly)
 
 -- the number of the next one was loaded
-next : (g : Over) (c : After-word-table-in-Incremental g) → Orderly g c.args.self.now → Comes g c.args.self.now c.args.key.now c.hash-hash.result (numbered c.word-table-in-Incremental.result) × (left g c.args.self.now c.args.key.now c.hash-hash.result (numbered c.word-table-in-Incremental.result) < left g c.args.self.now c.args.key.now c.hash-hash.result (numbered c.loop-len.table))
+next : (g : Over) (c : After-word-table-in-Incremental g) → Orderly g c.args.self.now
+    → Comes g c.args.self.now c.args.key.now c.hash-hash.result (numbered c.word-table-in-Incremental.result)
+    × (left g c.args.self.now c.args.key.now c.hash-hash.result (numbered c.word-table-in-Incremental.result) < left g c.args.self.now c.args.key.now
+    c.hash-hash.result (numbered c.loop-len.table))
 next g c orderly =
     let s = c.args.self.now in
     let before = passed g (goal.at.After-word-table-in-Incremental g c).In-Over orderly in
-    let all = next_loaded g.K.PartialEq.eq (key_hash g s.store.hasher) s.mode s.store orderly.lawful (same_keys g s) (g.Q.Equivalent.matches c.args.key.now) c.hash-hash.result s.initial c.in-Over.passed c.in-Incremental.field-0 (ap (λ (y : Map g). y.mode.resize) (sym c.self.view_is) ∙ c.in-Incremental.is) before.0 in
-    let less : left g s c.args.key.now c.hash-hash.result (passes Get s.mode.resize None c.in-Over.passed) < left g s c.args.key.now c.hash-hash.result (numbered c.loop-len.table) = before.1 in
-    let fewer : left g s c.args.key.now c.hash-hash.result (numbered (word_at s.store.words (Next c.in-Over.passed))) < left g s c.args.key.now c.hash-hash.result (passes Get s.mode.resize None c.in-Over.passed) = all.1 in
-    subst (λ n. Comes g s c.args.key.now c.hash-hash.result (numbered n) × (left g s c.args.key.now c.hash-hash.result (numbered n) < left g s c.args.key.now c.hash-hash.result (numbered c.loop-len.table))) (sym (c.word-table-in-Incremental.ensures ∙ ap (λ (y : Map g). word_at y.store.words (Next c.in-Over.passed)) c.self.view_is))
+    let all = next_loaded g.K.PartialEq.eq (key_hash g s.store.hasher) s.mode s.store orderly.lawful (same_keys g s)
+    (g.Q.Equivalent.matches c.args.key.now) c.hash-hash.result s.initial c.in-Over.passed c.in-Incremental.field-0
+    (ap (λ (y : Map g). y.mode.resize) (sym c.self.view_is) ∙ c.in-Incremental.is) before.0 in
+    let less : left g s c.args.key.now c.hash-hash.result (passes Get s.mode.resize None c.in-Over.passed) < left g s c.args.key.now
+    c.hash-hash.result (numbered c.loop-len.table) = before.1 in
+    let fewer : left g s c.args.key.now c.hash-hash.result (numbered (word_at s.store.words (Next c.in-Over.passed))) < left g s c.args.key.now
+    c.hash-hash.result (passes Get s.mode.resize None c.in-Over.passed) = all.1 in
+    subst (λ n. Comes g s c.args.key.now c.hash-hash.result (numbered n)
+    × (left g s c.args.key.now c.hash-hash.result (numbered n) < left g s c.args.key.now c.hash-hash.result (numbered c.loop-len.table)))
+    (sym (c.word-table-in-Incremental.ensures ∙ ap (λ (y : Map g). word_at y.store.words (Next c.in-Over.passed)) c.self.view_is))
     (all.0, omega (arith, less, fewer))
 
 pub loop-len-smaller : goal.loop-len-smaller
@@ -125,7 +164,8 @@ returns-in-Blocking g c =
     let s = c.args.self.now in
     let orderly = in_order g at.After-hash-hash in
     found_so g s c.args.key.now c.hash-hash.result orderly (hash_made g at.After-hash-hash) c.hash-hash.ensures.fits Absent None refl
-    (passed_last g.K.PartialEq.eq (key_hash g s.store.hasher) s.mode s.store orderly.lawful (same_keys g s) (g.Q.Equivalent.matches c.args.key.now) c.hash-hash.result s.initial c.in-Over.passed (ap (λ (y : Map g). y.mode.resize) (sym c.self.view_is) ∙ c.in-Blocking.is) (passed g at.In-Over orderly).0)
+    (passed_last g.K.PartialEq.eq (key_hash g s.store.hasher) s.mode s.store orderly.lawful (same_keys g s) (g.Q.Equivalent.matches c.args.key.now)
+    c.hash-hash.result s.initial c.in-Over.passed (ap (λ (y : Map g). y.mode.resize) (sym c.self.view_is) ∙ c.in-Blocking.is) (passed g at.In-Over orderly).0)
 
 pub returns-in_default-search : goal.returns-in_default-search
 returns-in_default-search g c =
@@ -134,14 +174,17 @@ returns-in_default-search g c =
     let orderly = in_order g at.After-hash-hash in
     let (place, empty) = empty_else c.search.result c.search.ensures.over (λ place word e. search rules) (λ t e. search rules) in
     found_so g s c.args.key.now c.hash-hash.result orderly (hash_made g at.After-hash-hash) c.hash-hash.ensures.fits Absent None refl
-    (subst (λ (t : Turn). Comes g s c.args.key.now c.hash-hash.result (goes (started Get c.hash-hash.result s.mode.resize s.initial s.mode.limit) (seen_by t))) empty (led g at.After-search orderly).0)
+    (subst (λ (t : Turn). Comes g s c.args.key.now c.hash-hash.result
+    (goes (started Get c.hash-hash.result s.mode.resize s.initial s.mode.limit) (seen_by t))) empty (led g at.After-search orderly).0)
 
 pub returns : goal.returns
 returns g c =
     let at = goal.at.returns g c in
     let s = c.args.self.now in
     let orderly = in_order g at.After-hash-hash in
-    let size : c.size_of.result ≡ size_of (table_of s.store.words.tables c.loop-len.table) = c.size_of.ensures ∙ ap (λ (y : Map g). size_of (table_of y.store.words.tables c.loop-len.table)) c.self.view_is in
+    let size : c.size_of.result ≡ size_of (table_of s.store.words.tables c.loop-len.table) = c.size_of.ensures
+    ∙ ap (λ (y : Map g). size_of (table_of y.store.words.tables c.loop-len.table)) c.self.view_is in
     let unsized : (slots limit : ℕ) → c.size_of.result ≡ Size slots limit → ⊥ = λ slots limit e. search rules in
     found_so g s c.args.key.now c.hash-hash.result orderly (hash_made g at.After-hash-hash) c.hash-hash.ensures.fits Absent None refl
-    (none_sized g.K.PartialEq.eq (key_hash g s.store.hasher) s.mode s.store orderly.lawful (same_keys g s) (g.Q.Equivalent.matches c.args.key.now) c.hash-hash.result s.initial c.loop-len.table (λ slots limit e. unsized slots limit (size ∙ e)) c.loop-len.invariant)
+    (none_sized g.K.PartialEq.eq (key_hash g s.store.hasher) s.mode s.store orderly.lawful (same_keys g s) (g.Q.Equivalent.matches c.args.key.now)
+    c.hash-hash.result s.initial c.loop-len.table (λ slots limit e. unsized slots limit (size ∙ e)) c.loop-len.invariant)

@@ -13,4 +13,5 @@ invariant-loop-len g l =
 
 -- the steps that are left to it
 abbrev pub decreases-loop-len : goal.decreases-loop-len
-decreases-loop-len g l = lookup_left (length l.self.store.words.tables) (record (started Get l.hash l.self.mode.resize l.self.initial l.self.mode.limit) { state = numbered l.table })
+decreases-loop-len g l = lookup_left (length l.self.store.words.tables)
+    (record (started Get l.hash l.self.mode.resize l.self.initial l.self.mode.limit) { state = numbered l.table })

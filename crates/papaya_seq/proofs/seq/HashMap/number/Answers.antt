@@ -18,7 +18,11 @@ written g c = (exchange_done _ _ (word_at c.self.inside.store.words Made) c.word
 pub invariant_of-self : goal.invariant_of-self
 invariant_of-self g c =
     let fits : IsLimit c.args.limit = search rules in
-    let each : length c.self.inside.store.pairs ≤ c.args.made = subst (λ (s : MapState _ _ _). length s.store.pairs ≤ c.args.made) (sym c.self.view_is) c.requires.each in
-    subst (λ (y : StoreState _ _ _). IsLawfulMap g.K.PartialEq.eq (hash_of g.K.Hash.hash_input g.S.BuildHasher.build_hasher g.S.Hasher.Hasher.write g.S.Hasher.Hasher.finish y.hasher) y (record c.self.inside.mode { limit = c.args.limit }) c.self.inside.initial)
+    let each : length c.self.inside.store.pairs ≤ c.args.made = subst (λ (s : MapState _ _ _). length s.store.pairs ≤ c.args.made)
+    (sym c.self.view_is) c.requires.each in
+    subst (λ (y : StoreState _ _ _). IsLawfulMap g.K.PartialEq.eq
+    (hash_of g.K.Hash.hash_input g.S.BuildHasher.build_hasher g.S.Hasher.Hasher.write g.S.Hasher.Hasher.finish y.hasher) y
+    (record c.self.inside.mode { limit = c.args.limit }) c.self.inside.initial)
     (sym (written g (goal.at.invariant_of-self g c).After-exchange))
-    (numbered_lawful g.K.PartialEq.eq (hash_of g.K.Hash.hash_input g.S.BuildHasher.build_hasher g.S.Hasher.Hasher.write g.S.Hasher.Hasher.finish c.self.inside.store.hasher) c.self.inside.store c.self.inside.mode c.self.invariant c.args.limit c.args.made fits c.requires.most each)
+    (numbered_lawful g.K.PartialEq.eq (hash_of g.K.Hash.hash_input g.S.BuildHasher.build_hasher g.S.Hasher.Hasher.write g.S.Hasher.Hasher.finish
+    c.self.inside.store.hasher) c.self.inside.store c.self.inside.mode c.self.invariant c.args.limit c.args.made fits c.requires.most each)

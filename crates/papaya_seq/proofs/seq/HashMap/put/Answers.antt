@@ -9,17 +9,20 @@ use Rattle.papaya_seq.proofs.seq.HashMap.put.Goals as goal
 pub returns-in-Replaced-clause-puts : goal.returns-in-Replaced-clause-puts
 returns-in-Replaced-clause-puts g c =
     let e = c.insert_by-reply.ensures in
-    let r = replaced_by g.K.PartialEq.eq g.met.K.Eq.laws c.args.key c.args.value c.args.self.now.store c.insert_by-reply.new.self.store c.insert_by-reply.result.0 c.in-Replaced.old c.in-Replaced.new c.in-Replaced.is e.answers e.fresh in
+    let r = replaced_by g.K.PartialEq.eq g.met.K.Eq.laws c.args.key c.args.value c.args.self.now.store c.insert_by-reply.new.self.store
+    c.insert_by-reply.result.0 c.in-Replaced.old c.in-Replaced.new c.in-Replaced.is e.answers e.fresh in
     (_, refl, r.made.inserts, e.keeps)
 
 pub returns-in-Refused-clause-puts : goal.returns-in-Refused-clause-puts
 returns-in-Refused-clause-puts g c =
     let e = c.insert_by-reply.ensures in
-    let a = subst (λ reply. IsAnswered g.K.PartialEq.eq (insertion true c.args.key c.args.value) (map_in g.K.PartialEq.eq c.args.self.now.store) reply (map_in g.K.PartialEq.eq c.insert_by-reply.new.self.store)) c.in-Refused.is e.answers in
+    let a = subst (λ reply. IsAnswered g.K.PartialEq.eq (insertion true c.args.key c.args.value) (map_in g.K.PartialEq.eq c.args.self.now.store) reply
+    (map_in g.K.PartialEq.eq c.insert_by-reply.new.self.store)) c.in-Refused.is e.answers in
     (e.cause c.in-Refused.refused c.in-Refused.is, a.0, e.keeps)
 
 pub returns-in_default-clause-puts : goal.returns-in_default-clause-puts
 returns-in_default-clause-puts g c =
     let e = c.insert_by-reply.ensures in
-    let m = neither_made g.K.PartialEq.eq g.met.K.Eq.laws c.args.key c.args.value c.args.self.now.store c.insert_by-reply.new.self.store c.insert_by-reply.result.0 e.answers e.fresh c.in_default.not-Replaced c.in_default.not-Refused in
+    let m = neither_made g.K.PartialEq.eq g.met.K.Eq.laws c.args.key c.args.value c.args.self.now.store c.insert_by-reply.new.self.store
+    c.insert_by-reply.result.0 e.answers e.fresh c.in_default.not-Replaced c.in_default.not-Refused in
     (None, refl, m.1.inserts, e.keeps)

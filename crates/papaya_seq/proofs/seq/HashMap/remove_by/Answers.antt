@@ -17,21 +17,32 @@ abbrev hashes : (g : Over) → g.row.S.Denot → g.row.K.Denot → ℕ
 hashes g = hash_of g.K.Hash.hash_input g.S.BuildHasher.build_hasher g.S.Hasher.Hasher.write g.S.Hasher.Hasher.finish
 
 -- it was done at once
-done : (g : Over) (c : In-Some g) → RemovalDone g.F.FnMut g.K.PartialEq.eq (hashes g) (g.Q.Equivalent.matches c.args.key.now) c.args.self.now c.args.agrees c.in-Some.reply (record { store = c.remove_fast.new.store; mode = c.self.inside.mode; initial = c.self.inside.initial })
+done : (g : Over) (c : In-Some g) → RemovalDone g.F.FnMut g.K.PartialEq.eq (hashes g) (g.Q.Equivalent.matches c.args.key.now) c.args.self.now
+    c.args.agrees c.in-Some.reply (record { store = c.remove_fast.new.store; mode = c.self.inside.mode; initial = c.self.inside.initial })
 done g c =
     let matches = g.Q.Equivalent.matches c.args.key.now in
-    let view : MapState g.row.K.Denot g.row.V.Denot g.row.S.Denot = record { store = c.self.inside.store; mode = c.self.inside.mode; initial = c.self.inside.initial } in
+    let view : MapState g.row.K.Denot g.row.V.Denot
+    g.row.S.Denot = record { store = c.self.inside.store; mode = c.self.inside.mode; initial = c.self.inside.initial } in
     let query : IsQuery g.F.FnMut g.K.PartialEq.eq (hashes g) matches c.hash-hash.result view c.args.agrees = record {
-      keys = keys_lawful g.K.PartialEq.eq g.K.Hash.hash_input g.S.BuildHasher.build_hasher g.S.Hasher.Hasher.write g.S.Hasher.Hasher.finish g.met.K.Eq.laws g.met.K.Hash.respects_eq view.store.hasher;
+      keys = keys_lawful g.K.PartialEq.eq g.K.Hash.hash_input g.S.BuildHasher.build_hasher g.S.Hasher.Hasher.write g.S.Hasher.Hasher.finish
+          g.met.K.Eq.laws g.met.K.Hash.respects_eq view.store.hasher;
       lawful = c.self.invariant;
       alike = λ k matched l. g.met.Q.Equivalent.matches_equal_keys c.args.key.now k l matched;
-      hashes = λ k matched. ap (λ input. g.S.Hasher.Hasher.finish (fold g.S.Hasher.Hasher.write (g.S.BuildHasher.build_hasher view.store.hasher) input)) (sym (g.met.Q.Equivalent.hashes_as_key c.args.key.now k matched)) ∙ sym c.hash-hash.ensures.value;
+      hashes = λ k matched. ap (λ input. g.S.Hasher.Hasher.finish
+          (fold g.S.Hasher.Hasher.write (g.S.BuildHasher.build_hasher view.store.hasher) input))
+          (sym (g.met.Q.Equivalent.hashes_as_key c.args.key.now k matched)) ∙ sym c.hash-hash.ensures.value;
       fits = c.hash-hash.ensures.fits;
     } in
     let removed = c.in-Some.ensures.removed view.mode.resize view.initial view.mode.limit in
-    let now = leads_under_way g.F.FnMut g.K.PartialEq.eq (hashes g) matches c.hash-hash.result view c.args.agrees removed.answers view.store c.args.agrees (itself (started RemoveIf c.hash-hash.result view.mode.resize view.initial view.mode.limit)) c.remove_fast.new.store c.remove_fast.new.agrees removed.end removed.leads (under_way g.F.FnMut g.K.PartialEq.eq (hashes g) matches c.hash-hash.result view c.args.agrees 0) in
-    subst (λ (m : MapState g.row.K.Denot g.row.V.Denot g.row.S.Denot). RemovalDone g.F.FnMut g.K.PartialEq.eq (hashes g) matches m c.args.agrees c.in-Some.reply (record { store = c.remove_fast.new.store; mode = c.self.inside.mode; initial = c.self.inside.initial })) c.self.view_is
-    (removal_finished g.F.FnMut g.K.PartialEq.eq g.K.Hash.hash_input g.S.BuildHasher.build_hasher g.S.Hasher.Hasher.write g.S.Hasher.Hasher.finish g.met.K.Eq.laws g.met.K.Hash.respects_eq matches c.hash-hash.result view c.args.agrees query c.remove_fast.new.store c.remove_fast.new.agrees removed.end now c.in-Some.reply removed.replied)
+    let now = leads_under_way g.F.FnMut g.K.PartialEq.eq (hashes g) matches c.hash-hash.result view c.args.agrees removed.answers view.store
+    c.args.agrees (itself (started RemoveIf c.hash-hash.result view.mode.resize view.initial view.mode.limit)) c.remove_fast.new.store
+    c.remove_fast.new.agrees removed.end removed.leads (under_way g.F.FnMut g.K.PartialEq.eq (hashes g) matches c.hash-hash.result view c.args.agrees 0) in
+    subst (λ (m : MapState g.row.K.Denot g.row.V.Denot g.row.S.Denot).
+    RemovalDone g.F.FnMut g.K.PartialEq.eq (hashes g) matches m c.args.agrees c.in-Some.reply
+    (record { store = c.remove_fast.new.store; mode = c.self.inside.mode; initial = c.self.inside.initial })) c.self.view_is
+    (removal_finished g.F.FnMut g.K.PartialEq.eq g.K.Hash.hash_input g.S.BuildHasher.build_hasher g.S.Hasher.Hasher.write g.S.Hasher.Hasher.finish
+    g.met.K.Eq.laws g.met.K.Hash.respects_eq matches c.hash-hash.result view c.args.agrees query c.remove_fast.new.store c.remove_fast.new.agrees
+    removed.end now c.in-Some.reply removed.replied)
 
 pub invariant_of-self : goal.invariant_of-self
 invariant_of-self g c = (done g (goal.at.invariant_of-self g c).In-Some).orderly

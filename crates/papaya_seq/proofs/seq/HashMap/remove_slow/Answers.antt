@@ -13,7 +13,9 @@ use Rattle.papaya_seq.proofs.Removing.{answered_call, answered_copy}
 use Rattle.papaya_seq.proofs.RemovingCopies.{removing_copies, removing_sized}
 use Rattle.papaya_seq.proofs.SeekTurns.{IsAnswered}
 use Rattle.papaya_seq.proofs.seq.HashMap.remove_slow.Goals as goal
-use Rattle.papaya_seq.proofs.seq.HashMap.remove_slow.Goals.{After-answer, After-copy_for_call, After-drop-agrees, After-new-machine, in-Call+in_default, in-Copy}
+use Rattle.papaya_seq.proofs.seq.HashMap.remove_slow.Goals.{After-answer, After-copy_for_call}
+use Rattle.papaya_seq.proofs.seq.HashMap.remove_slow.Goals.{After-drop-agrees, After-new-machine}
+use Rattle.papaya_seq.proofs.seq.HashMap.remove_slow.Goals.{in-Call+in_default, in-Copy}
 use Rattle.papaya_seq.proofs.seq.HashMap.remove_slow.Given as given
 use Rattle.papaya_seq.proofs.seq.HashMap.remove_slow.Given.{Over}
 
@@ -22,27 +24,39 @@ abbrev hashes : (g : Over) → g.row.S.Denot → g.row.K.Denot → ℕ
 hashes g = hash_of g.K.Hash.hash_input g.S.BuildHasher.build_hasher g.S.Hasher.Hasher.write g.S.Hasher.Hasher.finish
 
 -- the map was in order
-lawful : (g : Over) (c : After-new-machine g) → IsLawfulMap g.K.PartialEq.eq (hashes g c.args.self.now.store.hasher) c.args.self.now.store c.args.self.now.mode c.args.self.now.initial
+lawful : (g : Over) (c : After-new-machine g)
+    → IsLawfulMap g.K.PartialEq.eq (hashes g c.args.self.now.store.hasher) c.args.self.now.store c.args.self.now.mode c.args.self.now.initial
 lawful g c = subst (λ s. IsLawfulMap g.K.PartialEq.eq (hashes g s.store.hasher) s.store s.mode s.initial) c.self.view_is c.self.invariant
 
 -- what matches a key matches as the key is equal, and hashes as it does
-query : (g : Over) (c : After-new-machine g) → IsQuery g.F.FnMut g.K.PartialEq.eq (hashes g) (g.Q.Equivalent.matches c.args.key.now) c.hash-hash.result c.args.self.now c.args.agrees
+query : (g : Over) (c : After-new-machine g)
+    → IsQuery g.F.FnMut g.K.PartialEq.eq (hashes g) (g.Q.Equivalent.matches c.args.key.now) c.hash-hash.result c.args.self.now c.args.agrees
 query g c = record {
-  keys = keys_lawful g.K.PartialEq.eq g.K.Hash.hash_input g.S.BuildHasher.build_hasher g.S.Hasher.Hasher.write g.S.Hasher.Hasher.finish g.met.K.Eq.laws g.met.K.Hash.respects_eq c.args.self.now.store.hasher;
+  keys = keys_lawful g.K.PartialEq.eq g.K.Hash.hash_input g.S.BuildHasher.build_hasher g.S.Hasher.Hasher.write g.S.Hasher.Hasher.finish
+      g.met.K.Eq.laws g.met.K.Hash.respects_eq c.args.self.now.store.hasher;
   lawful = lawful g c;
   alike = λ k matched l. g.met.Q.Equivalent.matches_equal_keys c.args.key.now k l matched;
-  hashes = λ k matched. ap (λ input. g.S.Hasher.Hasher.finish (fold g.S.Hasher.Hasher.write (g.S.BuildHasher.build_hasher c.args.self.now.store.hasher) input)) (sym (g.met.Q.Equivalent.hashes_as_key c.args.key.now k matched))
-      ∙ sym (c.hash-hash.ensures.value ∙ ap (λ s. hash_of g.Q.Hash.hash_input g.S.BuildHasher.build_hasher g.S.Hasher.Hasher.write g.S.Hasher.Hasher.finish s.store.hasher c.args.key.now) c.self.view_is);
+  hashes = λ k matched. ap (λ input. g.S.Hasher.Hasher.finish
+      (fold g.S.Hasher.Hasher.write (g.S.BuildHasher.build_hasher c.args.self.now.store.hasher) input))
+      (sym (g.met.Q.Equivalent.hashes_as_key c.args.key.now k matched))
+      ∙ sym (c.hash-hash.ensures.value ∙ ap (λ s.
+      hash_of g.Q.Hash.hash_input g.S.BuildHasher.build_hasher g.S.Hasher.Hasher.write g.S.Hasher.Hasher.finish s.store.hasher c.args.key.now)
+      c.self.view_is);
   fits = c.hash-hash.ensures.fits;
 }
 
 -- the ask was answered by the store, and a showing by the closure
-told : (g : Over) (c : After-answer g) → IsAnswered g.K.PartialEq.eq (hashes g) g.F.FnMut (g.Q.Equivalent.matches c.args.key.now) (ask_of c.loop-ask.machine) c.loop-ask.self-inside.store c.loop-ask.agrees c.match-ask.answer c.match-ask.self-inside.store c.match-ask.agrees
+told : (g : Over) (c : After-answer g) → IsAnswered g.K.PartialEq.eq (hashes g) g.F.FnMut (g.Q.Equivalent.matches c.args.key.now)
+    (ask_of c.loop-ask.machine) c.loop-ask.self-inside.store c.loop-ask.agrees c.match-ask.answer c.match-ask.self-inside.store c.match-ask.agrees
 told g c =
     elim c.match-ask.branch [
-      | in-Call+in_default w ↦ answered_call g.F.FnMut g.K.PartialEq.eq (hashes g) (g.Q.Equivalent.matches c.args.key.now) c.loop-ask.machine w.in-Call.ask w.in-Call.ensures.value c.loop-ask.self-inside.store c.loop-ask.agrees w.answer_removal.result w.answer_removal.new.store w.answer_removal.new.agrees w.answer_removal.ensures.answers
+      | in-Call+in_default w ↦ answered_call g.F.FnMut g.K.PartialEq.eq (hashes g) (g.Q.Equivalent.matches c.args.key.now) c.loop-ask.machine
+          w.in-Call.ask w.in-Call.ensures.value c.loop-ask.self-inside.store c.loop-ask.agrees w.answer_removal.result w.answer_removal.new.store
+          w.answer_removal.new.agrees w.answer_removal.ensures.answers
           c.match-ask.answer c.match-ask.self-inside.store c.match-ask.agrees w.answer-is (ap (λ i. i.store) w.self-inside-is) w.agrees-is
-      | in-Copy w ↦ answered_copy g.F.FnMut g.K.PartialEq.eq (hashes g) (g.Q.Equivalent.matches c.args.key.now) c.loop-ask.machine w.in-Copy.ask w.in-Copy.ensures.value c.loop-ask.self-inside.store c.loop-ask.agrees w.perform_copy-answer.result w.perform_copy-answer.new.self w.perform_copy-answer.ensures
+      | in-Copy w ↦ answered_copy g.F.FnMut g.K.PartialEq.eq (hashes g) (g.Q.Equivalent.matches c.args.key.now) c.loop-ask.machine w.in-Copy.ask
+          w.in-Copy.ensures.value c.loop-ask.self-inside.store c.loop-ask.agrees w.perform_copy-answer.result w.perform_copy-answer.new.self
+          w.perform_copy-answer.ensures
           c.match-ask.answer c.match-ask.self-inside.store c.match-ask.agrees w.answer-is (ap (λ i. i.store) w.self-inside-is) w.agrees-is
     ]
 
@@ -55,7 +69,8 @@ callable g c =
     ]
 
 -- the mode and the initial capacity stay
-stays : (g : Over) (c : After-answer g) → (c.match-ask.self-inside.mode ≡ c.loop-ask.self-inside.mode) × (c.match-ask.self-inside.initial ≡ c.loop-ask.self-inside.initial)
+stays : (g : Over) (c : After-answer g) → (c.match-ask.self-inside.mode ≡ c.loop-ask.self-inside.mode)
+    × (c.match-ask.self-inside.initial ≡ c.loop-ask.self-inside.initial)
 stays g c =
     elim c.match-ask.branch [
       | in-Call+in_default w ↦ (ap (λ i. i.mode) w.self-inside-is, ap (λ i. i.initial) w.self-inside-is)
@@ -70,46 +85,67 @@ loop-ask-init g c =
       c.new-machine.ensures.standing,
       ap (λ (m : MapState _ _ _). m.mode) c.self.view_is,
       ap (λ (m : MapState _ _ _). m.initial) c.self.view_is,
-      subst (λ (m : MapState _ _ _). IsUnderWay g.F.FnMut g.K.PartialEq.eq (hashes g) matches c.hash-hash.result m c.args.agrees c.self.inside.store c.args.agrees c.new-machine.result) c.self.view_is
-          (subst (λ m. IsUnderWay g.F.FnMut g.K.PartialEq.eq (hashes g) matches c.hash-hash.result view c.args.agrees c.self.inside.store c.args.agrees m) (sym c.new-machine.ensures.value)
+      subst (λ (m : MapState _ _ _). IsUnderWay g.F.FnMut g.K.PartialEq.eq (hashes g) matches c.hash-hash.result m c.args.agrees c.self.inside.store
+          c.args.agrees c.new-machine.result) c.self.view_is
+          (subst (λ m. IsUnderWay g.F.FnMut g.K.PartialEq.eq (hashes g) matches c.hash-hash.result view c.args.agrees c.self.inside.store
+          c.args.agrees m) (sym c.new-machine.ensures.value)
           (under_way g.F.FnMut g.K.PartialEq.eq (hashes g) matches c.hash-hash.result view c.args.agrees c.copies_from-number.result)),
     )
 
 pub answer_removal-requires : goal.answer_removal-requires
 answer_removal-requires g c = record {
   callable = c.loop-ask.invariant.0;
-  asked = asked_so g.F.FnMut g.K.PartialEq.eq (hashes g) (g.Q.Equivalent.matches c.args.key.now) c.hash-hash.result c.args.self.now c.args.agrees (query g (goal.at.answer_removal-requires g c).After-new-machine)
-      c.loop-ask.self-inside.store c.loop-ask.agrees c.loop-ask.machine c.loop-ask.invariant.4 c.loop-ask.invariant.1 c.in-Call.ask (sym c.in-Call.ensures.value) c.in_default.not-Done;
+  asked = asked_so g.F.FnMut g.K.PartialEq.eq (hashes g) (g.Q.Equivalent.matches c.args.key.now) c.hash-hash.result c.args.self.now c.args.agrees
+      (query g (goal.at.answer_removal-requires g c).After-new-machine)
+      c.loop-ask.self-inside.store c.loop-ask.agrees c.loop-ask.machine c.loop-ask.invariant.4 c.loop-ask.invariant.1 c.in-Call.ask
+      (sym c.in-Call.ensures.value) c.in_default.not-Done;
 }
 
 pub answer-requires-clause-fit : goal.answer-requires-clause-fit
 answer-requires-clause-fit g c =
-    let answered : IsAnswered g.K.PartialEq.eq (hashes g) g.F.FnMut (g.Q.Equivalent.matches c.args.key.now) (ask_of c.loop-ask.machine) c.loop-ask.self-inside.store c.loop-ask.agrees c.match-ask.answer c.match-ask.self-inside.store c.match-ask.agrees =
+    let answered : IsAnswered g.K.PartialEq.eq (hashes g) g.F.FnMut (g.Q.Equivalent.matches c.args.key.now) (ask_of c.loop-ask.machine)
+    c.loop-ask.self-inside.store c.loop-ask.agrees c.match-ask.answer c.match-ask.self-inside.store c.match-ask.agrees =
     elim c.match-ask.branch [
-      | in-Call+in_default w ↦ answered_call g.F.FnMut g.K.PartialEq.eq (hashes g) (g.Q.Equivalent.matches c.args.key.now) c.loop-ask.machine w.in-Call.ask w.in-Call.ensures.value c.loop-ask.self-inside.store c.loop-ask.agrees w.answer_removal.result w.answer_removal.new.store w.answer_removal.new.agrees w.answer_removal.ensures.answers
+      | in-Call+in_default w ↦ answered_call g.F.FnMut g.K.PartialEq.eq (hashes g) (g.Q.Equivalent.matches c.args.key.now) c.loop-ask.machine
+          w.in-Call.ask w.in-Call.ensures.value c.loop-ask.self-inside.store c.loop-ask.agrees w.answer_removal.result w.answer_removal.new.store
+          w.answer_removal.new.agrees w.answer_removal.ensures.answers
           c.match-ask.answer c.match-ask.self-inside.store c.match-ask.agrees w.answer-is (ap (λ i. i.store) w.self-inside-is) w.agrees-is
-      | in-Copy w ↦ answered_copy g.F.FnMut g.K.PartialEq.eq (hashes g) (g.Q.Equivalent.matches c.args.key.now) c.loop-ask.machine w.in-Copy.ask w.in-Copy.ensures.value c.loop-ask.self-inside.store c.loop-ask.agrees w.perform_copy-answer.result w.perform_copy-answer.new.self w.perform_copy-answer.ensures
+      | in-Copy w ↦ answered_copy g.F.FnMut g.K.PartialEq.eq (hashes g) (g.Q.Equivalent.matches c.args.key.now) c.loop-ask.machine w.in-Copy.ask
+          w.in-Copy.ensures.value c.loop-ask.self-inside.store c.loop-ask.agrees w.perform_copy-answer.result w.perform_copy-answer.new.self
+          w.perform_copy-answer.ensures
           c.match-ask.answer c.match-ask.self-inside.store c.match-ask.agrees w.answer-is (ap (λ i. i.store) w.self-inside-is) w.agrees-is
     ] in
     under_way_fit g.F.FnMut g.K.PartialEq.eq (hashes g) (g.Q.Equivalent.matches c.args.key.now) c.hash-hash.result c.args.self.now c.args.agrees
-    c.loop-ask.self-inside.store c.loop-ask.agrees c.loop-ask.machine c.loop-ask.invariant.4 c.match-ask.answer c.match-ask.self-inside.store c.match-ask.agrees answered
+    c.loop-ask.self-inside.store c.loop-ask.agrees c.loop-ask.machine c.loop-ask.invariant.4 c.match-ask.answer c.match-ask.self-inside.store
+    c.match-ask.agrees answered
     (query g (goal.at.answer-requires-clause-fit g c).After-new-machine) (subst IsFitAsk c.ask.ensures.value c.ask.ensures.size)
 
 -- the removal after the answer
-went : (g : Over) (c : After-answer g) → IsUnderWay g.F.FnMut g.K.PartialEq.eq (hashes g) (g.Q.Equivalent.matches c.args.key.now) c.hash-hash.result c.args.self.now c.args.agrees c.match-ask.self-inside.store c.match-ask.agrees c.answer.new.self
+went : (g : Over) (c : After-answer g) → IsUnderWay g.F.FnMut g.K.PartialEq.eq (hashes g) (g.Q.Equivalent.matches c.args.key.now) c.hash-hash.result
+    c.args.self.now c.args.agrees c.match-ask.self-inside.store c.match-ask.agrees c.answer.new.self
 went g c =
-    subst (IsUnderWay g.F.FnMut g.K.PartialEq.eq (hashes g) (g.Q.Equivalent.matches c.args.key.now) c.hash-hash.result c.args.self.now c.args.agrees c.match-ask.self-inside.store c.match-ask.agrees) (sym c.answer.ensures.after)
-    (under_way_more g.F.FnMut g.K.PartialEq.eq (hashes g) (g.Q.Equivalent.matches c.args.key.now) c.hash-hash.result c.args.self.now c.args.agrees c.loop-ask.self-inside.store c.loop-ask.agrees c.loop-ask.machine c.loop-ask.invariant.4 c.match-ask.answer c.match-ask.self-inside.store c.match-ask.agrees (told g c))
+    subst (IsUnderWay g.F.FnMut g.K.PartialEq.eq (hashes g) (g.Q.Equivalent.matches c.args.key.now) c.hash-hash.result c.args.self.now c.args.agrees
+    c.match-ask.self-inside.store c.match-ask.agrees) (sym c.answer.ensures.after)
+    (under_way_more g.F.FnMut g.K.PartialEq.eq (hashes g) (g.Q.Equivalent.matches c.args.key.now) c.hash-hash.result c.args.self.now c.args.agrees
+    c.loop-ask.self-inside.store c.loop-ask.agrees c.loop-ask.machine c.loop-ask.invariant.4 c.match-ask.answer c.match-ask.self-inside.store
+    c.match-ask.agrees (told g c))
 
 pub copy_for_call-requires-clause-sized : goal.copy_for_call-requires-clause-sized
 copy_for_call-requires-clause-sized g c =
-    removing_sized g.F.FnMut g.K.PartialEq.eq (hashes g) (g.Q.Equivalent.matches c.args.key.now) c.hash-hash.result c.args.self.now c.args.agrees (query g (goal.at.copy_for_call-requires-clause-sized g c).After-new-machine) c.match-ask.self-inside.store c.match-ask.agrees c.answer.new.self (went g (goal.at.copy_for_call-requires-clause-sized g c).After-answer)
+    removing_sized g.F.FnMut g.K.PartialEq.eq (hashes g) (g.Q.Equivalent.matches c.args.key.now) c.hash-hash.result c.args.self.now c.args.agrees
+    (query g (goal.at.copy_for_call-requires-clause-sized g c).After-new-machine) c.match-ask.self-inside.store c.match-ask.agrees c.answer.new.self
+    (went g (goal.at.copy_for_call-requires-clause-sized g c).After-answer)
 
 -- and after the slots that were copied
-copied : (g : Over) (c : After-copy_for_call g) → IsUnderWay g.F.FnMut g.K.PartialEq.eq (hashes g) (g.Q.Equivalent.matches c.args.key.now) c.hash-hash.result c.args.self.now c.args.agrees c.copy_for_call.new.store c.match-ask.agrees c.copy_for_call.new.machine × IsStanding c.copy_for_call.new.machine × (left_of c.copy_for_call.new.store c.copy_for_call.new.machine ≤ left_of c.match-ask.self-inside.store c.answer.new.self)
+copied : (g : Over) (c : After-copy_for_call g)
+    → IsUnderWay g.F.FnMut g.K.PartialEq.eq (hashes g) (g.Q.Equivalent.matches c.args.key.now) c.hash-hash.result c.args.self.now c.args.agrees
+    c.copy_for_call.new.store c.match-ask.agrees c.copy_for_call.new.machine × IsStanding c.copy_for_call.new.machine
+    × (left_of c.copy_for_call.new.store c.copy_for_call.new.machine ≤ left_of c.match-ask.self-inside.store c.answer.new.self)
 copied g c =
     let (said, led) = c.copy_for_call.ensures in
-    removing_copies g.F.FnMut g.K.PartialEq.eq (hashes g) (g.Q.Equivalent.matches c.args.key.now) c.hash-hash.result c.args.self.now c.args.agrees (query g (goal.at.After-copy_for_call g c).After-new-machine) said c.match-ask.self-inside.store c.match-ask.agrees c.answer.new.self c.copy_for_call.new.store c.copy_for_call.new.machine led c.answer.ensures.standing (went g (goal.at.After-copy_for_call g c).After-answer)
+    removing_copies g.F.FnMut g.K.PartialEq.eq (hashes g) (g.Q.Equivalent.matches c.args.key.now) c.hash-hash.result c.args.self.now c.args.agrees
+    (query g (goal.at.After-copy_for_call g c).After-new-machine) said c.match-ask.self-inside.store c.match-ask.agrees c.answer.new.self
+    c.copy_for_call.new.store c.copy_for_call.new.machine led c.answer.ensures.standing (went g (goal.at.After-copy_for_call g c).After-answer)
 
 pub loop-ask-preserved : goal.loop-ask-preserved
 loop-ask-preserved g c =
@@ -123,7 +159,9 @@ loop-ask-smaller g c =
     let near = (copied g (goal.at.loop-ask-smaller g c).After-copy_for_call).2 in
     let nearer : left_of c.match-ask.self-inside.store c.answer.new.self < left_of c.loop-ask.self-inside.store c.loop-ask.machine =
     subst (λ m. left_of c.match-ask.self-inside.store m < left_of c.loop-ask.self-inside.store c.loop-ask.machine) (sym c.answer.ensures.after)
-    (under_way_nears g.F.FnMut g.K.PartialEq.eq (hashes g) (g.Q.Equivalent.matches c.args.key.now) c.hash-hash.result c.args.self.now c.args.agrees c.loop-ask.self-inside.store c.loop-ask.agrees c.loop-ask.machine c.loop-ask.invariant.4 c.match-ask.answer c.match-ask.self-inside.store c.match-ask.agrees (told g at)
+    (under_way_nears g.F.FnMut g.K.PartialEq.eq (hashes g) (g.Q.Equivalent.matches c.args.key.now) c.hash-hash.result c.args.self.now c.args.agrees
+    c.loop-ask.self-inside.store c.loop-ask.agrees c.loop-ask.machine c.loop-ask.invariant.4 c.match-ask.answer c.match-ask.self-inside.store
+    c.match-ask.agrees (told g at)
     (query g (goal.at.loop-ask-smaller g c).After-new-machine)) in
     omega (arith, near, nearer)
 
@@ -132,10 +170,13 @@ replied : (g : Over) (c : After-drop-agrees g) → ask_of c.loop-ask.machine ≡
 replied g c = sym c.in-Call.ensures.value ∙ ap asks.Call c.in-Done.is
 
 -- what it leaves
-finished : (g : Over) (c : After-drop-agrees g) → IsQuery g.F.FnMut g.K.PartialEq.eq (hashes g) (g.Q.Equivalent.matches c.args.key.now) c.hash-hash.result c.args.self.now c.args.agrees
-    → RemovalDone g.F.FnMut g.K.PartialEq.eq (hashes g) (g.Q.Equivalent.matches c.args.key.now) c.args.self.now c.args.agrees c.in-Done.reply (record c.args.self.now { store = c.loop-ask.self-inside.store })
+finished : (g : Over) (c : After-drop-agrees g)
+    → IsQuery g.F.FnMut g.K.PartialEq.eq (hashes g) (g.Q.Equivalent.matches c.args.key.now) c.hash-hash.result c.args.self.now c.args.agrees
+    → RemovalDone g.F.FnMut g.K.PartialEq.eq (hashes g) (g.Q.Equivalent.matches c.args.key.now) c.args.self.now c.args.agrees c.in-Done.reply
+    (record c.args.self.now { store = c.loop-ask.self-inside.store })
 finished g c asked =
-    removal_finished g.F.FnMut g.K.PartialEq.eq g.K.Hash.hash_input g.S.BuildHasher.build_hasher g.S.Hasher.Hasher.write g.S.Hasher.Hasher.finish g.met.K.Eq.laws g.met.K.Hash.respects_eq (g.Q.Equivalent.matches c.args.key.now) c.hash-hash.result c.args.self.now c.args.agrees asked
+    removal_finished g.F.FnMut g.K.PartialEq.eq g.K.Hash.hash_input g.S.BuildHasher.build_hasher g.S.Hasher.Hasher.write g.S.Hasher.Hasher.finish
+    g.met.K.Eq.laws g.met.K.Hash.respects_eq (g.Q.Equivalent.matches c.args.key.now) c.hash-hash.result c.args.self.now c.args.agrees asked
     c.loop-ask.self-inside.store c.loop-ask.agrees c.loop-ask.machine c.loop-ask.invariant.4 c.in-Done.reply (replied g c)
 
 pub returns-in-Done-clause-whole : goal.returns-in-Done-clause-whole
@@ -146,10 +187,13 @@ invariant_of-self g c =
     let at = goal.at.invariant_of-self g c in
     let later = c.loop-ask.self-inside.store in
     subst (λ mode. IsLawfulMap g.K.PartialEq.eq (hashes g later.hasher) later mode c.loop-ask.self-inside.initial) (sym c.loop-ask.invariant.2)
-    (subst (λ initial. IsLawfulMap g.K.PartialEq.eq (hashes g later.hasher) later c.args.self.now.mode initial) (sym c.loop-ask.invariant.3) (finished g at.After-drop-agrees (query g at.After-new-machine)).orderly)
+    (subst (λ initial. IsLawfulMap g.K.PartialEq.eq (hashes g later.hasher) later c.args.self.now.mode initial) (sym c.loop-ask.invariant.3)
+    (finished g at.After-drop-agrees (query g at.After-new-machine)).orderly)
 
 -- the map when the removal has ended
-left_is : (g : Over) (c : After-drop-agrees g) → record c.args.self.now { store = c.loop-ask.self-inside.store } ≡ record { store = c.loop-ask.self-inside.store; mode = c.loop-ask.self-inside.mode; initial = c.loop-ask.self-inside.initial }
+left_is : (g : Over) (c : After-drop-agrees g)
+    → record c.args.self.now { store = c.loop-ask.self-inside.store }
+    ≡ record { store = c.loop-ask.self-inside.store; mode = c.loop-ask.self-inside.mode; initial = c.loop-ask.self-inside.initial }
 left_is g c =
     ap (λ mode. record { store = c.loop-ask.self-inside.store; mode = mode; initial = c.args.self.now.initial }) (sym c.loop-ask.invariant.2)
     ∙ ap (λ initial. record { store = c.loop-ask.self-inside.store; mode = c.loop-ask.self-inside.mode; initial = initial }) (sym c.loop-ask.invariant.3)
@@ -157,7 +201,8 @@ left_is g c =
 pub returns-in-Done-clause-cause : goal.returns-in-Done-clause-cause
 returns-in-Done-clause-cause g c = λ refused is.
     let at = goal.at.returns-in-Done-clause-cause g c in
-    subst (IsCopyCause c.args.self.now refused) (left_is g at.After-drop-agrees) ((finished g at.After-drop-agrees (query g at.After-new-machine)).cause refused is)
+    subst (IsCopyCause c.args.self.now refused) (left_is g at.After-drop-agrees)
+    ((finished g at.After-drop-agrees (query g at.After-new-machine)).cause refused is)
 
 pub returns-in-Done-clause-keeps : goal.returns-in-Done-clause-keeps
 returns-in-Done-clause-keeps g c =

@@ -12,7 +12,8 @@ invariant-loop-ask g l =
     × IsStanding l.machine
     × (l.self-inside.mode ≡ l.fn.self.mode)
     × (l.self-inside.initial ≡ l.fn.self.initial)
-    × IsUnderWay g.F.FnMut g.K.PartialEq.eq (hash_of g.K.Hash.hash_input g.S.BuildHasher.build_hasher g.S.Hasher.Hasher.write g.S.Hasher.Hasher.finish) (g.Q.Equivalent.matches l.key) l.hash l.fn.self l.fn.agrees l.self-inside.store l.agrees l.machine
+    × IsUnderWay g.F.FnMut g.K.PartialEq.eq (hash_of g.K.Hash.hash_input g.S.BuildHasher.build_hasher g.S.Hasher.Hasher.write
+    g.S.Hasher.Hasher.finish) (g.Q.Equivalent.matches l.key) l.hash l.fn.self l.fn.agrees l.self-inside.store l.agrees l.machine
 
 -- what is left of it
 abbrev pub decreases-loop-ask : goal.decreases-loop-ask

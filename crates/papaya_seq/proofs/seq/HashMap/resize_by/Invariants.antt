@@ -7,7 +7,8 @@ use Rattle.papaya_seq.proofs.seq.HashMap.resize_by.Given as goal
 -- the call goes on as its machine says
 abbrev pub invariant-loop-ask : goal.invariant-loop-ask
 invariant-loop-ask g l =
-    IsResizingTo g.K.PartialEq.eq (hash_of g.K.Hash.hash_input g.S.BuildHasher.build_hasher g.S.Hasher.Hasher.write g.S.Hasher.Hasher.finish) l.fn.self l.fn.resize l.self-inside.store l.resizer
+    IsResizingTo g.K.PartialEq.eq (hash_of g.K.Hash.hash_input g.S.BuildHasher.build_hasher g.S.Hasher.Hasher.write g.S.Hasher.Hasher.finish)
+    l.fn.self l.fn.resize l.self-inside.store l.resizer
     × (l.self-inside.mode ≡ l.fn.self.mode) × (l.self-inside.initial ≡ l.fn.self.initial)
 
 -- what is left of it

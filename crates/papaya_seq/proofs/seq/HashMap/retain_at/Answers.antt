@@ -27,7 +27,8 @@ module _ (g : Over) where
   key_hash = hash_of g.K.Hash.hash_input g.S.BuildHasher.build_hasher g.S.Hasher.Hasher.write g.S.Hasher.Hasher.finish
 
   keys : (s : Map) → IsLawfulKeys g.K.PartialEq.eq (key_hash s.store.hasher)
-  keys s = keys_lawful g.K.PartialEq.eq g.K.Hash.hash_input g.S.BuildHasher.build_hasher g.S.Hasher.Hasher.write g.S.Hasher.Hasher.finish g.met.K.Eq.laws g.met.K.Hash.respects_eq s.store.hasher
+  keys s = keys_lawful g.K.PartialEq.eq g.K.Hash.hash_input g.S.BuildHasher.build_hasher g.S.Hasher.Hasher.write g.S.Hasher.Hasher.finish
+      g.met.K.Eq.laws g.met.K.Hash.respects_eq s.store.hasher
 
   -- the map as its fields are
   abbrev view : After-show g → Map
@@ -49,36 +50,50 @@ module _ (g : Over) where
   live : (c : After-show g) → kind_of (root_word c.self.inside.store c.args.slot) ≡ Live
   live c = let is : c.kind.result ≡ Live = search rules in sym (c.kind.ensures ∙ ap kind_of (word_is c)) ∙ is
 
-  logged : (c : After-show g) → (p : Stored g.row.K.Denot g.row.V.Denot) × (pair_of c.self.inside.store (number_of (root_word c.self.inside.store c.args.slot)) ≡ Some p)
+  logged : (c : After-show g) → (p : Stored g.row.K.Denot g.row.V.Denot)
+      × (pair_of c.self.inside.store (number_of (root_word c.self.inside.store c.args.slot)) ≡ Some p)
   logged c = live_logged g.K.PartialEq.eq (key_hash c.self.inside.store.hasher) (view c) c.self.invariant (keys (view c)) c.args.slot (within c) (live c)
 
   -- which the closure was shown
   said : (c : After-show g) → (agrees : Bool) × Answers g.F.FnMut c.args.agrees.now (logged c).0 agrees c.show.new.agrees × (c.show.result ≡ Yes agrees)
-  said c = shown_answers g.F.FnMut c.args.agrees.now c.show.new.agrees (logged c).0 (pair_of c.self.inside.store c.pair.result) c.show.result (ap (pair_of c.self.inside.store) (c.pair.ensures ∙ ap number_of (word_is c)) ∙ (logged c).1) c.show.ensures.shown
+  said c = shown_answers g.F.FnMut c.args.agrees.now c.show.new.agrees (logged c).0 (pair_of c.self.inside.store c.pair.result) c.show.result
+      (ap (pair_of c.self.inside.store) (c.pair.ensures ∙ ap number_of (word_is c)) ∙ (logged c).1) c.show.ensures.shown
 
   -- it was deleted
   tombstone : (c : After-add_to_shard g) → c.add_to_shard.new.self ≡ tombstone_at c.self.inside.store c.args.slot
   tombstone c =
       let s = c.self.inside.store in
       let shown = (goal.at.After-add_to_shard g c).After-show in
-      let grave : c.tombstone-grave.result.0 ≡ tombstone_word (number_of (root_word s c.args.slot)) = c.tombstone-grave.ensures ∙ ap tombstone_word (c.pair-2.ensures ∙ ap number_of (word_is shown)) in
-      let made : c.exchange.new.self ≡ record s { words = put s.words (Slot c.args.table c.args.slot) c.tombstone-grave.result.0 } = exchange_done s (Slot c.args.table c.args.slot) c.word.result c.tombstone-grave.result.0 (sym c.word.ensures) c.exchange.new.self c.exchange.result c.exchange.ensures in
+      let grave : c.tombstone-grave.result.0 ≡ tombstone_word (number_of (root_word s c.args.slot)) = c.tombstone-grave.ensures
+      ∙ ap tombstone_word (c.pair-2.ensures ∙ ap number_of (word_is shown)) in
+      let made : c.exchange.new.self ≡ record s { words = put s.words (Slot c.args.table c.args.slot) c.tombstone-grave.result.0 } = exchange_done s
+      (Slot c.args.table c.args.slot) c.word.result c.tombstone-grave.result.0 (sym c.word.ensures) c.exchange.new.self c.exchange.result
+      c.exchange.ensures in
       c.add_to_shard.ensures
       ∙ ap (λ (y : StoreState g.row.K.Denot g.row.V.Denot g.row.S.Denot). record y { count = added y.count 0 (negsuc 0) }) made
       ∙ ap (λ n. record s { words = put s.words (Slot c.args.table c.args.slot) n; count = added s.count 0 (negsuc 0) }) grave
-      ∙ ap (λ t. record s { words = put s.words (Slot t c.args.slot) (tombstone_word (number_of (root_word s c.args.slot))); count = added s.count 0 (negsuc 0) }) (root shown)
+      ∙ ap (λ t. record s {
+        words = put s.words (Slot t c.args.slot) (tombstone_word (number_of (root_word s c.args.slot)));
+        count = added s.count 0
+            (negsuc 0);
+      }) (root shown)
 
   -- a slot more was scanned of a map that is in order
-  scanned : (here : Map) → IsLawfulMap g.K.PartialEq.eq (key_hash here.store.hasher) here.store here.mode here.initial → (slot : ℕ) → slot < slots_of here.store → (before after : g.row.F.Denot) (store : StoreState g.row.K.Denot g.row.V.Denot g.row.S.Denot) → IsScanned here.store slot g.F.FnMut before store after
+  scanned : (here : Map) → IsLawfulMap g.K.PartialEq.eq (key_hash here.store.hasher) here.store here.mode here.initial → (slot : ℕ)
+      → slot < slots_of here.store → (before after : g.row.F.Denot) (store : StoreState g.row.K.Denot g.row.V.Denot g.row.S.Denot)
+      → IsScanned here.store slot g.F.FnMut before store after
       → (s : Map) (f : g.row.F.Denot) → IsRetaining g.F.FnMut s f slot here before → IsRetaining g.F.FnMut s f (slot + 1) (record here { store = store }) after
   scanned here lawful slot within before after store is s f retaining =
       let next : suc slot ≡ slot + 1 = omega arith in
       subst (λ n. IsRetaining g.F.FnMut s f n (record here { store = store }) after) next
-      (scanned_more g.F.FnMut s f g.K.PartialEq.eq (key_hash here.store.hasher) slot here before retaining (subst (λ n. slot < n) retaining.long within) lawful (keys here) (record here { store = store }) after refl refl is)
+      (scanned_more g.F.FnMut s f g.K.PartialEq.eq (key_hash here.store.hasher) slot here before retaining
+      (subst (λ n. slot < n) retaining.long within) lawful (keys here) (record here { store = store }) after refl refl is)
 
 -- a closure that did not disagree agreed
-agreed : (g : Over) (c : After-show g) (b : Bool) → Answers g.F.FnMut c.args.agrees.now (logged g c).0 b c.show.new.agrees → c.show.result ≡ Yes b → (c.show.result ≡ Yes false → ⊥)
-    → (agrees : Bool) × Answers g.F.FnMut c.args.agrees.now (logged g c).0 agrees c.show.new.agrees × (c.self.inside.store ≡ cond agrees c.self.inside.store (tombstone_at c.self.inside.store c.args.slot))
+agreed : (g : Over) (c : After-show g) (b : Bool) → Answers g.F.FnMut c.args.agrees.now (logged g c).0 b c.show.new.agrees → c.show.result ≡ Yes b
+    → (c.show.result ≡ Yes false → ⊥)
+    → (agrees : Bool) × Answers g.F.FnMut c.args.agrees.now (logged g c).0 agrees c.show.new.agrees
+    × (c.self.inside.store ≡ cond agrees c.self.inside.store (tombstone_at c.self.inside.store c.args.slot))
 agreed g c true answers is not = (true, answers, refl)
 agreed g c false answers is not = absurd (not is)
 
@@ -89,20 +104,26 @@ returns-in_default-clause-scanned g c s f retaining =
     let found = agreed g at (said g at).0 (said g at).1 (said g at).2 not in
     let before = subst (λ (y : Map g). IsRetaining g.F.FnMut s f c.args.slot y c.args.agrees.now) (sym c.self.view_is) retaining in
     subst (λ (y : Map g). IsRetaining g.F.FnMut s f (c.args.slot + 1) y c.show.new.agrees) c.self.view_is
-    (scanned g (view g at) c.self.invariant c.args.slot (within g at) c.args.agrees.now c.show.new.agrees c.self.inside.store (inr ((logged g at).0, live g at, (logged g at).1, found.0, found.1, found.2)) s f before)
+    (scanned g (view g at) c.self.invariant c.args.slot (within g at) c.args.agrees.now c.show.new.agrees c.self.inside.store
+    (inr ((logged g at).0, live g at, (logged g at).1, found.0, found.1, found.2)) s f before)
 
 pub returns-then-ne-clause-scanned : goal.returns-then-ne-clause-scanned
 returns-then-ne-clause-scanned g c s f retaining =
     let here = c.args.self.now in
-    let read : c.word.result ≡ root_word here.store c.args.slot = c.word.ensures ∙ ap (λ (y : Map g). word_at y.store.words (Slot c.args.table c.args.slot)) c.self.view_is ∙ ap (λ t. word_at here.store.words (Slot t c.args.slot)) c.requires.root in
-    scanned g here (subst (λ (y : Map g). IsLawfulMap g.K.PartialEq.eq (key_hash g y.store.hasher) y.store y.mode y.initial) c.self.view_is c.self.invariant) c.args.slot c.requires.within c.args.agrees.now c.args.agrees.now here.store
+    let read : c.word.result ≡ root_word here.store c.args.slot = c.word.ensures
+    ∙ ap (λ (y : Map g). word_at y.store.words (Slot c.args.table c.args.slot)) c.self.view_is
+    ∙ ap (λ t. word_at here.store.words (Slot t c.args.slot)) c.requires.root in
+    scanned g here (subst (λ (y : Map g). IsLawfulMap g.K.PartialEq.eq (key_hash g y.store.hasher) y.store y.mode y.initial) c.self.view_is
+    c.self.invariant) c.args.slot c.requires.within c.args.agrees.now c.args.agrees.now here.store
     (inl ((λ live. let is : c.kind.result ≡ Live = c.kind.ensures ∙ ap kind_of read ∙ live in search rules), refl, refl)) s f retaining
 
 pub invariant_of-self : goal.invariant_of-self
 invariant_of-self g c =
     let at = (goal.at.invariant_of-self g c).After-show in
-    subst (λ (y : StoreState g.row.K.Denot g.row.V.Denot g.row.S.Denot). IsLawfulMap g.K.PartialEq.eq (key_hash g y.hasher) y c.self.inside.mode c.self.inside.initial) (sym (tombstone g c))
-    (tombstone_lawful g.K.PartialEq.eq (key_hash g c.self.inside.store.hasher) (view g at) c.self.invariant (keys g (view g at)) c.args.slot (within g at) (live g at) (last g at) c.count-count.ensures.fits)
+    subst (λ (y : StoreState g.row.K.Denot g.row.V.Denot g.row.S.Denot).
+    IsLawfulMap g.K.PartialEq.eq (key_hash g y.hasher) y c.self.inside.mode c.self.inside.initial) (sym (tombstone g c))
+    (tombstone_lawful g.K.PartialEq.eq (key_hash g c.self.inside.store.hasher) (view g at) c.self.invariant (keys g (view g at)) c.args.slot
+    (within g at) (live g at) (last g at) c.count-count.ensures.fits)
 
 pub returns-clause-scanned : goal.returns-clause-scanned
 returns-clause-scanned g c s f retaining =
@@ -110,4 +131,13 @@ returns-clause-scanned g c s f retaining =
     let no : c.show.result ≡ Yes false = search rules in
     let answer : (said g at).0 ≡ false = let both : Yes (said g at).0 ≡ Yes false = sym (said g at).2 ∙ no in cc in
     let before = subst (λ (y : Map g). IsRetaining g.F.FnMut s f c.args.slot y c.args.agrees.now) (sym c.self.view_is) retaining in
-    scanned g (view g at) c.self.invariant c.args.slot (within g at) c.args.agrees.now c.show.new.agrees c.add_to_shard.new.self (inr ((logged g at).0, live g at, (logged g at).1, false, subst (λ b. Answers g.F.FnMut c.args.agrees.now (logged g at).0 b c.show.new.agrees) answer (said g at).1, tombstone g c)) s f before
+    scanned g (view g at) c.self.invariant c.args.slot (within g at) c.args.agrees.now c.show.new.agrees c.add_to_shard.new.self
+    (inr (
+      (logged g at).0,
+      live g at,
+      (logged g at).1,
+      false,
+      subst (λ b. Answers g.F.FnMut c.args.agrees.now (logged g at).0 b c.show.new.agrees)
+          answer (said g at).1,
+      tombstone g c,
+    )) s f before

@@ -7,8 +7,12 @@ use Rattle.papaya_seq.proofs.seq.HashMap.run.Goals as goal
 pub loop-call-init : goal.loop-call-init
 loop-call-init g c =
     let items : c.in_ok-outcomes.outcomes.items ≡ [] = search rules in
-    let room : vec_len c.args.calls ≤ vec_capacity c.in_ok-outcomes.outcomes = search (rules, arith) in
-    (subst (λ items. AreCalled g.K.PartialEq.eq (record { op = g.A.Answers.op_gives; yes = g.A.Answers.yes_gives }) c.args.self.now [] items c.args.self.now) (sym items) refl, ap length items, room)
+    let room : vec_len c.args.calls ≤ vec_capacity c.in_ok-outcomes.outcomes = search (rules, arith) in (
+      subst (λ items. AreCalled g.K.PartialEq.eq (record { op = g.A.Answers.op_gives; yes = g.A.Answers.yes_gives }) c.args.self.now [] items
+          c.args.self.now) (sym items) refl,
+      ap length items,
+      room,
+    )
 
 pub loop-call-preserved : goal.loop-call-preserved
 loop-call-preserved g c =
@@ -17,8 +21,11 @@ loop-call-preserved g c =
     let items = c.push_within.ensures.items in
     let capacity = c.push_within.ensures.capacity in
     let room = c.loop-call.invariant.2 in (
-      subst (λ items. AreCalled g.K.PartialEq.eq (record { op = g.A.Answers.op_gives; yes = g.A.Answers.yes_gives }) c.args.self.now (c.loop-call.yielded ++ c.in-Some.call ∷ []) items c.call-outcome.new.self) (sym items)
-          (called_more g.K.PartialEq.eq (record { op = g.A.Answers.op_gives; yes = g.A.Answers.yes_gives }) c.call-outcome.result c.in-Some.call c.loop-call.self c.call-outcome.new.self c.call-outcome.ensures.called c.call-outcome.ensures.lists c.args.self.now c.loop-call.yielded c.loop-call.outcomes.items c.loop-call.invariant.0),
+      subst (λ items. AreCalled g.K.PartialEq.eq (record { op = g.A.Answers.op_gives; yes = g.A.Answers.yes_gives }) c.args.self.now
+          (c.loop-call.yielded ++ c.in-Some.call ∷ []) items c.call-outcome.new.self) (sym items)
+          (called_more g.K.PartialEq.eq (record { op = g.A.Answers.op_gives; yes = g.A.Answers.yes_gives }) c.call-outcome.result c.in-Some.call
+          c.loop-call.self c.call-outcome.new.self c.call-outcome.ensures.called c.call-outcome.ensures.lists c.args.self.now c.loop-call.yielded
+          c.loop-call.outcomes.items c.loop-call.invariant.0),
       ap length items ∙ m ∙ ap (λ k. k + 1) c.loop-call.invariant.1 ∙ sym n,
       omega (arith, capacity, room),
     )

@@ -6,20 +6,26 @@ use Rattle.papaya_seq.proofs.seq.HashMap.update.Goals as goal
 
 pub logged-requires : goal.logged-requires
 logged-requires g c =
-    (updated_logged g.K.PartialEq.eq g.met.K.Eq.laws c.args.key c.args.self.now c.compute_by-computed.new.self c.compute_by-computed.result.1 c.in-Updated.old c.in-Updated.new (c.in_ok-new.was ∙ ap Ok c.in-Updated.is) c.compute_by-computed.ensures.computes).1
+    (updated_logged g.K.PartialEq.eq g.met.K.Eq.laws c.args.key c.args.self.now c.compute_by-computed.new.self c.compute_by-computed.result.1
+    c.in-Updated.old c.in-Updated.new (c.in_ok-new.was ∙ ap Ok c.in-Updated.is) c.compute_by-computed.ensures.computes).1
 
 pub returns-in_err-new : goal.returns-in_err-new
 returns-in_err-new g c =
     let p = err_from_is_err_and c.from_residual.result c.from_residual.ensures.1 in
-    let r = update_refused g.K.PartialEq.eq g.met.K.Eq.laws c.args.key c.args.self.now c.compute_by-computed.new.self c.compute_by-computed.result.1 (FnReturnsAt g.F.Fn c.args.f) tt c.in_err-new.field-0.0 c.in_err-new.was c.compute_by-computed.ensures.computes (λ q o says. says.1) (λ o says. says.1) in
+    let r = update_refused g.K.PartialEq.eq g.met.K.Eq.laws c.args.key c.args.self.now c.compute_by-computed.new.self c.compute_by-computed.result.1
+    (FnReturnsAt g.F.Fn c.args.f) tt c.in_err-new.field-0.0 c.in_err-new.was c.compute_by-computed.ensures.computes (λ q o says. says.1) (λ o says. says.1) in
     rw (p.1, p.2) ((refl, λ _. tt, r.0), record { updates = tt; new = tt; err = r.1 })
 
 pub returns-in-Updated : goal.returns-in-Updated
 returns-in-Updated g c =
-    let r = update_stored g.K.PartialEq.eq g.met.K.Eq.laws c.args.key c.args.self.now c.compute_by-computed.new.self c.compute_by-computed.result.1 (FnReturnsAt g.F.Fn c.args.f) c.in-Updated.old c.in-Updated.new c.logged.result.now (c.in_ok-new.was ∙ ap Ok c.in-Updated.is) c.compute_by-computed.ensures.computes c.logged.ensures (λ q o says. says.1) in
+    let r = update_stored g.K.PartialEq.eq g.met.K.Eq.laws c.args.key c.args.self.now c.compute_by-computed.new.self c.compute_by-computed.result.1
+    (FnReturnsAt g.F.Fn c.args.f) c.in-Updated.old c.in-Updated.new c.logged.result.now (c.in_ok-new.was ∙ ap Ok c.in-Updated.is)
+    c.compute_by-computed.ensures.computes c.logged.ensures (λ q o says. says.1) in
     ((refl, λ _. tt, r.0), record { updates = tt; new = r.1; err = tt })
 
 pub returns-in-Aborted : goal.returns-in-Aborted
 returns-in-Aborted g c =
-    let r = update_absent g.K.PartialEq.eq g.met.K.Eq.laws c.args.key c.args.self.now c.compute_by-computed.new.self c.compute_by-computed.result.1 (FnReturnsAt g.F.Fn c.args.f) c.in-Aborted.field-0 (c.in_ok-new.was ∙ ap Ok c.in-Aborted.is) c.compute_by-computed.ensures.computes (λ q o says. says.1) in
+    let r = update_absent g.K.PartialEq.eq g.met.K.Eq.laws c.args.key c.args.self.now c.compute_by-computed.new.self c.compute_by-computed.result.1
+    (FnReturnsAt g.F.Fn c.args.f) c.in-Aborted.field-0 (c.in_ok-new.was ∙ ap Ok c.in-Aborted.is) c.compute_by-computed.ensures.computes
+    (λ q o says. says.1) in
     ((refl, λ _. tt, r), record { updates = tt; new = r.0; err = tt })

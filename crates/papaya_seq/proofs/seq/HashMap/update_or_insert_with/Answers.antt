@@ -7,15 +7,21 @@ use Rattle.papaya_seq.proofs.seq.HashMap.update_or_insert_with.Goals as goal
 pub returns-in_err-pair : goal.returns-in_err-pair
 returns-in_err-pair g c =
     let p = err_from_is_err_and c.from_residual.result c.from_residual.ensures.1 in
-    let r = upsert_refused g.K.PartialEq.eq g.met.K.Eq.laws c.args.key c.args.self.now c.compute_by-computed.new.self c.compute_by-computed.result.1 (FnReturnsAt g.U.Fn c.args.update) (goal.F-post g c.args.f) c.in_err-pair.field-0.0 c.in_err-pair.was c.compute_by-computed.ensures.computes (λ q o says. says.1) (λ o says. says.1) in
+    let r = upsert_refused g.K.PartialEq.eq g.met.K.Eq.laws c.args.key c.args.self.now c.compute_by-computed.new.self c.compute_by-computed.result.1
+    (FnReturnsAt g.U.Fn c.args.update) (goal.F-post g c.args.f) c.in_err-pair.field-0.0 c.in_err-pair.was c.compute_by-computed.ensures.computes
+    (λ q o says. says.1) (λ o says. says.1) in
     rw (p.1, p.2) ((refl, λ _. tt, r.0), record { stores = tt; value = tt; err = r.1 })
 
 pub returns-in-Inserted : goal.returns-in-Inserted
 returns-in-Inserted g c =
-    let r = upsert_inserted g.K.PartialEq.eq g.met.K.Eq.laws c.args.key c.args.self.now c.compute_by-computed.new.self c.compute_by-computed.result.1 (FnReturnsAt g.U.Fn c.args.update) (goal.F-post g c.args.f) c.in-Inserted.pair c.logged.result.now (c.in_ok-pair.was ∙ ap Ok c.in-Inserted.is) c.compute_by-computed.ensures.computes c.logged.ensures (λ o says. says.1) in
+    let r = upsert_inserted g.K.PartialEq.eq g.met.K.Eq.laws c.args.key c.args.self.now c.compute_by-computed.new.self c.compute_by-computed.result.1
+    (FnReturnsAt g.U.Fn c.args.update) (goal.F-post g c.args.f) c.in-Inserted.pair c.logged.result.now (c.in_ok-pair.was ∙ ap Ok c.in-Inserted.is)
+    c.compute_by-computed.ensures.computes c.logged.ensures (λ o says. says.1) in
     ((refl, λ _. tt, r.0), record { stores = tt; value = r.1; err = tt })
 
 pub returns-in-Updated : goal.returns-in-Updated
 returns-in-Updated g c =
-    let r = upsert_updated g.K.PartialEq.eq g.met.K.Eq.laws c.args.key c.args.self.now c.compute_by-computed.new.self c.compute_by-computed.result.1 (FnReturnsAt g.U.Fn c.args.update) (goal.F-post g c.args.f) c.in-Updated.old c.in-Updated.new c.logged-in-Updated.result.now (c.in_ok-pair.was ∙ ap Ok c.in-Updated.is) c.compute_by-computed.ensures.computes c.logged-in-Updated.ensures (λ q o says. says.1) in
+    let r = upsert_updated g.K.PartialEq.eq g.met.K.Eq.laws c.args.key c.args.self.now c.compute_by-computed.new.self c.compute_by-computed.result.1
+    (FnReturnsAt g.U.Fn c.args.update) (goal.F-post g c.args.f) c.in-Updated.old c.in-Updated.new c.logged-in-Updated.result.now
+    (c.in_ok-pair.was ∙ ap Ok c.in-Updated.is) c.compute_by-computed.ensures.computes c.logged-in-Updated.ensures (λ q o says. says.1) in
     ((refl, λ _. tt, r.0), record { stores = tt; value = r.1; err = tt })

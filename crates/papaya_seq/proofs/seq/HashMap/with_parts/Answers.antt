@@ -21,9 +21,11 @@ invariant_of-result g c =
     let ok = c.in_ok-store.ensures.ok in
     let mode : Mode = record { resize = c.args.mode; limit = c.args.limit } in
     let limits : IsLimit c.args.limit = search rules in
-    let core : IsCore {A = Unit {0}} c.in_ok-store.store [] mode = new-core c.in_ok-store.store [] mode c.args.capacity c.in_ok-store.initial ok.0.0 limits ok.1.initial.0 ok.2 ok.1.words refl in
+    let core : IsCore {A = Unit {0}} c.in_ok-store.store [] mode = new-core c.in_ok-store.store [] mode c.args.capacity c.in_ok-store.initial ok.0.0
+    limits ok.1.initial.0 ok.2 ok.1.words refl in
     record {
-      lawful = new_lawful g.K.PartialEq.eq g.K.Hash.hash_input g.S.BuildHasher.build_hasher g.S.Hasher.Hasher.write g.S.Hasher.Hasher.finish g.met.K.Eq.laws g.met.K.Hash.respects_eq
+      lawful = new_lawful g.K.PartialEq.eq g.K.Hash.hash_input g.S.BuildHasher.build_hasher g.S.Hasher.Hasher.write g.S.Hasher.Hasher.finish
+          g.met.K.Eq.laws g.met.K.Hash.respects_eq
           mode c.args.capacity c.in_ok-store.initial c.in_ok-store.store [] core ok.1.words ok.1.pairs refl;
       counted = new_counted g c;
       power = ok.1.initial.0;

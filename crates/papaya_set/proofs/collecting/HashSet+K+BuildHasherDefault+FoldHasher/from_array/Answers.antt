@@ -9,7 +9,8 @@ use Rattle.papaya_set.proofs.collecting.HashSet+K+BuildHasherDefault+FoldHasher.
 pub returns-in-Ok-clause-ok : goal.returns-in-Ok-clause-ok
 returns-in-Ok-clause-ok g c =
     IfOk-weaker c.from_iter.result _ _
-    (λ set came. subst (λ (ps : List g.row.K.Denot). HasJust g.K.PartialEq.eq entry_of_key ps set) (All-taken came.first came.items (came.is.0, (came.left, came.came, came.is.1)) ∙ (came.made.0 ∙ c.in-Ok.ensures.items)) came.is.2)
+    (λ set came. subst (λ (ps : List g.row.K.Denot). HasJust g.K.PartialEq.eq entry_of_key ps set)
+    (All-taken came.first came.items (came.is.0, (came.left, came.came, came.is.1)) ∙ (came.made.0 ∙ c.in-Ok.ensures.items)) came.is.2)
     c.from_iter.ensures.ok
 
 pub returns-in-Ok-clause-err : goal.returns-in-Ok-clause-err

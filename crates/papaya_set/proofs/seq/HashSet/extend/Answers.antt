@@ -6,7 +6,8 @@ pub loop-key-init : goal.loop-key-init
 loop-key-init g c = fills_none g.K.PartialEq.eq entry_of_key c.args.self.now
 
 pub loop-key-preserved : goal.loop-key-preserved
-loop-key-preserved g c = fills_more g.K.PartialEq.eq entry_of_key c.args.self.now c.loop-key.yielded c.loop-key.self c.loop-key.invariant c.in-Some.key _ c.insert.new.self c.in-Ok.ensures
+loop-key-preserved g c = fills_more g.K.PartialEq.eq entry_of_key c.args.self.now c.loop-key.yielded c.loop-key.self c.loop-key.invariant
+    c.in-Some.key _ c.insert.new.self c.in-Ok.ensures
 
 pub returns-in-Err : goal.returns-in-Err
 returns-in-Err g c = record {
@@ -15,7 +16,13 @@ returns-in-Err g c = record {
   items = c.loop-key.yielded;
   left = c.loop-key.key-iterator;
   came = c.loop-key.yielded_by;
-  is = (c.in-Some.key, c.next.new.self, c.in-Some.ensures.steps, cut g.K.PartialEq.eq entry_of_key c.args.self.now c.loop-key.yielded c.loop-key.self c.loop-key.invariant c.in-Some.key c.in-Err.refused c.insert.new.self c.in-Err.ensures);
+  is = (
+    c.in-Some.key,
+    c.next.new.self,
+    c.in-Some.ensures.steps,
+    cut g.K.PartialEq.eq entry_of_key c.args.self.now c.loop-key.yielded c.loop-key.self
+        c.loop-key.invariant c.in-Some.key c.in-Err.refused c.insert.new.self c.in-Err.ensures,
+  );
 }
 
 pub returns : goal.returns

@@ -4,4 +4,5 @@ use Rattle.papaya_seq.specs.Map.{MapState}
 use Rattle.papaya_set.proofs.seq.HashSet.try_clone.Goals as goal
 
 pub returns-in-Err-clause-err : goal.returns-in-Err-clause-err
-returns-in-Err-clause-err g c = subst (λ (s : MapState _ _ _). IsCloneRefusal {V = Unit {0}} g.K.PartialEq.eq g.K.Clone.is_clone (λ v w. w ≡ v) s.store c.in-Err.refused) c.self.view_is c.in-Err.ensures.err
+returns-in-Err-clause-err g c = subst (λ (s : MapState _ _ _).
+    IsCloneRefusal {V = Unit {0}} g.K.PartialEq.eq g.K.Clone.is_clone (λ v w. w ≡ v) s.store c.in-Err.refused) c.self.view_is c.in-Err.ensures.err

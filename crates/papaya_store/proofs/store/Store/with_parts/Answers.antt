@@ -9,7 +9,9 @@ returns-clause-ok g c =
     let initial = c.in_ok-initial.ensures.ok in
     let store = c.in_ok-open.ensures.ok.1 in
     let made = c.new-store.ensures in
-    let few : c.args.shards ≤ 65536 = ⊎_elim (λ (many : 65536 < c.args.shards). let f : Ok c.in_ok-counter.counter ≡ Err Capacity = sym c.in_ok-counter.was ∙ c.new.ensures.many many in cc) (λ (few : c.args.shards ≤ 65536). few) (cases_lt 65536 c.args.shards) in (
+    let few : c.args.shards ≤ 65536 = ⊎_elim
+    (λ (many : 65536 < c.args.shards). let f : Ok c.in_ok-counter.counter ≡ Err Capacity = sym c.in_ok-counter.was ∙ c.new.ensures.many many in cc)
+    (λ (few : c.args.shards ≤ 65536). few) (cases_lt 65536 c.args.shards) in (
       (c.in_ok-check_chunk.ensures.ok, (initial.0, c.in_ok-initial.initial, initial.1, initial.2), few),
       record {
         initial = initial.1;

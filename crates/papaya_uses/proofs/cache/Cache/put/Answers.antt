@@ -10,7 +10,9 @@ returns-in_err-put-clause-others c = λ n way.
       | then-self+in_ok-make_room w ↦ subst (λ cache. StaysOrGoes c.args.self.now cache n) (sym w.self-is) (w.make_room.ensures.pages n)
       | else-self w ↦ inl (ap (λ cache. text_of cache n) w.self-is)
     ] in
-    still_goes c.args.self.now c.if-self.self c.self-2.inside.young c.self-2.inside.elder c.put.new.self c.self-2.inside.stored c.self-2.inside.limit (c.self-2.inside.stored + 1) n mid c.self-2.view_is (refusal_keeps c.self-2.inside.young c.put.new.self n c.args.page c.args.text _ c.in_err-put.ensures.puts)
+    still_goes c.args.self.now c.if-self.self c.self-2.inside.young c.self-2.inside.elder c.put.new.self c.self-2.inside.stored c.self-2.inside.limit
+    (c.self-2.inside.stored + 1) n mid c.self-2.view_is
+    (refusal_keeps c.self-2.inside.young c.put.new.self n c.args.page c.args.text _ c.in_err-put.ensures.puts)
 
 pub returns-clause-others : goal.returns-clause-others
 returns-clause-others c = λ n way.
@@ -18,4 +20,6 @@ returns-clause-others c = λ n way.
       | then-self+in_ok-make_room w ↦ subst (λ cache. StaysOrGoes c.args.self.now cache n) (sym w.self-is) (w.make_room.ensures.pages n)
       | else-self w ↦ inl (ap (λ cache. text_of cache n) w.self-is)
     ] in
-    still_goes c.args.self.now c.if-self.self c.self-2.inside.young c.self-2.inside.elder c.put.new.self c.self-2.inside.stored c.self-2.inside.limit (c.self-2.inside.stored + 1) n mid c.self-2.view_is (put_keeps c.self-2.inside.young c.put.new.self n c.args.page c.args.text _ c.in_ok-put.ensures.puts (other_than n c.args.page way))
+    still_goes c.args.self.now c.if-self.self c.self-2.inside.young c.self-2.inside.elder c.put.new.self c.self-2.inside.stored c.self-2.inside.limit
+    (c.self-2.inside.stored + 1) n mid c.self-2.view_is
+    (put_keeps c.self-2.inside.young c.put.new.self n c.args.page c.args.text _ c.in_ok-put.ensures.puts (other_than n c.args.page way))

@@ -11,5 +11,6 @@ returns c =
     let place = c.args.place in
     let by = c.args.by in
     let within : c.args.place < length c.self.inside.shards.items = subst (λ v. c.args.place < v.shards) (sym c.self.view_is) c.requires in
-    let written = c.add_at.ensures ∙ ap (λ z. slice_set shards place (int_wrap w64 (slice_index_or shards place (pos 0) +ℤ z))) (to_z-of_z w64 by c.ranges.by) in
+    let written = c.add_at.ensures ∙ ap (λ z. slice_set shards place (int_wrap w64 (slice_index_or shards place (pos 0) +ℤ z)))
+    (to_z-of_z w64 by c.ranges.by) in
     added by shards c.add_at.new.shards.items place within written ∙ ap (λ v. added_at v place by) c.self.view_is
