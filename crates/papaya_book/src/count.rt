@@ -1,7 +1,7 @@
 //! The count of a map's pairs, in shards, so that callers seldom meet at one word; and where the
-//! next copy by a shard's callers begins, so that they seldom meet at one chunk.
+//! next copy begins, so that they seldom meet at one chunk.
 ghost use Rattle.std.specs.Prelude.{◌≡◌, ◌<◌, ◌≤◌, [], ◌∷◌, Err, IfErr, IfOk, IfSome, length};
-ghost use Rattle.std.specs.Int.{IsNextPowerOfTwo};
+ghost use Rattle.std.specs.Int.{IsNextPowerOfTwo, IsPowerOfTwo};
 ghost use Rattle.papaya_book.specs.declared.rule.own.CapacityCause.TheVariants as numbers;
 
 use crate::rule::own::{CapacityCause, OwnSteps};
@@ -12,14 +12,6 @@ use std::alloc::Global;
 use std::marker::Model;
 use std::sync::atomic::{AtomicI64, AtomicU64, Ordering};
 
-/// What the callers of one shard added, and the number that says at which chunk their next
-/// copy begins.
-#[derive(Drop)]
-struct Part {
-    sum: AtomicI64,
-    start: AtomicU64,
-}
-
 /// A signed number in shards. Contracts see how many shards there are. Its additions are steps
 /// apart from the changes that they count, so a sum may lag behind them, and no contract says what
 /// it is.
@@ -28,7 +20,8 @@ struct Part {
 /// machine's processors.
 #[derive(Drop)]
 pub struct Count {
-    shards: Vec<CachePadded<Part>>,
+    shards: Vec<CachePadded<AtomicI64>>,
+    start: CachePadded<AtomicU64>,
 }
 
 impl Model for Count {
@@ -52,10 +45,7 @@ impl Count {
         if shards > MAX_SHARDS {
             return Err(Refused::Capacity);
         }
-        match row(alloc, shards.next_power_of_two()) {
-            Some(shards) => Ok(Count { shards }),
-            None => Err(Refused::Memory),
-        }
+        zero(alloc, shards.next_power_of_two())
     }
 
     /// A count of 0 over as many shards.
@@ -63,26 +53,30 @@ impl Count {
         ensures ok { IfOk result (λ count. count ≡ self.now) }
         ensures err { IfErr result (λ refused. refused ≡ Refused.Memory) }
     {
-        match row(alloc, self.shards.len()) {
-            Some(shards) => Ok(Count { shards }),
-            None => Err(Refused::Memory),
+        zero(alloc, self.shards.len())
+    }
+
+    /// What a caller adds to: the shard that its number picks, or, where it has none, another one
+    /// for each key.
+    #[inline(always)]
+    pub fn shard(&self, number: Option<u64>) -> Shard<'_> {
+        Shard {
+            count: self,
+            number,
         }
     }
 
-    /// What the caller adds to who has this number.
-    #[inline(always)]
-    pub fn shard(&self, guard_number: u64) -> Shard<'_> {
-        Shard {
-            count: self,
-            place: guard_number & (self.shards.len() as u64).wrapping_sub(1),
-        }
+    /// The number that says at which chunk a copy begins: one more each time, so that it goes on
+    /// where the one before it began. It is an advice: any number will do.
+    pub fn next_start(&self) -> u64 {
+        self.start.fetch_add(1, Ordering::SeqCst)
     }
 
     /// The sum of all shards, each as it is when it is read; a negative one counts as 0.
     pub fn sum(&self) -> usize {
         let mut sum: i64 = 0;
         for shard in &self.shards {
-            sum = sum.wrapping_add(shard.sum.load(Ordering::SeqCst));
+            sum = sum.wrapping_add(shard.load(Ordering::SeqCst));
         }
         if sum < 0 { 0 } else { sum as usize }
     }
@@ -97,46 +91,37 @@ impl Count {
     }
 }
 
-/// Where the first copy by a shard's callers begins. The number of shards is a power of two. In a
-/// table of as many chunks, or of twice, four times or more times as many, the shards' starts lie
-/// evenly apart, and so do those of the first two, four and more of them.
-fn first_start(index: u64, shards: u64) -> u64 {
-    // Its binary digits the other way round.
-    let mut digits: u64 = 0;
-    let mut rest = index;
-    for _ in 0..shards.trailing_zeros() {
-        digits = digits.wrapping_mul(2).wrapping_add(rest % 2);
-        rest /= 2;
-    }
-    // These again and again, since a table of 2^k chunks takes the last k digits.
-    let mut start: u64 = 0;
-    for _ in 0..u64::BITS {
-        start = start.wrapping_mul(shards).wrapping_add(digits);
-    }
-    start
-}
-
-/// So many shards of 0, or none where there is no memory. Copies of neighbours begin far apart.
-fn row(alloc: Global, len: usize) -> Option<Vec<CachePadded<Part>>>
+/// So many shards of 0, or none where there is no memory.
+fn row(alloc: Global, len: usize) -> Option<Vec<CachePadded<AtomicI64>>>
     ensures { IfSome result (λ shards. length shards.items ≡ len) }
 {
     let mut shards = Vec::with_capacity(alloc, len).ok()?;
-    for index in 0..len {
-        let start = first_start(index as u64, len as u64);
-        let part = Part {
-            sum: AtomicI64::new(0),
-            start: AtomicU64::new(start),
-        };
-        shards.push(CachePadded::new(part)).ok()?;
+    for _ in 0..len {
+        shards.push(CachePadded::new(AtomicI64::new(0))).ok()?;
     }
     Some(shards)
 }
 
-/// The shard of one caller.
+/// A count of 0 over so many shards.
+fn zero(alloc: Global, len: usize) -> Result<Count, Refused>
+    requires { IsPowerOfTwo len }
+    ensures ok { IfOk result (λ count. count ≡ len) }
+    ensures err { IfErr result (λ refused. refused ≡ Refused.Memory) }
+{
+    let Some(shards) = row(alloc, len) else {
+        return Err(Refused::Memory);
+    };
+    Ok(Count {
+        shards,
+        start: CachePadded::new(AtomicU64::new(0)),
+    })
+}
+
+/// The shards of one caller.
 #[derive(Drop)]
 pub struct Shard<'a> {
     count: &'a Count,
-    place: u64,
+    number: Option<u64>,
 }
 
 impl Shard<'_> {
@@ -146,24 +131,18 @@ impl Shard<'_> {
         self.count
     }
 
-    /// Adds to the shard. It wraps.
+    /// Adds to the caller's shard. Where the caller has no number, this one picks the shard: the
+    /// hash of a key, or the place of its slot. The sum wraps.
     #[inline(always)]
-    pub fn add(&self, by: i64) {
+    pub fn add(&self, pick: u64, by: i64) {
         let count: &Count = self.count;
-        if let Some(shard) = count.shards.get(self.place as usize) {
-            shard.sum.fetch_add(by, Ordering::SeqCst);
-        }
-    }
-
-    /// The number that says at which chunk the next copy by the shard's callers begins: one more
-    /// each time, so that a copy goes on where the one before it ended. It is an advice: any number
-    /// will do.
-    #[inline(always)]
-    pub fn start(&self) -> u64 {
-        let count: &Count = self.count;
-        match count.shards.get(self.place as usize) {
-            Some(shard) => shard.start.fetch_add(1, Ordering::SeqCst),
-            None => 0,
+        let number = match self.number {
+            Some(number) => number,
+            None => pick,
+        };
+        let place = number & (count.shards.len() as u64).wrapping_sub(1);
+        if let Some(sum) = count.shards.get(place as usize) {
+            sum.fetch_add(by, Ordering::SeqCst);
         }
     }
 }

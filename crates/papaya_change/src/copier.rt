@@ -50,13 +50,6 @@ pub struct Copier<K: Hash + Eq, V, S: BuildHasher> {
     pub given: OwnSteps<CapacityCause>,
 }
 
-/// The number that says at which chunk a copy begins: one more each time, so that it goes on where
-/// the one before it began. All take it from one shard, since a pinned map has another one at each
-/// call, and where each shard went on by itself, a copy passed by the chunks of others.
-pub(crate) fn next_start(count: &Count) -> u64 {
-    count.shard(0).start()
-}
-
 /// What an exchange is answered that found this word.
 pub(crate) fn tried(found: u64, old: u64) -> Answer
     ensures value { result ≡ tried_answer found old }

@@ -250,7 +250,7 @@ pub fn claim<R: Wait, K: Hash + Eq + Drop, V: Drop, S: BuildHasher>(
     if found != 0 {
         return Ok(Tried::Lost(pair));
     }
-    means.shard.add(1);
+    means.shard.add(hash, 1);
     window.write_hint(table, at.table, slot, hint(hash));
     Ok(Tried::Put(pair))
 }
@@ -325,7 +325,7 @@ pub fn delete<K: Hash + Eq, V, S: BuildHasher>(
     if found != word {
         return false;
     }
-    shard.add(-1);
+    shard.add(slot as u64, -1);
     let Some(taken) = before else { unreachable!() };
     window.book.parts.pairs.agrees(&met.stored, &taken);
     true

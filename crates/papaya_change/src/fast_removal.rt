@@ -69,7 +69,7 @@ pub fn remove_fast<'a, K: Hash + Eq, V, S: BuildHasher, Q: Equivalent<K>, F: FnM
     if found != word {
         return None;
     }
-    shard.add(-1);
+    shard.add(slot as u64, -1);
     let Some(taken) = before else { unreachable!() };
     window.book.parts.pairs.agrees(&stored, &taken);
     Some(Ok(Some((stored_key, value))))

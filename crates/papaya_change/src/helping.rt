@@ -16,7 +16,7 @@ ghost use Rattle.papaya_change.specs.Window.Going.{GoesBy};
 ghost use Rattle.papaya_change.specs.Helping.{HasHelped, IsEntering};
 ghost use Rattle.papaya_change.specs.Settling.{at_slot};
 
-use crate::copier::{Asked, Copier, next_start};
+use crate::copier::{Asked, Copier};
 use crate::driver::Driver;
 use papaya_ask::copy_ask::CopyAsk;
 use papaya_ask::search::Search;
@@ -98,7 +98,7 @@ impl<'a, K: Hash + Eq, V, S: BuildHasher> Driver<'a, K, V, S> {
         ensures goes_on { GoesOn window.old self.old window.new self.new }
         ensures rest { (self.new.taken ≡ self.old.taken) × (self.new.put ≡ self.old.put) }
     {
-        self.copy_from(next_start(shard.count()));
+        self.copy_from(shard.count().next_start());
         // The turn to make a next table, until that is linked. Where it is refused the copy ends,
         // and the turn goes with it.
         let mut making: Option<MutexGuard<'a, ()>> = None;

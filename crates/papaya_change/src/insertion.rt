@@ -156,7 +156,7 @@ impl<'a, K: Hash + Eq + Drop, V: Drop, S: BuildHasher> Insertion<'a, K, V, S> {
                 Some(self.put(number, place, (old, new), window))
             }
             CallAsk::AddToShard(by) => {
-                shard.add(by);
+                shard.add(self.writer.call.machine.call.hash, by);
                 Some(Answer::Ok)
             }
             CallAsk::Done(_) => None,

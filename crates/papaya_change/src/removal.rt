@@ -129,7 +129,7 @@ impl<'a, K: Hash + Eq, V, S: BuildHasher> Removal<'a, K, V, S> {
                 Some(self.call.delete(number, place, (old, new), window))
             }
             CallAsk::AddToShard(by) => {
-                shard.add(by);
+                shard.add(self.call.machine.call.hash, by);
                 Some(Answer::Ok)
             }
             CallAsk::Done(_) => None,

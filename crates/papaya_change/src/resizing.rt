@@ -14,7 +14,7 @@ ghost use Rattle.papaya_change.specs.Resizing.{HasNoRoomFor, HasRoomFor};
 ghost use Rattle.papaya_change.specs.Settling.{at_slot};
 ghost use Rattle.papaya_change.specs.Writing.{IsMemoryOrCapacity};
 
-use crate::copier::{Asked, Copier, next_start, tried};
+use crate::copier::{Asked, Copier, tried};
 use papaya_ask::call::Reply;
 use papaya_ask::copy_ask::CopyAsk;
 use papaya_book::count::Shard;
@@ -182,7 +182,7 @@ pub fn resize<'a, R: Wait, K: Hash + Eq, V, S: BuildHasher>(
         (tables_of window.new.sight.log) given.new.done }
 {
     window.learn();
-    let start = next_start(shard.count());
+    let start = shard.count().next_start();
     let machine = Resizer::new(resize, window.book.parts.mode, initial, start);
     let mut resizing = Resizing {
         machine,

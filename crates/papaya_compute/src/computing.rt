@@ -510,7 +510,7 @@ impl<'a, K: Hash + Eq + Drop, V: Drop, S: BuildHasher, T: Drop> Computing<'a, K,
                 Turn::Answered(self.writer.note(number, place, hint, window))
             }
             CallAsk::AddToShard(by) => {
-                shard.add(by);
+                shard.add(self.writer.call.machine.call.hash, by);
                 Turn::Answered(Answer::Ok)
             }
             CallAsk::Done(_) => Turn::Replied,

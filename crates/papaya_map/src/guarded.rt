@@ -66,7 +66,7 @@ impl<K: Hash + Eq, V, S: BuildHasher> HashMap<K, V, S> {
         ensures legal { IsLegalHistory K.eq key_of (history_of result.log) }
         ensures seen { IsPrefix self.now.seen (history_of result.log) }
     {
-        let pass = self.begun(0);
+        let pass = self.begun(None);
         pass.tell(Err(refused))
     }
 
@@ -89,7 +89,7 @@ impl<K: Hash + Eq, V, S: BuildHasher> HashMap<K, V, S> {
     {
         match self.verify(guard) {
             Ok(()) => {
-                let mut pass = self.begun(0);
+                let mut pass = self.begun(None);
                 let answer = Ok(self.pin().get_as(key, &mut pass));
                 pass.tell(answer)
             }
@@ -137,7 +137,7 @@ impl<K: Hash + Eq, V, S: BuildHasher> HashMap<K, V, S> {
     {
         match self.verify(guard) {
             Ok(()) => {
-                let mut pass = self.begun(0);
+                let mut pass = self.begun(None);
                 let answer = Ok(self.pin().get_key_value_as(key, &mut pass));
                 pass.tell(answer)
             }
@@ -185,7 +185,7 @@ impl<K: Hash + Eq, V, S: BuildHasher> HashMap<K, V, S> {
     {
         match self.verify(guard) {
             Ok(()) => {
-                let mut pass = self.begun(0);
+                let mut pass = self.begun(None);
                 let answer = Ok(self.pin().get_as(key, &mut pass).is_some());
                 pass.tell(answer)
             }
@@ -232,7 +232,7 @@ impl<K: Hash + Eq, V, S: BuildHasher> HashMap<K, V, S> {
     {
         match self.verify(guard) {
             Ok(()) => {
-                let mut pass = self.begun(guard.number());
+                let mut pass = self.begun(Some(guard.number()));
                 let answer = self.pin().remove_as(rt, key, &mut pass);
                 pass.tell(answer)
             }
@@ -281,7 +281,7 @@ impl<K: Hash + Eq, V, S: BuildHasher> HashMap<K, V, S> {
     {
         match self.verify(guard) {
             Ok(()) => {
-                let mut pass = self.begun(guard.number());
+                let mut pass = self.begun(Some(guard.number()));
                 let answer = self.pin().remove_entry_as(rt, key, &mut pass);
                 pass.tell(answer)
             }
@@ -332,7 +332,7 @@ impl<K: Hash + Eq, V, S: BuildHasher> HashMap<K, V, S> {
     {
         match self.verify(guard) {
             Ok(()) => {
-                let mut pass = self.begun(guard.number());
+                let mut pass = self.begun(Some(guard.number()));
                 let answer = self.pin().remove_if_as(rt, key, should_remove, &mut pass);
                 pass.tell(answer)
             }
@@ -389,7 +389,7 @@ impl<K: Hash + Eq + Drop, V: Drop, S: BuildHasher> HashMap<K, V, S> {
     {
         match self.verify(guard) {
             Ok(()) => {
-                let mut pass = self.begun(guard.number());
+                let mut pass = self.begun(Some(guard.number()));
                 let answer = self.pin().insert_as(rt, key, value, &mut pass);
                 pass.tell(answer)
             }
@@ -450,7 +450,7 @@ impl<K: Hash + Eq + Drop, V: Drop, S: BuildHasher> HashMap<K, V, S> {
         if let Err(refused) = self.verify(guard) {
             return self.tell_refused(refused);
         }
-        let mut pass = self.begun(guard.number());
+        let mut pass = self.begun(Some(guard.number()));
         let answer = self.pin().compute_as(rt, key, f, &mut pass);
         pass.tell(answer)
     }

@@ -188,7 +188,7 @@ impl<'a, K: Hash + Eq + Drop, V: Drop, S: BuildHasher> HashMapRef<'a, K, V, S> {
             value) }
         ensures refused { IfErr result.answer (IsPlainRefusal self.now.map.begun.limit) }
     {
-        let mut pass = self.begun(self.map.number());
+        let mut pass = self.begun(None);
         let answer = self.try_insert_as(rt, key, value, &mut pass);
         pass.tell(answer)
     }
@@ -231,7 +231,7 @@ impl<'a, K: Hash + Eq + Drop, V: Drop, S: BuildHasher> HashMapRef<'a, K, V, S> {
             result.log) (F.post f)) }
         ensures refused { IfErr result.answer (IsPlainRefusal self.now.map.begun.limit) }
     {
-        let mut pass = self.begun(self.map.number());
+        let mut pass = self.begun(None);
         let answer = self.try_insert_with_as(rt, key, f, &mut pass);
         pass.tell(answer)
     }
@@ -273,7 +273,7 @@ impl<'a, K: Hash + Eq + Drop, V: Drop, S: BuildHasher> HashMapRef<'a, K, V, S> {
             (λ w. w ≡ value)) }
         ensures refused { IfErr result.answer (IsPlainRefusal self.now.map.begun.limit) }
     {
-        let mut pass = self.begun(self.map.number());
+        let mut pass = self.begun(None);
         let answer = self.get_or_insert_as(rt, key, value, &mut pass);
         pass.tell(answer)
     }
@@ -309,7 +309,7 @@ impl<'a, K: Hash + Eq + Drop, V: Drop, S: BuildHasher> HashMapRef<'a, K, V, S> {
             (F.post f)) }
         ensures refused { IfErr result.answer (IsPlainRefusal self.now.map.begun.limit) }
     {
-        let mut pass = self.begun(self.map.number());
+        let mut pass = self.begun(None);
         let answer = self.get_or_insert_with_as(rt, key, f, &mut pass);
         pass.tell(answer)
     }
@@ -359,7 +359,7 @@ impl<K: Hash + Eq + Drop, V: Drop, S: BuildHasher> HashMap<K, V, S> {
     {
         match self.verify(guard) {
             Ok(()) => {
-                let mut pass = self.begun(guard.number());
+                let mut pass = self.begun(Some(guard.number()));
                 let answer = self.pin().try_insert_as(rt, key, value, &mut pass);
                 pass.tell(answer)
             }
@@ -412,7 +412,7 @@ impl<K: Hash + Eq + Drop, V: Drop, S: BuildHasher> HashMap<K, V, S> {
     {
         match self.verify(guard) {
             Ok(()) => {
-                let mut pass = self.begun(guard.number());
+                let mut pass = self.begun(Some(guard.number()));
                 let answer = self.pin().try_insert_with_as(rt, key, f, &mut pass);
                 pass.tell(answer)
             }
@@ -466,7 +466,7 @@ impl<K: Hash + Eq + Drop, V: Drop, S: BuildHasher> HashMap<K, V, S> {
     {
         match self.verify(guard) {
             Ok(()) => {
-                let mut pass = self.begun(guard.number());
+                let mut pass = self.begun(Some(guard.number()));
                 let answer = self.pin().get_or_insert_as(rt, key, value, &mut pass);
                 pass.tell(answer)
             }
@@ -519,7 +519,7 @@ impl<K: Hash + Eq + Drop, V: Drop, S: BuildHasher> HashMap<K, V, S> {
     {
         match self.verify(guard) {
             Ok(()) => {
-                let mut pass = self.begun(guard.number());
+                let mut pass = self.begun(Some(guard.number()));
                 let answer = self.pin().get_or_insert_with_as(rt, key, f, &mut pass);
                 pass.tell(answer)
             }

@@ -95,7 +95,7 @@ impl<K: Hash + Eq, V, S: BuildHasher> Model for HashMap<K, V, S> {
 /// by its pass, and any other call makes none.
 #[derive(Drop)]
 pub struct Pass<K: Hash + Eq, V, S: BuildHasher> {
-    number: u64,
+    number: Option<u64>,
     sight: Seen<K, V, S>,
     own: OwnSteps<Step<K, V>>,
     given: OwnSteps<CapacityCause>,
@@ -234,7 +234,7 @@ impl<K: Hash + Eq, V, S: BuildHasher> HashMap<K, V, S> {
     {
         let sight = self.book.unseen();
         Pass {
-            number,
+            number: Some(number),
             sight,
             own: OwnSteps::nothing(),
             given: OwnSteps::nothing(),
@@ -242,9 +242,10 @@ impl<K: Hash + Eq, V, S: BuildHasher> HashMap<K, V, S> {
     }
 
     /// A new pass of this map, which has seen what had been seen when the map was made. Its calls
-    /// pick the count's shard by this number. A call that takes a guard makes its pass by this.
+    /// pick the count's shard by this number, if there is one, and else by the key. A call that
+    /// takes a guard makes its pass by this.
     #[inline(always)]
-    pub fn begun(&self, number: u64) -> Pass<K, V, S>
+    pub fn begun(&self, number: Option<u64>) -> Pass<K, V, S>
         ensures book { result.book ≡ self.now.book }
         ensures seen { result.history ≡ self.now.seen }
         ensures made { result.made ≡ [] }
@@ -261,9 +262,10 @@ impl<K: Hash + Eq, V, S: BuildHasher> HashMap<K, V, S> {
 
 impl<'a, K: Hash + Eq, V, S: BuildHasher> HashMapRef<'a, K, V, S> {
     /// A new pass of this map, which has seen what had been seen when the map was pinned. Its calls
-    /// pick the count's shard by this number. A call that takes no pass makes its own by this.
+    /// pick the count's shard by this number, if there is one, and else by the key. A call that
+    /// takes no pass makes its own by this.
     #[inline(always)]
-    pub fn begun(&self, number: u64) -> Pass<K, V, S>
+    pub fn begun(&self, number: Option<u64>) -> Pass<K, V, S>
         ensures book { result.book ≡ self.now.map.book }
         ensures seen { result.history ≡ self.now.seen }
         ensures made { result.made ≡ [] }

@@ -54,7 +54,7 @@ impl<'a, K: Hash + Eq, V, S: BuildHasher> HashMapRef<'a, K, V, S> {
         ensures answered { IsAnsweredBetween K.eq (Q.matches key.now) self.now.seen
             (history_of result.log) result.answer }
     {
-        let mut pass = self.begun(0);
+        let mut pass = self.begun(None);
         let found = self.get_as(key, &mut pass);
         pass.tell(found)
     }
@@ -84,7 +84,7 @@ impl<'a, K: Hash + Eq, V, S: BuildHasher> HashMapRef<'a, K, V, S> {
         ensures answered { IsPairAnsweredBetween K.eq (Q.matches key.now) self.now.seen (history_of
             result.log) result.answer }
     {
-        let mut pass = self.begun(0);
+        let mut pass = self.begun(None);
         let found = self.get_key_value_as(key, &mut pass);
         pass.tell(found)
     }
@@ -112,7 +112,7 @@ impl<'a, K: Hash + Eq, V, S: BuildHasher> HashMapRef<'a, K, V, S> {
         ensures answered { IsContained K.eq (Q.matches key.now) self.now.seen (history_of
             result.log) result.answer }
     {
-        let mut pass = self.begun(0);
+        let mut pass = self.begun(None);
         let found = self.get_as(key, &mut pass).is_some();
         pass.tell(found)
     }
@@ -143,7 +143,7 @@ impl<'a, K: Hash + Eq, V, S: BuildHasher> HashMapRef<'a, K, V, S> {
         ensures removed { IsRemoved K.eq (Q.matches key.now) self.now.seen (history_of result.log)
             result.answer }
     {
-        let mut pass = self.begun(self.map.number());
+        let mut pass = self.begun(None);
         let answer = self.remove_as(rt, key, &mut pass);
         pass.tell(answer)
     }
@@ -181,7 +181,7 @@ impl<'a, K: Hash + Eq, V, S: BuildHasher> HashMapRef<'a, K, V, S> {
             result.log) (Judges F.FnMut)
             should_remove result.answer }
     {
-        let mut pass = self.begun(self.map.number());
+        let mut pass = self.begun(None);
         let answer = self.remove_if_as(rt, key, should_remove, &mut pass);
         pass.tell(answer)
     }
@@ -220,7 +220,7 @@ impl<'a, K: Hash + Eq, V, S: BuildHasher> HashMapRef<'a, K, V, S> {
         ensures removed { IsEntryRemoved K.eq (Q.matches key.now) self.now.seen (history_of
             result.log) result.answer }
     {
-        let mut pass = self.begun(self.map.number());
+        let mut pass = self.begun(None);
         let answer = self.remove_entry_as(rt, key, &mut pass);
         pass.tell(answer)
     }
@@ -293,7 +293,7 @@ impl<'a, K: Hash + Eq + Drop, V: Drop, S: BuildHasher> HashMapRef<'a, K, V, S> {
             result.log)) }
         ensures refused { IfErr result.answer (IsPlainRefusal self.now.map.begun.limit) }
     {
-        let mut pass = self.begun(self.map.number());
+        let mut pass = self.begun(None);
         let answer = self.insert_as(rt, key, value, &mut pass);
         pass.tell(answer)
     }
@@ -330,7 +330,7 @@ impl<'a, K: Hash + Eq + Drop, V: Drop, S: BuildHasher> HashMapRef<'a, K, V, S> {
             F.FnMut) f result.answer }
         ensures limited { result.answer ≡ Err Refused.Limit → IsSome self.now.map.begun.limit }
     {
-        let mut pass = self.begun(self.map.number());
+        let mut pass = self.begun(None);
         let answer = self.compute_as(rt, key, f, &mut pass);
         pass.tell(answer)
     }

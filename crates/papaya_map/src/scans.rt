@@ -57,7 +57,7 @@ impl<'a, K: Hash + Eq, V, S: BuildHasher> HashMapRef<'a, K, V, S> {
             result.log)) }
         ensures refused { IfErr result.answer IsMemoryOrCapacity }
     {
-        let mut pass = self.begun(self.map.number());
+        let mut pass = self.begun(None);
         let answer = self.clear_as(rt, &mut pass);
         pass.tell(answer)
     }
@@ -92,7 +92,7 @@ impl<'a, K: Hash + Eq, V, S: BuildHasher> HashMapRef<'a, K, V, S> {
             result.answer }
         ensures refused { IfErr result.answer IsMemoryOrCapacity }
     {
-        let mut pass = self.begun(self.map.number());
+        let mut pass = self.begun(None);
         let answer = self.retain_as(rt, stays, &mut pass);
         pass.tell(answer)
     }
@@ -168,7 +168,7 @@ impl<K: Hash + Eq, V, S: BuildHasher> HashMap<K, V, S> {
     {
         match self.verify(guard) {
             Ok(()) => {
-                let mut pass = self.begun(guard.number());
+                let mut pass = self.begun(Some(guard.number()));
                 let answer = self.pin().clear_as(rt, &mut pass);
                 pass.tell(answer)
             }
@@ -213,7 +213,7 @@ impl<K: Hash + Eq, V, S: BuildHasher> HashMap<K, V, S> {
     {
         match self.verify(guard) {
             Ok(()) => {
-                let mut pass = self.begun(guard.number());
+                let mut pass = self.begun(Some(guard.number()));
                 let answer = self.pin().retain_as(rt, stays, &mut pass);
                 pass.tell(answer)
             }

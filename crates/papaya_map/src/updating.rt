@@ -160,7 +160,7 @@ impl<'a, K: Hash + Eq + Drop, V: Drop, S: BuildHasher> HashMapRef<'a, K, V, S> {
             result.log) (FnReturnsAt F.Fn f)) }
         ensures refused { IfErr result.answer (IsPlainRefusal self.now.map.begun.limit) }
     {
-        let mut pass = self.begun(self.map.number());
+        let mut pass = self.begun(None);
         let answer = self.update_as(rt, key, f, &mut pass);
         pass.tell(answer)
     }
@@ -206,7 +206,7 @@ impl<'a, K: Hash + Eq + Drop, V: Drop, S: BuildHasher> HashMapRef<'a, K, V, S> {
             (λ w. w ≡ value)) }
         ensures refused { IfErr result.answer (IsPlainRefusal self.now.map.begun.limit) }
     {
-        let mut pass = self.begun(self.map.number());
+        let mut pass = self.begun(None);
         let answer = self.update_or_insert_as(rt, key, update, value, &mut pass);
         pass.tell(answer)
     }
@@ -253,7 +253,7 @@ impl<'a, K: Hash + Eq + Drop, V: Drop, S: BuildHasher> HashMapRef<'a, K, V, S> {
             (F.post f)) }
         ensures refused { IfErr result.answer (IsPlainRefusal self.now.map.begun.limit) }
     {
-        let mut pass = self.begun(self.map.number());
+        let mut pass = self.begun(None);
         let answer = self.update_or_insert_with_as(rt, key, update, f, &mut pass);
         pass.tell(answer)
     }
@@ -307,7 +307,7 @@ impl<K: Hash + Eq + Drop, V: Drop, S: BuildHasher> HashMap<K, V, S> {
     {
         match self.verify(guard) {
             Ok(()) => {
-                let mut pass = self.begun(guard.number());
+                let mut pass = self.begun(Some(guard.number()));
                 let answer = self.pin().update_as(rt, key, f, &mut pass);
                 pass.tell(answer)
             }
@@ -363,7 +363,7 @@ impl<K: Hash + Eq + Drop, V: Drop, S: BuildHasher> HashMap<K, V, S> {
     {
         match self.verify(guard) {
             Ok(()) => {
-                let mut pass = self.begun(guard.number());
+                let mut pass = self.begun(Some(guard.number()));
                 let answer = self
                     .pin()
                     .update_or_insert_as(rt, key, update, value, &mut pass);
@@ -423,7 +423,7 @@ impl<K: Hash + Eq + Drop, V: Drop, S: BuildHasher> HashMap<K, V, S> {
     {
         match self.verify(guard) {
             Ok(()) => {
-                let mut pass = self.begun(guard.number());
+                let mut pass = self.begun(Some(guard.number()));
                 let answer = self
                     .pin()
                     .update_or_insert_with_as(rt, key, update, f, &mut pass);

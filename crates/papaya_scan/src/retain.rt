@@ -82,7 +82,7 @@ fn scan_slot<'a, R: Wait, K: Hash + Eq, V, S: BuildHasher, F: FnMut(&K, &V) -> b
         }
         let (found, other) = delete(table, number, place, word, &pair, began, window);
         if found == word {
-            shard.add(-1);
+            shard.add(place as u64, -1);
             return false;
         }
         word = found;

@@ -61,7 +61,7 @@ impl<K: Hash + Eq, S: BuildHasher> HashSet<K, S> {
         ensures legal { IsLegalHistory K.eq key_of (history_of result.log) }
         ensures seen { IsPrefix self.now.seen (history_of result.log) }
     {
-        let pass = self.map.begun(0);
+        let pass = self.map.begun(None);
         pass.tell(Err(refused))
     }
 
@@ -85,7 +85,7 @@ impl<K: Hash + Eq, S: BuildHasher> HashSet<K, S> {
         if let Err(refused) = self.verify(guard) {
             return self.tell_refused(refused);
         }
-        let mut pass = self.map.begun(0);
+        let mut pass = self.map.begun(None);
         let found = self.map.pin().get_as(key, &mut pass).is_some();
         pass.tell(Ok(found))
     }
@@ -127,7 +127,7 @@ impl<K: Hash + Eq, S: BuildHasher> HashSet<K, S> {
         if let Err(refused) = self.verify(guard) {
             return self.tell_refused(refused);
         }
-        let mut pass = self.map.begun(0);
+        let mut pass = self.map.begun(None);
         match self.map.pin().get_key_value_as(key, &mut pass) {
             Some((stored, _)) => pass.tell(Ok(Some(stored))),
             None => pass.tell(Ok(None)),
@@ -176,7 +176,7 @@ impl<K: Hash + Eq, S: BuildHasher> HashSet<K, S> {
         if let Err(refused) = self.verify(guard) {
             return self.tell_refused(refused);
         }
-        let mut pass = self.map.begun(guard.number());
+        let mut pass = self.map.begun(Some(guard.number()));
         match self.map.pin().remove_as(rt, key, &mut pass) {
             Ok(removed) => pass.tell(Ok(removed.is_some())),
             Err(refused) => pass.tell(Err(refused)),
@@ -242,7 +242,7 @@ impl<K: Hash + Eq, S: BuildHasher> HashSet<K, S> {
         if let Err(refused) = self.verify(guard) {
             return self.tell_refused(refused);
         }
-        let mut pass = self.map.begun(guard.number());
+        let mut pass = self.map.begun(Some(guard.number()));
         let answer = self.map.pin().clear_as(rt, &mut pass);
         pass.tell(answer)
     }
@@ -285,7 +285,7 @@ impl<K: Hash + Eq, S: BuildHasher> HashSet<K, S> {
         if let Err(refused) = self.verify(guard) {
             return self.tell_refused(refused);
         }
-        let mut pass = self.map.begun(guard.number());
+        let mut pass = self.map.begun(Some(guard.number()));
         let answer = self
             .map
             .pin()
@@ -358,7 +358,7 @@ impl<K: Hash + Eq + Drop, S: BuildHasher> HashSet<K, S> {
         if let Err(refused) = self.verify(guard) {
             return self.tell_refused(refused);
         }
-        let mut pass = self.map.begun(guard.number());
+        let mut pass = self.map.begun(Some(guard.number()));
         match self.map.pin().insert_as(rt, key, (), &mut pass) {
             Ok(old) => pass.tell(Ok(old.is_none())),
             Err(refused) => pass.tell(Err(refused)),

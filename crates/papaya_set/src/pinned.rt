@@ -53,7 +53,7 @@ impl<'a, K: Hash + Eq, S: BuildHasher> HashSetRef<'a, K, S> {
         ensures contained { IsContainedBetween K.eq (Q.matches key.now) self.now.seen
             (history_of result.log) result.answer }
     {
-        let mut pass = self.keys.begun(0);
+        let mut pass = self.keys.begun(None);
         let answer = self.keys.get_as(key, &mut pass).is_some();
         pass.tell(answer)
     }
@@ -80,7 +80,7 @@ impl<'a, K: Hash + Eq, S: BuildHasher> HashSetRef<'a, K, S> {
         ensures found { IsKeyFoundBetween K.eq (Q.matches key.now) self.now.seen
             (history_of result.log) result.answer }
     {
-        let mut pass = self.keys.begun(0);
+        let mut pass = self.keys.begun(None);
         match self.keys.get_key_value_as(key, &mut pass) {
             Some((stored, _)) => pass.tell(Some(stored)),
             None => pass.tell(None),
@@ -114,7 +114,7 @@ impl<'a, K: Hash + Eq, S: BuildHasher> HashSetRef<'a, K, S> {
             self.now.seen (history_of result.log)) }
         ensures refused { IfErr result.answer IsMemoryOrCapacity }
     {
-        let mut pass = self.keys.begun(self.keys.map().number());
+        let mut pass = self.keys.begun(None);
         match self.keys.remove_as(rt, key, &mut pass) {
             Ok(removed) => pass.tell(Ok(removed.is_some())),
             Err(refused) => pass.tell(Err(refused)),
@@ -157,7 +157,7 @@ impl<'a, K: Hash + Eq, S: BuildHasher> HashSetRef<'a, K, S> {
             (history_of result.log)) }
         ensures refused { IfErr result.answer IsMemoryOrCapacity }
     {
-        let mut pass = self.keys.begun(self.keys.map().number());
+        let mut pass = self.keys.begun(None);
         let answer = self.keys.clear_as(rt, &mut pass);
         pass.tell(answer)
     }
@@ -189,7 +189,7 @@ impl<'a, K: Hash + Eq, S: BuildHasher> HashSetRef<'a, K, S> {
             (JudgesKey F.FnMut) stays result.answer }
         ensures refused { IfErr result.answer IsMemoryOrCapacity }
     {
-        let mut pass = self.keys.begun(self.keys.map().number());
+        let mut pass = self.keys.begun(None);
         let answer = self.keys.retain_as(rt, move |key, _| stays(key), &mut pass);
         pass.tell(answer)
     }
@@ -239,7 +239,7 @@ impl<'a, K: Hash + Eq + Drop, S: BuildHasher> HashSetRef<'a, K, S> {
             (history_of result.log)) }
         ensures refused { IfErr result.answer (IsPlainRefusal self.now.map.begun.limit) }
     {
-        let mut pass = self.keys.begun(self.keys.map().number());
+        let mut pass = self.keys.begun(None);
         match self.keys.insert_as(rt, key, (), &mut pass) {
             Ok(old) => pass.tell(Ok(old.is_none())),
             Err(refused) => pass.tell(Err(refused)),
