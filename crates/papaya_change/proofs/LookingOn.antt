@@ -166,41 +166,47 @@ module _ {K V S H : Type 0} (eq : K → K → Bool) (input : K → List (List �
       (r : Under log (looking_at m at) (Some lent) last kept made taken put fresh) where
     -- an insertion that has made no pair would look there too
     pub seeks : Seeks log at lent.now
-    seeks = (lent, refl, None, (λ p e. absurd (cc e)), record {
-      lawful = r.lawful;
-      seen = r.seen;
-      since = r.since;
-      is = r.is;
-      relies = record {
-        cut = λ x. refl;
-        call = record {
-          hash = refl;
-          mode = mode_is b.mode;
-          made = record {
-            keys = λ q none. absurd none;
-            limit = refl;
-            number_is = wanted_relies (setting_for eq hash b (eq key) h log) (coding_for hash b.hasher h) (exchanges_of begun) r.since (Some key) b.limit;
-            own_is = tt;
-            of_is = tt;
-            fill_is = tt;
-            choice_is = tt;
+    seeks = (
+      lent,
+      refl,
+      None,
+      (λ p e. absurd (cc e)),
+      record {
+        lawful = r.lawful;
+        seen = r.seen;
+        since = r.since;
+        is = r.is;
+        relies = record {
+          cut = λ x. refl;
+          call = record {
+            hash = refl;
+            mode = mode_is b.mode;
+            made = record {
+              keys = λ q none. absurd none;
+              limit = refl;
+              number_is = wanted_relies (setting_for eq hash b (eq key) h log) (coding_for hash b.hasher h) (exchanges_of begun) r.since (Some key) b.limit;
+              own_is = tt;
+              of_is = tt;
+              fill_is = tt;
+              choice_is = tt;
+            };
+            stage = r.relies.call.stage;
           };
-          stage = r.relies.call.stage;
+          phase = tt;
         };
-        phase = tt;
-      };
-      number = r.number;
-      at_table = r.at_table;
-      holds_table = r.holds_table;
-      last_placed = tt;
-      kept_placed = tt;
-      made_placed = λ q none. absurd none;
-      taken_placed = tt;
-      changed = λ change e. absurd (cc e);
-      brings = λ n e. absurd e;
-      words = λ behind n chunks e. absurd (cc e);
-      counts = tt;
-    })
+        number = r.number;
+        at_table = r.at_table;
+        holds_table = r.holds_table;
+        last_placed = tt;
+        kept_placed = tt;
+        made_placed = λ q none. absurd none;
+        taken_placed = tt;
+        changed = λ change e. absurd (cc e);
+        brings = λ n e. absurd e;
+        words = λ behind n chunks e. absurd (cc e);
+        counts = tt;
+      },
+    )
 
     -- where that has come to another place, it stands there
     pub passes : (log' : List (Event K V S)) → IsPrefix log log' → (to : Place) → to.table ≡ at.table → Seeks log' to lent.now

@@ -106,9 +106,10 @@ impl<'a, K: Hash + Eq, V, S: BuildHasher> Driver<'a, K, V, S> {
         ensures looked { HasLookedOn window.old self.old window.new self.new }
         ensures looks { LooksOn window.old key.now self.old window.new self.new }
     {
-        let (State::Searching(Search::Looking(at)), Some(table)) =
-            (self.machine.call.state, self.table)
-        else {
+        let (State::Searching(Search::Looking(at)), Some(table)) = (
+            self.machine.call.state,
+            self.table,
+        ) else {
             return;
         };
         let to = pass_over(window, key, self.machine.call.hash, table, at);

@@ -1,7 +1,8 @@
 //! What calls that insert have in common: their machine's asks, answered by steps on the book.
 ghost use Rattle.papaya_book.specs.Windows.{Does, IsIn, Sees};
 ghost use Rattle.papaya_change.specs.Window.LookingOn.{HasLookedOn};
-ghost use Rattle.papaya_change.specs.Window.Writing.{CanPut, CanWrite, MakesPart, Pairs, Puts, Writes, WritesOn};
+ghost use Rattle.papaya_change.specs.Window.Writing.{CanPut, CanWrite, MakesPart, Pairs, Puts, Writes};
+ghost use Rattle.papaya_change.specs.Window.Writing.{WritesOn};
 ghost use Rattle.std.specs.Prelude.{◌≡◌, ◌⊎◌, ℕ, ◌<◌, ◌^◌, IfErr, IfOk, None, Some};
 ghost use Rattle.papaya_call.specs.Machine.{ask_of as call_ask_of};
 ghost use Rattle.papaya_chain.specs.Machine.{IsStanding, ask_of, kind_of_ask};

@@ -1,4 +1,4 @@
-use Rattle.std.proofs.Common.{◌≡◌, None, Some, sym, ◌∙◌, subst}
+use Rattle.std.proofs.Common.{◌≡◌, None, sym, ◌∙◌, subst}
 use denote.Bor.{Bor}
 use Rattle.papaya_ask.specs.declared.search.Search.TheVariants.{Looking}
 use Rattle.papaya_call.specs.declared.machine.State.{State}

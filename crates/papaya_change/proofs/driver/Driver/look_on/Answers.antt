@@ -2,7 +2,6 @@ use Rattle.std.proofs.Common.{◌≡◌, None, Some, refl, sym, ap, ◌∙◌, r
 use denote.Bor.{Bor}
 use Rattle.papaya_ask.specs.declared.search.Search.TheVariants.{Looking}
 use Rattle.papaya_call.specs.declared.machine.State.TheVariants.{Searching}
-use Rattle.papaya_chain.specs.declared.machine.Machine.{Machine}
 use Rattle.papaya_book.specs.declared.book.Book.{Book as BookOf}
 use Rattle.papaya_book.specs.Hashes.{hash_of}
 use Rattle.papaya_book.specs.Parts.{begun_of}
@@ -23,9 +22,11 @@ pass_over-to-requires-clause-stands g c =
     let was : m ≡ looking_at m at = λ i. record m { call = record m.call { state = state i }; phase = c.requires.calling i } in
     let there : call ≡ record call { machine = looking_at m at; table = Some on.table } = λ i. record call { machine = was i; table = held i } in
     let r = subst (λ (z : Driver _ _ _ _). IsDriven g.K.PartialEq.eq hash b w.begun.book (g.K.PartialEq.eq key) (hash b.hasher key) (Some key) can.0 log
-    can.1 z) there can.2 in
-    (can.0, seeks g.K.PartialEq.eq g.K.Hash.hash_input g.S.BuildHasher.build_hasher g.S.Hasher.Hasher.write g.S.Hasher.Hasher.finish g.met.K.Eq.laws
-    g.met.K.Hash.respects_eq b w.begun.book key can.0 log m at on.table call.last call.kept can.1 call.taken call.put call.fresh r)
+    can.1 z) there can.2 in (
+      can.0,
+      seeks g.K.PartialEq.eq g.K.Hash.hash_input g.S.BuildHasher.build_hasher g.S.Hasher.Hasher.write g.S.Hasher.Hasher.finish g.met.K.Eq.laws
+          g.met.K.Hash.respects_eq b w.begun.book key can.0 log m at on.table call.last call.kept can.1 call.taken call.put call.fresh r,
+    )
 
 pub returns-clause-looks : goal.returns-clause-looks
 returns-clause-looks g c = λ begun made driven.
@@ -48,6 +49,9 @@ returns-clause-looks g c = λ begun made driven.
     g.met.K.Eq.laws g.met.K.Hash.respects_eq b w.begun.book key begun log m at on.table call.last call.kept made call.taken call.put call.fresh r
     seen.sight.log to.ensures.sees.log place (ap (λ z. z.table) to.ensures.stays) sought in
     let stood : c.stand.new.self ≡ record call { machine = looking_at m place; table = Some on.table } = c.stand.ensures
-    ∙ (λ i. record call { machine = record m { call = record m.call { state = Searching (Looking place) }; phase = c.requires.calling i }; table = Some on.table }) in
+    ∙ (λ i. record call {
+      machine = record m { call = record m.call { state = Searching (Looking place) }; phase = c.requires.calling i };
+      table = Some on.table;
+    }) in
     subst (λ (z : Driver _ _ _ _). IsDriven g.K.PartialEq.eq hash b w.begun.book (g.K.PartialEq.eq key) (hash b.hasher key) (Some key) begun
     seen.sight.log made z) (sym stood) passed
