@@ -25,6 +25,8 @@ pub mod Deleting
 pub mod Trading
 pub mod Logged
 pub mod Onward
+-- searches that go over places at once
+pub mod LookingOn
 -- what closures are shown
 pub mod Showings
 -- removals

@@ -1,6 +1,7 @@
 pub mod Changes
 pub mod Changing
 pub mod Driver
+pub mod LookingOn
 pub mod Helping
 pub mod Copier
 pub mod Doing

@@ -3,6 +3,7 @@ pub mod Copier
 pub mod Driver
 pub mod Going
 pub mod Inserting
+pub mod LookingOn
 pub mod Removing
 pub mod Resizing
 pub mod Seeking

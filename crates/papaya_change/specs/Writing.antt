@@ -117,6 +117,11 @@ module _ {K V S H : Type 0} (eq : K → K → Bool) (hash : S → K → ℕ) (b 
   Writes log w log' w' answer = (key : K) (made : List (Stored K V)) (begun : List (Event K V S))
       → IsWriting key made begun log w → IsWritingOn key made begun log' w' answer
 
+  abbrev pub WritesOn : List (Event K V S) → Writer K V S H → List (Event K V S) → Writer K V S H
+      → Type 0
+  WritesOn log w log' w' = (key : K) (made : List (Stored K V)) (begun : List (Event K V S))
+      → IsWriting key made begun log w → IsWriting key made begun log' w'
+
   -- each such call has made this further pair
   abbrev pub Pairs : List (Event K V S) → Writer K V S H → Writer K V S H → Stored K V → Type 0
   Pairs log w w' q = (key : K) (made : List (Stored K V)) (begun : List (Event K V S))

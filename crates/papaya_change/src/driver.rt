@@ -6,16 +6,20 @@ ghost use Rattle.papaya_call.specs.Machine.{IsFit as IsCallFit};
 ghost use Rattle.papaya_ask.specs.declared.ask.At.TheVariants.{Slot};
 ghost use Rattle.papaya_chain.specs.Machine.{IsStanding, after, kind_of_ask, started};
 ghost use Rattle.papaya_chain.specs.declared.ask.Answer.TheVariants.{Call};
+ghost use Rattle.papaya_chain.specs.declared.machine.Phase.TheVariants.{Calling};
 ghost use Rattle.papaya_call_law.specs.Told.{or_last};
 ghost use Rattle.papaya_book.specs.Windows.{CanTrySlot, Does, IsHint, MayHint, Sees};
 ghost use Rattle.papaya_change.specs.Doing.{was_made};
 ghost use Rattle.papaya_change.specs.Window.Driver.{Holds, Loads};
+ghost use Rattle.papaya_change.specs.Window.LookingOn.{CanLookOn, HasLookedOn, LooksOn};
 ghost use Rattle.papaya_change.specs.Window.Steps.{CanTake, Deletes, HasTried, IsSizeOf, Takes};
 
+use crate::fast_path::pass_over;
 use boxcar::Pushed;
 use logbook::Pen;
 use papaya_ask::ask::{Answer as CallAnswer, At};
 use papaya_ask::call::Task;
+use papaya_ask::search::Search;
 use papaya_book::rule::entry::Stored;
 use papaya_book::rule::own::{CapacityCause, OwnSteps};
 use papaya_book::table::Table;
@@ -87,6 +91,29 @@ impl<'a, K: Hash + Eq, V, S: BuildHasher> Driver<'a, K, V, S> {
         machine.call.state = state;
         self.machine = machine;
         self.table = Some(table);
+    }
+
+    /// Where the call looks for this key in the table that it holds, has it go over the places that
+    /// hold other keys. Its machine would ask for each of them.
+    #[inline(always)]
+    pub fn look_on(&mut self, key: &K, window: &mut Window<'a, K, V, S>)
+        requires standing { IsStanding self.old.machine }
+        requires calling { self.old.machine.phase ≡ Calling }
+        requires can { CanLookOn window.old key.now self.old }
+        ensures sees { Sees window.old window.new }
+        ensures own { window.new.own ≡ window.old.own }
+        ensures standing { IsStanding self.new.machine }
+        ensures looked { HasLookedOn window.old self.old window.new self.new }
+        ensures looks { LooksOn window.old key.now self.old window.new self.new }
+    {
+        let (State::Searching(Search::Looking(at)), Some(table)) = (
+            self.machine.call.state,
+            self.table,
+        ) else {
+            return;
+        };
+        let to = pass_over(window, key, self.machine.call.hash, table, at);
+        self.stand(State::Searching(Search::Looking(to)), table);
     }
 
     /// Goes on after an answer to what the call asked for itself.

@@ -168,6 +168,36 @@ fn seek<K: Hash + Eq, V, S: BuildHasher>(
     }
 }
 
+/// The first place from this one on that a turn of the search does not lead past.
+pub(crate) fn pass_over<K: Hash + Eq, V, S: BuildHasher>(
+    window: &mut Window<'_, K, V, S>,
+    key: &K,
+    hash: u64,
+    table: &Table<K, V, S>,
+    at: Place,
+) -> Place
+    requires within { IsWithin at }
+    requires hashed { hash ≡ ⟦<S as Hashed<K>>⟧.hash window.old.book.now.parts.hasher key.now }
+    requires stands { LooksAt window.old key.now table.now at }
+    ensures sees { Sees window.old window.new }
+    ensures own { window.new.own ≡ window.old.own }
+    ensures within { IsWithin result }
+    ensures stays { result ≡ record at { probe = result.probe } }
+    ensures turns { Turns window.old window.new key.now table.now (Searching (Looking at))
+        (Next result) }
+{
+    let mut place = at;
+    loop {
+        match look_at(window, key, hash, table, place) {
+            Turn::Next(next) => place.probe = next.probe,
+            _ => {
+                window.learn();
+                return place;
+            }
+        }
+    }
+}
+
 /// Where a search of the root has led a call.
 #[derive(Drop)]
 pub struct Spot<'a, K: Hash + Eq, V, S: BuildHasher> {

@@ -221,6 +221,7 @@ fn drive<'a, R: Wait, K: Hash + Eq + Drop, V: Drop, S: BuildHasher>(
                     .writer
                     .call
                     .help(means.rt, means.alloc, means.shard, window);
+                insertion.writer.look_on(window);
             }
             None => {
                 *given = insertion.writer.call.given.again();

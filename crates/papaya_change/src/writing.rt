@@ -1,10 +1,13 @@
 //! What calls that insert have in common: their machine's asks, answered by steps on the book.
 ghost use Rattle.papaya_book.specs.Windows.{Does, IsIn, Sees};
+ghost use Rattle.papaya_change.specs.Window.LookingOn.{HasLookedOn};
 ghost use Rattle.papaya_change.specs.Window.Writing.{CanPut, CanWrite, MakesPart, Pairs, Puts, Writes};
+ghost use Rattle.papaya_change.specs.Window.Writing.{WritesOn};
 ghost use Rattle.std.specs.Prelude.{◌≡◌, ◌⊎◌, ℕ, ◌<◌, ◌^◌, IfErr, IfOk, None, Some};
 ghost use Rattle.papaya_call.specs.Machine.{ask_of as call_ask_of};
 ghost use Rattle.papaya_chain.specs.Machine.{IsStanding, ask_of, kind_of_ask};
 ghost use Rattle.papaya_chain.specs.declared.ask.Ask.TheVariants.{Call};
+ghost use Rattle.papaya_chain.specs.declared.machine.Phase.TheVariants.{Calling};
 ghost use Rattle.papaya_ask.specs.Search.{IsSize};
 ghost use Rattle.papaya_ask.specs.declared.ask.Ask.TheVariants.{Exchange, Load, LoadHint, MakeTable, SameKey, SizeOf, WriteHint};
 ghost use Rattle.papaya_ask.specs.declared.ask.Ask.TheVariants.{MakeKey, MakePair, MakePairOf, MakeValue};
@@ -127,6 +130,27 @@ impl<'a, K: Hash + Eq + Drop, V: Drop, S: BuildHasher> Writer<'a, K, V, S> {
             None => unreachable!(),
         };
         Answer::Yes(same)
+    }
+
+    /// Where the call looks for its key in a table, has it go over the places that hold other keys.
+    #[inline(always)]
+    pub fn look_on(&mut self, window: &mut Window<'a, K, V, S>)
+        requires can { CanWrite window.old self.old }
+        requires standing { IsStanding self.old.call.machine }
+        requires calling { self.old.call.machine.phase ≡ Calling }
+        ensures sees { Sees window.old window.new }
+        ensures own { window.new.own ≡ window.old.own }
+        ensures standing { IsStanding self.new.call.machine }
+        ensures looked { HasLookedOn window.old self.old.call window.new self.new.call }
+        ensures looks { WritesOn window.old self.old window.new self.new }
+        ensures rest { self.new ≡ record self.old { call = self.new.call } }
+    {
+        let book = window.book;
+        match &self.key {
+            Some(KeyPart::Own(key)) => self.call.look_on(key, window),
+            Some(KeyPart::Of(pair)) => self.call.look_on(book.key(book.pair(pair)), window),
+            None => unreachable!(),
+        }
     }
 
     /// The key and the value go into the arena of pairs, with the first pair that has them, so that

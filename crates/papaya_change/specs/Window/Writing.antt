@@ -19,6 +19,11 @@ module _ {K V S H : Type 0} {d : keyed.Ghosts S K H} where
   Writes w c w' c' answer = writing.Writes d.keys.eq d.keys.hash (begun_of w.book.now.parts)
       w.book.now.begun.book w.sight.log c w'.sight.log c' answer
 
+  abbrev pub WritesOn : Window K V S H d → Writer K V S H → Window K V S H d → Writer K V S H
+      → Type 0
+  WritesOn w c w' c' = writing.WritesOn d.keys.eq d.keys.hash (begun_of w.book.now.parts)
+      w.book.now.begun.book w.sight.log c w'.sight.log c'
+
   abbrev pub Pairs : Window K V S H d → Writer K V S H → Writer K V S H → Stored K V → Type 0
   Pairs w c c' q = writing.Pairs d.keys.eq d.keys.hash (begun_of w.book.now.parts)
       w.book.now.begun.book w.sight.log c c' q

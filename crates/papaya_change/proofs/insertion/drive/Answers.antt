@@ -10,6 +10,8 @@ use Rattle.papaya_book.specs.Limits.{HasNoRoom, tables_of}
 use Rattle.papaya_change.specs.declared.driver.Driver.{Driver}
 use Rattle.papaya_change.specs.Changing.{IsDriven}
 use Rattle.papaya_change.specs.Inserting.{IsInserting}
+use Rattle.papaya_change.specs.Writing.{IsWriting}
+use Rattle.papaya_change.specs.declared.writing.Writer.{Writer}
 use denote.Bor.{Bor}
 use Rattle.papaya_book.specs.declared.book.Book.{Book as BookOf}
 use Rattle.papaya_book.specs.Hashes.{hash_of}
@@ -21,6 +23,7 @@ use Rattle.papaya_change.proofs.Doing.{does_on, does_still, idles, makes}
 use Rattle.papaya_change.proofs.Changing.{form}
 use Rattle.papaya_change.proofs.Helped.{helped_does, helped_keeps}
 use Rattle.papaya_change.proofs.InsertingHelped.{inserting_helped}
+use Rattle.papaya_change.proofs.LookingOn.{inserting_looked, looked_calling, looked_does, looked_initial}
 use Rattle.papaya_change.proofs.StepsOfOwn.{own_settings}
 use Rattle.papaya_change.proofs.Written.{own_query}
 use Rattle.papaya_book.proofs.Windows.{sees_trans}
@@ -93,38 +96,70 @@ help-requires-clause-can g c =
       on,
     )
 
+pub look_on-requires-clause-can : goal.look_on-requires-clause-can
+look_on-requires-clause-can g c =
+    let hash = (hash_of g.K.Hash.hash_input g.S.BuildHasher.build_hasher g.S.Hasher.Hasher.write g.S.Hasher.Hasher.finish) in
+    let w = c.answer.new.window.book.now in let b = begun_of w.parts in let answer = c.in-Some-answer.answer in
+    let call = c.answer-in-Some-answer.new.self in let then = c.help.new.self in let log = c.help.new.window.sight.log in
+    let x = record c.answer.new.self { writer = record c.answer.new.self.writer { call = call } } in
+    let helped = record x { writer = record x.writer { call = then } } in
+    let begin = c.requires.can in let key = begin.0 in let value = begin.1 in let begun = begin.2 in
+    let u = c.loop.invariant.0 key value begun
+    (subst (λ (z : Bor (BookOf _ _ _ _)). IsInserting g.K.PartialEq.eq hash (begun_of z.now.parts) z.now.begun.book key value begun
+    c.args.window.now.sight.log c.args.begun) (sym c.loop.invariant.4.book) begin.3) in
+    let on = subst (λ (z : Driver _ _ _ _). IsInserting g.K.PartialEq.eq hash b w.begun.book key value begun c.answer.new.window.sight.log
+    (record c.answer.new.self { writer = record c.answer.new.self.writer { call = z } })) (sym c.answer-in-Some-answer.ensures.after)
+    (subst (λ (z : Bor (BookOf _ _ _ _)). IsInserting g.K.PartialEq.eq hash (begun_of z.now.parts) z.now.begun.book key value begun
+    c.answer.new.window.sight.log
+    (record c.answer.new.self {
+      writer = record c.answer.new.self.writer {
+        call = record c.answer.new.self.writer.call { machine = after c.answer.new.self.writer.call.machine (answers.Call answer) };
+      };
+    })) (sym c.answer.ensures.sees.book) (c.in-Some-answer.ensures.inserts key value begun u).0) in
+    let query = own_query g.K.PartialEq.eq g.K.Hash.hash_input g.S.BuildHasher.build_hasher g.S.Hasher.Hasher.write g.S.Hasher.Hasher.finish
+    g.met.K.Eq.laws g.met.K.Hash.respects_eq b w.begun.book key in
+    let driven = c.help.ensures.goes_on (g.K.PartialEq.eq key) (hash b.hasher key)
+    (form g.K.PartialEq.eq g.K.Hash.hash_input g.S.BuildHasher.build_hasher g.S.Hasher.Hasher.write g.S.Hasher.Hasher.finish g.met.K.Eq.laws
+    g.met.K.Hash.respects_eq b (g.K.PartialEq.eq key) (g.K.Hash.hash_input key) query (Some key) w.begun.book begun) (Some key) begun on.made
+    on.writing.calling in
+    let went = inserting_helped g.K.PartialEq.eq g.K.Hash.hash_input g.S.BuildHasher.build_hasher g.S.Hasher.Hasher.write
+    g.S.Hasher.Hasher.finish g.met.K.Eq.laws g.met.K.Hash.respects_eq b w.begun.book key value begun c.answer.new.window.sight.log log
+    c.help.ensures.sees.log x on then driven c.help.ensures.rest.1 c.help.ensures.calling
+    (λ e. let s = c.help.ensures.still e in (s.0, ap (λ (z : Window _ _ _ _ _). z.sight.log) s.1)) c.help.ensures.helped in
+    let writes = subst (λ (z : Bor (BookOf _ _ _ _)). IsWriting g.K.PartialEq.eq hash (begun_of z.now.parts) z.now.begun.book key went.made begun
+    log helped.writer) (sym c.help.ensures.sees.book) went.writing in
+    (key, went.made, begun, writes)
+
 pub loop-preserved : goal.loop-preserved
 loop-preserved g c =
-    let w = c.answer.new.window.book.now in let b = begun_of w.parts in
-    let answer = c.in-Some-answer.answer in let m = c.loop.insertion.writer.call.machine in let call = c.answer-in-Some-answer.new.self in
-    let then = c.help.new.self in let log = c.help.new.window.sight.log in
+    let hash = (hash_of g.K.Hash.hash_input g.S.BuildHasher.build_hasher g.S.Hasher.Hasher.write g.S.Hasher.Hasher.finish) in
+    let w = c.answer.new.window.book.now in let b = begun_of w.parts in let answer = c.in-Some-answer.answer in
+    let call = c.answer-in-Some-answer.new.self in let then = c.help.new.self in let log = c.help.new.window.sight.log in
     let x = record c.answer.new.self { writer = record c.answer.new.self.writer { call = call } } in
+    let helped = record x { writer = record x.writer { call = then } } in
+    let m = c.loop.insertion.writer.call.machine in let writer = c.look_on.new.self in let seen = c.look_on.new.window in
     let same : call.machine ≡ after m (answers.Call answer) = ap (λ (z : Driver _ _ _ _). z.machine) c.answer-in-Some-answer.ensures.after
     ∙ ap (λ (z : Machine). after z (answers.Call answer)) c.answer.ensures.machine in
     let does = does_on m c.loop.invariant.2 answer c.args.window.now c.loop.window c.answer.new.window c.loop.invariant.5 c.in-Some-answer.ensures.answers in
-    let does_call = subst (λ (z : Machine). Does (has_changed z) c.args.window.now c.answer.new.window) (sym same) does in (
+    let does_call = subst (λ (z : Machine). Does (has_changed z) c.args.window.now c.answer.new.window) (sym same) does in
+    let does_help = helped_does call.machine then.machine (tables_of log) then.given.done c.help.ensures.calling c.help.ensures.helped c.args.window.now
+    c.answer.new.window c.help.new.window (λ e. (c.help.ensures.still e).1) c.help.ensures.own does_call in (
       (λ key value begun r.
           let u = c.loop.invariant.0 key value begun
-          (subst (λ (z : Bor (BookOf _ _ _ _)). IsInserting g.K.PartialEq.eq
-          (hash_of g.K.Hash.hash_input g.S.BuildHasher.build_hasher g.S.Hasher.Hasher.write g.S.Hasher.Hasher.finish) (begun_of z.now.parts)
-          z.now.begun.book key value begun c.args.window.now.sight.log c.args.begun) (c.help.ensures.sees.book ∙ c.answer.ensures.sees.book) r) in
-          let on = subst (λ (z : Driver _ _ _ _). IsInserting g.K.PartialEq.eq
-          (hash_of g.K.Hash.hash_input g.S.BuildHasher.build_hasher g.S.Hasher.Hasher.write g.S.Hasher.Hasher.finish) b w.begun.book key value begun
-          c.answer.new.window.sight.log (record c.answer.new.self { writer = record c.answer.new.self.writer { call = z } }))
-          (sym c.answer-in-Some-answer.ensures.after)
-          (subst (λ (z : Bor (BookOf _ _ _ _)). IsInserting g.K.PartialEq.eq
-          (hash_of g.K.Hash.hash_input g.S.BuildHasher.build_hasher g.S.Hasher.Hasher.write g.S.Hasher.Hasher.finish) (begun_of z.now.parts)
-          z.now.begun.book key value begun c.answer.new.window.sight.log
+          (subst (λ (z : Bor (BookOf _ _ _ _)). IsInserting g.K.PartialEq.eq hash (begun_of z.now.parts) z.now.begun.book key value begun
+          c.args.window.now.sight.log c.args.begun) (c.look_on.ensures.sees.book ∙ (c.help.ensures.sees.book ∙ c.answer.ensures.sees.book)) r) in
+          let on = subst (λ (z : Driver _ _ _ _). IsInserting g.K.PartialEq.eq hash b w.begun.book key value begun c.answer.new.window.sight.log
+          (record c.answer.new.self { writer = record c.answer.new.self.writer { call = z } })) (sym c.answer-in-Some-answer.ensures.after)
+          (subst (λ (z : Bor (BookOf _ _ _ _)). IsInserting g.K.PartialEq.eq hash (begun_of z.now.parts) z.now.begun.book key value begun
+          c.answer.new.window.sight.log
           (record c.answer.new.self {
             writer = record c.answer.new.self.writer {
               call = record c.answer.new.self.writer.call { machine = after c.answer.new.self.writer.call.machine (answers.Call answer) };
             };
-          }))
-          (sym c.answer.ensures.sees.book) (c.in-Some-answer.ensures.inserts key value begun u).0) in
+          })) (sym c.answer.ensures.sees.book) (c.in-Some-answer.ensures.inserts key value begun u).0) in
           let query = own_query g.K.PartialEq.eq g.K.Hash.hash_input g.S.BuildHasher.build_hasher g.S.Hasher.Hasher.write g.S.Hasher.Hasher.finish
           g.met.K.Eq.laws g.met.K.Hash.respects_eq b w.begun.book key in
-          let driven = c.help.ensures.goes_on (g.K.PartialEq.eq key)
-          ((hash_of g.K.Hash.hash_input g.S.BuildHasher.build_hasher g.S.Hasher.Hasher.write g.S.Hasher.Hasher.finish) b.hasher key)
+          let driven = c.help.ensures.goes_on (g.K.PartialEq.eq key) (hash b.hasher key)
           (form g.K.PartialEq.eq g.K.Hash.hash_input g.S.BuildHasher.build_hasher g.S.Hasher.Hasher.write g.S.Hasher.Hasher.finish g.met.K.Eq.laws
           g.met.K.Hash.respects_eq b (g.K.PartialEq.eq key) (g.K.Hash.hash_input key) query (Some key) w.begun.book begun) (Some key) begun on.made
           on.writing.calling in
@@ -132,16 +167,24 @@ loop-preserved g c =
           g.S.Hasher.Hasher.finish g.met.K.Eq.laws g.met.K.Hash.respects_eq b w.begun.book key value begun c.answer.new.window.sight.log log
           c.help.ensures.sees.log x on then driven c.help.ensures.rest.1 c.help.ensures.calling
           (λ e. let s = c.help.ensures.still e in (s.0, ap (λ (z : Window _ _ _ _ _). z.sight.log) s.1)) c.help.ensures.helped in
-          subst (λ (z : Bor (BookOf _ _ _ _)). IsInserting g.K.PartialEq.eq
-          (hash_of g.K.Hash.hash_input g.S.BuildHasher.build_hasher g.S.Hasher.Hasher.write g.S.Hasher.Hasher.finish) (begun_of z.now.parts)
-          z.now.begun.book key value begun log (record x { writer = record x.writer { call = then } })) (sym c.help.ensures.sees.book) went),
-      c.help.ensures.standing,
-      c.help.ensures.calling,
-      (helped_keeps call.machine then.machine (tables_of log) then.given.done c.help.ensures.helped).initial
-          ∙ (ap (λ (z : Machine). z.call.initial) same ∙ ((own_settings m c.loop.invariant.2 answer).0 ∙ c.loop.invariant.3)),
-      sees_trans _ _ _ (sees_trans _ _ _ c.loop.invariant.4 c.answer.ensures.sees) c.help.ensures.sees,
-      helped_does call.machine then.machine (tables_of log) then.given.done c.help.ensures.calling c.help.ensures.helped c.args.window.now
-          c.answer.new.window c.help.new.window (λ e. (c.help.ensures.still e).1) c.help.ensures.own does_call,
+          let writes = subst (λ (z : Bor (BookOf _ _ _ _)). IsWriting g.K.PartialEq.eq hash (begun_of z.now.parts) z.now.begun.book key went.made begun
+          log helped.writer) (sym c.help.ensures.sees.book) went.writing in
+          let wrote = subst (λ (z : Bor (BookOf _ _ _ _)). IsWriting g.K.PartialEq.eq hash (begun_of z.now.parts) z.now.begun.book key went.made begun
+          seen.sight.log writer) c.help.ensures.sees.book (c.look_on.ensures.looks key went.made begun writes) in
+          let looked = inserting_looked g.K.PartialEq.eq g.K.Hash.hash_input g.S.BuildHasher.build_hasher g.S.Hasher.Hasher.write
+          g.S.Hasher.Hasher.finish g.met.K.Eq.laws g.met.K.Hash.respects_eq b w.begun.book key begun value log seen.sight.log
+          c.look_on.ensures.sees.log helped went c.help.new.window seen writer.call c.look_on.ensures.looked refl refl wrote.calling in
+          let there = subst (λ (z : Writer _ _ _ _). IsInserting g.K.PartialEq.eq hash b w.begun.book key value begun seen.sight.log
+          (record helped { writer = z })) (sym c.look_on.ensures.rest) looked in
+          subst (λ (z : Bor (BookOf _ _ _ _)). IsInserting g.K.PartialEq.eq hash (begun_of z.now.parts) z.now.begun.book key value begun
+          seen.sight.log (record helped { writer = writer })) (sym (c.look_on.ensures.sees.book ∙ c.help.ensures.sees.book)) there),
+      c.look_on.ensures.standing,
+      looked_calling c.help.new.window seen then writer.call c.look_on.ensures.looked c.help.ensures.calling,
+      looked_initial c.help.new.window seen then writer.call c.look_on.ensures.looked
+          ∙ ((helped_keeps call.machine then.machine (tables_of log) then.given.done c.help.ensures.helped).initial
+          ∙ (ap (λ (z : Machine). z.call.initial) same ∙ ((own_settings m c.loop.invariant.2 answer).0 ∙ c.loop.invariant.3))),
+      sees_trans _ _ _ (sees_trans _ _ _ (sees_trans _ _ _ c.loop.invariant.4 c.answer.ensures.sees) c.help.ensures.sees) c.look_on.ensures.sees,
+      looked_does c.help.new.window seen then writer.call c.look_on.ensures.looked c.args.window.now c.look_on.ensures.own does_help,
     )
 
 pub replied-requires-clause-can : goal.replied-requires-clause-can
