@@ -17,6 +17,7 @@ pub mod ComputedFast
 pub mod ComputesDone
 pub mod ComputingCopies
 pub mod CopyTurns
+pub mod Advancing
 pub mod ComputingDone
 pub mod Counting
 pub mod Driving

@@ -106,13 +106,13 @@ module _ {K V S : Type 0} (eq : K → K → Bool) (hash : K → ℕ) (mode : Mod
         (fit, goes.0, subst (λ s. left_at (Searching (Looking (first_place h t slots limit))) < left_at s) (sym state) goes.1)
 
     -- or there is no table, and the lookup has ended
-    pub none_sized : (t : ℕ) → ((slots limit : ℕ) → size_of (table_of store.words.tables t) ≡ Size slots limit → ⊥) → HasCome (numbered t)
-        → HasCome (Ended Absent)
-    none_sized t none kept = elim (cases_eq t 0) [
+    pub none_there : (t : ℕ) → table_of store.words.tables t ≡ None → HasCome (numbered t) → HasCome (Ended Absent)
+    none_there t none kept = elim (cases_eq t 0) [
       | inl zero ↦ subst (λ n. HasCome (numbered n)) zero kept
       | inr some ↦
           let (table, there) = (subst HasCome (numbered_some t some) kept).looking in
-          absurd (none (length table.slots) table.limit (ap size_of there))
+          let both : None ≡ Some table = sym none ∙ there in
+          absurd cc
     ]
 
     -- a search of a table led on

@@ -1,8 +1,10 @@
 -- The search of one table: each turn is one to three answers of the machine, and brings it nearer its end.
 use Rattle.std.proofs.Common.{◌≡◌, ℕ, ◌+◌, ◌*◌, ◌-◌, ◌<◌, ◌≤◌, nat_lt, ltb-true, if◌then◌else◌}
-use Rattle.std.proofs.Common.{Bool, true, false, List, [], ◌∷◌, ◌++◌, Option, refl, sym, ◌∙◌, ap}
+use Rattle.std.proofs.Common.{Bool, true, false, List, [], ◌∷◌, ◌++◌, Option, Some, length, slice_get, slice_index, refl, sym, ◌∙◌, ap}
 use Rattle.std.proofs.Common.{subst, arith}
-use Rattle.std.proofs.lemmas.Bool.{cond_both, ne_eqb}
+use Rattle.std.proofs.lemmas.Bool.{cond_both, lt-ltb, ne_eqb}
+use Rattle.std.proofs.lemmas.Option.{get_or_from_slice_get}
+use Rattle.papaya_words.specs.Table.{TableWords}
 use Rattle.papaya_words.specs.Word.{kind_of, may_hold, pair_of as number_of}
 use Rattle.papaya_words.specs.declared.word.Kind.{Kind}
 use Rattle.papaya_words.specs.declared.word.Kind.TheVariants as kinds
@@ -13,9 +15,10 @@ use Rattle.papaya_ask.specs.declared.ask.At.TheVariants.{Slot}
 use Rattle.papaya_ask.specs.declared.call.Task.{Task}
 use Rattle.papaya_ask.specs.declared.call.Task.TheVariants.{Get, Insert, RemoveIf, Compute}
 use Rattle.papaya_ask.specs.declared.search.Place.{Place}
+use Rattle.papaya_ask.specs.declared.search.Search.{Search}
 use Rattle.papaya_ask.specs.declared.search.Search.TheVariants.{Sizing, Looking, Reading, Comparing}
 use Rattle.papaya_ask.specs.declared.search.Probed.{Probed}
-use Rattle.papaya_ask.specs.declared.search.Probed.TheVariants.{On, Over}
+use Rattle.papaya_ask.specs.declared.search.Probed.TheVariants.{On, Empty, Here, Over}
 use Rattle.papaya_ask.specs.Search.{IsProbed, at_yes, first_place, go_on, hinted, look, look_at, match_at, next_place}
 use Rattle.papaya_call.specs.declared.machine.Machine.{Machine}
 use Rattle.papaya_call.specs.declared.machine.State.{State}
@@ -24,14 +27,14 @@ use Rattle.papaya_call.specs.declared.compute.Gap.TheVariants.{NoRoot}
 use Rattle.papaya_call.specs.Machine.{absent, after, at_root, goes}
 use Rattle.papaya_store.specs.Store.{StoreState, pair_of}
 use Rattle.papaya_store.specs.Performs.{size_of}
-use Rattle.papaya_store.specs.Tables.{hint_at, table_of, word_at}
+use Rattle.papaya_store.specs.Tables.{hint_at, slot_hint, table_of, word_at, word_in}
 use Rattle.papaya_seq.specs.Looks.{Comes, matches_in}
-use Rattle.papaya_seq.specs.Searches.{IsMatchedBy, IsTurn, IsTurnFrom, IsTurned, Sees, SeesFrom, StandsBy, left_at, left_to, seen_by}
+use Rattle.papaya_seq.specs.Searches.{IsMatchedBy, IsPassedTo, IsPlaceOf, IsTurn, IsTurnFrom, IsTurned, Sees, SeesFrom, StandsBy, left_at, left_to, seen_by}
 use Rattle.papaya_seq.specs.declared.search.Turn.{Turn}
 use Rattle.papaya_seq.specs.declared.search.Turn.TheVariants as turns
 
 -- what is left to a search that has seen this
-abbrev left_seen : Probed → ℕ
+abbrev pub left_seen : Probed → ℕ
 left_seen (On (Looking at)) = left_at at
 left_seen (On (Reading at)) = 3 * (at.limit + 1 - at.probe.len)
 left_seen (On (Comparing at word)) = 3 * (at.limit - at.probe.len) + 2
@@ -82,11 +85,6 @@ turn_left (turns.Over t) = refl
 on_turned : (at : Place) → IsTurned (go_on at)
 on_turned at = cond_both (nat_lt at.probe.len at.limit) (On (Looking (next_place at))) (Over at.table) IsTurned (λ _. tt) (λ _. tt)
 
--- a hint that spares the word
-pub hinted_turned : (at : Place) (hash hint : ℕ) → ((place : Place) → hinted at hash hint ≡ On (Reading place) → ⊥) → IsTurned (hinted at hash hint)
-hinted_turned at hash hint = cond_both (may_hold hint hash) (On (Reading at)) (go_on at)
-    (λ s. ((place : Place) → s ≡ On (Reading place) → ⊥) → IsTurned s) (λ _ none. absurd (none at refl)) (λ _ none. on_turned at)
-
 -- a word whose pair's key is not to be compared
 abbrev Uncompared : Probed → Type 0
 Uncompared seen = ((at : Place) (word : ℕ) → seen ≡ On (Comparing at word) → ⊥) → IsTurned seen
@@ -116,10 +114,6 @@ yes_turned at word false = on_turned at
 stands_on : (words : At → ℕ) (at : Place) → StandsBy words (go_on at)
 stands_on words at = cond_both (nat_lt at.probe.len at.limit) (On (Looking (next_place at))) (Over at.table) (StandsBy words) (λ _. tt) (λ _. tt)
 
--- nor does one that was told a hint
-pub stands_hinted : (words : At → ℕ) (at : Place) (hash hint : ℕ) → StandsBy words (hinted at hash hint)
-stands_hinted words at hash hint = cond_both (may_hold hint hash) (On (Reading at)) (go_on at) (StandsBy words) (λ _. tt) (λ _. stands_on words at)
-
 -- what a word tells stands by the word
 pub stands_look : (words : At → ℕ) (kind : Kind) (at : Place) (word : ℕ) → words (Slot at.table at.probe.i) ≡ word → kind_of word ≡ kind
     → StandsBy words (look_at kind at word)
@@ -144,6 +138,86 @@ pub stands_yes : (words : At → ℕ) (at : Place) (word : ℕ) (same : Bool) �
 stands_yes words at word true is = stands_match words (kind_of word) at word is
 stands_yes words at word false is = stands_on words at
 
+-- a hint that leads on to no next place leads to its word, or past the table
+abbrev Unlooked : {K V S : Type 0} → StoreState K V S → TableWords → Place → Probed → Type 0
+Unlooked store t first seen = ((place : Place) → seen ≡ On (Looking place) → ⊥) → IsPassedTo store t first seen
+
+pub hinted_led : {K V S : Type 0} (store : StoreState K V S) (t : TableWords) (first at : Place) (hash hint : ℕ) → IsPlaceOf store t at
+    → left_at at ≤ left_at first → Unlooked store t first (hinted at hash hint)
+hinted_led store t first at hash hint held near = cond_both (may_hold hint hash) (On (Reading at)) (go_on at) (Unlooked store t first)
+    (λ _ none. (held, near))
+    (λ _. cond_both (nat_lt at.probe.len at.limit) (On (Looking (next_place at))) (Over at.table) (Unlooked store t first)
+    (λ _ none. absurd (none (next_place at) refl)) (λ _ none. tt))
+
+-- the place after one of a table is one of it
+abbrev Stays : {K V S : Type 0} → StoreState K V S → TableWords → Probed → Type 0
+Stays store t seen = (place : Place) → seen ≡ On (Looking place) → IsPlaceOf store t place
+
+on_stays : {K V S : Type 0} (store : StoreState K V S) (t : TableWords) (at : Place) → IsPlaceOf store t at → Stays store t (go_on at)
+on_stays store t at held = cond_both (nat_lt at.probe.len at.limit) (On (Looking (next_place at))) (Over at.table) (Stays store t)
+    (λ _ place e. let is : next_place at ≡ place = cc e in subst (IsPlaceOf store t) is (record { table = held.table; len = held.len }))
+    (λ _ place e. absurd cc)
+
+pub hinted_stays : {K V S : Type 0} (store : StoreState K V S) (t : TableWords) (at : Place) (hash hint : ℕ) → IsPlaceOf store t at
+    → Stays store t (hinted at hash hint)
+hinted_stays store t at hash hint held = cond_both (may_hold hint hash) (On (Reading at)) (go_on at) (Stays store t) (λ _ place e. absurd cc)
+    (λ _. on_stays store t at held)
+
+pub look_stays : {K V S : Type 0} (store : StoreState K V S) (t : TableWords) (kind : Kind) (at : Place) (word : ℕ) → IsPlaceOf store t at
+    → Stays store t (look_at kind at word)
+look_stays store t kinds.Empty at word held = λ place e. absurd cc
+look_stays store t kinds.Live at word held = λ place e. absurd cc
+look_stays store t kinds.Marked at word held = λ place e. absurd cc
+look_stays store t kinds.Copied at word held = λ place e. absurd cc
+look_stays store t kinds.Tombstone at word held = on_stays store t at held
+look_stays store t kinds.Closed at word held = on_stays store t at held
+
+match_stays : {K V S : Type 0} (store : StoreState K V S) (t : TableWords) (kind : Kind) (at : Place) (word : ℕ)
+    → Stays store t (match_at kind at word)
+match_stays store t kinds.Empty at word = λ place e. absurd cc
+match_stays store t kinds.Live at word = λ place e. absurd cc
+match_stays store t kinds.Marked at word = λ place e. absurd cc
+match_stays store t kinds.Copied at word = λ place e. absurd cc
+match_stays store t kinds.Tombstone at word = λ place e. absurd cc
+match_stays store t kinds.Closed at word = λ place e. absurd cc
+
+pub yes_stays : {K V S : Type 0} (store : StoreState K V S) (t : TableWords) (at : Place) (word : ℕ) (same : Bool) → IsPlaceOf store t at
+    → Stays store t (at_yes (Comparing at word) same)
+yes_stays store t at word true held = match_stays store t (kind_of word) at word
+yes_stays store t at word false held = on_stays store t at held
+
+-- a search that passed by places stands by no word, and has found no pair
+pub passed_stands : {K V S : Type 0} (store : StoreState K V S) (t : TableWords) (words : At → ℕ) (first : Place) (seen : Probed)
+    → IsPassedTo store t first seen → StandsBy words seen
+passed_stands store t words first (On (Sizing n)) led = tt
+passed_stands store t words first (On (Looking at)) led = tt
+passed_stands store t words first (On (Reading at)) led = tt
+passed_stands store t words first (On (Comparing at word)) led = absurd led
+passed_stands store t words first (Empty at) led = absurd led
+passed_stands store t words first (Here at word) led = absurd led
+passed_stands store t words first (Over n) led = tt
+
+pub passed_matched : {K V S : Type 0} (store : StoreState K V S) (t : TableWords) (matches : K → Bool) (hash : ℕ) (first : Place) (seen : Probed)
+    → IsPassedTo store t first seen → IsMatchedBy matches store hash seen
+passed_matched store t matches hash first (On search) led = tt
+passed_matched store t matches hash first (Empty at) led = tt
+passed_matched store t matches hash first (Here at word) led = absurd led
+passed_matched store t matches hash first (Over n) led = tt
+
+-- the word and the hint at a place of a table
+pub word_held : {K V S : Type 0} (store : StoreState K V S) (t : TableWords) (at : Place) (word : ℕ) → IsPlaceOf store t at
+    → slice_get t.slots at.probe.i ≡ Some word → word ≡ word_at store.words (Slot at.table at.probe.i)
+word_held store t at word held is = sym (ap (word_in (λ x. slice_index x.slots at.probe.i)) held.table
+    ∙ get_or_from_slice_get t.slots at.probe.i word 0 is)
+
+pub hint_held : {K V S : Type 0} (store : StoreState K V S) (t : TableWords) (at : Place) (hint : ℕ) → IsPlaceOf store t at → at.probe.i < at.len
+    → slice_get t.hints at.probe.i ≡ Some hint → hint ≡ hint_at store.words at.table at.probe.i
+hint_held store t at hint held within is =
+    let inside : at.probe.i < length t.slots = subst (λ n. at.probe.i < n) held.len within in
+    sym (ap (word_in (λ x. slot_hint x at.probe.i)) held.table
+    ∙ ap (λ (b : Bool). if b then slice_index t.hints at.probe.i else 0) (lt-ltb at.probe.i (length t.slots) inside)
+    ∙ get_or_from_slice_get t.hints at.probe.i hint 0 is)
+
 -- a call that loaded the number of a root searches it
 root_searched : (task : Task) (fill : Option ℕ) (root : ℕ) → (root ≡ 0 → ⊥) → at_root task fill root ≡ Searching (Sizing root)
 root_searched Get fill root some = ap (λ (b : Bool). if b then absent Get fill NoRoot else Searching (Sizing root)) (ne_eqb root 0 some)
@@ -163,15 +237,15 @@ module _ {K V S : Type 0} (matches : K → Bool) (store : StoreState K V S) wher
     pub sees_begun : (at : Place) → Sees matches store hash at (On (Looking at))
     sees_begun at m = ([], refl)
 
-    -- what it sees from a place that it came to, it sees from the first one
-    pub sees_on : (at place : Place) (seen : Probed) → Sees matches store hash at (On (Looking place)) → Sees matches store hash place seen
-        → Sees matches store hash at seen
-    sees_on at place seen before goes_on m =
+    -- what it sees from where it came to, it sees from the first place
+    pub sees_on : (at : Place) (search : Search) (seen : Probed) → Sees matches store hash at (On search)
+        → SeesFrom matches store hash (Searching search) seen → Sees matches store hash at seen
+    sees_on at search seen before goes_on m =
         let came = before m in
         let more = goes_on m in (
           came.0 ++ more.0,
           comes_on came.0 more.0 (record m { hash = hash; state = Searching (Looking at) })
-              (record m { hash = hash; state = Searching (Looking place) }) (record m { hash = hash; state = goes m seen }) came.1 more.1,
+              (record m { hash = hash; state = Searching search }) (record m { hash = hash; state = goes m seen }) came.1 more.1,
         )
 
     module _ (at : Place) where
@@ -186,17 +260,6 @@ module _ {K V S : Type 0} (matches : K → Bool) (store : StoreState K V S) wher
       -- the hint was loaded
       pub sees_hint : Sees matches store hash at (hinted at hash hint_there)
       sees_hint m = (Word_read hint_there ∷ [], (tt, refl, refl))
-
-      -- and the word after it
-      pub reads_on : (place : Place) (seen : Probed) → hinted at hash hint_there ≡ On (Reading place)
-          → SeesFrom matches store hash (Searching (Reading place)) seen → Sees matches store hash at seen
-      reads_on place seen reads goes_on m =
-          let looks : Machine = record m { hash = hash; state = Searching (Looking at) } in
-          let loads : Machine = record m { hash = hash; state = Searching (Reading place) } in
-          let came : Comes matches store looks (Word_read hint_there ∷ [])
-          loads = subst (λ s. Comes matches store looks (Word_read hint_there ∷ []) (record m { hash = hash; state = goes m s })) reads (tt, refl, refl) in
-          let more = goes_on m in
-          (Word_read hint_there ∷ more.0, comes_on (Word_read hint_there ∷ []) more.0 looks loads (record m { hash = hash; state = goes m seen }) came more.1)
 
       -- the word was loaded
       pub sees_word : SeesFrom matches store hash (Searching (Reading at)) (look at word_there)
@@ -229,9 +292,6 @@ module _ {K V S : Type 0} (matches : K → Bool) (store : StoreState K V S) wher
       matched_on : IsMatchedBy matches store hash (go_on at)
       matched_on = cond_both (nat_lt at.probe.len at.limit) (On (Looking (next_place at))) (Over at.table) (IsMatchedBy matches store hash) (λ _. tt) (λ _. tt)
 
-      pub matched_hinted : (hint : ℕ) → IsMatchedBy matches store hash (hinted at hash hint)
-      matched_hinted hint = cond_both (may_hold hint hash) (On (Reading at)) (go_on at) (IsMatchedBy matches store hash) (λ _. tt) (λ _. matched_on)
-
       pub matched_look : (kind : Kind) (word : ℕ) → IsMatchedBy matches store hash (look_at kind at word)
       matched_look kinds.Empty word = tt
       matched_look kinds.Live word = tt
@@ -259,7 +319,7 @@ module _ {K V S : Type 0} (matches : K → Bool) (store : StoreState K V S) wher
     pub turns_on : (at place : Place) (turn : Turn) → IsTurn matches store hash at (turns.Next place) → IsTurn matches store hash place turn
         → IsTurn matches store hash at turn
     turns_on at place turn before next = record {
-      sees = sees_on at place (seen_by turn) before.sees next.sees;
+      sees = sees_on at (Looking place) (seen_by turn) before.sees next.sees;
       within = next.within;
       stands = next.stands;
       matched = next.matched;

@@ -1,5 +1,6 @@
 -- The search of one table: where its turns lead the machine of a call, that nothing runs.
-use Rattle.std.specs.Prelude.{◌≡◌, ℕ, ◌+◌, ◌*◌, ◌-◌, Bool, true, List}
+use Rattle.std.specs.Prelude.{◌≡◌, ℕ, ◌+◌, ◌*◌, ◌-◌, ◌≤◌, Bool, true, List, Some, length}
+use Rattle.papaya_words.specs.Table.{TableWords}
 use Rattle.papaya_words.specs.Word.{kind_of, pair_of as number_of}
 use Rattle.papaya_words.specs.declared.word.Kind.TheVariants.{Empty as Is_empty}
 use Rattle.papaya_ask.specs.declared.ask.Answer.{Answer}
@@ -15,7 +16,7 @@ use Rattle.papaya_call.specs.declared.machine.State.{State}
 use Rattle.papaya_call.specs.declared.machine.State.TheVariants.{AtRoot, Searching}
 use Rattle.papaya_call.specs.Machine.{goes}
 use Rattle.papaya_store.specs.Store.{StoreState, pair_of}
-use Rattle.papaya_store.specs.Tables.{word_at}
+use Rattle.papaya_store.specs.Tables.{table_of, word_at}
 use Rattle.papaya_seq.specs.Looks.{Comes, matches_in}
 use Rattle.papaya_seq.specs.declared.search.Turn.{Turn}
 use Rattle.papaya_seq.specs.declared.search.Turn.TheVariants as turns
@@ -92,3 +93,22 @@ module _ {K V S : Type 0} (matches : K → Bool) (store : StoreState K V S) (has
     pub sees : SeesFrom AtRoot (seen_by turn)
     pub stands : StandsBy (λ at. word_at store.words at) (seen_by turn)
     pub matched : IsMatchedBy (seen_by turn)
+
+module _ {K V S : Type 0} (store : StoreState K V S) (t : TableWords) where
+  -- The place is one of this table, which is as long as the place says.
+  pub record IsPlaceOf (at : Place) : Type 0 where
+    pub table : table_of store.words.tables at.table ≡ Some t
+    pub len : at.len ≡ length t.slots
+
+  -- A search that began at the first place passes by no place but those of other keys: it loads the
+  -- word of a place that is no further from its end, or the table is passed.
+  abbrev pub IsPassedTo : Place → Probed → Type 0
+  IsPassedTo first (On (Reading at)) = IsPlaceOf at × (left_at at ≤ left_at first)
+  IsPassedTo first (Over n) = Unit {0}
+  IsPassedTo first _ = ⊥
+
+  -- A search passed by places, from this one on, by their hints alone.
+  pub record IsPassed (hash : ℕ) (at : Place) (seen : Probed) : Type 0 where
+    pub sees : (matches : K → Bool) → Sees matches store hash at seen
+    pub within : IsProbed seen
+    pub led : IsPassedTo at seen

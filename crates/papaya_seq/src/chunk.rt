@@ -5,7 +5,8 @@ ghost use Rattle.papaya_ask.specs.Search.{IsWithin};
 ghost use Rattle.papaya_ask.specs.declared.ask.At.TheVariants as words;
 ghost use Rattle.papaya_chain.specs.Machine.{IsStanding};
 ghost use Rattle.papaya_chain.specs.Resizer.{IsStandingResizer};
-ghost use Rattle.papaya_copy.specs.Step.{IsStandingChunk};
+ghost use Rattle.papaya_copy.specs.Step.{IsStandingChunk, IsStandingCursor, IsStandingStep};
+ghost use Rattle.papaya_copy.specs.Step.{next_cursor};
 ghost use Rattle.papaya_copy.specs.declared.carry.Carry.TheVariants as carries;
 ghost use Rattle.papaya_copy.specs.declared.settle.Settle.TheVariants as settles;
 ghost use Rattle.papaya_copy.specs.declared.settle.Settled.TheVariants.{On};
@@ -23,7 +24,7 @@ use papaya_chain::resizer::{Resizer, State};
 use papaya_copy::carry::Carry;
 use papaya_copy::copying::Copying;
 use papaya_copy::settle::{Settle, Slot};
-use papaya_copy::step::{Chunk, Step};
+use papaya_copy::step::{Chunk, Cursor, Step};
 use papaya_store::store::Store;
 use papaya_words::probe::ResizeMode;
 use papaya_words::word::{Kind, SHUT, Word, hint};
@@ -142,7 +143,55 @@ fn copy_slot<K: Hash + Eq, V, S: BuildHasher>(
     }
 }
 
+/// Where a copy goes behind a chunk that is copied: its machine does the same.
+#[inline(always)]
+fn step_behind(mut cursor: Cursor) -> Step
+    requires { IsStandingCursor cursor }
+    ensures value { result ≡ next_cursor cursor }
+    ensures standing { IsStandingStep result }
+{
+    let further = cursor.slots < cursor.len - cursor.begun;
+    if further && !(cursor.wrapped && cursor.at + 1 >= cursor.start) {
+        cursor.at += 1;
+        cursor.begun += cursor.slots;
+        Step::AtChunk(cursor)
+    } else if !cursor.wrapped && cursor.start > 0 {
+        cursor.at = 0;
+        cursor.begun = 0;
+        cursor.wrapped = true;
+        Step::AtChunk(cursor)
+    } else {
+        Step::Promoting {
+            from: cursor.from,
+            to: cursor.to,
+        }
+    }
+}
+
+/// Says that a chunk is copied, and passes by those behind it that are: where the copy stands then.
+#[inline]
+fn advance<K: Hash + Eq, V, S: BuildHasher>(store: &mut Store<K, V, S>, mut cursor: Cursor) -> Step
+    requires { IsStandingCursor cursor }
+    ensures { (mode : modes.ResizeMode) → Steps K.eq
+        (hash_of K.hash_input S.build_hasher S.Hasher.write S.Hasher.finish) mode store.old
+        (steps.Advancing cursor) store.new result }
+{
+    let _ = store.exchange(At::Done(cursor.to, cursor.at), 0, 1);
+    cursor.copied = true;
+    loop {
+        let step = step_behind(cursor);
+        let Step::AtChunk(at) = step else {
+            return step;
+        };
+        if store.word(At::Done(at.to, at.at)) == 0 {
+            return step;
+        }
+        cursor = at;
+    }
+}
+
 /// Copies the slots of a chunk one after another, to its last, or to one that is not settled so.
+/// Behind its last slot it passes by the chunks that are copied.
 fn copy_slots<K: Hash + Eq, V, S: BuildHasher>(
     store: &mut Store<K, V, S>,
     mode: ResizeMode,
@@ -160,7 +209,7 @@ fn copy_slots<K: Hash + Eq, V, S: BuildHasher>(
         }
         chunk.at += 1;
         if chunk.at >= chunk.end {
-            return Step::Advancing(chunk.cursor);
+            return advance(store, chunk.cursor);
         }
     }
 }

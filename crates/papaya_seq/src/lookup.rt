@@ -8,7 +8,7 @@ ghost use Rattle.papaya_seq.specs.Looks.{LooksUp, matches_in};
 
 use crate::search::{Turn, search};
 use crate::seq::HashMap;
-use papaya_ask::ask::{Answer, At};
+use papaya_ask::ask::At;
 use papaya_ask::search::Place;
 use papaya_keys::guard::Equivalent;
 use papaya_store::store::Store;
@@ -42,13 +42,13 @@ impl<K: Hash + Eq, V, S: BuildHasher> HashMap<K, V, S> {
             × (result ≡ option_map (λ p. p.number) found) }
     {
         let hash = self.store.hash(key);
-        let mut table = self.store.word(At::Root);
-        while let Answer::Size { len, limit } = self.store.size_of(table) {
-            let first = Place::first(hash, table, len, limit);
-            match search(&self.store, key, hash, first) {
+        let mut number = self.store.word(At::Root);
+        while let Some(table) = self.store.table(number) {
+            let first = Place::first(hash, number, table.len(), table.limit());
+            match search(&self.store, table, key, hash, first) {
                 Turn::Here(_, word) => return Some(Word(word).pair()),
                 Turn::Over(passed) => match self.mode.resize {
-                    ResizeMode::Incremental(_) => table = self.store.word(At::Next(passed)),
+                    ResizeMode::Incremental(_) => number = self.store.word(At::Next(passed)),
                     ResizeMode::Blocking => return None,
                 },
                 _ => return None,

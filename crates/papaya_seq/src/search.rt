@@ -2,14 +2,16 @@
 ghost use Rattle.std.specs.Prelude.{◌≡◌, ◌+◌, ◌<◌, ℕ, Some, length};
 ghost use Rattle.papaya_ask.specs.Search.{IsSize, IsWithin};
 ghost use Rattle.papaya_store.specs.Tables.{table_of};
-ghost use Rattle.papaya_seq.specs.Searches.{IsReadTurn, IsRootTurn, IsTurn, IsTurned, left_at, left_to, seen_by};
+ghost use Rattle.papaya_seq.specs.Searches.{IsPassed, IsPlaceOf, IsReadTurn, IsRootTurn, IsTurn};
+ghost use Rattle.papaya_seq.specs.Searches.{IsTurned, left_at, left_to, seen_by};
 ghost use Rattle.papaya_seq.specs.declared.search.Turn.TheVariants.{Next};
 
 use crate::lookup::matches;
-use papaya_ask::ask::{Answer, At};
+use papaya_ask::ask::At;
 use papaya_ask::search::{Place, Probed, Search};
 use papaya_keys::guard::Equivalent;
 use papaya_store::store::Store;
+use papaya_words::table::Table;
 use papaya_words::word::Word;
 use std::hash::{BuildHasher, Hash};
 
@@ -45,14 +47,17 @@ fn turn_of(seen: Probed) -> Turn
 #[inline(always)]
 fn read_at<K: Hash + Eq, V, S: BuildHasher, Q: Equivalent<K>>(
     store: &Store<K, V, S>,
+    table: &Table,
     key: &Q,
     at: Place,
 ) -> Turn
-    requires { IsWithin at }
+    requires within { IsWithin at }
+    requires held { IsPlaceOf store.now table.now at }
     ensures turn { (hash : ℕ) → IsReadTurn (Q.matches key.now) store.now hash at result }
     ensures fewer { left_to result + 1 < left_at at }
+    ensures held { (place : _) → result ≡ Next place → IsPlaceOf store.now table.now place }
 {
-    let word = store.word(At::Slot(at.table, at.probe.i));
+    let word = table.slot(at.probe.i);
     let seen = at.look(word);
     match seen {
         Probed::On(Search::Comparing(place, named)) => {
@@ -63,22 +68,48 @@ fn read_at<K: Hash + Eq, V, S: BuildHasher, Q: Equivalent<K>>(
     }
 }
 
-/// Looks at one place of a table: loads its hint, and goes on where that is another key's.
+/// Passes by the places that hold other keys, as their hints say, from this one on. This loop
+/// calls nothing, so where the hints lie stays in a register.
+#[inline(always)]
+fn pass_by<K: Hash + Eq, V, S: BuildHasher>(
+    store: &Store<K, V, S>,
+    table: &Table,
+    hash: u64,
+    at: Place,
+) -> Probed
+    requires within { IsWithin at }
+    requires held { IsPlaceOf store.now table.now at }
+    ensures { IsPassed store.now table.now hash at result }
+{
+    let _ = store;
+    let mut place = at;
+    loop {
+        let hint = table.hint(place.probe.i);
+        match place.hinted(hash, u64::from(hint)) {
+            Probed::On(Search::Looking(next)) => place = next,
+            seen => return seen,
+        }
+    }
+}
+
+/// Passes by places, up to one whose hint says nothing or is the key's, and looks at its word.
 #[inline(always)]
 fn look_at<K: Hash + Eq, V, S: BuildHasher, Q: Equivalent<K>>(
     store: &Store<K, V, S>,
+    table: &Table,
     key: &Q,
     hash: u64,
     at: Place,
 ) -> Turn
-    requires { IsWithin at }
+    requires within { IsWithin at }
+    requires held { IsPlaceOf store.now table.now at }
     ensures turn { IsTurn (Q.matches key.now) store.now hash at result }
     ensures fewer { left_to result < left_at at }
+    ensures held { (place : _) → result ≡ Next place → IsPlaceOf store.now table.now place }
 {
-    let hint = store.hint(at.table, at.probe.i);
-    let seen = at.hinted(hash, hint);
+    let seen = pass_by(store, table, hash, at);
     match seen {
-        Probed::On(Search::Reading(place)) => read_at(store, key, place),
+        Probed::On(Search::Reading(place)) => read_at(store, table, key, place),
         _ => turn_of(seen),
     }
 }
@@ -87,17 +118,19 @@ fn look_at<K: Hash + Eq, V, S: BuildHasher, Q: Equivalent<K>>(
 #[inline(always)]
 pub(crate) fn search<K: Hash + Eq, V, S: BuildHasher, Q: Equivalent<K>>(
     store: &Store<K, V, S>,
+    table: &Table,
     key: &Q,
     hash: u64,
     at: Place,
 ) -> Turn
-    requires { IsWithin at }
+    requires within { IsWithin at }
+    requires held { IsPlaceOf store.now table.now at }
     ensures turn { IsTurn (Q.matches key.now) store.now hash at result }
     ensures over { (place : _) → result ≡ Next place → ⊥ }
 {
     let mut place = at;
     loop {
-        match look_at(store, key, hash, place) {
+        match look_at(store, table, key, hash, place) {
             Turn::Next(next) => place = next,
             turn => return turn,
         }
@@ -115,12 +148,8 @@ pub(crate) fn search_root<K: Hash + Eq, V, S: BuildHasher, Q: Equivalent<K>>(
         → IsSize (length t.slots) t.limit }
     ensures { (turn : _) → result ≡ Some turn → IsRootTurn (Q.matches key.now) store.now hash turn }
 {
-    let table = store.word(At::Root);
-    match store.size_of(table) {
-        Answer::Size { len, limit } => {
-            let first = Place::first(hash, table, len, limit);
-            Some(search(store, key, hash, first))
-        }
-        _ => None,
-    }
+    let number = store.word(At::Root);
+    let table = store.table(number)?;
+    let first = Place::first(hash, number, table.len(), table.limit());
+    Some(search(store, table, key, hash, first))
 }

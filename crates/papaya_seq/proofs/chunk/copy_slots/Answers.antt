@@ -5,7 +5,7 @@ use Rattle.papaya_copy.specs.declared.copying.Aim.{Aim}
 use Rattle.papaya_copy.specs.declared.copying.Copied.TheVariants.{On}
 use Rattle.papaya_copy.specs.declared.copying.Copying.TheVariants.{Stepping}
 use Rattle.papaya_copy.specs.declared.settle.Settle.TheVariants.{Looking}
-use Rattle.papaya_copy.specs.declared.step.Step.TheVariants.{Settling}
+use Rattle.papaya_copy.specs.declared.step.Step.TheVariants.{Advancing, Settling}
 use Rattle.papaya_keys.specs.Hashes.{hash_of}
 use Rattle.papaya_seq.specs.Copies.{Comes, settled_as}
 use Rattle.papaya_seq.proofs.CopyTurns.{comes_then, last_slot, next_slots}
@@ -44,9 +44,12 @@ settled g c aim =
 
 pub returns-then-chunk : goal.returns-then-chunk
 returns-then-chunk g c aim =
-    subst (λ x. Comes g.K.PartialEq.eq (hash g) c.args.mode c.args.store.now (On (Stepping aim (Settling c.args.chunk Looking))) c.copy_slot.new.store
+    comes_then g.K.PartialEq.eq (hash g) c.args.mode c.args.store.now (On (Stepping aim (Settling c.args.chunk Looking))) c.copy_slot.new.store
+    (On (Stepping aim (Advancing c.loop-settle.chunk.cursor))) c.advance.new.store (On (Stepping aim c.advance.result))
+    (subst (λ x. Comes g.K.PartialEq.eq (hash g) c.args.mode c.args.store.now (On (Stepping aim (Settling c.args.chunk Looking))) c.copy_slot.new.store
     (leads aim c.args.mode x)) (last_slot c.loop-settle.chunk c.if-chunk.true)
-    (settled g (goal.at.returns-then-chunk g c).In_default aim)
+    (settled g (goal.at.returns-then-chunk g c).In_default aim))
+    (c.advance.ensures c.args.mode aim)
 
 pub loop-settle-preserved : goal.loop-settle-preserved
 loop-settle-preserved g c = (

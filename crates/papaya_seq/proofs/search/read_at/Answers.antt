@@ -6,7 +6,7 @@ use Rattle.papaya_call.specs.declared.machine.State.TheVariants.{Searching}
 use Rattle.papaya_words.specs.Word.{kind_of}
 use Rattle.papaya_store.specs.Tables.{word_at}
 use Rattle.papaya_seq.specs.Searches.{IsMatchedBy, SeesFrom, StandsBy}
-use Rattle.papaya_seq.proofs.Searching.{matched_look, matched_yes, sees_same, sees_word, stands_look, stands_yes, turn_seen, word_there}
+use Rattle.papaya_seq.proofs.Searching.{matched_look, matched_yes, sees_same, sees_word, stands_look, stands_yes, turn_seen, word_held, word_there}
 use Rattle.papaya_seq.proofs.search.read_at.Goals as goal
 
 pub returns-in-On-Comparing-clause-turn : goal.returns-in-On-Comparing-clause-turn
@@ -14,7 +14,11 @@ returns-in-On-Comparing-clause-turn g c hash =
     let matches = g.Q.Equivalent.matches c.args.key.now in
     let store = c.args.store.now in
     let from = Searching (Reading c.args.at) in
-    let compares : look c.args.at (word_there matches store hash c.args.at) ≡ On (Comparing c.in-On-Comparing.place c.in-On-Comparing.named) = search rules in
+    let word : c.slot-word.result ≡ word_there matches store hash c.args.at = word_held store c.args.table.now c.args.at c.slot-word.result c.requires.held
+    c.slot-word.ensures in
+    let seen : c.look-seen.result ≡ On (Comparing c.in-On-Comparing.place c.in-On-Comparing.named) = search rules in
+    let compares : look c.args.at (word_there matches store hash c.args.at) ≡ On (Comparing c.in-On-Comparing.place c.in-On-Comparing.named) = sym
+    (c.look-seen.ensures.value ∙ ap (look c.args.at) word) ∙ seen in
     turn_seen matches store hash c.args.at from c.turn_of.result c.at_yes.result c.turn_of.ensures
     (subst (SeesFrom matches store hash from)
     (sym (c.at_yes.ensures.value ∙ ap (at_yes (Comparing c.in-On-Comparing.place c.in-On-Comparing.named)) (c.matches-same.ensures ∙ search rules)))
@@ -32,13 +36,15 @@ pub returns-in_default-clause-turn : goal.returns-in_default-clause-turn
 returns-in_default-clause-turn g c hash =
     let matches = g.Q.Equivalent.matches c.args.key.now in
     let store = c.args.store.now in
+    let word : c.slot-word.result ≡ word_there matches store hash c.args.at = word_held store c.args.table.now c.args.at c.slot-word.result c.requires.held
+    c.slot-word.ensures in
     let from = Searching (Reading c.args.at) in
     turn_seen matches store hash c.args.at from c.turn_of-in_default.result c.look-seen.result c.turn_of-in_default.ensures
-    (subst (SeesFrom matches store hash from) (sym (c.look-seen.ensures.value ∙ ap (look c.args.at) c.word-word.ensures))
+    (subst (SeesFrom matches store hash from) (sym (c.look-seen.ensures.value ∙ ap (look c.args.at) word))
     (sees_word matches store hash c.args.at))
     c.look-seen.ensures.seen
-    (subst (StandsBy (λ w. word_at store.words w)) (sym (c.look-seen.ensures.value ∙ ap (look c.args.at) c.word-word.ensures))
+    (subst (StandsBy (λ w. word_at store.words w)) (sym (c.look-seen.ensures.value ∙ ap (look c.args.at) word))
     (stands_look (λ w. word_at store.words w) (kind_of (word_there matches store hash c.args.at)) c.args.at
     (word_there matches store hash c.args.at) refl refl))
-    (subst (IsMatchedBy matches store hash) (sym (c.look-seen.ensures.value ∙ ap (look c.args.at) c.word-word.ensures))
+    (subst (IsMatchedBy matches store hash) (sym (c.look-seen.ensures.value ∙ ap (look c.args.at) word))
     (matched_look matches store hash c.args.at (kind_of (word_there matches store hash c.args.at)) (word_there matches store hash c.args.at)))

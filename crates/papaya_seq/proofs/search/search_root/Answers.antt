@@ -1,4 +1,4 @@
-use Rattle.std.proofs.Common.{◌≡◌, sym, ◌∙◌, ap, subst}
+use Rattle.std.proofs.Common.{rules, ◌≡◌, Some, length, sym, ◌∙◌, ap, subst}
 use Rattle.papaya_ask.specs.declared.ask.Answer.TheVariants.{Size}
 use Rattle.papaya_ask.specs.Search.{first_place}
 use Rattle.papaya_store.specs.Performs.{size_of}
@@ -8,19 +8,24 @@ use Rattle.papaya_seq.specs.declared.search.Turn.{Turn}
 use Rattle.papaya_seq.proofs.Searching.{sees_root}
 use Rattle.papaya_seq.proofs.search.search_root.Goals as goal
 
-pub returns-in-Size : goal.returns-in-Size
-returns-in-Size g c turn e =
+pub returns : goal.returns
+returns g c turn e =
     let matches = g.Q.Equivalent.matches c.args.key.now in
     let store = c.args.store.now in
+    let t = c.in_ok-table.table.now in
     let is : c.search.result ≡ turn = cc e in
-    let size : size_of (table_of store.words.tables store.words.root) ≡ Size c.in-Size.len c.in-Size.limit = sym
-    (c.size_of.ensures ∙ ap (λ n. size_of (table_of store.words.tables n)) c.word-table.ensures) ∙ c.in-Size.is in
-    let first = c.first-first.ensures.value ∙ ap (λ n. first_place c.args.hash n c.in-Size.len c.in-Size.limit) c.word-table.ensures in
-    let by : IsTurn matches store c.args.hash (first_place c.args.hash store.words.root c.in-Size.len c.in-Size.limit)
+    let held : table_of store.words.tables c.word-number.result ≡ Some t = search rules in
+    let size : size_of (table_of store.words.tables store.words.root) ≡ Size (length t.slots) t.limit = ap
+    (λ n. size_of (table_of store.words.tables n)) (sym c.word-number.ensures) ∙ ap size_of held in
+    let first : c.first-first.result ≡ first_place c.args.hash store.words.root (length t.slots) t.limit = c.first-first.ensures.value
+    ∙ ap (λ n. first_place c.args.hash n c.len.result c.limit.result) c.word-number.ensures
+    ∙ ap (λ n. first_place c.args.hash store.words.root n c.limit.result) c.len.ensures
+    ∙ ap (first_place c.args.hash store.words.root (length t.slots)) c.limit.ensures in
+    let by : IsTurn matches store c.args.hash (first_place c.args.hash store.words.root (length t.slots) t.limit)
     c.search.result = subst (λ p. IsTurn matches store c.args.hash p c.search.result) first c.search.ensures.turn in
-    subst (λ (t : Turn). IsRootTurn matches store c.args.hash t) is
+    subst (λ (x : Turn). IsRootTurn matches store c.args.hash x) is
     (record {
-      sees = sees_root matches store c.args.hash c.in-Size.len c.in-Size.limit size (seen_by c.search.result) by.sees;
+      sees = sees_root matches store c.args.hash (length t.slots) t.limit size (seen_by c.search.result) by.sees;
       stands = by.stands;
       matched = by.matched;
     })

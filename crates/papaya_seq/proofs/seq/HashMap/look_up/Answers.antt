@@ -1,4 +1,5 @@
 use Rattle.std.proofs.Common.{rules, ◌≡◌, ℕ, ◌<◌, ◌^◌, Option, None, Some, option_map, fold, length, refl, sym, ◌∙◌, ap, subst, arith}
+use Rattle.std.specs.Prelude.{MatchOption}
 use Rattle.papaya_words.specs.Word.{pair_of as number_of}
 use Rattle.papaya_ask.specs.declared.ask.Answer.TheVariants.{Size}
 use Rattle.papaya_ask.specs.declared.ask.At.TheVariants.{Next, Root}
@@ -20,9 +21,9 @@ use Rattle.papaya_seq.specs.Searches.{IsTurn, seen_by}
 use Rattle.papaya_seq.specs.declared.search.Turn.{Turn}
 use Rattle.papaya_seq.proofs.LookFinds.{found_number, look_up_finds, number_found}
 use Rattle.papaya_seq.proofs.LookSteps.{IsLookUp, lookup_left}
-use Rattle.papaya_seq.proofs.LookTurns.{empty_else, next_loaded, none_sized, numbered, passed_last, root_loaded, searched}
+use Rattle.papaya_seq.proofs.LookTurns.{empty_else, next_loaded, none_there, numbered, passed_last, root_loaded, searched}
 use Rattle.papaya_seq.proofs.seq.HashMap.look_up.Goals as goal
-use Rattle.papaya_seq.proofs.seq.HashMap.look_up.Goals.{After-hash-hash, After-search, After-word-table-in-Incremental, In-Over}
+use Rattle.papaya_seq.proofs.seq.HashMap.look_up.Goals.{After-hash-hash, After-search, After-word-number-in-Incremental, In-Over}
 use Rattle.papaya_seq.proofs.seq.HashMap.look_up.Given.{Over}
 
 module _ (g : Over) where
@@ -92,22 +93,27 @@ module _ (g : Over) where
       (goes (started Get c.hash-hash.result c.args.self.now.mode.resize c.args.self.now.initial c.args.self.now.mode.limit) (seen_by c.search.result))
       × (left c.args.self.now c.args.key.now c.hash-hash.result
       (goes (started Get c.hash-hash.result c.args.self.now.mode.resize c.args.self.now.initial c.args.self.now.mode.limit)
-      (seen_by c.search.result)) < left c.args.self.now c.args.key.now c.hash-hash.result (numbered c.loop-len.table))
+      (seen_by c.search.result)) < left c.args.self.now c.args.key.now c.hash-hash.result (numbered c.loop-table.number))
   led c orderly =
       let s = c.args.self.now in
+      let t = c.in-Some.table.now in
+      let told = subst (λ (y : Map). MatchOption c.table.result (table_of y.store.words.tables c.loop-table.number ≡ None)
+      (λ r. table_of y.store.words.tables c.loop-table.number ≡ Some r.now)) c.self.view_is c.table.ensures in
+      let held : table_of s.store.words.tables c.loop-table.number ≡ Some t = search rules in
+      let size : size_of (table_of s.store.words.tables c.loop-table.number) ≡ Size c.len.result c.limit.result = ap size_of held
+      ∙ ap (λ n. Size n t.limit) (sym c.len.ensures) ∙ ap (Size c.len.result) (sym c.limit.ensures) in
       searched g.K.PartialEq.eq (key_hash s.store.hasher) s.mode s.store orderly.lawful (same_keys s) (g.Q.Equivalent.matches c.args.key.now)
-      c.hash-hash.result s.initial c.loop-len.table c.in-Size.len c.in-Size.limit
-      (ap (λ (y : Map). size_of (table_of y.store.words.tables c.loop-len.table)) (sym c.self.view_is) ∙ sym c.size_of.ensures ∙ c.in-Size.is)
-      c.loop-len.invariant c.first-first.result c.first-first.ensures.value c.search.result
+      c.hash-hash.result s.initial c.loop-table.number c.len.result c.limit.result size
+      c.loop-table.invariant c.first-first.result c.first-first.ensures.value c.search.result
       (subst (λ (y : Map). IsTurn (g.Q.Equivalent.matches c.args.key.now) y.store c.hash-hash.result c.first-first.result c.search.result)
       c.self.view_is c.search.ensures.turn)
 
-pub loop-len-init : goal.loop-len-init
-loop-len-init g c =
+pub loop-table-init : goal.loop-table-init
+loop-table-init g c =
     let s = c.args.self.now in
     subst (λ n. Comes g s c.args.key.now c.hash-hash.result (numbered n))
-    (sym (c.word-table.ensures ∙ ap (λ (y : Map g). word_at y.store.words Root) c.self.view_is))
-    (root_loaded g.K.PartialEq.eq (key_hash g s.store.hasher) s.mode s.store (in_order g (goal.at.loop-len-init g c).After-hash-hash).lawful
+    (sym (c.word-number.ensures ∙ ap (λ (y : Map g). word_at y.store.words Root) c.self.view_is))
+    (root_loaded g.K.PartialEq.eq (key_hash g s.store.hasher) s.mode s.store (in_order g (goal.at.loop-table-init g c).After-hash-hash).lawful
     (same_keys g s) (g.Q.Equivalent.matches c.args.key.now) c.hash-hash.result s.initial)
 
 pub returns-in-Here : goal.returns-in-Here
@@ -123,40 +129,40 @@ returns-in-Here g c =
 passed : (g : Over) (c : In-Over g) → Orderly g c.args.self.now
     → Comes g c.args.self.now c.args.key.now c.hash-hash.result (passes Get c.args.self.now.mode.resize None c.in-Over.passed)
     × (left g c.args.self.now c.args.key.now c.hash-hash.result (passes Get c.args.self.now.mode.resize None c.in-Over.passed) < left g
-    c.args.self.now c.args.key.now c.hash-hash.result (numbered c.loop-len.table))
+    c.args.self.now c.args.key.now c.hash-hash.result (numbered c.loop-table.number))
 passed g c orderly =
     let s = c.args.self.now in
     subst (λ (t : Turn). Comes g s c.args.key.now c.hash-hash.result
     (goes (started Get c.hash-hash.result s.mode.resize s.initial s.mode.limit) (seen_by t))
     × (left g s c.args.key.now c.hash-hash.result (goes (started Get c.hash-hash.result s.mode.resize s.initial s.mode.limit) (seen_by t)) < left g
-    s c.args.key.now c.hash-hash.result (numbered c.loop-len.table))) c.in-Over.is
+    s c.args.key.now c.hash-hash.result (numbered c.loop-table.number))) c.in-Over.is
     (led g (goal.at.In-Over g c).After-search orderly)
 
 -- the number of the next one was loaded
-next : (g : Over) (c : After-word-table-in-Incremental g) → Orderly g c.args.self.now
-    → Comes g c.args.self.now c.args.key.now c.hash-hash.result (numbered c.word-table-in-Incremental.result)
-    × (left g c.args.self.now c.args.key.now c.hash-hash.result (numbered c.word-table-in-Incremental.result) < left g c.args.self.now c.args.key.now
-    c.hash-hash.result (numbered c.loop-len.table))
+next : (g : Over) (c : After-word-number-in-Incremental g) → Orderly g c.args.self.now
+    → Comes g c.args.self.now c.args.key.now c.hash-hash.result (numbered c.word-number-in-Incremental.result)
+    × (left g c.args.self.now c.args.key.now c.hash-hash.result (numbered c.word-number-in-Incremental.result) < left g c.args.self.now c.args.key.now
+    c.hash-hash.result (numbered c.loop-table.number))
 next g c orderly =
     let s = c.args.self.now in
-    let before = passed g (goal.at.After-word-table-in-Incremental g c).In-Over orderly in
+    let before = passed g (goal.at.After-word-number-in-Incremental g c).In-Over orderly in
     let all = next_loaded g.K.PartialEq.eq (key_hash g s.store.hasher) s.mode s.store orderly.lawful (same_keys g s)
     (g.Q.Equivalent.matches c.args.key.now) c.hash-hash.result s.initial c.in-Over.passed c.in-Incremental.field-0
     (ap (λ (y : Map g). y.mode.resize) (sym c.self.view_is) ∙ c.in-Incremental.is) before.0 in
     let less : left g s c.args.key.now c.hash-hash.result (passes Get s.mode.resize None c.in-Over.passed) < left g s c.args.key.now
-    c.hash-hash.result (numbered c.loop-len.table) = before.1 in
+    c.hash-hash.result (numbered c.loop-table.number) = before.1 in
     let fewer : left g s c.args.key.now c.hash-hash.result (numbered (word_at s.store.words (Next c.in-Over.passed))) < left g s c.args.key.now
     c.hash-hash.result (passes Get s.mode.resize None c.in-Over.passed) = all.1 in
     subst (λ n. Comes g s c.args.key.now c.hash-hash.result (numbered n)
-    × (left g s c.args.key.now c.hash-hash.result (numbered n) < left g s c.args.key.now c.hash-hash.result (numbered c.loop-len.table)))
-    (sym (c.word-table-in-Incremental.ensures ∙ ap (λ (y : Map g). word_at y.store.words (Next c.in-Over.passed)) c.self.view_is))
+    × (left g s c.args.key.now c.hash-hash.result (numbered n) < left g s c.args.key.now c.hash-hash.result (numbered c.loop-table.number)))
+    (sym (c.word-number-in-Incremental.ensures ∙ ap (λ (y : Map g). word_at y.store.words (Next c.in-Over.passed)) c.self.view_is))
     (all.0, omega (arith, less, fewer))
 
-pub loop-len-smaller : goal.loop-len-smaller
-loop-len-smaller g c = let at = goal.at.loop-len-smaller g c in (next g at.After-word-table-in-Incremental (in_order g at.After-hash-hash)).1
+pub loop-table-smaller : goal.loop-table-smaller
+loop-table-smaller g c = let at = goal.at.loop-table-smaller g c in (next g at.After-word-number-in-Incremental (in_order g at.After-hash-hash)).1
 
-pub loop-len-preserved : goal.loop-len-preserved
-loop-len-preserved g c = let at = goal.at.loop-len-preserved g c in (next g at.After-word-table-in-Incremental (in_order g at.After-hash-hash)).0
+pub loop-table-preserved : goal.loop-table-preserved
+loop-table-preserved g c = let at = goal.at.loop-table-preserved g c in (next g at.After-word-number-in-Incremental (in_order g at.After-hash-hash)).0
 
 pub returns-in-Blocking : goal.returns-in-Blocking
 returns-in-Blocking g c =
@@ -182,9 +188,9 @@ returns g c =
     let at = goal.at.returns g c in
     let s = c.args.self.now in
     let orderly = in_order g at.After-hash-hash in
-    let size : c.size_of.result ≡ size_of (table_of s.store.words.tables c.loop-len.table) = c.size_of.ensures
-    ∙ ap (λ (y : Map g). size_of (table_of y.store.words.tables c.loop-len.table)) c.self.view_is in
-    let unsized : (slots limit : ℕ) → c.size_of.result ≡ Size slots limit → ⊥ = λ slots limit e. search rules in
+    let told = subst (λ (y : Map g). MatchOption c.table.result (table_of y.store.words.tables c.loop-table.number ≡ None)
+    (λ r. table_of y.store.words.tables c.loop-table.number ≡ Some r.now)) c.self.view_is c.table.ensures in
+    let none : table_of s.store.words.tables c.loop-table.number ≡ None = search rules in
     found_so g s c.args.key.now c.hash-hash.result orderly (hash_made g at.After-hash-hash) c.hash-hash.ensures.fits Absent None refl
-    (none_sized g.K.PartialEq.eq (key_hash g s.store.hasher) s.mode s.store orderly.lawful (same_keys g s) (g.Q.Equivalent.matches c.args.key.now)
-    c.hash-hash.result s.initial c.loop-len.table (λ slots limit e. unsized slots limit (size ∙ e)) c.loop-len.invariant)
+    (none_there g.K.PartialEq.eq (key_hash g s.store.hasher) s.mode s.store orderly.lawful (same_keys g s) (g.Q.Equivalent.matches c.args.key.now)
+    c.hash-hash.result s.initial c.loop-table.number none c.loop-table.invariant)
