@@ -28,7 +28,7 @@ use Rattle.papaya_store.proofs.Logs.{pair_number}
 use Rattle.papaya_timeline.proofs.KeptSettings.{IsLawfulKeys}
 use Rattle.papaya_timeline.proofs.KeptTables.{table_low}
 use Rattle.papaya_seq.specs.Map.{MapState, slots_in}
-use Rattle.papaya_seq.specs.Walks.{HasMark, HasNoMark, HasNoMarkIn, IsHeld, IsNext, IsNextHere}
+use Rattle.papaya_seq.specs.Walks.{HasMark, HasNoMark, HasNoMarkIn, IsHeld, IsInRoot, IsNext, IsNextHere}
 use Rattle.papaya_seq.specs.Walks.{IsStand, IsStepped, IsWord, has_in, left_from, left_to, pairs_at}
 use Rattle.papaya_seq.specs.Walks.{table_after}
 use Rattle.papaya_seq.specs.declared.stand.Stand.{Stand}
@@ -338,9 +338,10 @@ module _ {K V S : Type 0} (eq : K → K → Bool) (store : StoreState K V S) whe
   left_of_root at none = ap (λ n. left_from eq store n at.slot (length store.words.tables) store.words.root) none
 
 -- a walk that holds a table stands there, and has passed none
-pub held_some : {K V S : Type 0} (store : StoreState K V S) (at : Stand) (o : Option (Bor TableWords)) (root : Bor TableWords) → o ≡ Some root
-    → IsHeld store at o → (table_of store.words.tables at.table ≡ Some root.now) × (at.passed ≡ 0)
-held_some store at o root is held = subst (IsHeld store at) is held
+pub held_some : {K V S : Type 0} (store : StoreState K V S) (at : Stand) (o : Option (Bor TableWords)) (root : Bor TableWords) (slots : ℕ) → o ≡ Some root
+    → 0 < slots → IsHeld store at o slots → (table_of store.words.tables at.table ≡ Some root.now) × (at.passed ≡ 0) × (slots ≡ length root.now.slots)
+held_some store at o root slots is some (inl none) = absurd (omega (arith, none, some))
+held_some store at o root slots is some (inr held) = subst (λ x. IsInRoot store at x slots) is held
 
 -- the next pair of a map is one that it has logged
 pub next_logged : {K V S : Type 0} (eq : K → K → Bool) (store : StoreState K V S) (at at' : Stand) (o : Option ℕ) (n : ℕ) → o ≡ Some n

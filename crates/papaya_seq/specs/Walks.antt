@@ -111,11 +111,17 @@ pub record IsWord {K V S : Type 0} (store : StoreState K V S) (at : Stand) (n : 
       ⊎ (kind_of (word_at store.words (Slot at.table at.slot)) ≡ Marked)
   pub names : number_of (word_at store.words (Slot at.table at.slot)) ≡ n
 
--- the walk holds the root and stands there, or it holds none
-abbrev pub IsHeld : {K V S : Type 0} → StoreState K V S → Stand → Option (Bor TableWords) → Type 0
-IsHeld store at None = Unit {0}
-IsHeld store at (Some root) = (table_of store.words.tables at.table ≡ Some root.now)
-    × (at.passed ≡ 0)
+-- the walk stands in the root, which has so many slots
+abbrev pub IsInRoot : {K V S : Type 0} → StoreState K V S → Stand → Option (Bor TableWords) → ℕ
+    → Type 0
+IsInRoot store at None slots = ⊥
+IsInRoot store at (Some root) slots = (table_of store.words.tables at.table ≡ Some root.now)
+    × (at.passed ≡ 0) × (slots ≡ length root.now.slots)
+
+-- so it does, or it holds none
+abbrev pub IsHeld : {K V S : Type 0} → StoreState K V S → Stand → Option (Bor TableWords) → ℕ
+    → Type 0
+IsHeld store at root slots = (slots ≡ 0) ⊎ IsInRoot store at root slots
 
 -- a walk may stand here
 pub record IsStand {K V S : Type 0} (s : MapState K V S) (at : Stand) : Type 0 where

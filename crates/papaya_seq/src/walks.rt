@@ -92,15 +92,16 @@ impl<K: Hash + Eq, V, S: BuildHasher> HashMap<K, V, S> {
         }
     }
 
-    /// The next pair of this table, where the walk stands.
+    /// The next pair of this table of so many slots, where the walk stands.
     #[inline(always)]
-    fn next_in(&self, table: &Table, at: &mut Stand) -> Option<u64>
+    fn next_in(&self, table: &Table, end: usize, at: &mut Stand) -> Option<u64>
         requires stands { IsStand self.now at.old }
         requires table { table_of self.now.store.words.tables at.old.table ≡ Some table.now }
+        requires end { end ≡ length table.now.slots }
         ensures same { (at.new.table ≡ at.old.table) × (at.new.passed ≡ at.old.passed) }
         ensures next { IsNextHere K.eq self.now.store at.old result at.new }
     {
-        while at.slot < table.len() {
+        while at.slot < end {
             let given = self.given(table, *at);
             at.slot += 1;
             if given.is_some() {
@@ -117,7 +118,7 @@ impl<K: Hash + Eq, V, S: BuildHasher> HashMap<K, V, S> {
         ensures next { IsNextHere K.eq self.now.store at.old result at.new }
     {
         match self.store.table(at.table) {
-            Some(table) => self.next_in(table, at),
+            Some(table) => self.next_in(table, table.len(), at),
             None => None,
         }
     }
@@ -149,24 +150,25 @@ impl<K: Hash + Eq, V, S: BuildHasher> HashMap<K, V, S> {
         }
     }
 
-    /// The next pair of the map. The walk holds the root until that has no more.
+    /// The next pair of the map. The walk holds the root, of so many slots, until that has no more.
     #[inline(always)]
-    fn next_held(&self, root: &mut Option<&Table>, at: &mut Stand) -> Option<u64>
+    fn next_held(&self, root: Option<&Table>, end: &mut usize, at: &mut Stand) -> Option<u64>
         requires stands { IsStand self.now at.old }
-        requires held { IsHeld self.now.store at.old root.old }
+        requires held { IsHeld self.now.store at.old root end.old }
         ensures stands { IsStand self.now at.new }
-        ensures held { IsHeld self.now.store at.new root.new }
+        ensures held { IsHeld self.now.store at.new root.entry end.new }
         ensures next { IsNext K.eq self.now.store at.old result at.new }
     {
-        if let Some(table) = *root {
+        if at.slot < *end {
+            let Some(table) = root else { unreachable!() };
             // It is so, and said here, so that no pair is asked whether it is a copy.
             at.passed = 0;
-            let pair = self.next_in(table, at);
+            let pair = self.next_in(table, *end, at);
             if pair.is_some() {
                 return pair;
             }
         }
-        *root = None;
+        *end = 0;
         // The place handed on is a copy, so that the walk's own may be kept in registers.
         let mut place = *at;
         let pair = self.next_pair(&mut place);
@@ -211,9 +213,11 @@ impl<K: Hash + Eq, V, S: BuildHasher> HashMap<K, V, S> {
     pub fn iter(&self) -> Iter<'_, K, V, S>
         ensures { result ≡ map entry_of (content K.eq self.now.store) }
     {
+        let root = self.store.root();
         Iter {
             map: self,
-            root: self.store.root(),
+            root,
+            end: root.map_or(0, |table| table.len()),
             at: self.first(),
         }
     }
@@ -249,8 +253,10 @@ impl<'a, K: Hash + Eq, V, S: BuildHasher> IntoIterator for &'a HashMap<K, V, S> 
 #[derive(Drop)]
 pub struct Iter<'a, K: Hash + Eq, V, S: BuildHasher> {
     map: &'a HashMap<K, V, S>,
-    /// The root, while the walk is in it.
+    /// The root, where there is one.
     root: Option<&'a Table>,
+    /// How many slots the root has, while the walk is in it, and 0 behind it.
+    end: usize,
     at: Stand,
 }
 
@@ -262,7 +268,7 @@ impl<'a, K: Hash + Eq, V, S: BuildHasher> Model for Iter<'a, K, V, S> {
 
     ghost view = { λ it. entries_left K.eq it.map.now.store it.at };
 
-    ghost invariant = { λ it. IsStand it.map.now it.at × IsHeld it.map.now.store it.at it.root };
+    ghost invariant = { λ it. IsStand it.map.now it.at × IsHeld it.map.now.store it.at it.root it.end };
 }
 
 impl<'a, K: Hash + Eq, V, S: BuildHasher> Iter<'a, K, V, S> {
@@ -273,6 +279,7 @@ impl<'a, K: Hash + Eq, V, S: BuildHasher> Iter<'a, K, V, S> {
         Iter {
             map: self.map,
             root: self.root,
+            end: self.end,
             at: self.at,
         }
     }
@@ -287,7 +294,7 @@ impl<'a, K: Hash + Eq, V, S: BuildHasher> Iterator for Iter<'a, K, V, S> {
 
     #[inline(always)]
     fn next(&mut self) -> Option<(&'a K, &'a V)> {
-        match self.map.next_held(&mut self.root, &mut self.at) {
+        match self.map.next_held(self.root, &mut self.end, &mut self.at) {
             Some(pair) => Some(self.map.entry(pair)),
             None => None,
         }
