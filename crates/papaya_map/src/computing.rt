@@ -1,14 +1,16 @@
-//! Computes: what their closure answers, and the loop that calls it. It stands here, and not with
-//! the steps of a compute, since a call of another crate's function that is generic over such a
-//! closure is not proved.
-ghost use Rattle.std.specs.Prelude.{◌≡◌, None};
+//! Computes whose closure may keep what it is shown: their fast path, and the loop of their slow
+//! one. They stand here, and not with the steps of a compute, since a call of another crate's
+//! function that is generic over such a closure is not proved.
+ghost use Rattle.std.specs.Prelude.{◌≡◌, false, None, Err};
 ghost use Rattle.std.specs.Int.{IsPowerOfTwo};
 ghost use Rattle.papaya_book.specs.Books.{IsIn};
 ghost use Rattle.papaya_book.specs.Limits.{HasNoRoom, IsSpent, tables_of};
 ghost use Rattle.papaya_book.specs.Logs.{pair_named};
-ghost use Rattle.papaya_book.specs.Windows.{IsLawful, Sees};
+ghost use Rattle.papaya_book.specs.Windows.{Does, IsLawful, Sees};
 ghost use Rattle.papaya_change.specs.Showings.{Operates};
+ghost use Rattle.papaya_compute.specs.FastPath.{IfOn, IfOver, IsAhead, IsOnItsWay};
 ghost use Rattle.papaya_compute.specs.ComputeAnswers.{IsComputeBy, changes};
+ghost use Rattle.papaya_compute.specs.declared.fast_path.First.TheVariants.{Over};
 ghost use Rattle.papaya_lookup.specs.Drivers.{own, past};
 ghost use Rattle.papaya_lookup.specs.History.{Makes};
 
@@ -18,9 +20,13 @@ use papaya_book::rule::entry::Stored;
 use papaya_book::rule::own::{CapacityCause, OwnSteps};
 use papaya_book::window::Window;
 use papaya_call::answers::Operation;
+use papaya_change::fast_path::Turn;
+use papaya_change::means::Means;
 use papaya_change::removal::entry;
-use papaya_compute::computing::{Computing, Turn};
+use papaya_compute::computing::{Computing, Turn as Next};
+use papaya_compute::fast_path::{First, begin, fill, look, renew};
 use papaya_keys::compute::Compute;
+use papaya_lookup::lookup::hash;
 use papaya_words::probe::Refused;
 use std::alloc::Global;
 use std::hash::{BuildHasher, Hash};
@@ -50,6 +56,64 @@ fn operate<
     match shown {
         None => f(no_entry(book)),
         Some(pair) => f(Some(entry(book, pair))),
+    }
+}
+
+/// Looks for the key in the root, and does at once what the closure answers where the search
+/// ends at an empty place or at a live pair. Else, and where another call was first, the machine
+/// goes on.
+#[inline(always)]
+fn compute_fast<
+    'a,
+    R: Wait,
+    K: Hash + Eq + Drop,
+    V: Drop,
+    S: BuildHasher,
+    T: Drop,
+    F: FnMut(Option<(&'a K, &'a V)>) -> Operation<V, T>,
+>(
+    means: &Means<'_, '_, R>,
+    window: &mut Window<'a, K, V, S>,
+    given: &mut OwnSteps<CapacityCause>,
+    key: K,
+    f: &mut F,
+) -> First<Computing<'a, K, V, S, T>, Result<Compute<'a, K, V, T>, Refused>>
+    requires callable { F.IsAlwaysCallable f.old }
+    requires initial { IsPowerOfTwo means.now.initial }
+    requires lawful { IsLawful window.old }
+    ensures callable { F.IsAlwaysCallable f.new }
+    ensures sees { Sees window.old window.new }
+    ensures lawful { IsLawful window.new }
+    ensures made { IfOver result (λ answer. Makes (changes answer) (own window.old) (own window.new)
+        (past window.new)) }
+    ensures crowded { result ≡ Over (Err Refused.Capacity) → HasNoRoom means.now.initial
+        (tables_of window.new.sight.log) given.new.done }
+    ensures spent { result ≡ Over (Err Refused.Limit) → IsSpent window.new.book.now.parts.limit
+        window.new.sight.log }
+    ensures computed { IfOver result (λ answer. IsComputeBy K.eq key (past window.old)
+        (past window.new) (Operates F.FnMut) f.old answer) }
+    ensures ahead { IfOn result (λ x. IsAhead means.now.initial x
+        × Does false window.old window.new) }
+    ensures goes { IfOn result (IsOnItsWay window.old window.new key (Operates F.FnMut) f.old
+        f.new) }
+{
+    let book = window.book;
+    let hash = hash(&book.parts.hasher, &key);
+    let Some(spot) = look(window, &key, hash) else {
+        return First::On(begin(window, means.initial, key));
+    };
+    let table = spot.table;
+    match spot.turn {
+        Turn::Empty(at) => {
+            let operation = operate(book, &None, f);
+            fill(means, window, given, key, hash, table, at, operation)
+        }
+        Turn::Met(met) => {
+            let shown = Some(met.stored.again());
+            let again = operate(book, &shown, f);
+            renew(means, window, given, key, hash, table, met, again)
+        }
+        _ => First::On(begin(window, means.initial, key)),
     }
 }
 
@@ -88,16 +152,25 @@ pub fn compute<
 {
     window.learn();
     let book = window.book;
-    let mut computing: Computing<'a, K, V, S, T> = Computing::new(window, initial, key);
+    let means = Means {
+        rt,
+        alloc,
+        initial,
+        shard,
+    };
+    let mut computing = match compute_fast(&means, window, given, key, &mut f) {
+        First::Over(answer) => return answer,
+        First::On(computing) => computing,
+    };
     for _ in rt.forever() {
         match computing.turn(rt, alloc, shard, window) {
-            Turn::Answered(answer) => computing.tell(rt, alloc, shard, answer, window),
-            Turn::Shows(shown) => {
+            Next::Answered(answer) => computing.tell(rt, alloc, shard, answer, window),
+            Next::Shows(shown) => {
                 let operation = operate(book, &shown, &mut f);
                 let answer = computing.hear(shown, operation);
                 computing.tell(rt, alloc, shard, answer, window);
             }
-            Turn::Replied => {
+            Next::Replied => {
                 *given = computing.writer.call.given.again();
                 return computing.replied(window);
             }

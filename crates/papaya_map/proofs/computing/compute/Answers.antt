@@ -1,5 +1,5 @@
-use Rattle.std.proofs.Common.{◌≡◌, [], ◌∷◌, Some, refl, sym, ap, ◌∙◌, subst}
-use Rattle.std.specs.Prelude.{Bool, IfErr}
+use Rattle.std.proofs.Common.{◌≡◌, Bool, false, Some, ◌∷◌, sym, ap, ◌∙◌, subst}
+use Rattle.std.specs.Prelude.{IfErr}
 use Rattle.papaya_ask.specs.declared.ask.Ask.TheVariants.{Done}
 use Rattle.papaya_ask.specs.declared.call.Reply.TheVariants.{Refused}
 use Rattle.papaya_chain.specs.declared.ask.Ask.TheVariants.{Call}
@@ -15,20 +15,52 @@ use Rattle.papaya_change.proofs.Helped.{helped_does, helped_keeps}
 use Rattle.papaya_change.proofs.StepsOfOwn.{own_settings}
 use Rattle.papaya_lookup.proofs.Histories.{history_since}
 use Rattle.papaya_book.proofs.Windows.{sees_trans}
+use Rattle.papaya_change.proofs.Logged.{makes_since}
+use Rattle.papaya_lookup.specs.Drivers.{own, past}
+use Rattle.papaya_lookup.specs.History.{Makes}
+use Rattle.papaya_book.proofs.Logs.{prefix_trans}
+use Rattle.papaya_compute.specs.FastPath.{IfOn, IfOver, IsAhead, IsOnItsWay}
+use Rattle.papaya_compute.specs.ComputeAnswers.{IsComputeBy, changes}
+use Rattle.papaya_compute.specs.declared.fast_path.First.{First}
+use Rattle.papaya_compute.specs.declared.fast_path.First.TheVariants.{Over}
+use Rattle.papaya_compute.proofs.FastPath.{does_since}
 use Rattle.papaya_compute.proofs.ComputeReplies.{computed_by}
 use Rattle.papaya_map.proofs.computing.compute.Goals as goal
 
 pub loop-init : goal.loop-init
-loop-init g c = (
-  ([], (c.learn.new.self.sight.log, c.learn.ensures.sees.log, c.new-computing.ensures.begins), refl),
-  c.new-computing.ensures.standing,
-  c.new-computing.ensures.calling,
-  c.new-computing.ensures.initial,
-  c.learn.ensures.sees,
-  c.requires.callable,
-  subst (λ (changed : Bool). Does changed c.args.window.now c.learn.new.self) (sym c.new-computing.ensures.unchanged)
-      (idles c.args.window.now c.learn.new.self c.learn.ensures.own),
-)
+loop-init g c =
+    let first = c.learn.new.self in let at = c.compute_fast in let then = at.new.window in
+    let goes = subst (λ (z : First _ _). IfOn z (IsOnItsWay first then c.args.key (Operates g.F.FnMut) c.args.f at.new.f)) c.in-On.is at.ensures.goes in
+    let ahead = subst (λ (z : First _ _). IfOn z (λ x. IsAhead c.args.initial x × Does false first then)) c.in-On.is at.ensures.ahead in (
+      (goes.0, (goes.1.0, prefix_trans c.args.window.now.sight.log first.sight.log goes.1.0 c.learn.ensures.sees.log goes.1.1, goes.1.2), goes.2),
+      ahead.0.standing,
+      ahead.0.calling,
+      ahead.0.initial_is,
+      sees_trans _ _ _ c.learn.ensures.sees at.ensures.sees,
+      at.ensures.callable,
+      subst (λ (changed : Bool). Does changed c.args.window.now then) (sym ahead.0.unchanged)
+          (does_since c.args.window.now first then c.learn.ensures.own ahead.1),
+    )
+
+pub returns-in-Over-clause-made : goal.returns-in-Over-clause-made
+returns-in-Over-clause-made g c =
+    let first = c.learn.new.self in let at = c.compute_fast in let then = at.new.window in
+    let m = subst (λ (z : First _ _). IfOver z (λ answer. Makes (changes answer) (own first) (own then) (past then))) c.in-Over.is at.ensures.made in
+    makes_since (changes c.in-Over.answer) c.args.window.now first then (idles c.args.window.now first c.learn.ensures.own) m
+
+pub returns-in-Over-clause-crowded : goal.returns-in-Over-clause-crowded
+returns-in-Over-clause-crowded g c = λ e. c.compute_fast.ensures.crowded (c.in-Over.is ∙ ap (λ z. Over z) e)
+
+pub returns-in-Over-clause-spent : goal.returns-in-Over-clause-spent
+returns-in-Over-clause-spent g c = λ e. c.compute_fast.ensures.spent (c.in-Over.is ∙ ap (λ z. Over z) e)
+
+pub returns-in-Over-clause-computed : goal.returns-in-Over-clause-computed
+returns-in-Over-clause-computed g c =
+    let first = c.learn.new.self in let at = c.compute_fast in let then = at.new.window in
+    let d = subst (λ (z : First _ _). IfOver z
+    (λ answer. IsComputeBy g.K.PartialEq.eq c.args.key (past first) (past then) (Operates g.F.FnMut) c.args.f answer)) c.in-Over.is at.ensures.computed in
+    computed_by g.K.PartialEq.eq c.args.key _ _ _ (history_since c.args.window.now.sight.log first.sight.log c.learn.ensures.sees.log)
+    (Operates g.F.FnMut) c.args.f d.left d.said d.has_said c.in-Over.answer (record { held = d.held; none_once = d.none_once; operated = d.operated })
 
 pub tell-requires-clause-can : goal.tell-requires-clause-can
 tell-requires-clause-can g c = let u = c.loop.invariant.0 in
@@ -118,6 +150,12 @@ returns-in-Replied-clause-made g c =
     rw c.replied.ensures.changed (makes g.K.PartialEq.eq (Some c.args.key) u.1.0 call.taken call.put call.machine c.args.window.now c.turn.new.window
     r.writing.calling.changed (rw c.turn.ensures.machine does))
 
+pub returns-in-Replied-clause-spent : goal.returns-in-Replied-clause-spent
+returns-in-Replied-clause-spent g c = λ e.
+    let u = c.loop.invariant.0 in let r = (c.in-Replied.ensures.turns.0 c.args.key u.1.0 u.0 u.1.2).0 in
+    let refused = subst (λ (z : _). IfErr z (λ cause. ask_of c.turn.new.self.writer.call.machine ≡ Call (Done (Refused cause)))) e c.replied.ensures.refusal in
+    rw c.turn.ensures.sees.book (r.spent refused)
+
 pub returns-in-Replied-clause-crowded : goal.returns-in-Replied-clause-crowded
 returns-in-Replied-clause-crowded g c = λ e.
     let u = c.loop.invariant.0 in let r = (c.in-Replied.ensures.turns.0 c.args.key u.1.0 u.0 u.1.2).0 in
@@ -125,9 +163,3 @@ returns-in-Replied-clause-crowded g c = λ e.
     let initial : c.turn.new.self.writer.call.machine.call.initial ≡ c.args.initial = ap (λ (z : Machine). z.call.initial) c.turn.ensures.machine
     ∙ c.loop.invariant.3 in
     rw c.again.ensures (subst (λ n. HasNoRoom n (tables_of c.turn.new.window.sight.log) c.turn.new.self.writer.call.given.done) initial (r.crowded refused))
-
-pub returns-in-Replied-clause-spent : goal.returns-in-Replied-clause-spent
-returns-in-Replied-clause-spent g c = λ e.
-    let u = c.loop.invariant.0 in let r = (c.in-Replied.ensures.turns.0 c.args.key u.1.0 u.0 u.1.2).0 in
-    let refused = subst (λ (z : _). IfErr z (λ cause. ask_of c.turn.new.self.writer.call.machine ≡ Call (Done (Refused cause)))) e c.replied.ensures.refusal in
-    rw c.turn.ensures.sees.book (r.spent refused)
