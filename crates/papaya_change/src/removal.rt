@@ -47,7 +47,7 @@ pub struct Removal<'a, K: Hash + Eq, V, S: BuildHasher> {
 }
 
 /// The key and the value of a pair.
-#[inline]
+#[inline(always)]
 pub fn entry<'a, K: Hash + Eq, V, S: BuildHasher>(
     book: &'a Book<K, V, S>,
     stored: &Stored<K, V>,

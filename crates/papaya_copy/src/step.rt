@@ -124,7 +124,7 @@ impl Cursor {
     /// This chunk is copied, and the next one's word is loaded, while there is one that was not
     /// loaded yet.
     #[inline]
-    fn next(mut self) -> Step
+    pub fn next(mut self) -> Step
         requires { IsStandingCursor self }
         ensures value { result ≡ next_cursor self }
         ensures standing { IsStandingStep result }

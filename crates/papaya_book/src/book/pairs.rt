@@ -175,7 +175,7 @@ impl<K: Hash + Eq + Drop, V: Drop, S: BuildHasher> Book<K, V, S> {
     }
 
     /// The pair of this key and this value, logged. Both come back where there is no memory.
-    #[inline]
+    #[inline(always)]
     pub fn log_pair<R: Wait>(
         &self,
         rt: &R,
