@@ -1,5 +1,6 @@
 -- What is asked for a copy may be answered, and how an exchange ended.
-use Rattle.std.proofs.Common.{◌≡◌, ℕ, ◌+◌, ◌<◌, ◌==◌, Bool, true, false, MatchBool, Option, None, Some, List, length, refl, sym, ap, ◌∙◌, subst}
+use Rattle.std.proofs.Common.{◌≡◌, inl, inr, ℕ, ◌+◌, ◌<◌, ◌==◌, Bool, true, false, MatchBool, Option, None, Some, List, [], ◌∷◌, ◌++◌, length}
+use Rattle.std.proofs.Common.{refl, sym, ap, ◌∙◌, subst}
 use mathlib.Core.List.{IsPrefix}
 use Rattle.boxcar.specs.Table.{Where}
 use Rattle.logbook.specs.Pages.{Book, may_write, nib}
@@ -9,19 +10,25 @@ use Rattle.papaya_ask.specs.declared.ask.At.TheVariants.{Root, Next, Aborted, Do
 use Rattle.papaya_ask.specs.declared.ask.StepKind.{StepKind}
 use Rattle.papaya_ask.specs.declared.ask.StepKind.TheVariants as kinds
 use Rattle.papaya_book.specs.declared.rule.entry.Begun.{Begun}
+use Rattle.papaya_chain.specs.declared.ask.Answer.{Answer}
+use Rattle.papaya_law.specs.Exchange.{Exchange, State}
 use Rattle.papaya_book.specs.declared.rule.entry.Event.{Event}
+use Rattle.papaya_book.specs.declared.rule.entry.Event.TheVariants.{Stepped}
+use Rattle.papaya_book.specs.declared.rule.entry.Step.{Step}
 use Rattle.papaya_book.specs.declared.rule.entry.Named.{Named}
 use Rattle.papaya_book.specs.declared.rule.entry.Named.TheVariants as names
 use Rattle.papaya_book.specs.Calls.{IsTable, IsTried}
-use Rattle.papaya_book.specs.Logs.{Stored, number_of, steps_of, table_in}
+use Rattle.papaya_book.specs.Logs.{Stored, comes, exchange_of, number_of, state_of, steps_of, table_in}
+use Rattle.papaya_book.specs.Plays.{IsWished}
 use Rattle.papaya_book.specs.Makers.{IsMade}
 use Rattle.papaya_book.specs.Rule.{IsPlaced}
 use Rattle.papaya_book.specs.Sheets.{Sheet}
 use Rattle.papaya_book.proofs.Loaded.{table_since}
+use Rattle.papaya_book.proofs.Logs.{prefix_trans}
 use Rattle.papaya_change.specs.Changing.{IsFresh}
 use Rattle.papaya_change.specs.declared.copier.Copier.{Copier}
-use Rattle.papaya_change.specs.Copier.{CanExchangeFor, CanJoin, CanTryFor, HasTried, IsReached, marked_or}
-use Rattle.papaya_change.specs.Helping.{IsTriedFor}
+use Rattle.papaya_change.specs.Copier.{AnswersExchange, CanJoin, HasTried, IsHandLeft, IsReached, marked_or, tried_answer}
+use Rattle.papaya_change.specs.Helping.{IsOwnTable, IsTriedFor}
 use Rattle.papaya_change.proofs.HelpingExchanges.{tried_link}
 use Rattle.papaya_change.proofs.HelpingPlaces.{one_table}
 
@@ -91,14 +98,67 @@ module _ {K V S H : Type 0} (eq : K → K → Bool) (hash : S → K → ℕ) (b 
         (same ∙ sym (ap (λ (o : Option StepKind). marked_or o None h.last) is)) same;
   }
 
+module _ {K V : Type 0} (new : ℕ) (s : State (Stored K V)) (kept : Option (Stored K V)) (e : Exchange (Stored K V)) where
+  not_marked : (at : At) → ((t x : ℕ) → at ≡ Slot t x → ⊥) → IsWished (Some kinds.Mark) at new s kept e → ⊥
+  not_marked Root other (inl a) = a
+  not_marked Root other (inr a) = a
+  not_marked (Next t) other (inl a) = a
+  not_marked (Next t) other (inr a) = a
+  not_marked (Aborted t) other (inl a) = a
+  not_marked (Aborted t) other (inr a) = a
+  not_marked (Done t i) other (inl a) = a
+  not_marked (Done t i) other (inr a) = a
+  not_marked Made_word other (inl a) = a
+  not_marked Made_word other (inr a) = a
+  not_marked (Slot t x) other a = other t x refl
+
+  -- no word but a slot's is marked
+  unmarked : (at : At) → ((t x : ℕ) → at ≡ Slot t x → ⊥) → (kind : Option StepKind) (last : Option (Stored K V)) → IsWished kind at new s kept e
+      → last ≡ marked_or kind None last
+  unmarked at other (Some kinds.Mark) last a = absurd (not_marked at other a)
+  unmarked at other kind last a = refl
+
 module _ {K V S H : Type 0} (eq : K → K → Bool) (hash : S → K → ℕ) (b : Begun K V S) (name : Book) (old new : ℕ) (kind : Option StepKind)
-    (log : List (Event K V S)) (h : Copier K V S H) where
-  -- an exchange of another word may be tried, where its table has come
-  pub others : (at : At) → ((t : ℕ) → at ≡ Next t → ⊥) → CanExchangeFor eq hash b name at kind old new log h → IsReached log at
-      × CanTryFor eq hash b name at kind (old, new) h.kept log
-  others Root other can = can
-  others (Next t) other can = absurd (other t refl)
-  others (Aborted t) other can = can
-  others (Done t i) other can = can
-  others (Slot t x) other can = can
-  others Made_word other can = can
+    (log log' : List (Event K V S)) (h : Copier K V S H) (at : At) (other : (t x : ℕ) → at ≡ Slot t x → ⊥) (found : ℕ) where
+  last_stays : (before : List (Event K V S)) (exchanged : Bool) → MatchBool exchanged ((e : Step K V)
+      × IsWished kind at new (state_of before) h.kept (exchange_of e) × IsOwnTable h.fresh (comes e) × (log' ≡ before ++ Stepped e ∷ [])) (log' ≡ before)
+      → MatchBool exchanged (h.last ≡ marked_or kind None h.last) (h.last ≡ h.last)
+  last_stays before true (e, wished, own, is) = unmarked new (state_of before) h.kept (exchange_of e) at other kind h.last wished
+  last_stays before false is = refl
+
+  -- an exchange was tried of a word that names no pair
+  pub word_tried : IsTriedFor eq hash b name at kind old new h.kept h.fresh log found log' None → IsHandLeft at h.fresh h.fresh
+      → (answer : Answer) → answer ≡ tried_answer found old → AnswersExchange eq hash b name at kind old new log h log' h answer
+  word_tried t hand answer is = record {
+    found = found;
+    is = is;
+    tried = record { pair = None; tried = t; last_is = last_stays t.before (found == old) t.after };
+    hand = hand;
+    rest = refl;
+  }
+
+module _ {K V S H : Type 0} (eq : K → K → Bool) (hash : S → K → ℕ) (b : Begun K V S) (name : Book) (old new : ℕ) (kind : Option StepKind)
+    (log₀ log : List (Event K V S)) (pre : IsPrefix log₀ log) (log' : List (Event K V S)) (h h' : Copier K V S H) (t x found : ℕ) where
+  -- or of a slot's word
+  pub slot_tried : HasTried eq hash b name (Slot t x) kind (old, new) h.kept h.fresh log h.last found log' h'.last → h' ≡ record h { last = h'.last }
+      → (answer : Answer) → answer ≡ tried_answer found old → AnswersExchange eq hash b name (Slot t x) kind old new log₀ h log' h' answer
+  slot_tried tried rest answer is = record {
+    found = found;
+    is = is;
+    tried = record {
+      pair = tried.pair;
+      tried = record {
+        before = tried.tried.before;
+        since = prefix_trans log₀ log tried.tried.before pre tried.tried.since;
+        lawful = tried.tried.lawful;
+        now = tried.tried.now;
+        is = tried.tried.is;
+        names = tried.tried.names;
+        placed = tried.tried.placed;
+        after = tried.tried.after;
+      };
+      last_is = tried.last_is;
+    };
+    hand = ap (λ (z : Copier K V S H). z.fresh) rest;
+    rest = rest ∙ (λ i. record h { last = h'.last; fresh = (sym (ap (λ (z : Copier K V S H). z.fresh) rest)) i });
+  }

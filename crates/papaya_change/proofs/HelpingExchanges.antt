@@ -165,6 +165,21 @@ module _ {K V S : Type 0} (eq : K → K → Bool) (hash : S → K → ℕ) (b : 
       after = wished_then (Slot t x) kind new kept fresh names.Nothing tt s.tried.before log (found == old) s.tried.after;
     }
 
+    -- so was one of another word, which names no pair
+    pub tried_word : (at : At) → ((s : State (Stored K V)) → pair_at s at ≡ None) → (state : Option (Named K V))
+        → IsTried eq hash b at kind old new kept names.Nothing seen found log state
+        → IsTriedFor eq hash b name at kind old new kept fresh seen₀ found log None
+    tried_word at none state s = record {
+      before = s.before;
+      since = prefix_trans seen₀ seen s.before pre s.since;
+      lawful = s.lawful;
+      now = s.now;
+      is = s.is;
+      names = none (state_of s.before);
+      placed = tt;
+      after = wished_then at kind new kept fresh names.Nothing tt s.before log (found == old) s.after;
+    }
+
   -- a link is wished whatever pair is carried
   wished_link : (t new : ℕ) (kept : Option (Stored K V)) (fresh : Option (Where Sheet × Pen)) (before log : List (Event K V S)) (exchanged : Bool)
       → MatchBool exchanged ((e : Step K V) × IsWished (Some kinds.Link) (Next t) new (state_of before) None (exchange_of e)

@@ -223,36 +223,25 @@ impl<K: Hash + Eq, V, S: BuildHasher> Copier<K, V, S> {
         ensures answers { Exchanges at kind words window.old self.old window.new self.new result }
     {
         match at {
+            At::Root => tried(window.copy_root(kind, &self.kept, words), words.0),
             At::Next(number) => tried(self.link(number, window), words.0),
-            _ => tried(self.exchange_word(at, kind, words, window), words.0),
+            At::Aborted(number) => {
+                let table = window.table(number);
+                let found = window.copy_aborted(table, number, kind, &self.kept, words);
+                tried(found, words.0)
+            }
+            At::Done(number, chunk) => {
+                let table = window.table(number);
+                let found = window.copy_done(table, number, chunk, kind, &self.kept, words);
+                tried(found, words.0)
+            }
+            At::Slot(number, place) => {
+                let table = window.table(number);
+                let found = self.exchange_slot(table, number, place, kind, words, window);
+                tried(found, words.0)
+            }
+            At::Made => unreachable!(),
         }
-    }
-
-    /// Tries to exchange any other word: the word that was found. The pair last told of is the one
-    /// that stood there where that is marked now, and the one that was found where the exchange
-    /// wasn't made.
-    fn exchange_word<'a>(
-        &mut self,
-        at: At,
-        kind: Option<StepKind>,
-        words: (u64, u64),
-        window: &mut Window<'a, K, V, S>,
-    ) -> u64
-        requires reach { CanReach window.old at }
-        requires other { (t : ℕ) → at ≡ Next t → ⊥ }
-        requires can { CanTryFor window.old at kind words self.old }
-        ensures sees { Sees window.old window.new }
-        ensures own { window.new.own ≡ window.old.own }
-        ensures tried { HasTried at kind words window.old self.old window.new self.new result }
-        ensures rest { self.new ≡ record self.old { last = self.new.last } }
-    {
-        let (found, pair) = self.try_for(at, kind, words, window);
-        if found != words.0 {
-            self.tell(pair);
-        } else if let Some(StepKind::Mark) = kind {
-            self.last = pair;
-        }
-        found
     }
 
     /// Tries to exchange the word of a table's slot: the word that was found, and the pair that
@@ -278,7 +267,9 @@ impl<K: Hash + Eq, V, S: BuildHasher> Copier<K, V, S> {
         window.copy_slot(table, number, place, kind, &self.kept, words)
     }
 
-    /// Tries to exchange the word of a table's slot: the word that was found.
+    /// Tries to exchange the word of a table's slot: the word that was found. The pair last told of
+    /// is the one that stood there where that is marked now, and the one that was found where the
+    /// exchange wasn't made.
     #[inline(always)]
     pub(crate) fn exchange_slot<'a>(
         &mut self,
@@ -305,42 +296,6 @@ impl<K: Hash + Eq, V, S: BuildHasher> Copier<K, V, S> {
             self.last = pair;
         }
         found
-    }
-
-    /// Tries to exchange a word but that of a next table: the word that was found, and the pair
-    /// that it names.
-    fn try_for<'a>(
-        &self,
-        at: At,
-        kind: Option<StepKind>,
-        words: (u64, u64),
-        window: &mut Window<'a, K, V, S>,
-    ) -> (u64, Option<Stored<K, V>>)
-        requires reach { CanReach window.old at }
-        requires other { (t : ℕ) → at ≡ Next t → ⊥ }
-        requires can { CanTryFor window.old at kind words self.now }
-        ensures sees { Sees window.old window.new }
-        ensures own { window.new.own ≡ window.old.own }
-        ensures tried { TriesFor at kind words window.old self.now window.new result }
-    {
-        match at {
-            At::Root => (window.copy_root(kind, &self.kept, words), None),
-            At::Next(_) | At::Made => unreachable!(),
-            At::Aborted(number) => {
-                let table = window.table(number);
-                let found = window.copy_aborted(table, number, kind, &self.kept, words);
-                (found, None)
-            }
-            At::Done(number, chunk) => {
-                let table = window.table(number);
-                let found = window.copy_done(table, number, chunk, kind, &self.kept, words);
-                (found, None)
-            }
-            At::Slot(number, place) => {
-                let table = window.table(number);
-                window.copy_slot(table, number, place, kind, &self.kept, words)
-            }
-        }
     }
 
     /// Carries the pair last told of: the hash of its key.
