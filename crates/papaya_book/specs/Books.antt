@@ -12,7 +12,6 @@ use Rattle.papaya_book.specs.declared.book.Book.{Book}
 use Rattle.papaya_book.specs.declared.rule.entry.Event.{Event}
 use Rattle.papaya_book.specs.declared.rule.entry.Named.{Named}
 use Rattle.papaya_book.specs.declared.rule.entry.Named.TheVariants as names
-use Rattle.papaya_book.specs.declared.rule.steps.Copy.{Copy}
 use Rattle.papaya_book.specs.declared.rule.steps.Laying.{Laying}
 use Rattle.papaya_book.specs.declared.rule.steps.Put.{Put}
 use Rattle.papaya_book.specs.declared.rule.steps.Wish.{Wish}
@@ -69,14 +68,14 @@ module _ {K V S H : Type 0} (keys : Keys K S) (book : Book K V S H) where
   IsNext = calls.IsNext keys.eq keys.hash (begun_of book.parts) book.begun.book
 
   -- an exchange with which nothing comes
-  abbrev pub CanTry : Wish → (old new : ℕ) → List (Event K V S) → Type 0
+  abbrev pub CanTry : Wish K V → (old new : ℕ) → List (Event K V S) → Type 0
   CanTry wish old new = plays.CanExchange keys.eq keys.hash (begun_of book.parts) wish.at wish.kind
-      old new None names.Nothing
+      old new wish.kept.now names.Nothing
 
-  abbrev pub Tries : Wish → (old new : ℕ) → List (Event K V S) → ℕ → List (Event K V S)
+  abbrev pub Tries : Wish K V → (old new : ℕ) → List (Event K V S) → ℕ → List (Event K V S)
       → Option (Named K V) → Type 0
   Tries wish old new = calls.IsTried keys.eq keys.hash (begun_of book.parts) wish.at wish.kind old
-      new None names.Nothing
+      new wish.kept.now names.Nothing
 
   -- an exchange with which the pair comes that the call has made
   abbrev pub CanPut : Put K V → (old new : ℕ) → List (Event K V S) → Type 0
@@ -134,14 +133,6 @@ module _ {K V S H : Type 0} (keys : Keys K S) (book : Book K V S H) where
       → List (Event K V S) → Type 0
   CanCopy at kind kept words = plays.CanExchange keys.eq keys.hash (begun_of book.parts) at kind
       words.0 words.1 kept names.Nothing
-
-  abbrev pub CanCarry : Copy K V → (old new : ℕ) → List (Event K V S) → Type 0
-  CanCarry copy old new = CanCopy copy.at copy.kind copy.kept.now (old, new)
-
-  abbrev pub Carries : Copy K V → (old new : ℕ) → List (Event K V S) → ℕ → List (Event K V S)
-      → Option (Named K V) → Type 0
-  Carries copy old new = calls.IsTried keys.eq keys.hash (begun_of book.parts) copy.at copy.kind old
-      new copy.kept.now names.Nothing
 
   abbrev pub CopiesWord : At → Option StepKind → (kept : Option (Stored K V)) → (words : ℕ × ℕ)
       → List (Event K V S) → ℕ → List (Event K V S) → Type 0

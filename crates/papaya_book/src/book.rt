@@ -1,31 +1,24 @@
-//! The book of a map: its own words, and the steps on words.
-ghost use Rattle.std.specs.Prelude.{◌≡◌, ◌<◌, [], ◌∷◌, Some, None, length};
+//! The book of a map: its own words, and what the steps on words share.
+ghost use Rattle.std.specs.Prelude.{◌≡◌, [], ◌∷◌, Some};
 ghost use mathlib.Core.List.{IsPrefix};
 ghost use Rattle.papaya_words.specs.Mode.{IsChunked};
 ghost use Rattle.papaya_book.specs.Modes.{IsChunked-prop};
-ghost use Rattle.papaya_book.specs.Calls.{IsTable};
 ghost use Rattle.papaya_book.specs.Logs.{first_in, key_at, name_in, steps_of};
 ghost use Rattle.papaya_book.specs.Parts.{begun_of};
 ghost use Rattle.papaya_book.specs.Sheets.{word_named};
 ghost use Rattle.papaya_book.specs.declared.rule.entry.Event.TheVariants.{Begin};
-ghost use Rattle.papaya_book.specs.declared.rule.entry.Named.TheVariants.{Nothing, Pair as PairNamed};
+ghost use Rattle.papaya_book.specs.declared.rule.entry.Named.TheVariants.{Pair as PairNamed};
 
-pub mod copies;
-pub mod exchanges;
 pub mod gains;
-pub mod hints;
 pub mod kept;
 pub mod layer;
 pub mod logs;
 pub mod maker;
-pub mod numbers;
 pub mod pairs;
 pub mod parts;
 
-use crate::book::gains::pair_in;
 use crate::book::parts::Parts;
 use crate::keyed::Keyed;
-use crate::rule::entry::Stored;
 use crate::rule::law::Found;
 use crate::rule::offer;
 use crate::rule::offer::{Offer, Seen};
@@ -59,7 +52,7 @@ pub struct Book<K: Hash + Eq, V, S: BuildHasher> {
 }
 
 impl<K: Hash + Eq, V, S: BuildHasher> Book<K, V, S> {
-    ghost use Rattle.papaya_book.specs.Books.{CanPut, CanTry, IsIn, IsLawfulLog, IsNext, IsRead, IsRoot, IsSlot, IsSlotWord, Puts, Tries};
+    ghost use Rattle.papaya_book.specs.Books.{CanPut, CanTry, IsIn, IsLawfulLog, IsRead, IsRoot, Puts, Tries};
 
     /// One atomic load: the word that stands there. The offer gains what it names.
     pub fn read(
@@ -82,11 +75,11 @@ impl<K: Hash + Eq, V, S: BuildHasher> Book<K, V, S> {
         (found, offer)
     }
 
-    /// One atomic exchange with which nothing comes: the word found there.
+    /// One atomic exchange with which nothing comes, of a call or of a copy: the word found there.
     pub(crate) fn exchange(
         &self,
         word: &Cell<K, V, S>,
-        wish: &Wish,
+        wish: &Wish<K, V>,
         old: u64,
         new: u64,
         sight: &mut Seen<K, V, S>,
@@ -101,7 +94,7 @@ impl<K: Hash + Eq, V, S: BuildHasher> Book<K, V, S> {
             result.0 sight.new.log result.1.state }
     {
         sight.learn(&self.begun);
-        let mut offer = offer::bare::<K, V, S, Wish, Try>(sight, wish);
+        let mut offer = offer::bare::<K, V, S, Wish<K, V>, Try>(sight, wish);
         let mut pen = sight.no_pen();
         let found = word.compare_exchange::<Try, Found<K, V>>(
             old, new, sight, &mut offer, &mut pen,
@@ -137,53 +130,8 @@ impl<K: Hash + Eq, V, S: BuildHasher> Book<K, V, S> {
         (found, offer)
     }
 
-    /// One atomic load of a table's slot: the word, and what gains the token of the pair that
-    /// it names.
-    #[inline(always)]
-    pub fn slot_word(
-        &self,
-        table: &Table<K, V, S>,
-        number: u64,
-        place: usize,
-        sight: &mut Seen<K, V, S>,
-    ) -> (u64, Offer<K, V, S>)
-        requires book { sight.old.book ≡ self.now.begun.book }
-        requires table { IsTable sight.old.log number table.now }
-        requires place { place < length table.now.slots }
-        ensures book { sight.new.book ≡ sight.old.book }
-        ensures seen { IsPrefix sight.old.log sight.new.log }
-        ensures slot { IsSlotWord ⟦<S as Keyed<K>>⟧.keys self.now number place result.0
-            sight.new.log result.1.state }
-    {
-        sight.learn(&self.begun);
-        let sought = Sought {
-            at: At::Slot(number, place),
-        };
-        self.read(table.slot(place), &sought, sight)
-    }
-
-    /// One atomic load of a table's slot: the word, and the token of the pair that it names.
-    pub fn slot(
-        &self,
-        table: &Table<K, V, S>,
-        number: u64,
-        place: usize,
-        sight: &mut Seen<K, V, S>,
-    ) -> (u64, Option<Stored<K, V>>)
-        requires book { sight.old.book ≡ self.now.begun.book }
-        requires table { IsTable sight.old.log number table.now }
-        requires place { place < length table.now.slots }
-        ensures book { sight.new.book ≡ sight.old.book }
-        ensures seen { IsPrefix sight.old.log sight.new.log }
-        ensures slot { IsSlot ⟦<S as Keyed<K>>⟧.keys self.now number place result.0 sight.new.log
-            result.1 }
-    {
-        let (found, offer) = self.slot_word(table, number, place, sight);
-        (found, pair_in(found, offer))
-    }
-
-    /// One atomic load of the root: its number, and its table.
-    pub fn root<'a>(&'a self, sight: &mut Seen<K, V, S>) -> (u64, Option<&'a Table<K, V, S>>)
+    /// One atomic load of the root: its number, and its table, whose token the load gains.
+    pub(crate) fn root<'a>(&'a self, sight: &mut Seen<K, V, S>) -> (u64, Option<&'a Table<K, V, S>>)
         requires book { sight.old.book ≡ self.now.begun.book }
         ensures book { sight.new.book ≡ sight.old.book }
         ensures seen { IsPrefix sight.old.log sight.new.log }
@@ -192,33 +140,6 @@ impl<K: Hash + Eq, V, S: BuildHasher> Book<K, V, S> {
         sight.learn(&self.begun);
         let sought = Sought { at: At::Root };
         let (found, offer) = self.read(&self.root, &sought, sight);
-        if found == 0 {
-            return (0, None);
-        }
-        let known = offer::table_known(offer.into_gain());
-        let token = token(known, (found - 1) as usize);
-        (found, Some(self.parts.tables.value(&token)))
-    }
-
-    /// One atomic load of the number of the next table, and that table.
-    pub fn next<'a>(
-        &'a self,
-        table: &Table<K, V, S>,
-        number: u64,
-        sight: &mut Seen<K, V, S>,
-    ) -> (u64, Option<&'a Table<K, V, S>>)
-        requires book { sight.old.book ≡ self.now.begun.book }
-        requires table { IsTable sight.old.log number table.now }
-        ensures book { sight.new.book ≡ sight.old.book }
-        ensures seen { IsPrefix sight.old.log sight.new.log }
-        ensures next { IsNext ⟦<S as Keyed<K>>⟧.keys self.now number result.0 sight.new.log
-            result.1 }
-    {
-        sight.learn(&self.begun);
-        let sought = Sought {
-            at: At::Next(number),
-        };
-        let (found, offer) = self.read(table.next(), &sought, sight);
         if found == 0 {
             return (0, None);
         }

@@ -8,13 +8,18 @@ ghost use Rattle.papaya_book.specs.Windows.{CanCopy, CanLink, CopiesSlot, Copies
 ghost use Rattle.papaya_book.specs.Logs.{pair_named};
 ghost use Rattle.papaya_book.specs.declared.rule.entry.Named.TheVariants.{Table as TableNamed};
 
+use crate::book::gains::pair_in;
 use crate::rule::entry::Stored;
+use crate::rule::law::Found;
+use crate::rule::offer;
 use crate::rule::own::{CapacityCause, OwnSteps};
+use crate::rule::steps::{Fetch, Laying, Sought, Wanted, Wish};
+use crate::rule::token::token;
 use crate::table::Table;
 use crate::window::Window;
 use boxcar::Pushed;
 use logbook::Pen;
-use papaya_ask::ask::StepKind;
+use papaya_ask::ask::{At, StepKind};
 use papaya_words::probe::Refused;
 use std::alloc::Global;
 use std::hash::{BuildHasher, Hash};
@@ -29,7 +34,15 @@ impl<'a, K: Hash + Eq, V, S: BuildHasher> Window<'a, K, V, S> {
         ensures own { self.new.own ≡ self.old.own }
         ensures table { IsTable self.new number result.now }
     {
-        self.book.table(number, &mut self.sight)
+        self.sight.learn(&self.book.begun);
+        let wanted = Wanted { number };
+        let mut offer = offer::bare::<K, V, S, Wanted, Fetch>(&self.sight, &wanted);
+        self.book
+            .root
+            .load::<Fetch, Found<K, V>>(&mut self.sight, &mut offer);
+        let known = offer::table_known(offer.into_gain());
+        let token = token(known, (number - 1) as usize);
+        self.book.parts.tables.value(&token)
     }
 
     /// One atomic load of the word that says whether a table was given up.
@@ -39,7 +52,12 @@ impl<'a, K: Hash + Eq, V, S: BuildHasher> Window<'a, K, V, S> {
         ensures own { self.new.own ≡ self.old.own }
         ensures word { IsWord self.old self.new (Aborted number) result }
     {
-        self.book.aborted(table, number, &mut self.sight)
+        self.sight.learn(&self.book.begun);
+        let sought = Sought {
+            at: At::Aborted(number),
+        };
+        let (found, _) = self.book.read(table.aborted(), &sought, &mut self.sight);
+        found
     }
 
     /// One atomic load of the word that says whether a chunk was copied to a table.
@@ -50,7 +68,12 @@ impl<'a, K: Hash + Eq, V, S: BuildHasher> Window<'a, K, V, S> {
         ensures own { self.new.own ≡ self.old.own }
         ensures word { IsWord self.old self.new (Done number chunk) result }
     {
-        self.book.done(table, number, chunk, &mut self.sight)
+        self.sight.learn(&self.book.begun);
+        let sought = Sought {
+            at: At::Done(number, chunk),
+        };
+        let (found, _) = self.book.read(table.done(chunk), &sought, &mut self.sight);
+        found
     }
 
     /// One atomic exchange of a slot for a copy: the word found there, and the token of the pair
@@ -72,8 +95,17 @@ impl<'a, K: Hash + Eq, V, S: BuildHasher> Window<'a, K, V, S> {
         ensures tried { CopiesSlot self.old self.new number place kind kept.now words result.0
             result.1 }
     {
-        self.book
-            .copy_slot(table, number, place, kind, kept, words, &mut self.sight)
+        self.sight.learn(&self.book.begun);
+        let wish = Wish {
+            at: At::Slot(number, place),
+            kind,
+            kept,
+        };
+        let (old, new) = words;
+        let (found, offer) = self
+            .book
+            .exchange(table.slot(place), &wish, old, new, &mut self.sight);
+        (found, pair_in(found, offer))
     }
 
     /// One atomic exchange of the root for a copy: the number found there.
@@ -88,7 +120,16 @@ impl<'a, K: Hash + Eq, V, S: BuildHasher> Window<'a, K, V, S> {
         ensures own { self.new.own ≡ self.old.own }
         ensures tried { CopiesWord self.old self.new Root kind kept.now words result }
     {
-        self.book.copy_root(kind, kept, words, &mut self.sight)
+        let wish = Wish {
+            at: At::Root,
+            kind,
+            kept,
+        };
+        let (old, new) = words;
+        let (found, _) = self
+            .book
+            .exchange(&self.book.root, &wish, old, new, &mut self.sight);
+        found
     }
 
     /// One atomic exchange of the word that says whether a table was given up: the word
@@ -107,8 +148,17 @@ impl<'a, K: Hash + Eq, V, S: BuildHasher> Window<'a, K, V, S> {
         ensures own { self.new.own ≡ self.old.own }
         ensures tried { CopiesWord self.old self.new (Aborted number) kind kept.now words result }
     {
-        self.book
-            .copy_aborted(table, number, kind, kept, words, &mut self.sight)
+        self.sight.learn(&self.book.begun);
+        let wish = Wish {
+            at: At::Aborted(number),
+            kind,
+            kept,
+        };
+        let (old, new) = words;
+        let (found, _) = self
+            .book
+            .exchange(table.aborted(), &wish, old, new, &mut self.sight);
+        found
     }
 
     /// One atomic exchange of the word that says whether a chunk was copied to a table: the word
@@ -130,8 +180,17 @@ impl<'a, K: Hash + Eq, V, S: BuildHasher> Window<'a, K, V, S> {
         ensures tried { CopiesWord self.old self.new (Done number chunk) kind kept.now words
             result }
     {
-        self.book
-            .copy_done(table, number, chunk, kind, kept, words, &mut self.sight)
+        self.sight.learn(&self.book.begun);
+        let wish = Wish {
+            at: At::Done(number, chunk),
+            kind,
+            kept,
+        };
+        let (old, new) = words;
+        let (found, _) = self
+            .book
+            .exchange(table.done(chunk), &wish, old, new, &mut self.sight);
+        found
     }
 
     /// A table as [`Window::make_table`] makes it, with a number past that of the table which it is
@@ -184,6 +243,16 @@ impl<'a, K: Hash + Eq, V, S: BuildHasher> Window<'a, K, V, S> {
         ensures own { self.new.own ≡ self.old.own }
         ensures tried { Links self.old self.new number table.now result }
     {
-        self.book.link(after, number, table, seal, &mut self.sight)
+        self.sight.learn(&self.book.begun);
+        let laying = Laying {
+            at: At::Next(number),
+            kind: Some(StepKind::Link),
+            table,
+        };
+        let linked = table.index() as u64 + 1;
+        let (found, _) = self
+            .book
+            .bring(after.next(), &laying, 0, linked, seal, &mut self.sight);
+        found
     }
 }

@@ -2,8 +2,8 @@
 //!
 //! Read [`rule`] first: what the log says ([`rule::entry`]), when an exchange is allowed
 //! ([`rule::law`]), and how the tokens of pairs and tables pass between a step and the book. Then
-//! [`book`]: loads and exchanges as calls, the arena of pairs, and tables that are made and opened
-//! while others act.
+//! [`book`]: its words, the arena of pairs, and tables that are made while others act. Loads and
+//! exchanges as calls are the methods of [`window::Window`].
 //!
 //! Whatever the kind of an exchange, the same two steps try it: one with which nothing comes or a
 //! pair, and one with which a table comes. A caller shows that its exchange is allowed whenever its

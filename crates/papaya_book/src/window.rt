@@ -3,15 +3,19 @@ ghost use Rattle.std.specs.Prelude.{◌≡◌};
 ghost use Rattle.papaya_book.specs.Keys.{IsLawful as AreLawful};
 
 use crate::book::Book;
+use crate::book::gains::pair_in;
 use crate::book::kept::KeptRoot;
 use crate::keyed::Keyed;
 use crate::rule::entry::{Step, Stored};
+use crate::rule::offer;
 use crate::rule::offer::{Offer, Seen};
 use crate::rule::own::{CapacityCause, OwnSteps, with_last};
+use crate::rule::steps::{Put, Sought, Wish};
+use crate::rule::token::token;
 use crate::table::Table;
 use boxcar::Pushed;
 use logbook::Pen;
-use papaya_ask::ask::StepKind;
+use papaya_ask::ask::{At, StepKind};
 use papaya_words::probe::Refused;
 use std::alloc::Global;
 use std::hash::{BuildHasher, Hash};
@@ -72,14 +76,23 @@ impl<'a, K: Hash + Eq, V, S: BuildHasher> Window<'a, K, V, S> {
         self.book.learn(&mut self.sight);
     }
 
-    /// One atomic load of the root: its number, and its table.
+    /// One atomic load of the root: its number, and its table. That is the one kept, where the
+    /// number is; else the root is loaded once more, with its table.
     #[inline(always)]
     pub fn root(&mut self) -> (u64, Option<&'a Table<K, V, S>>)
         ensures sees { Sees self.old self.new }
         ensures root { IsRoot self.old self.new result.0 result.1 }
         ensures own { self.new.own ≡ self.old.own }
     {
-        self.book.root_by(&self.kept, &mut self.sight)
+        let kept = &self.kept;
+        self.sight.learn(&self.book.begun);
+        self.sight.learn(&kept.sight);
+        let sought = Sought { at: At::Root };
+        let (found, _) = self.book.read(&self.book.root, &sought, &mut self.sight);
+        if found == kept.number {
+            return (found, kept.table);
+        }
+        self.book.root(&mut self.sight)
     }
 
     /// One atomic load of the number of the next table, and that table.
@@ -90,7 +103,17 @@ impl<'a, K: Hash + Eq, V, S: BuildHasher> Window<'a, K, V, S> {
         ensures next { IsNext self.old self.new number result.0 result.1 }
         ensures own { self.new.own ≡ self.old.own }
     {
-        self.book.next(table, number, &mut self.sight)
+        self.sight.learn(&self.book.begun);
+        let sought = Sought {
+            at: At::Next(number),
+        };
+        let (found, offer) = self.book.read(table.next(), &sought, &mut self.sight);
+        if found == 0 {
+            return (0, None);
+        }
+        let known = offer::table_known(offer.into_gain());
+        let token = token(known, (found - 1) as usize);
+        (found, Some(self.book.parts.tables.value(&token)))
     }
 
     /// One atomic load: how many numbers for pairs were taken.
@@ -99,7 +122,9 @@ impl<'a, K: Hash + Eq, V, S: BuildHasher> Window<'a, K, V, S> {
         ensures own { self.new.own ≡ self.old.own }
         ensures word { IsWord self.old self.new Made result }
     {
-        self.book.made(&mut self.sight)
+        let sought = Sought { at: At::Made };
+        let (found, _) = self.book.read(&self.book.made, &sought, &mut self.sight);
+        found
     }
 
     /// One atomic exchange of that word: the count found there.
@@ -109,7 +134,16 @@ impl<'a, K: Hash + Eq, V, S: BuildHasher> Window<'a, K, V, S> {
         ensures own { self.new.own ≡ self.old.own }
         ensures tried { CopiesWord self.old self.new Made kind None words result }
     {
-        self.book.take(kind, words, &mut self.sight)
+        let wish = Wish {
+            at: At::Made,
+            kind,
+            kept: &None,
+        };
+        let (old, new) = words;
+        let (found, _) = self
+            .book
+            .exchange(&self.book.made, &wish, old, new, &mut self.sight);
+        found
     }
 
     /// One atomic load of the hint of a table's slot: 0, which says nothing, where none
@@ -122,7 +156,10 @@ impl<'a, K: Hash + Eq, V, S: BuildHasher> Window<'a, K, V, S> {
         ensures hint { IsHint self.old self.new number place result }
         ensures own { self.new.own ≡ self.old.own }
     {
-        self.book.hint(table, number, place, &mut self.sight)
+        self.sight.learn(&self.book.begun);
+        let hint = table.hint(place).load(&mut self.sight);
+        self.sight.learn(&self.book.begun);
+        hint
     }
 
     /// One atomic exchange: a slot without a hint has this one from then on. Nothing tells whether
@@ -133,8 +170,9 @@ impl<'a, K: Hash + Eq, V, S: BuildHasher> Window<'a, K, V, S> {
         requires place { place < length table.now.slots }
         requires hint { MayHint self.now number place hint }
     {
-        self.book
-            .write_hint(table, number, place, hint, &self.sight)
+        let mut seen = self.sight.again();
+        seen.learn(&self.book.begun);
+        table.hint(place).compare_exchange(0, hint as u64, &seen);
     }
 
     /// One atomic load of a table's slot: the word, and what gains the token of the pair that
@@ -152,7 +190,11 @@ impl<'a, K: Hash + Eq, V, S: BuildHasher> Window<'a, K, V, S> {
         ensures slot { IsSlotWord self.old self.new number place result.0 result.1.state }
         ensures own { self.new.own ≡ self.old.own }
     {
-        self.book.slot_word(table, number, place, &mut self.sight)
+        self.sight.learn(&self.book.begun);
+        let sought = Sought {
+            at: At::Slot(number, place),
+        };
+        self.book.read(table.slot(place), &sought, &mut self.sight)
     }
 
     /// One atomic load of a table's slot: the word, and the token of the pair that it names.
@@ -169,7 +211,8 @@ impl<'a, K: Hash + Eq, V, S: BuildHasher> Window<'a, K, V, S> {
         ensures slot { IsSlot self.old self.new number place result.0 result.1 }
         ensures own { self.new.own ≡ self.old.own }
     {
-        self.book.slot(table, number, place, &mut self.sight)
+        let (found, offer) = self.slot_word(table, number, place);
+        (found, pair_in(found, offer))
     }
 
     /// One atomic exchange of a slot, with which nothing comes: the word found there, and the token
@@ -189,11 +232,18 @@ impl<'a, K: Hash + Eq, V, S: BuildHasher> Window<'a, K, V, S> {
         ensures tried { TriesSlot self.old self.new number place kind words result.0 result.1 }
         ensures does { Does (result.0 == words.0) self.old self.new }
     {
-        let (found, before) = self
+        self.sight.learn(&self.book.begun);
+        let wish = Wish {
+            at: At::Slot(number, place),
+            kind,
+            kept: &None,
+        };
+        let (old, new) = words;
+        let (found, offer) = self
             .book
-            .exchange_slot(table, number, place, kind, words, &mut self.sight);
-        self.keep(found == words.0);
-        (found, before)
+            .exchange(table.slot(place), &wish, old, new, &mut self.sight);
+        self.keep(found == old);
+        (found, pair_in(found, offer))
     }
 
     /// One atomic exchange of a slot, with which the pair comes that the call has made: the word
@@ -216,11 +266,18 @@ impl<'a, K: Hash + Eq, V, S: BuildHasher> Window<'a, K, V, S> {
             result.1 }
         ensures does { Does (result.0 == words.0) self.old self.new }
     {
-        let (found, before) = self
+        self.sight.learn(&self.book.begun);
+        let wish = Put {
+            at: At::Slot(number, place),
+            kind,
+            made,
+        };
+        let (old, new) = words;
+        let (found, offer) = self
             .book
-            .put_slot(table, number, place, kind, made, words, &mut self.sight);
-        self.keep(found == words.0);
-        (found, before)
+            .put(table.slot(place), &wish, old, new, &mut self.sight);
+        self.keep(found == old);
+        (found, pair_in(found, offer))
     }
 
     /// Keeps the last exchange that was seen, where it is the caller's.
@@ -235,7 +292,7 @@ impl<'a, K: Hash + Eq, V, S: BuildHasher> Window<'a, K, V, S> {
     }
 
     /// A table of so many slots, all Empty, to which a table of so many chunks is copied, in the
-    /// log of tables, with the pen of its seal.
+    /// log of tables, with the pen of its seal. Refused as [`Book::log_table`].
     pub fn make_table<R: Wait>(
         &mut self,
         rt: &R,
@@ -256,8 +313,14 @@ impl<'a, K: Hash + Eq, V, S: BuildHasher> Window<'a, K, V, S> {
         ensures pen { IfOk result (λ r. Seals self.old.book.now r.1 r.0.value) }
         ensures own { self.new.own ≡ self.old.own }
     {
-        self.book
-            .make_table(rt, alloc, len, limit, chunks, &mut self.sight, given)
+        let Some((table, seal)) = self
+            .book
+            .lay_table(rt, alloc, len, limit, chunks, &mut self.sight)
+        else {
+            return Err(Refused::Memory);
+        };
+        let table = self.book.log_table(rt, table, given)?;
+        Ok((table, seal))
     }
 
     /// One atomic exchange: the table becomes the root, if there is none. The number found, and the
@@ -275,6 +338,13 @@ impl<'a, K: Hash + Eq, V, S: BuildHasher> Window<'a, K, V, S> {
         ensures held { IsTable self.new (root_then table.now result.0) result.1.now }
         ensures own { self.new.own ≡ self.old.own }
     {
-        self.book.open_root(table, seal, &mut self.sight)
+        self.sight.learn(&self.book.begun);
+        let (found, offer) = self.book.open(table, seal, &mut self.sight);
+        if found == 0 {
+            return (0, self.book.parts.tables.value(table));
+        }
+        let known = offer::table_known(offer.into_gain());
+        let token = token(known, (found - 1) as usize);
+        (found, self.book.parts.tables.value(&token))
     }
 }

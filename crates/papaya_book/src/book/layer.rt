@@ -1,10 +1,9 @@
 //! Making and opening tables.
-ghost use Rattle.papaya_book.specs.Books.{IsIn, IsLeft, Opens, Seals, root_then};
-ghost use Rattle.std.specs.Prelude.{◌≡◌, ◌+◌, ◌-◌, ◌≤◌, ◌⊎◌, ◌==◌, cond, false, Some, None};
+ghost use Rattle.papaya_book.specs.Books.{IsIn, IsLeft, Opens, Seals};
+ghost use Rattle.std.specs.Prelude.{◌≡◌, ◌+◌, ◌-◌, ◌≤◌, ◌⊎◌, Some, None};
 ghost use Rattle.std.specs.Prelude.{[], ◌∷◌, IfErr, IfOk, IfSome, length, map};
 ghost use mathlib.Core.List.{IsPrefix};
 ghost use Rattle.papaya_ask.specs.Search.{IsSize};
-ghost use Rattle.papaya_book.specs.Calls.{IsTable};
 ghost use Rattle.papaya_book.specs.Makers.{AreFrom, IsMade};
 ghost use Rattle.boxcar.specs.Table.{Shows};
 ghost use Rattle.papaya_book.specs.Limits.{HasTableFrom, IsFull, tables_of};
@@ -16,11 +15,9 @@ ghost use Rattle.papaya_words.specs.declared.limits.TheConstants.{MAX_TABLE_LEN}
 
 use crate::book::Book;
 use crate::keyed::Keyed;
-use crate::rule::offer;
 use crate::rule::offer::{Offer, Seen};
 use crate::rule::own::{CapacityCause, OwnSteps};
 use crate::rule::steps::Laying;
-use crate::rule::token::token;
 use crate::slot::{Cell, Slot};
 use crate::table::Table;
 use boxcar::Pushed;
@@ -78,7 +75,7 @@ impl<K: Hash + Eq, V, S: BuildHasher> Book<K, V, S> {
 
     /// A table of so many slots, all Empty, to which a table of so many chunks is copied, with the
     /// pen of its seal. It draws its words once there is room for them.
-    fn lay_table<R: Wait>(
+    pub(crate) fn lay_table<R: Wait>(
         &self,
         rt: &R,
         alloc: Global,
@@ -128,51 +125,36 @@ impl<K: Hash + Eq, V, S: BuildHasher> Book<K, V, S> {
         OwnSteps::only(&number)
     }
 
-    /// A table of so many slots, all Empty, to which a table of so many chunks is copied, in the
-    /// log of tables, with the pen of its seal.
+    /// The table, in the log of tables.
     ///
     /// `Refused::Memory` where a growth was refused, and `Refused::Capacity` where the number that
     /// the log gave it would pass [`MAX_TABLES`]: then `given` tells that number.
-    pub fn make_table<R: Wait>(
+    pub(crate) fn log_table<R: Wait>(
         &self,
         rt: &R,
-        alloc: Global,
-        len: usize,
-        limit: usize,
-        chunks: usize,
-        sight: &mut Seen<K, V, S>,
+        table: Table<K, V, S>,
         given: &mut OwnSteps<CapacityCause>,
-    ) -> Result<(Pushed<Table<K, V, S>>, Pen), Refused>
-        requires book { sight.old.book ≡ self.now.begun.book }
-        requires size { IsSize len limit }
-        ensures book { sight.new.book ≡ sight.old.book }
-        ensures seen { IsPrefix sight.old.log sight.new.log }
-        ensures size { IfOk result (λ r. (length r.0.value.slots ≡ len)
-            × (r.0.value.limit ≡ limit)) }
-        ensures chunks { IfOk result (λ r. length r.0.value.done ≡ chunks) }
-        ensures made { IfOk result (λ r. IsMade r.0.value sight.new.log) }
+    ) -> Result<Pushed<Table<K, V, S>>, Refused>
+        requires { table.book ≡ self.now.begun.book }
         ensures err { IfErr result (λ e. (e ≡ Refused.Memory)
             ⊎ ((e ≡ Refused.Capacity) × IsFull given.new.done)) }
-        ensures ok { IfOk result (λ r. given.new.done ≡ given.old.done) }
-        ensures placed { IfOk result (λ r. IsIn self.now (TableNamed r.0)) }
-        ensures pen { IfOk result (λ r. Seals self.now r.1 r.0.value) }
+        ensures ok { IfOk result (λ w. given.new.done ≡ given.old.done) }
+        ensures table { IfOk result (λ w. w.value ≡ table) }
+        ensures placed { IfOk result (λ w. IsIn self.now (TableNamed w)) }
     {
-        let Some((table, seal)) = self.lay_table(rt, alloc, len, limit, chunks, sight) else {
+        let Ok(logged) = self.parts.tables.push_shown(rt, table) else {
             return Err(Refused::Memory);
         };
-        let Ok(token) = self.parts.tables.push_shown(rt, table) else {
-            return Err(Refused::Memory);
-        };
-        if token.index() as u64 >= MAX_TABLES {
-            *given = self.gave_table(&token);
+        if logged.index() as u64 >= MAX_TABLES {
+            *given = self.gave_table(&logged);
             return Err(Refused::Capacity);
         }
-        Ok((token, seal))
+        Ok(logged)
     }
 
     /// One atomic exchange: the table becomes the root, if there is none. The number found, and
     /// what gains the table that was first.
-    pub fn open(
+    pub(crate) fn open(
         &self,
         table: &Pushed<Table<K, V, S>>,
         seal: &mut Pen,
@@ -197,34 +179,6 @@ impl<K: Hash + Eq, V, S: BuildHasher> Book<K, V, S> {
         self.bring(&self.root, &laying, 0, number, seal, sight)
     }
 
-    /// One atomic exchange: the table becomes the root, if there is none. The number found, and the
-    /// root's table.
-    pub fn open_root<'a>(
-        &'a self,
-        table: &Pushed<Table<K, V, S>>,
-        seal: &mut Pen,
-        sight: &mut Seen<K, V, S>,
-    ) -> (u64, &'a Table<K, V, S>)
-        requires book { sight.old.book ≡ self.now.begun.book }
-        requires placed { IsIn self.now (TableNamed table.now) }
-        requires made { IsMade table.now.value sight.old.log }
-        requires pen { Seals self.now seal.old table.now.value }
-        ensures book { sight.new.book ≡ sight.old.book }
-        ensures seen { IsPrefix sight.old.log sight.new.log }
-        ensures tried { (state : _) × Opens ⟦<S as Keyed<K>>⟧.keys self.now table.now sight.old.log
-            result.0 sight.new.log state }
-        ensures held { IsTable sight.new.log (root_then table.now result.0) result.1.now }
-    {
-        sight.learn(&self.begun);
-        let (found, offer) = self.open(table, seal, sight);
-        if found == 0 {
-            return (0, self.parts.tables.value(table));
-        }
-        let known = offer::table_known(offer.into_gain());
-        let token = token(known, (found - 1) as usize);
-        (found, self.parts.tables.value(&token))
-    }
-
     /// Makes the first table of a new map, for so many pairs, and opens it. What is seen then: the
     /// table has come.
     ///
@@ -246,15 +200,11 @@ impl<K: Hash + Eq, V, S: BuildHasher> Book<K, V, S> {
         let len = table_len(initial);
         let mut sight = self.pass();
         let mut given = OwnSteps::nothing();
-        let Ok((table, mut seal)) = self.make_table(
-            rt,
-            alloc,
-            len,
-            limit(len),
-            0,
-            &mut sight,
-            &mut given,
-        ) else {
+        let Some((table, mut seal)) = self.lay_table(rt, alloc, len, limit(len), 0, &mut sight)
+        else {
+            return Err(Refused::Memory);
+        };
+        let Ok(table) = self.log_table(rt, table, &mut given) else {
             return Err(Refused::Memory);
         };
         let (found, _) = self.open(&table, &mut seal, &mut sight);

@@ -12,11 +12,13 @@ pub struct Sought {
     pub at: At,
 }
 
-/// An exchange with which nothing comes: the word and the kind.
+/// An exchange with which nothing comes: the word and the kind, and the pair that a copy carries, if
+/// it carries one.
 #[derive(Clone, Copy)]
-pub struct Wish {
+pub struct Wish<'a, K, V> {
     pub at: At,
     pub kind: Option<StepKind>,
+    pub kept: &'a Option<Stored<K, V>>,
 }
 
 /// An exchange with which the pair comes that the call has made.
@@ -25,15 +27,6 @@ pub struct Put<'a, K, V> {
     pub at: At,
     pub kind: Option<StepKind>,
     pub made: &'a Stored<K, V>,
-}
-
-/// An exchange for a copy: the word and the kind, and the pair that is carried, if one is. Nothing
-/// comes with it.
-#[derive(Clone, Copy)]
-pub struct Copy<'a, K, V> {
-    pub at: At,
-    pub kind: Option<StepKind>,
-    pub kept: &'a Option<Stored<K, V>>,
 }
 
 /// A load.
@@ -88,12 +81,12 @@ impl<K: Hash + Eq, V, S: BuildHasher> Play<Event<K, V, S>, Named<K, V>> for Fetc
 /// An exchange.
 pub struct Try;
 
-impl<K, V, S> Plain<Wish, Event<K, V, S>, Named<K, V>> for Try {
+impl<'a, K, V, S> Plain<Wish<'a, K, V>, Event<K, V, S>, Named<K, V>> for Try {
     ghost use Rattle.std.specs.Prelude.{None};
     ghost use Rattle.papaya_book.specs.declared.rule.entry.Named.TheVariants.{Nothing};
     ghost use Rattle.papaya_book.specs.declared.rule.entry.Event.TheVariants.{Wish};
 
-    ghost ask = { λ x. Wish x.at x.kind None Nothing };
+    ghost ask = { λ x. Wish x.at x.kind x.kept.now Nothing };
 
     ghost state = { λ x. None };
 }
@@ -104,16 +97,6 @@ impl<'a, K, V, S> Plain<Put<'a, K, V>, Event<K, V, S>, Named<K, V>> for Try {
     ghost use Rattle.papaya_book.specs.declared.rule.entry.Event.TheVariants.{Wish};
 
     ghost ask = { λ x. Wish x.at x.kind (Some x.made.now) (Pair x.made.now) };
-
-    ghost state = { λ x. None };
-}
-
-impl<'a, K, V, S> Plain<Copy<'a, K, V>, Event<K, V, S>, Named<K, V>> for Try {
-    ghost use Rattle.std.specs.Prelude.{None};
-    ghost use Rattle.papaya_book.specs.declared.rule.entry.Named.TheVariants.{Nothing};
-    ghost use Rattle.papaya_book.specs.declared.rule.entry.Event.TheVariants.{Wish};
-
-    ghost ask = { λ x. Wish x.at x.kind x.kept.now Nothing };
 
     ghost state = { λ x. None };
 }

@@ -1,4 +1,4 @@
-use Rattle.std.proofs.Common.{[], sym, ap, ◌∙◌, None}
+use Rattle.std.proofs.Common.{[], sym, ap, ◌∙◌}
 use Rattle.papaya_book.specs.declared.rule.entry.Named.TheVariants.{Nothing}
 use Rattle.papaya_book.specs.declared.rule.entry.Event.TheVariants.{Wish}
 use Rattle.papaya_book.specs.Hashes.{hash_of}
@@ -22,8 +22,8 @@ compare_exchange-found-requires g c =
       c.bare-offer.ensures.0,
       rw (c.no_pen-pen.ensures.1, c.bare-offer.ensures.1, c.bare-offer.ensures.3)
           (tries_moves g.K.PartialEq.eq hash (plans g.K.PartialEq.eq g.K.Hash.hash_input g.S.BuildHasher.build_hasher g.S.Hasher.Hasher.write
-          g.S.Hasher.Hasher.finish g.met.K.Eq.laws g.met.K.Hash.respects_eq) b v (Wish at c.args.wish.now.kind None Nothing) c.args.word.now.key
-          c.args.old c.args.new tt
+          g.S.Hasher.Hasher.finish g.met.K.Eq.laws g.met.K.Hash.respects_eq) b v (Wish at c.args.wish.now.kind c.args.wish.now.kept.now Nothing)
+          c.args.word.now.key c.args.old c.args.new tt
           (key_since c.args.sight.now.log v at c.args.word.now.key pre c.requires.key)
           (began_seen g.K.PartialEq.eq hash b w.begun.log v v w.begins learned ([], Rattle.std.proofs.lemmas.List.append-nil v))
           tt w.begun.book (name_since w.begun.log v w.begun.book learned w.called) tt
@@ -35,5 +35,5 @@ returns-clause-tried g c =
     let hash = hash_of g.K.Hash.hash_input g.S.BuildHasher.build_hasher g.S.Hasher.Hasher.write g.S.Hasher.Hasher.finish in
     let w = c.args.self.now in let x = c.compare_exchange-found in
     tried_told g.K.PartialEq.eq hash (begun_of w.parts) w.begun.log c.learn.new.self.log x.new.seen.log w.begins c.learn.ensures.3 x.ensures.6
-    c.bare-offer.result.ask c.args.wish.now.at c.args.wish.now.kind None Nothing c.args.old c.args.new x.result x.new.offer.state
-    c.bare-offer.ensures.1 x.ensures.7 c.args.sight.now.log c.learn.ensures.2
+    c.bare-offer.result.ask c.args.wish.now.at c.args.wish.now.kind c.args.wish.now.kept.now Nothing c.args.old c.args.new x.result
+    x.new.offer.state c.bare-offer.ensures.1 x.ensures.7 c.args.sight.now.log c.learn.ensures.2
