@@ -5,7 +5,7 @@ use mir.Val.{Val, vint, vstruct, vcons, vnil}
 use base.Logic.{ent, emp}
 use base.Fml.{ftrue, fsep, fex}
 use contract.Monad.{fact_i}
-use types.Keyed.{tickets_from}
+use types.Keyed.{ticket, tickets_from}
 use types.Logic.{Logic, sem}
 use types.Kit.{‵, ◌$◌, ◌∵◌, !, qed, fjoin, fpack, use0, done}
 use denote.Laws.{Typed}
@@ -16,6 +16,7 @@ use denote.Struct.Struct.{Struct}
 use Rattle.boxcar.specs.Slot.{written}
 use Rattle.papaya_slot.specs.contracts.counter.Counter as Counter
 use Rattle.papaya_slot.specs.contracts.counter.Counter.TheInside as Inside
+use Rattle.papaya_slot.specs.contracts.slot.Right as Right
 use Rattle.papaya_slot.specs.contracts.slot.Written as Written
 
 abbrev pub token_val : Val
@@ -29,6 +30,12 @@ module _ {M : Type 1} {𝓤 : Ura M} (𝓛 : Logic 𝓤) where
       (sem 𝓛 ((Written.the_row R).own_val (record { marker = record {}; of = γ; value = x }) (token_val ∷ [])))
   written_made R γ x = let F = (Struct (shape (Written.the_type R))).own_val (tt, tt) (token_val ∷ []) in
       qed 𝓛 (‵ (written R γ x) ∷ []) ∵ use0 𝓛 (‵ F)
+      (makes_shadow 𝓛 F (λ vss. (tt, ((λ uss. (tt, tt)), tt))) ((vstruct vnil ∷ [], tt), (refl, ((tt, (refl, tt)), tt)))) $ done !
+
+  pub right_made : (name n : ℕ) → ent 𝓤 (sem 𝓛 (ticket name n))
+      (sem 𝓛 (Right.the_row.own_val (record { marker = record {}; counter = name; number = n }) (token_val ∷ [])))
+  right_made name n = let F = (Struct (shape Right.the_type)).own_val (tt, tt) (token_val ∷ []) in
+      qed 𝓛 (‵ (ticket name n) ∷ []) ∵ use0 𝓛 (‵ F)
       (makes_shadow 𝓛 F (λ vss. (tt, ((λ uss. (tt, tt)), tt))) ((vstruct vnil ∷ [], tt), (refl, ((tt, (refl, tt)), tt)))) $ done !
 
   pub counter_made : (name n : ℕ) → n < 2 ^ 64

@@ -5,7 +5,13 @@ ghost use base.Stored.{coded_ℕ};
 ghost use types.Keyed.{tickets_from};
 ghost use Rattle.papaya_slot.specs.Counted.{counter_shares};
 
-use std::marker::{Move, Owns};
+use crate::slot::Right;
+use std::marker::{Brand, Move, Owns, PhantomData};
+use std::sync::atomic::Ordering::SeqCst;
+use std::sync::atomic::raw;
+
+/// How many numbers a counter has.
+const NUMBERS: u64 = 0x7fff_ffff_ffff_ffff;
 
 /// Gives out the numbers from 0 on, each to one caller. Contracts see the name of the counter.
 pub struct Counter {
@@ -31,6 +37,25 @@ impl Counter {
     pub fn new() -> Counter {
         Counter {
             next: 0,
+        }
+    }
+
+    /// The next number, and the right to write a slot with it. `None` where no number is left.
+    #[inline(always)]
+    pub fn take(&self) -> Option<(u64, Right)>
+        ensures { IfSome result (λ taken. (taken.1.counter ≡ self.now)
+            × (taken.1.number ≡ taken.0)) }
+    {
+        let word = self as *const Self as *const u64;
+        // A step that only adds would give out a number again after 2^64 of them.
+        let number = unsafe { raw::saturating_increment::<Brand>(word, SeqCst) };
+        if number < NUMBERS {
+            let right = Right {
+                marker: PhantomData,
+            };
+            Some((number, right))
+        } else {
+            None
         }
     }
 }
