@@ -14,6 +14,7 @@ use denote.Shadow.{makes_shadow}
 use denote.Struct.Owning.{shape}
 use denote.Struct.Struct.{Struct}
 use Rattle.boxcar.specs.Slot.{written}
+use Rattle.papaya_slot.specs.Counted.{held, left}
 use Rattle.papaya_slot.specs.contracts.counter.Counter as Counter
 use Rattle.papaya_slot.specs.contracts.counter.Counter.TheInside as Inside
 use Rattle.papaya_slot.specs.contracts.slot.Right as Right
@@ -42,7 +43,7 @@ module _ {M : Type 1} {𝓤 : Ura M} (𝓛 : Logic 𝓤) where
       → ent 𝓤 (sem 𝓛 (tickets_from name n)) (sem 𝓛 (Counter.the_row.own_val name (counter_val n ∷ [])))
   counter_made name n f = let S : RattleType = Inside.the_row in let vs : List Val = counter_val n ∷ [] in
       let fits : Type 0 = Typed Counter.the_row.mir vs in
-      qed 𝓛 (‵ (tickets_from name n) ∷ []) ∵ use0 𝓛 (‵ (S.own_val (record { next = n }) vs))
+      qed 𝓛 (‵ (tickets_from name n) ∷ []) ∵ fpack ! ℕ (held name n) 0 $ use0 𝓛 (‵ (S.own_val (record { next = n }) vs))
       (makes_shadow 𝓛 (S.own_val (record { next = n }) vs) (λ vss. (tt, ((tt, tt), tt))) ((vint w64 n ∷ [], tt), (refl, ((refl, f), tt)))) $
-      fjoin ! $ fpack ! ℕ (λ m. fsep (S.own_val (record { next = m }) vs) (tickets_from name m)) n $
+      fjoin ! $ fpack ! ℕ (λ m. fsep (S.own_val (record { next = m }) vs) (left name m)) n $
       use0 𝓛 (‵ (fex fits (λ _. ftrue))) (fact_i 𝓤 fits (emp 𝓤) ((tt, (record { fits = f }, tt)), tt)) $ fjoin ! $ done !

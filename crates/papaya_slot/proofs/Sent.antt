@@ -1,12 +1,17 @@
--- What a slot owns and shares names no token of one thread.
-use Rattle.std.proofs.Common.{ℕ}
+-- What a counter and a slot own and share names no token of one thread.
+use Rattle.std.proofs.Common.{ℕ, zero, suc}
 use base.Fraction.{full_share}
 use base.Shift.{Keyless}
-use types.Keyed.{token, entry_keyless}
+use types.Keyed.{token, entry_keyless, entries_keyless}
 use denote.RattleType.{RattleType}
 use denote.Param.Send.{IsSend, IsSync, part_keyless}
 use Rattle.boxcar.specs.Slot.{Phase, free, busy, full, Turn}
+use Rattle.papaya_slot.specs.Counted.{held}
 use Rattle.papaya_slot.specs.Slots.{Named, at, told, tie, lent}
+
+pub held_keyless : (name n back : ℕ) → Keyless (held name n back)
+held_keyless name n zero = entries_keyless token name n (λ _. tt)
+held_keyless name n (suc back) = (entry_keyless token name n tt, held_keyless name (suc n) back)
 
 module _ (R : RattleType) (l : Named) where
   pub told_keyless : (s : Phase R.Denot) → Keyless (told R l s)

@@ -1,9 +1,8 @@
 //! A counter that gives each number to one caller.
-ghost use Rattle.std.specs.Prelude.{◌≡◌, ℕ, IfSome};
+ghost use Rattle.std.specs.Prelude.{◌≡◌, ◌<◌, ◌^◌, ℕ, IfSome};
 ghost use base.Fml.{fsep, fex};
 ghost use base.Stored.{coded_ℕ};
-ghost use types.Keyed.{tickets_from};
-ghost use Rattle.papaya_slot.specs.Counted.{counter_shares};
+ghost use Rattle.papaya_slot.specs.Counted.{left, counter_shares};
 
 use crate::slot::Right;
 use std::marker::{Brand, Move, Owns, PhantomData};
@@ -29,7 +28,7 @@ impl Owns for Counter {
 impl Move for Counter {
     ghost own_val = { λ name vs. fex ℕ (λ n. fsep
         (Fields.own_val (record { next = n }) vs)
-        (tickets_from name n)) };
+        (left name n)) };
 }
 
 impl Counter {
@@ -43,8 +42,9 @@ impl Counter {
     /// The next number, and the right to write a slot with it. `None` where no number is left.
     #[inline(always)]
     pub fn take(&self) -> Option<(u64, Right)>
-        ensures { IfSome result (λ taken. (taken.1.counter ≡ self.now)
+        ensures right { IfSome result (λ taken. (taken.1.counter ≡ self.now)
             × (taken.1.number ≡ taken.0)) }
+        ensures small { IfSome result (λ taken. taken.0 < 2 ^ 63) }
     {
         let word = self as *const Self as *const u64;
         // A step that only adds would give out a number again after 2^64 of them.
@@ -57,6 +57,16 @@ impl Counter {
         } else {
             None
         }
+    }
+
+    /// Takes the number back that was given out last, for the next caller. Where another was given
+    /// out since, the number is lost.
+    #[cold]
+    pub fn give_back(&self, right: Right, number: u64)
+        requires right { (right.counter ≡ self.now) × (right.number ≡ number) }
+        requires small { number < 2 ^ 63 }
+    {
+        right.back(self, number);
     }
 }
 

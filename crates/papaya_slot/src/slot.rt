@@ -1,5 +1,5 @@
 //! Slots that are written once.
-ghost use Rattle.std.specs.Prelude.{◌≡◌, ℕ};
+ghost use Rattle.std.specs.Prelude.{◌≡◌, ◌<◌, ◌^◌, ℕ};
 ghost use base.Fml.{fsep, fex};
 ghost use types.Keyed.{ticket};
 ghost use denote.Sharing.{said};
@@ -7,6 +7,7 @@ ghost use Rattle.boxcar.specs.Slot.{written};
 ghost use Rattle.papaya_slot.specs.Slots.{Named, named_coded, Rest, resting, shared};
 
 use crate::counter::Counter;
+use atomic_table::exchange;
 use std::marker::{Brand, Model, Move, Owns, PhantomData};
 use std::sync::atomic::Ordering::SeqCst;
 use std::sync::atomic::raw;
@@ -56,6 +57,16 @@ impl<T> Model for Written<T> {
 }
 
 impl Right {
+    // Lets the counter give the number out again, if it is the last that was given out.
+    pub(crate) fn back(self, counter: &Counter, number: u64)
+        requires right { (self.counter ≡ counter.now) × (self.number ≡ number) }
+        requires small { number < 2 ^ 63 }
+    {
+        let Self { marker: _ } = self;
+        let word = counter as *const Counter as *const u64;
+        unsafe { exchange::<Brand>(word, number + 1, number) };
+    }
+
     // Writes the value into the slot, and gives the blank back.
     #[inline(always)]
     fn fill<T>(self, slot: &Slot<T>, value: T) -> (Written<T>, T)

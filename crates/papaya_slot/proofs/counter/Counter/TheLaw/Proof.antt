@@ -6,7 +6,6 @@ use base.Fraction.{full_share}
 use base.Logic.{SProp, ent, sep, upd_i, id⊢}
 use base.Fml.{Lft, Share, Fml, ftrue, fsep, fseps, fex, fwand, fupd, fdead, fbor, flft, finv, Incl-refl}
 use base.Before.{before}
-use types.Keyed.{tickets_from}
 use types.Logic.{Logic, sem}
 use types.Kit.{mean, ‵, raw, ◌⊛◌, some, later, ◌$◌, ◌∵◌, !, qed, by, move, keep, use0, use1, use2, split, fsplit}
 use types.Kit.{fsplit3, fjoin, fpick, fpack, pick, show, assume, suffices, await, updating, now, rewrite, done}
@@ -22,7 +21,7 @@ use denote.Struct.Parts.{shape_of, Struct-left, left_Struct}
 use Rattle.core.specs.Sync.RawAtomic.{word}
 use Rattle.core.proofs.cell.Borrows.{flag, by_one}
 use Rattle.core.proofs.tally.Steps.{word_in, word_out}
-use Rattle.papaya_slot.specs.Counted.{counting, counts, counts_while}
+use Rattle.papaya_slot.specs.Counted.{left, counting, counts, counts_while}
 use Rattle.papaya_slot.specs.contracts.counter.Counter as C
 use Rattle.papaya_slot.proofs.counter.Counter.TheLaw.Statement.{statement}
 
@@ -56,21 +55,21 @@ module _ {M : Type 1} {𝓤 : Ura M} (𝓛 : Logic 𝓤) (d b o : ℕ) where
   I = counts d b o
 
   abbrev inside : List Val → ℕ → Fml
-  inside vs n = fsep (Data.own_val (n, tt) vs) (tickets_from d n)
+  inside vs n = fsep (Data.own_val (n, tt) vs) (left d n)
 
   abbrev Left : Pr
   Left = H.left full_share (mir.Syntax.ty_struct [] (raw_tys ks)) (raw_tys ks) b o
 
-  taken : ⟦ Whole ⟧ ⊢ mean 𝓛 (some (λ (n : ℕ). ‵ (part_at Data full_share (n, tt) b o) ⊛ ‵ (tickets_from d n)))
+  taken : ⟦ Whole ⟧ ⊢ mean 𝓛 (some (λ (n : ℕ). ‵ (part_at Data full_share (n, tt) b o) ⊛ ‵ (left d n)))
   unfolding part_of
   taken = qed 𝓛 (‵ Whole ∷ []) ∵ fpick ! (λ vs. fsplit ! $ move ! (1 ∷ []) $
       use1 𝓛 (‵ (fex ℕ (inside vs))) (id⊢ 𝓤 _) $ fpick ! (λ n. fsplit ! $ move ! (2 ∷ 0 ∷ []) $ fjoin ! $
       fpack ! (List Val) (λ us. fsep (cell_at full_share Data.mir us b o) (Data.own_val (n, tt) us)) vs $
-      show ! (λ (y : ℕ). ⟦ part_at Data full_share (y, tt) b o ⟧ ∗ ⟦ tickets_from d y ⟧) n $ done !))
+      show ! (λ (y : ℕ). ⟦ part_at Data full_share (y, tt) b o ⟧ ∗ ⟦ left d y ⟧) n $ done !))
 
-  put : (n : ℕ) → ⟦ part_at Data full_share (n, tt) b o ⟧ ∗ ⟦ tickets_from d n ⟧ ⊢ ⟦ Whole ⟧
+  put : (n : ℕ) → ⟦ part_at Data full_share (n, tt) b o ⟧ ∗ ⟦ left d n ⟧ ⊢ ⟦ Whole ⟧
   unfolding part_of
-  put n = qed 𝓛 (‵ (part_at Data full_share (n, tt) b o) ∷ ‵ (tickets_from d n) ∷ []) ∵
+  put n = qed 𝓛 (‵ (part_at Data full_share (n, tt) b o) ∷ ‵ (left d n) ∷ []) ∵
       fpick ! (λ vs. fsplit ! $ move ! (1 ∷ 2 ∷ []) $ fjoin ! $ fpack ! ℕ (inside vs) n $ move ! (1 ∷ 0 ∷ []) $ fjoin ! $
       fpack ! (List Val) (λ us. fsep (cell_at full_share Data.mir us b o) (fex ℕ (inside us))) vs $ done !)
 
@@ -89,7 +88,7 @@ module _ {M : Type 1} {𝓤 : Ura M} (𝓛 : Logic 𝓤) (d b o : ℕ) where
   shared : (κ : Lft) (q : Share) → A.bor κ Whole ∗ A.lft κ q ⊢ H.⇛ (⟦ Shared κ ⟧ ∗ A.lft κ q)
   unfolding fseps
   shared κ q = qed 𝓛 (‵ (fbor κ Whole) ∷ ‵ (flft κ q) ∷ []) ∵ updating ! $ bor_open ! tt $ move ! (1 ∷ []) $
-      use1 𝓛 (some (λ (n : ℕ). ‵ (part_at Data full_share (n, tt) b o) ⊛ ‵ (tickets_from d n))) taken $ pick ! (λ n. split ! $
+      use1 𝓛 (some (λ (n : ℕ). ‵ (part_at Data full_share (n, tt) b o) ⊛ ‵ (left d n))) taken $ pick ! (λ n. split ! $
       use1 𝓛 (‵ (parts_at full_share ks zero (n, tt) b o) ⊛ raw Left)
       (Struct-left 𝓛 full_share [] ks ((λ x vs p. mathlib.Core.Path.subst Lone (sym p.0) tt), tt) (n, tt) b o) $
       split ! $ fsplit ! $ use1 𝓛 (‵ (word b (o + 0) n)) (word_out 𝓛 b (o + 0) n) $

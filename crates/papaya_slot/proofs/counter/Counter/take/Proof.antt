@@ -1,5 +1,5 @@
 -- `take` is one step, which finds the number and gains its ticket.
-use Rattle.std.proofs.Common.{◌≡◌, ℕ, ◌+◌, ◌^◌, ◌<◌, List, [], ◌∷◌, ◌++◌, refl, lit<, ltb→lt, w64}
+use Rattle.std.proofs.Common.{◌≡◌, ℕ, ◌+◌, ◌^◌, ◌<◌, List, [], ◌∷◌, ◌++◌, refl, lit<, ltb→lt, arith, w64}
 use native.Mathlib.Decide.{dec_le}
 use base.Logic.{SProp, wand, emp, via, apply∗, guard_i, id⊢}
 use base.Fml.{Lft, Share, Fml, ftrue, feq, fsep, flft}
@@ -82,7 +82,7 @@ take_spec 𝓤 𝓛 𝓜 𝓡 wired =
     (λ more. let few : n < 9223372036854775807 = ltb→lt n 9223372036854775807 more in
     let r : Right.the_row.Denot = record { marker = record {}; counter = d; number = n } in
     let both : Val = vstruct (vcons (vint w64 n) (vcons token_val vnil)) in let v : Val = live 1 (vcons both vnil) in
-    let Told : Type 0 = (d ≡ d) × (n ≡ n) in
+    let Right_told : Type 0 = (d ≡ d) × (n ≡ n) in let Small : Type 0 = n < 2 ^ 63 in
     move ! (1 ∷ []) $ use1 𝓛 (‵ (ticket d n)) (gained_one 𝓛 d n (dec_le (2 ^ 63) (n + 1)) few) $
     use1 𝓛 (‵ (Right.the_row.own_val r (token_val ∷ []))) (right_made 𝓛 d n) $
     nothing ! $ move ! (1 ∷ 0 ∷ []) $ fjoin ! $
@@ -98,13 +98,15 @@ take_spec 𝓤 𝓛 𝓜 𝓡 wired =
     (tt, (record { fits = lit< tt }, ((record { fits = fits }, ((tt, tt), tt)), tt))) $
     exec ! 𝓣.C 𝓣.Λ Ev last (at_ret Ev Post) $
     sets ! (of_opd ! (get ! refl)) refl (tt, (record { fits = lit< tt }, ((record { fits = fits }, ((tt, tt), tt)), tt))) $
-    use0 𝓛 (raw (fact 𝓤 Told)) (fact_i 𝓤 Told (emp 𝓤) (refl, refl)) $ nothing ! $ nothing ! $ fjoin ! $
+    use0 𝓛 (raw (fact 𝓤 Small)) (fact_i 𝓤 Small (emp 𝓤) (omega arith)) $
+    use0 𝓛 (raw (fact 𝓤 Right_told)) (fact_i 𝓤 Right_told (emp 𝓤) (refl, refl)) $ join ! $ nothing ! $ nothing ! $ fjoin ! $
     returns ! (look_at ! 0 refl) $ free_all ! refl $ keep ! (3 ∷ 0 ∷ 2 ∷ 1 ∷ []) $
     by ! (leaves 𝓛 ended hs c y v (Some (n, r)) (tt, tt) (tt, tt)))
     (λ no_more_left. let v : Val = live 0 vnil in
     sets_last ! (agg ! (and_then ! (lit ! tt) (no_more !))) refl (tt, (record { fits = lit< tt }, tt)) $
     exec ! 𝓣.C 𝓣.Λ Ev last (at_ret Ev Post) $ sets ! (of_opd ! (get ! refl)) refl (tt, (record { fits = lit< tt }, tt)) $
     use0 𝓛 (raw (fact 𝓤 (Unit {0}))) (fact_i 𝓤 (Unit {0}) (emp 𝓤) tt) $
+    use0 𝓛 (raw (fact 𝓤 (Unit {0}))) (fact_i 𝓤 (Unit {0}) (emp 𝓤) tt) $ join ! $
     use0 𝓛 (‵ ((OptionOf Pair).own_val None (v ∷ []))) (none_of 𝓛 Pair) $ nothing ! $ nothing ! $ fjoin ! $
     returns ! (look_at ! 0 refl) $ free_all ! refl $ keep ! (3 ∷ 0 ∷ 1 ∷ 2 ∷ []) $
     by ! (leaves 𝓛 ended hs c y v None (tt, tt) (tt, tt)))))))))
