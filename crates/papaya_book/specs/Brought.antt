@@ -2,7 +2,7 @@
 use Rattle.std.specs.Prelude.{◌≡◌, None, Some}
 use Rattle.papaya_book.specs.Pairs.{Pair}
 use Rattle.papaya_book.specs.declared.rule.pair.Held.{Held}
-use Rattle.papaya_book.specs.declared.rule.pair.Held.TheVariants.{Own, Keyed, Lent, Both}
+use Rattle.papaya_book.specs.declared.rule.pair.Held.TheVariants.{Own, Keyed, Lent, Both, Blank}
 
 abbrev pub pair_held : {K V : Type 0} → Held K V → Pair K V
 pair_held (Own k v) = record { key = record { value = k; at = None }; value = v; value_at = None }
@@ -21,6 +21,12 @@ pair_held (Both w u) = record {
   value = u.value.value;
   value_at = Some (u.bucket, u.row);
 }
+-- no log has anything at bucket 38
+pair_held (Blank n) = record {
+  key = record { value = n.key; at = Some (38, 1) };
+  value = n.value;
+  value_at = Some (38, 1);
+}
 
 -- where a key or a value lies at another pair, that one brought it
 abbrev pub IsBrought : {K V : Type 0} → Held K V → Type 0
@@ -28,3 +34,4 @@ IsBrought (Own k v) = Unit {0}
 IsBrought (Keyed w v) = w.value.key.at ≡ None
 IsBrought (Lent k w) = w.value.value_at ≡ None
 IsBrought (Both w u) = (w.value.key.at ≡ None) × (u.value.value_at ≡ None)
+IsBrought (Blank n) = Unit {0}

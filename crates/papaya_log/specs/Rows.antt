@@ -1,7 +1,7 @@
--- How a log is laid out: a number's row and slot, and how long a row is.
+-- How a log is laid out: a number's row and slot, how long a row is, and which pushes it is for.
 use Rattle.std.specs.Prelude.{◌≡◌, ℕ, zero, suc, ◌+◌, ◌/◌, ◌%◌, ◌^◌, ◌<◌, ◌≤◌, min, List, [], ◌∷◌, length, slice_index_or}
-use Rattle.boxcar.specs.Slot.{Named}
-use Rattle.boxcar.specs.Table.{id_at}
+use Rattle.boxcar.specs.Slot.{Named as RowNamed}
+use Rattle.papaya_slot.specs.Slots.{Named}
 
 abbrev pub row_of : ℕ → ℕ
 row_of number = number / 2 ^ 42
@@ -14,13 +14,29 @@ abbrev pub row_len : ℕ → ℕ → ℕ
 row_len bits zero = 2 ^ bits
 row_len bits (suc row) = 2 ^ min (bits + row) 41
 
--- The slots of a log's rows, each tagged with the length of its row.
-pub record AreRows (bits : ℕ) (rows : List Named) : Type 0 where
+-- the push that the first slot of a row is for
+abbrev pub row_first : ℕ → ℕ → ℕ
+row_first bits zero = 0
+row_first bits (suc row) = row_len bits (suc row)
+
+-- The slots of a log's rows, each tagged with the length of its row, with the push that the first
+-- slot is for, and with the counter of the pushes.
+pub record AreRows (bits counter : ℕ) (rows : List RowNamed) : Type 0 where
   pub low : 5 ≤ bits
   pub high : bits ≤ 41
   pub many : length rows ≡ 38
-  pub tags : (row : ℕ) (d : Named) → row < 38
-      → (slice_index_or rows row d).tag ≡ row_len bits row ∷ []
+  pub tags : (row : ℕ) (d : RowNamed) → row < 38
+      → (slice_index_or rows row d).tag ≡ row_len bits row ∷ row_first bits row ∷ counter ∷ []
+
+-- These are the slots that a row's tag tells: so many, from this number of this counter on.
+pub record AreSlots (tag : List ℕ) (slots : List Named) : Type 0 where
+  pub many : length slots ≡ slice_index_or tag 0 0
+  pub numbers : (place : ℕ) (d : Named) → place < length slots
+      → ((slice_index_or slots place d).counter ≡ slice_index_or tag 2 0)
+      × ((slice_index_or slots place d).number ≡ slice_index_or tag 1 0 + place)
+
+abbrev pub id_at : List Named → ℕ → ℕ
+id_at slots place = (slice_index_or slots place record { id = 0; counter = 0; number = 0 }).id
 
 -- A number has a row, and in a row of these slots it has the slot of this name.
 pub record IsAt (number : ℕ) (slots : List Named) (item : ℕ) : Type 0 where

@@ -4,13 +4,11 @@ use base.Fml.{Fml, fsep, fex}
 use denote.RattleType.{RattleType}
 use Rattle.boxcar.specs.Slot.{written}
 use Rattle.boxcar.specs.Table.{Where}
-use Rattle.boxcar.specs.contracts.slot.OnceSlot as OnceSlot
+use Rattle.papaya_slot.specs.contracts.slot.Slot as Slot
 use Rattle.std.specs.contracts.alloc.Global as Global
 use Rattle.std.specs.contracts.impls.GlobalAllocator.TheImpl as GlobalAllocator
 use Rattle.std.specs.contracts.vec.Vec as Vec
 use Rattle.papaya_log.specs.Rows.{IsAt, row_of}
-use Rattle.papaya_log.specs.contracts.row.Anything as Anything
-use Rattle.papaya_log.specs.contracts.row.AnythingSlotRule.TheImpl as AnythingSlotRule
 use Rattle.papaya_log.specs.contracts.token.Pushed as Pushed
 use Rattle.papaya_log.specs.contracts.token.Pushed.TheInside as Inside
 
@@ -22,8 +20,7 @@ fields_row R = Inside.the_row R
 
 -- the row that a slot lies in
 abbrev pub row_row : RattleType → RattleType
-row_row R = Vec.the_row (OnceSlot.the_row R Anything.the_row (AnythingSlotRule.ghosts R))
-    Global.the_row GlobalAllocator.ghosts
+row_row R = Vec.the_row (Slot.the_row R) Global.the_row GlobalAllocator.ghosts
 
 -- the private fields of a token that shows this, and what holds of them
 abbrev pub Fields : (R : RattleType) → Where R.Denot → Type 0

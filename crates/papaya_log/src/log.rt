@@ -1,16 +1,16 @@
 //! The log: its rows, and the next number to give out.
 ghost use Rattle.std.specs.Prelude.{[], ◌≡◌, ◌≤◌, ◌<◌, ◌^◌, ◌+◌, ◌*◌, IfOk, IfErr};
 ghost use Rattle.boxcar.specs.Table.{Shows, id_at};
-ghost use Rattle.papaya_log.specs.Rows.{AreRows, row_len, row_of, slot_of};
+ghost use Rattle.papaya_log.specs.Rows.{AreRows, row_len, row_first, row_of, slot_of};
 
-use crate::row::{Itself, Row, RowSlot, new_row};
+use crate::row::{Blank, Row, RowSlot, new_row, no_row};
 use crate::token::Pushed;
-use boxcar::slot::{OnceSlot, Written};
-use boxcar::tag::Tag;
+use boxcar::slot::Written;
 use crossbeam_utils::CachePadded;
+use papaya_slot::counter::Counter;
 use std::alloc::{AllocError, Global};
 use std::marker::Model;
-use std::sync::atomic::{AtomicUsize, Ordering};
+use std::mem::forget;
 use std::sync::{Mutex, Wait};
 
 /// How far apart the numbers of two rows are: no row is longer.
@@ -34,12 +34,13 @@ pub struct Log<T> {
     first_bits: u32,
     making: Mutex<()>,
     alloc: Global,
-    next: CachePadded<AtomicUsize>,
+    next: CachePadded<Counter>,
 }
 
 impl<T> Model for Log<T> {
     ghost use Rattle.std.specs.Prelude.{[]};
     ghost use Rattle.boxcar.specs.Table.{Shelves, shelves_coded};
+    ghost use Rattle.crossbeam_utils.specs.Padded.{padded_value};
     ghost use Rattle.papaya_log.specs.Rows.{AreRows};
 
     ghost Value = { Shelves };
@@ -48,7 +49,7 @@ impl<T> Model for Log<T> {
 
     ghost view = { λ log. record { tag = []; buckets = log.rows.items } };
 
-    ghost invariant = { λ log. AreRows log.first_bits log.rows.items };
+    ghost invariant = { λ log. AreRows log.first_bits (padded_value log.next) log.rows.items };
 }
 
 /// How many bits a place in the first row has, for this capacity.
@@ -69,7 +70,7 @@ fn power(bits: u32) -> usize
 /// The length of a row.
 fn length_of(first_bits: u32, row: usize) -> usize
     requires { (first_bits ≤ 41) × (row < 38) }
-    ensures { result ≡ row_len first_bits row }
+    ensures { (result ≡ row_len first_bits row) × (result ≤ 2 ^ 41) }
 {
     if row == 0 {
         return power(first_bits);
@@ -83,6 +84,7 @@ fn place_of(first_bits: u32, index: usize) -> (usize, usize)
     requires index { index < 2 ^ 42 }
     ensures row { result.0 < 38 }
     ensures slot { result.1 < row_len first_bits result.0 }
+    ensures push { row_first first_bits result.0 + result.1 ≡ index }
     ensures fits { result.1 < 2 ^ 42 }
 {
     if index < power(first_bits) {
@@ -100,15 +102,30 @@ fn number_of(row: usize, slot: usize) -> usize
     row * ROW_SPAN + slot
 }
 
+/// The push that the first slot of a row is for.
+fn first_of(first_bits: u32, row: usize) -> usize
+    requires { (first_bits ≤ 41) × (row < 38) }
+    ensures { (result ≡ row_first first_bits row) × (result ≤ 2 ^ 41) }
+{
+    if row == 0 {
+        return 0;
+    }
+    length_of(first_bits, row)
+}
+
 /// The slots for rows, none of which is made yet.
-fn empty_rows<T: Drop>(alloc: Global, first_bits: u32) -> Result<Vec<RowSlot<T>>, AllocError>
+fn empty_rows<T: Drop>(
+    alloc: Global,
+    first_bits: u32,
+    counter: &Counter,
+) -> Result<Vec<RowSlot<T>>, AllocError>
     requires { (5 ≤ first_bits) × (first_bits ≤ 41) }
-    ensures { IfOk result (λ rows. AreRows first_bits rows.items) }
+    ensures { IfOk result (λ rows. AreRows first_bits counter.now rows.items) }
 {
     let mut rows = Vec::with_capacity(alloc, ROWS)?;
     for row in 0..ROWS {
-        let len = length_of(first_bits, row);
-        rows.push(OnceSlot::new(&Tag::of::<usize, Itself>(&len)))?;
+        let first = first_of(first_bits, row);
+        rows.push(no_row(counter, first, length_of(first_bits, row)))?;
     }
     Ok(rows)
 }
@@ -120,18 +137,26 @@ impl<T: Drop> Log<T> {
         ensures { IfOk result (λ log. log.tag ≡ []) }
     {
         let first_bits = first_bits(capacity);
+        let next = Counter::new();
         Ok(Log {
-            rows: empty_rows(alloc, first_bits)?,
+            rows: empty_rows(alloc, first_bits, &next)?,
             first_bits,
             making: Mutex::new(()),
             alloc,
-            next: CachePadded::new(AtomicUsize::new(0)),
+            next: CachePadded::new(next),
         })
     }
+}
 
+impl<T: Blank + Drop> Log<T> {
     /// Makes a row, if it is not there. Where several threads need it, one makes it.
     #[cold]
-    fn make_row<R: Wait>(&self, rt: &R, row: usize) -> Result<Written<Row<T>>, AllocError>
+    fn make_row<R: Wait>(
+        &self,
+        rt: &R,
+        row: usize,
+        value: &T,
+    ) -> Result<Written<Row<T>>, AllocError>
         requires { row < 38 }
         ensures { IfOk result (λ written. written.of ≡ id_at self.now.buckets row) }
     {
@@ -139,7 +164,8 @@ impl<T: Drop> Log<T> {
         if let Some(written) = self.rows[row].witness() {
             return Ok(written);
         }
-        let slots = new_row(self.alloc, length_of(self.first_bits, row))?;
+        let (first, len) = (first_of(self.first_bits, row), length_of(self.first_bits, row));
+        let slots = new_row(self.alloc, &self.next, first, len, value)?;
         let made = self.rows[row].set_written(slots).map_err(|_| AllocError);
         drop(turn);
         made
@@ -147,36 +173,14 @@ impl<T: Drop> Log<T> {
 
     /// What shows that a row is there. It is made where it is not.
     #[inline(always)]
-    fn row<R: Wait>(&self, rt: &R, row: usize) -> Result<Written<Row<T>>, AllocError>
+    fn row<R: Wait>(&self, rt: &R, row: usize, value: &T) -> Result<Written<Row<T>>, AllocError>
         requires { row < 38 }
         ensures { IfOk result (λ written. written.of ≡ id_at self.now.buckets row) }
     {
         match self.rows[row].witness() {
             Some(written) => Ok(written),
-            None => self.make_row(rt, row),
+            None => self.make_row(rt, row, value),
         }
-    }
-
-    /// The value, put into the slot of the push with this index. It comes back where there is no
-    /// such slot, or no memory.
-    #[inline(always)]
-    fn put<R: Wait>(&self, rt: &R, index: usize, value: T) -> Result<Pushed<T>, T>
-        ensures ok { IfOk result (λ p. Shows self.now p × (p.value ≡ value)) }
-        ensures err { IfErr result (λ back. back ≡ value) }
-    {
-        if index >= ROW_SPAN {
-            return Err(value);
-        }
-        let (row, slot) = place_of(self.first_bits, index);
-        let Ok(written) = self.row(rt, row) else {
-            return Err(value);
-        };
-        let item = self.rows[row].value(&written)[slot].set_written(value)?;
-        Ok(Pushed {
-            number: number_of(row, slot),
-            row: written,
-            item,
-        })
     }
 
     /// The value, pushed: what shows its number. It comes back where there is no memory, or no
@@ -186,21 +190,26 @@ impl<T: Drop> Log<T> {
         ensures ok { IfOk result (λ p. Shows self.now p × (p.value ≡ value)) }
         ensures err { IfErr result (λ back. back ≡ value) }
     {
-        let index = self.next.fetch_add(1, Ordering::SeqCst);
-        let pushed = self.put(rt, index, value);
-        if pushed.is_err() {
-            self.give_back(index);
+        let Some((push, right)) = self.next.take() else {
+            return Err(value);
+        };
+        let index = push as usize;
+        if index >= ROW_SPAN {
+            self.next.give_back(right, push);
+            return Err(value);
         }
-        pushed
-    }
-
-    /// Gives an index back that no value was put at, if no later one was given out.
-    #[cold]
-    fn give_back(&self, index: usize) {
-        let next = index.wrapping_add(1);
-        let _ = self
-            .next
-            .compare_exchange(next, index, Ordering::SeqCst, Ordering::SeqCst);
+        let (row, slot) = place_of(self.first_bits, index);
+        let Ok(written) = self.row(rt, row, &value) else {
+            self.next.give_back(right, push);
+            return Err(value);
+        };
+        let (item, blank) = self.rows[row].value(&written)[slot].write(right, value);
+        forget(blank);
+        Ok(Pushed {
+            number: number_of(row, slot),
+            row: written,
+            item,
+        })
     }
 }
 
@@ -213,6 +222,13 @@ impl<T> Log<T> {
     {
         let (row, slot) = (pushed.number / ROW_SPAN, pushed.number % ROW_SPAN);
         self.rows[row].value(&pushed.row)[slot].value(&pushed.item)
+    }
+
+    /// A log has so many rows, and none with a higher number.
+    pub fn has_no_more_rows(&self)
+        ensures { id_at self.now.buckets 38 ≡ 0 }
+    {
+        let _ = &self.rows;
     }
 
     /// A number has one value.

@@ -1,52 +1,90 @@
 //! Rows of slots, each written once.
-ghost use Rattle.std.specs.Prelude.{◌≡◌, [], ◌∷◌, IfOk, length};
-ghost use Rattle.papaya_log.specs.Rows.{row_len};
+ghost use Rattle.std.specs.Prelude.{◌≡◌, ◌+◌, ◌<◌, ◌^◌, [], ◌∷◌, IfOk};
+ghost use Rattle.papaya_log.specs.Rows.{AreSlots};
 
 use boxcar::slot::{OnceSlot, SlotRule};
 use boxcar::tag::{Names, Tag};
+use papaya_slot::counter::Counter;
+use papaya_slot::slot::Slot;
 use std::alloc::{AllocError, Global};
 
 /// A row of a log.
-pub type Row<T> = Vec<OnceSlot<T, Anything>>;
+pub type Row<T> = Vec<Slot<T>>;
 
 /// The slot of a row of a log.
-pub type RowSlot<T> = OnceSlot<Row<T>, Long>;
+pub type RowSlot<T> = OnceSlot<Row<T>, Numbered>;
 
-/// What a log asks of its values: nothing.
-pub struct Anything;
-
-impl<T> SlotRule<T> for Anything {
-    ghost use Rattle.std.specs.Prelude.{⊤};
-
-    ghost holds = { λ tag value. ⊤ };
+/// What a slot holds until its value is written.
+pub trait Blank {
+    /// A value that nobody reads, made beside this one. It owns nothing.
+    fn blank(&self) -> Self;
 }
 
-/// A row is as long as its slot's tag says.
-pub struct Long;
-
-impl<T> SlotRule<Row<T>> for Long {
-    ghost use Rattle.std.specs.Prelude.{◌≡◌, length};
-    ghost use Rattle.boxcar.specs.Table.{first};
-
-    ghost holds = { λ tag row. length row.items ≡ first tag };
+impl Blank for u64 {
+    fn blank(&self) -> u64 {
+        0
+    }
 }
 
-/// A tag of one number.
-pub(crate) struct Itself;
+/// A row has the slots that its own slot's tag tells.
+pub struct Numbered;
 
-impl Names<usize> for Itself {
+impl<T> SlotRule<Row<T>> for Numbered {
+    ghost use Rattle.papaya_log.specs.Rows.{AreSlots};
+
+    ghost holds = { λ tag row. AreSlots tag row.items };
+}
+
+/// How many slots a row has, the number of its first slot, and whose numbers these are.
+#[derive(Drop)]
+pub(crate) struct Numbers {
+    pub(crate) len: usize,
+    pub(crate) first: usize,
+    pub(crate) counter: Tag,
+}
+
+struct Told;
+
+impl Names<Numbers> for Told {
+    ghost use Rattle.std.specs.Prelude.{◌∷◌};
+
+    ghost numbers = { λ row. row.len ∷ row.first ∷ row.counter.numbers };
+}
+
+struct Itself;
+
+impl Names<Counter> for Itself {
     ghost use Rattle.std.specs.Prelude.{[], ◌∷◌};
 
-    ghost numbers = { λ number. number ∷ [] };
+    ghost numbers = { λ counter. counter ∷ [] };
 }
 
-/// A row of so many empty slots.
-pub(crate) fn new_row<T: Drop>(alloc: Global, len: usize) -> Result<Row<T>, AllocError>
-    ensures { IfOk result (λ row. length row.items ≡ len) }
+/// The slot of a row that is not made yet.
+pub(crate) fn no_row<T>(counter: &Counter, first: usize, len: usize) -> RowSlot<T>
+    ensures { result.tag ≡ len ∷ first ∷ counter.now ∷ [] }
+{
+    let counter = Tag::of::<Counter, Itself>(counter);
+    OnceSlot::new(&Tag::of::<Numbers, Told>(&Numbers {
+        len,
+        first,
+        counter,
+    }))
+}
+
+/// A row of so many slots, of the numbers from `first` on. They hold blanks, made beside a value.
+pub(crate) fn new_row<T: Blank + Drop>(
+    alloc: Global,
+    counter: &Counter,
+    first: usize,
+    len: usize,
+    value: &T,
+) -> Result<Row<T>, AllocError>
+    requires { first + len < 2 ^ 64 }
+    ensures { IfOk result (λ row. AreSlots (len ∷ first ∷ counter.now ∷ []) row.items) }
 {
     let mut row = Vec::with_capacity(alloc, len)?;
-    for _ in 0..len {
-        row.push(OnceSlot::new(&Tag::empty()))?;
+    for place in 0..len {
+        row.push(Slot::new(value.blank(), counter, (first + place) as u64))?;
     }
     Ok(row)
 }

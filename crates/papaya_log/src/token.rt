@@ -6,14 +6,15 @@ ghost use Rattle.std.specs.Prelude.{◌≡◌};
 ghost use Rattle.boxcar.specs.Table.{Where, where_coded};
 
 use crate::row::Row;
-use boxcar::slot::Written;
+use boxcar::slot::Written as RowWritten;
+use papaya_slot::slot::Written;
 use std::marker::{Model, PhantomData};
 
 /// What shows that a log has a value at a number.
 #[derive(Drop)]
 pub struct Pushed<T> {
     pub(crate) number: usize,
-    pub(crate) row: Written<Row<T>>,
+    pub(crate) row: RowWritten<Row<T>>,
     pub(crate) item: Written<T>,
 }
 

@@ -103,6 +103,10 @@ impl<K: Hash + Eq, V, S: BuildHasher> Book<K, V, S> {
             Held::Lent(key, _) => key,
             Held::Keyed(first, _) => self.key_of_first(first),
             Held::Both(first, _) => self.key_of_first(first),
+            Held::Blank(_) => {
+                self.parts.pairs.has_no_more_rows();
+                unreachable!()
+            }
         }
     }
 
@@ -118,6 +122,10 @@ impl<K: Hash + Eq, V, S: BuildHasher> Book<K, V, S> {
             Held::Keyed(_, value) => value,
             Held::Lent(_, first) => self.parts.pairs.value(&first_of(first)).brought_value(),
             Held::Both(_, first) => self.parts.pairs.value(&first_of(first)).brought_value(),
+            Held::Blank(_) => {
+                self.parts.pairs.has_no_more_rows();
+                unreachable!()
+            }
         }
     }
 
@@ -143,6 +151,10 @@ impl<K: Hash + Eq, V, S: BuildHasher> Book<K, V, S> {
             Held::Lent(_, _) => shown_of(stored),
             Held::Keyed(first, _) => first.again(),
             Held::Both(first, _) => first.again(),
+            Held::Blank(_) => {
+                self.parts.pairs.has_no_more_rows();
+                unreachable!()
+            }
         }
     }
 
@@ -159,6 +171,10 @@ impl<K: Hash + Eq, V, S: BuildHasher> Book<K, V, S> {
             Held::Keyed(_, _) => shown_of(stored),
             Held::Lent(_, first) => first.again(),
             Held::Both(_, first) => first.again(),
+            Held::Blank(_) => {
+                self.parts.pairs.has_no_more_rows();
+                unreachable!()
+            }
         }
     }
 }

@@ -5,8 +5,10 @@
 //! a call may make several pairs of one value. So a pair brings its key, or names the pair that
 //! brought it, and so with its value. No name leads to another name.
 ghost use Rattle.std.specs.Prelude.{◌≡◌, None, Some};
+ghost use base.Fml.{ftrue};
 ghost use Rattle.papaya_book.specs.Pairs.{Pair as PairSeen, pair_coded};
 
+use papaya_log::row::Blank;
 use papaya_log::token::{Known, Pushed, token};
 use std::marker::{Model, PhantomData};
 
@@ -28,6 +30,18 @@ impl<K, V> Model for Shown<K, V> {
     } };
 }
 
+/// What lies where no pair is logged yet. It has no bytes. Contracts see a key and a value of it, as
+/// of a pair, but both are named as lying where no log has anything.
+pub struct Nobody<K, V> {
+    marker: PhantomData<(K, V)>,
+    pub ghost key: { K },
+    pub ghost value: { V },
+}
+
+impl<K, V> Model for Nobody<K, V> {
+    ghost also_owns = { λ _. ftrue };
+}
+
 /// A pair's key and its value, or the pairs that brought them.
 #[derive(Drop)]
 pub(crate) enum Held<K, V> {
@@ -35,6 +49,7 @@ pub(crate) enum Held<K, V> {
     Keyed(Pushed<Shown<K, V>>, V),
     Lent(K, Pushed<Shown<K, V>>),
     Both(Pushed<Shown<K, V>>, Pushed<Shown<K, V>>),
+    Blank(Nobody<K, V>),
 }
 
 /// What lies in the arena of pairs.
@@ -67,6 +82,7 @@ impl<K, V> Pair<K, V> {
             Held::Lent(key, _) => key,
             Held::Keyed(_, _) => unreachable!(),
             Held::Both(_, _) => unreachable!(),
+            Held::Blank(_) => unreachable!(),
         }
     }
 
@@ -80,6 +96,7 @@ impl<K, V> Pair<K, V> {
             Held::Keyed(_, value) => value,
             Held::Lent(_, _) => unreachable!(),
             Held::Both(_, _) => unreachable!(),
+            Held::Blank(_) => unreachable!(),
         }
     }
 }
@@ -97,6 +114,7 @@ impl<K: Drop, V: Drop> Pair<K, V> {
             Held::Keyed(_, _) => unreachable!(),
             Held::Lent(_, _) => unreachable!(),
             Held::Both(_, _) => unreachable!(),
+            Held::Blank(_) => unreachable!(),
         }
     }
 
@@ -111,6 +129,7 @@ impl<K: Drop, V: Drop> Pair<K, V> {
             Held::Lent(key, _) => key,
             Held::Keyed(_, _) => unreachable!(),
             Held::Both(_, _) => unreachable!(),
+            Held::Blank(_) => unreachable!(),
         }
     }
 
@@ -125,9 +144,38 @@ impl<K: Drop, V: Drop> Pair<K, V> {
             Held::Keyed(_, value) => value,
             Held::Lent(_, _) => unreachable!(),
             Held::Both(_, _) => unreachable!(),
+            Held::Blank(_) => unreachable!(),
         }
     }
 }
+
+impl<K, V> Nobody<K, V> {
+    // A pair gives the proof a key and a value to name.
+    fn beside(_pair: &Pair<K, V>) -> Nobody<K, V> {
+        Nobody {
+            marker: PhantomData,
+        }
+    }
+}
+
+impl<K, V> Blank for Pair<K, V> {
+    #[inline(always)]
+    fn blank(&self) -> Pair<K, V> {
+        Pair {
+            held: Held::Blank(Nobody::beside(self)),
+        }
+    }
+}
+
+impl<K, V> Drop for Nobody<K, V> {
+    fn drop(self) {
+        let Self { marker: _ } = self;
+    }
+}
+
+unsafe impl<K, V> Send for Nobody<K, V> {}
+
+unsafe impl<K, V> Sync for Nobody<K, V> {}
 
 /// What the token of a pair shows, as a pair's row can name it.
 fn tell_shown<K, V>(token: &Pushed<Pair<K, V>>) -> Known<Shown<K, V>>

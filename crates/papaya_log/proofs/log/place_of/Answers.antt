@@ -1,6 +1,6 @@
 use Rattle.std.proofs.Common.{rules, arith, ◌≡◌, ◌≤◌, ◌<◌, ◌^◌, ◌-◌, ◌+◌, suc, min, subst, sym, ap, ◌∙◌, ℕ}
 use Rattle.papaya_log.proofs.Powers.{top_is_below, top_is_from}
-use Rattle.papaya_log.specs.Rows.{row_len}
+use Rattle.papaya_log.specs.Rows.{row_len, row_first}
 use Rattle.papaya_log.proofs.log.place_of.Goals as goal
 
 pub overflow_sub-result : goal.overflow_sub-result
@@ -27,3 +27,15 @@ returns-clause-slot c =
     ∙ ap (λ (k : ℕ). 2 ^ k) exponent in
     let high = c.ilog2-top.ensures.next_power_gt in let low = c.ilog2-top.ensures.power_le in
     subst (λ (n : ℕ). c.args.index - c.power-2.result < n) (sym len) (omega arith)
+
+pub returns-clause-push : goal.returns-clause-push
+returns-clause-push c =
+    let top = c.ilog2-top.result in let bits = c.args.first_bits in
+    let below : top < 42 = top_is_below c.args.index top c.ilog2-top.ensures.power_le c.ilog2-top.ensures.next_power_gt 42 c.requires.index in
+    let from : bits ≤ top = top_is_from c.args.index top c.ilog2-top.ensures.power_le c.ilog2-top.ensures.next_power_gt bits (search rules) in
+    let power : c.power-2.result ≡ 2 ^ top = search rules in
+    let exponent : min (bits + (top - bits)) 41 ≡ top = omega arith in
+    let first : row_first bits (top - bits + 1) ≡ 2 ^ top = ap (row_first bits) (let e : top - bits + 1 ≡ suc (top - bits) = omega arith in e)
+    ∙ ap (λ (k : ℕ). 2 ^ k) exponent in
+    let low = c.ilog2-top.ensures.power_le in
+    subst (λ (n : ℕ). n + (c.args.index - c.power-2.result) ≡ c.args.index) (sym first) (omega arith)

@@ -1,5 +1,10 @@
-use Rattle.std.proofs.Common.{◌≡◌, ◌≤◌, length}
+use Rattle.std.proofs.Common.{◌≡◌, ◌+◌, ◌≤◌, ◌<◌, ℕ, length}
+use Rattle.std.specs.Prelude.{slice_index_or}
+use Rattle.papaya_slot.specs.Slots.{Named}
 use Rattle.papaya_log.proofs.row.new_row.Given as goal
 
-abbrev pub invariant-loop : goal.invariant-loop
-invariant-loop g l = (length l.row.items ≡ l.counter) × (l.counter ≤ l.len)
+abbrev pub invariant-loop-place : goal.invariant-loop-place
+invariant-loop-place g l = (length l.row.items ≡ l.place) × (l.place ≤ l.len)
+    × ((place : ℕ) (d : Named) → place < l.place
+    → ((slice_index_or l.row.items place d).counter ≡ l.counter)
+    × ((slice_index_or l.row.items place d).number ≡ l.first + place))

@@ -1,0 +1,5 @@
+pub mod Calls
+pub mod Counting
+pub mod Made
+pub mod Sent
+pub mod Steps

@@ -1,0 +1,81 @@
+//! A counter that gives each number to one caller.
+ghost use Rattle.std.specs.Prelude.{◌≡◌, ◌<◌, ◌^◌, ℕ, IfSome};
+ghost use base.Fml.{fsep, fex};
+ghost use base.Stored.{coded_ℕ};
+ghost use Rattle.papaya_slot.specs.Counted.{left, counter_shares};
+
+use crate::slot::Right;
+use std::marker::{Brand, Move, Owns, PhantomData};
+use std::sync::atomic::Ordering::SeqCst;
+use std::sync::atomic::raw;
+
+/// How many numbers a counter has.
+const NUMBERS: u64 = 0x7fff_ffff_ffff_ffff;
+
+/// Gives out the numbers from 0 on, each to one caller. Contracts see the name of the counter.
+pub struct Counter {
+    next: u64,
+}
+
+impl Owns for Counter {
+    ghost Value = { ℕ };
+
+    ghost coded = { coded_ℕ };
+
+    ghost shr_at = { λ name p κ. counter_shares name p κ };
+}
+
+impl Move for Counter {
+    ghost own_val = { λ name vs. fex ℕ (λ n. fsep
+        (Fields.own_val (record { next = n }) vs)
+        (left name n)) };
+}
+
+impl Counter {
+    /// A counter that has given out no number.
+    pub fn new() -> Counter {
+        Counter {
+            next: 0,
+        }
+    }
+
+    /// The next number, and the right to write a slot with it. `None` where no number is left.
+    #[inline(always)]
+    pub fn take(&self) -> Option<(u64, Right)>
+        ensures right { IfSome result (λ taken. (taken.1.counter ≡ self.now)
+            × (taken.1.number ≡ taken.0)) }
+        ensures small { IfSome result (λ taken. taken.0 < 2 ^ 63) }
+    {
+        let word = self as *const Self as *const u64;
+        // A step that only adds would give out a number again after 2^64 of them.
+        let number = unsafe { raw::saturating_increment::<Brand>(word, SeqCst) };
+        if number < NUMBERS {
+            let right = Right {
+                marker: PhantomData,
+            };
+            Some((number, right))
+        } else {
+            None
+        }
+    }
+
+    /// Takes the number back that was given out last, for the next caller. Where another was given
+    /// out since, the number is lost.
+    #[cold]
+    pub fn give_back(&self, right: Right, number: u64)
+        requires right { (right.counter ≡ self.now) × (right.number ≡ number) }
+        requires small { number < 2 ^ 63 }
+    {
+        right.back(self, number);
+    }
+}
+
+impl Drop for Counter {
+    fn drop(self) {
+        let Self { next: _ } = self;
+    }
+}
+
+unsafe impl Send for Counter {}
+
+unsafe impl Sync for Counter {}
