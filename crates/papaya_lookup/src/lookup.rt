@@ -44,6 +44,8 @@ pub struct Hit<'a, K: Hash + Eq, V, S: BuildHasher> {
     pub met: Met<K, V>,
     pub key: &'a K,
     pub value: &'a V,
+    /// Is that table one behind the root, to which pairs are moved?
+    pub later: bool,
 }
 
 /// Where a turn of a search leads.
@@ -199,7 +201,8 @@ pub fn find<'a, K: Hash + Eq, V, S: BuildHasher, Q: Equivalent<K>>(
     window.learn();
     let began = window.sight.again();
     let hash = hash(&window.book.parts.hasher, key);
-    let (mut number, mut held) = window.root();
+    let (root, first) = window.root();
+    let (mut number, mut held) = (root, first);
     while let Some(table) = held {
         let (len, limit) = table.size();
         let first = Place::first(hash, number, len, limit);
@@ -210,6 +213,7 @@ pub fn find<'a, K: Hash + Eq, V, S: BuildHasher, Q: Equivalent<K>>(
                     met,
                     key: entry.0,
                     value: entry.1,
+                    later: number != root,
                 });
             }
             Turn::Over(passed) => match window.book.parts.mode {

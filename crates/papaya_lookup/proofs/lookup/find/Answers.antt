@@ -1,4 +1,4 @@
-use Rattle.std.proofs.Common.{◌≡◌, ◌<◌, ◌≤◌, None, refl, sym, ◌∙◌, rules, subst, arith}
+use Rattle.std.proofs.Common.{◌≡◌, ◌==◌, ◌<◌, ◌≤◌, not, None, refl, sym, ◌∙◌, rules, subst, arith}
 use mathlib.Core.List.{IsPrefix}
 use Rattle.papaya_call.specs.declared.machine.State.TheVariants.{Searching}
 use Rattle.papaya_ask.specs.declared.search.Search.TheVariants.{Looking}
@@ -16,7 +16,7 @@ pub loop-held-init : goal.loop-held-init
 loop-held-init g c =
     let lawful : IsQuery g.K.PartialEq.eq g.K.Hash.hash_input (g.Q.Equivalent.matches c.args.key.now) (g.Q.Hash.hash_input c.args.key.now) =
     record { feeds = g.met.Q.Equivalent.hashes_as_key c.args.key.now; class = λ k l. g.met.Q.Equivalent.matches_equal_keys c.args.key.now k l } in
-    let root = c.root-number in
+    let root = c.root-root in
     let reading = root_held g.K.PartialEq.eq g.K.Hash.hash_input g.S.BuildHasher.build_hasher g.S.Hasher.Hasher.write g.S.Hasher.Hasher.finish
     g.met.K.Eq.laws g.met.K.Hash.respects_eq c.learn.new.self.book.now (g.Q.Equivalent.matches c.args.key.now) (g.Q.Hash.hash_input c.args.key.now)
     lawful c.args.window.now.sight.log c.learn.new.self.sight.log c.learn.ensures.sees.log c.hash-hash.result
@@ -58,7 +58,7 @@ returns-in-Found-clause-answered g c =
     answers_found g.K.PartialEq.eq g.K.Hash.hash_input g.S.BuildHasher.build_hasher g.S.Hasher.Hasher.write g.S.Hasher.Hasher.finish g.met.K.Eq.laws
     g.met.K.Hash.respects_eq c.search.new.window.book.now (g.Q.Equivalent.matches c.args.key.now) (g.Q.Hash.hash_input c.args.key.now) lawful
     c.args.window.now.sight.log c.learn.new.self.sight.log c.learn.ensures.sees.log c.hash-hash.result c.search.new.window.sight.log
-    c.in-Some.table.now c.in-Found.met c.in-Found.entry turned c.in-Some.table
+    c.in-Some.table.now c.in-Found.met c.in-Found.entry turned c.in-Some.table (not (c.loop-held.number == c.root-root.result.0))
 
 pub returns-in-Found-clause-hits : goal.returns-in-Found-clause-hits
 returns-in-Found-clause-hits g c =
@@ -75,7 +75,8 @@ returns-in-Found-clause-hits g c =
     let after : IsPrefix c.learn.new.self.sight.log c.search.new.window.sight.log = rw (sym c.again-began.ensures)
     (prefix_trans _ _ _ c.loop-held.invariant.3 c.search.ensures.sees.log) in
     let f = turned.found c.in-Found.met c.in-Found.entry refl in
-    λ hit e. let one : record { table = c.in-Some.table; met = c.in-Found.met; key = c.in-Found.entry.0; value = c.in-Found.entry.1 } ≡ hit = cc e in
+    λ hit e. let one : record { table = c.in-Some.table; met = c.in-Found.met; key = c.in-Found.entry.0; value = c.in-Found.entry.1;
+    later = not (c.loop-held.number == c.root-root.result.0) } ≡ hit = cc e in
     rw (← one) (c.learn.new.self.sight.log, c.learn.ensures.sees.log, (after, f.1, f.2, f.3))
 
 pub loop-held-smaller : goal.loop-held-smaller
