@@ -1,6 +1,7 @@
 //! Removals whose pair a lookup's search finds live: it is deleted at once. The machine stands in
 //! the proof.
 ghost use Rattle.std.specs.Prelude.{◌≡◌};
+ghost use Rattle.std.specs.Int.{IsPowerOfTwo};
 ghost use Rattle.papaya_call.specs.Made.{IsLimit};
 ghost use Rattle.papaya_book.specs.Windows.{IsLawful, Sees};
 ghost use Rattle.papaya_lookup.specs.Drivers.{own, past};
@@ -8,13 +9,16 @@ ghost use Rattle.papaya_lookup.specs.History.{Makes};
 ghost use Rattle.papaya_change.specs.RemovalAnswers.{IsTriedRemoval, went_fast};
 ghost use Rattle.papaya_change.specs.Showings.{Judges};
 
+use crate::means::Means;
+use crate::resizing::copy_chunk;
 use papaya_ask::ask::StepKind;
-use papaya_book::count::Shard;
+use papaya_book::book::Book;
 use papaya_book::window::Window;
 use papaya_keys::guard::Equivalent;
 use papaya_lookup::lookup::{Hit, Met, find};
 use papaya_words::word::{Kind, Word};
 use std::hash::{BuildHasher, Hash};
+use std::sync::Wait;
 
 /// A limit on pairs is a number of 64 bits, which no clause of the book says. No code is left
 /// of this.
@@ -23,17 +27,43 @@ fn fits(limit: Option<u64>)
     ensures { IsLimit limit }
 {}
 
+/// Copies a chunk for a removal that went on to a later table, as every call does that goes on.
+#[inline(always)]
+fn help<R: Wait, K: Hash + Eq, V, S: BuildHasher>(
+    means: &Means<'_, '_, R>,
+    book: &Book<K, V, S>,
+    later: bool,
+)
+    requires initial { IsPowerOfTwo means.now.initial }
+{
+    if later {
+        copy_chunk(means, book);
+    }
+}
+
 /// Finds a key's pair by a lookup's search, shows it to the closure where it is live, and deletes
 /// it if that agrees. None where the pair is being moved, or another word stands in its place by
 /// then: the closure may have been shown a pair all the same.
+///
+/// Where the pair stood in a later table than the root, a chunk of the root is copied. Else maps
+/// whose pairs are removed would stay in their resize, and search two tables each time.
 #[inline(always)]
-pub fn remove_fast<'a, K: Hash + Eq, V, S: BuildHasher, Q: Equivalent<K>, F: FnMut(&K, &V) -> bool>(
-    shard: &Shard<'_>,
+pub fn remove_fast<
+    'a,
+    R: Wait,
+    K: Hash + Eq,
+    V,
+    S: BuildHasher,
+    Q: Equivalent<K>,
+    F: FnMut(&K, &V) -> bool,
+>(
+    means: &Means<'_, '_, R>,
     window: &mut Window<'a, K, V, S>,
     key: &Q,
     agrees: &mut F,
 ) -> Option<Result<Option<(&'a K, &'a V)>, (&'a K, &'a V)>>
     requires callable { F.IsAlwaysCallable agrees.old }
+    requires initial { IsPowerOfTwo means.now.initial }
     ensures callable { F.IsAlwaysCallable agrees.new }
     ensures sees { Sees window.old window.new }
     ensures lawful { IsLawful window.new }
@@ -42,6 +72,7 @@ pub fn remove_fast<'a, K: Hash + Eq, V, S: BuildHasher, Q: Equivalent<K>, F: FnM
     ensures removed { IsTriedRemoval K.eq (Q.matches key.now) (past window.old) (past window.new)
         (Judges F.FnMut) agrees.old agrees.new result }
 {
+    let (root, _) = window.root();
     let Some(hit) = find(window, key) else {
         return Some(Ok(None));
     };
@@ -69,7 +100,8 @@ pub fn remove_fast<'a, K: Hash + Eq, V, S: BuildHasher, Q: Equivalent<K>, F: FnM
     if found != word {
         return None;
     }
-    shard.add(slot as u64, -1);
+    means.shard.add(slot as u64, -1);
+    help(means, window.book, place.table != root);
     let Some(taken) = before else { unreachable!() };
     window.book.parts.pairs.agrees(&stored, &taken);
     Some(Ok(Some((stored_key, value))))

@@ -268,7 +268,7 @@ pub fn remove<
         initial,
         shard,
     };
-    match remove_fast(shard, window, key, &mut agrees) {
+    match remove_fast(&means, window, key, &mut agrees) {
         Some(answer) => Ok(answer),
         None => remove_slow(&means, window, given, key, agrees),
     }

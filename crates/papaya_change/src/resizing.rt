@@ -15,8 +15,10 @@ ghost use Rattle.papaya_change.specs.Settling.{at_slot};
 ghost use Rattle.papaya_change.specs.Writing.{IsMemoryOrCapacity};
 
 use crate::copier::{Asked, Copier, tried};
+use crate::means::Means;
 use papaya_ask::call::Reply;
 use papaya_ask::copy_ask::CopyAsk;
+use papaya_book::book::Book;
 use papaya_book::count::Shard;
 use papaya_book::rule::own::{CapacityCause, OwnSteps};
 use papaya_book::window::Window;
@@ -198,4 +200,29 @@ pub fn resize<'a, R: Wait, K: Hash + Eq, V, S: BuildHasher>(
         resizing.machine.answer(answer);
     }
     unreachable!()
+}
+
+/// Copies a chunk of the root, if the root is being copied. A caller whose call is done helps so.
+/// Where that is refused, the copy is left to the next caller.
+#[cold]
+#[inline(never)]
+pub(crate) fn copy_chunk<R: Wait, K: Hash + Eq, V, S: BuildHasher>(
+    means: &Means<'_, '_, R>,
+    book: &Book<K, V, S>,
+)
+    requires initial { IsPowerOfTwo means.now.initial }
+{
+    let kept = book.keep_root();
+    let own = OwnSteps::nothing();
+    let mut window = Window::new(book, &kept, &book.pass(), &own);
+    let mut given = OwnSteps::nothing();
+    let _ = resize(
+        means.rt,
+        means.alloc,
+        means.initial,
+        means.shard,
+        &mut window,
+        &mut given,
+        Resize::Chunk,
+    );
 }
