@@ -218,6 +218,7 @@ impl<K: Hash + Eq, V, S: BuildHasher> Store<K, V, S> {
     {
         match self.pairs.get(n as usize)? {
             Pair::Own(key, value) => Some((key, value)),
+            Pair::Keyed(first, value) => Some((self.key_brought(*first)?, value)),
             pair => self.named(n as usize, pair),
         }
     }
@@ -234,11 +235,36 @@ impl<K: Hash + Eq, V, S: BuildHasher> Store<K, V, S> {
     {
         match &self.pairs[n as usize] {
             Pair::Own(key, value) => (key, value),
+            Pair::Keyed(first, value) => (self.logged_key(*first), value),
             pair => self.logged_apart(n as usize, pair),
         }
     }
 
-    /// The same of pair `n`, which does not have both of its own.
+    /// The value alone of a pair that is in the log. Nothing is read of a key that another brought.
+    #[inline(always)]
+    pub fn logged_value(&self, n: u64) -> &V
+        requires { IsSome (pair_of self.now n) }
+        ensures { (p : _) → pair_of self.now n ≡ Some p → result.now ≡ p.value }
+    {
+        match &self.pairs[n as usize] {
+            Pair::Own(_, value) | Pair::Keyed(_, value) => value,
+            pair => self.logged_apart(n as usize, pair).1,
+        }
+    }
+
+    /// The key that pair `n` brought, which did bring one.
+    #[inline(always)]
+    fn logged_key(&self, n: usize) -> &K
+        requires { IsSome (key_brought (slice_get self.now.pairs n)) }
+        ensures { key_brought (slice_get self.now.pairs n) ≡ Some result.now }
+    {
+        match &self.pairs[n] {
+            Pair::Own(key, _) | Pair::Lent(key, _) => key,
+            Pair::Keyed(..) | Pair::Both(..) => unreachable!(),
+        }
+    }
+
+    /// The key and the value of pair `n`, of which another brought the value.
     #[cold]
     #[inline(never)]
     fn logged_apart<'a>(&'a self, n: usize, pair: &'a Pair<K, V>) -> (&'a K, &'a V)
