@@ -1,5 +1,5 @@
 -- A copy by a loop: its turns lead the machine of a copy on.
-use Rattle.std.proofs.Common.{le-ltb, lt-ltb, ◌≡◌, ℕ, ◌+◌, ◌^◌, ◌<◌, ◌≤◌, ◌==◌, nat_lt, Bool, true}
+use Rattle.std.proofs.Common.{le-ltb, lt-ltb, ◌≡◌, ℕ, zero, suc, ◌+◌, ◌^◌, ◌<◌, ◌≤◌, ◌==◌, nat_lt, Bool, true}
 use Rattle.std.proofs.Common.{false, cond, List, [], ◌∷◌, ◌++◌, Option, Some, refl, sym, ◌∙◌, ap}
 use Rattle.std.proofs.Common.{subst}
 use Rattle.papaya_words.specs.Word.{kind_of, pair_of as number_of, hint_of, live_word, may_hold, shut_hint}
@@ -13,6 +13,7 @@ use Rattle.papaya_ask.specs.declared.copy_ask.CopyAsk.{CopyAsk}
 use Rattle.papaya_ask.specs.declared.copy_ask.CopyAsk.TheVariants.{Exchange, WriteHint}
 use Rattle.papaya_ask.specs.declared.search.Place.{Place}
 use Rattle.papaya_ask.specs.declared.search.Search.TheVariants as searches
+use Rattle.papaya_ask.specs.declared.search.Probed.{Probed}
 use Rattle.papaya_ask.specs.declared.search.Probed.TheVariants as seen
 use Rattle.papaya_ask.specs.Search as search_specs
 use Rattle.papaya_ask.specs.Search.{first_place, next_place}
@@ -53,6 +54,7 @@ use Rattle.papaya_store.specs.Store.{StoreState, Stored, pair_of}
 use Rattle.papaya_store.specs.Tables.{hint_at, note, put, table_of, word_at}
 use Rattle.papaya_timeline.proofs.StoreLemmas.{matched, numbered, performed_copy, unnumbered}
 use Rattle.papaya_seq.specs.Copies.{Comes, Copies, IsSized, Settles, asked_in, copy_in, copy_of, led_on}
+use Rattle.papaya_seq.specs.Searches.{passed_by, passed_on, seen_at}
 use Rattle.papaya_seq.proofs.Exchanging.{exchange_done, exchange_made}
 
 -- where a hint leads the search for a place, it leads a search for a key
@@ -68,13 +70,13 @@ looks_on hash at next mode hint = go (may_hold hint hash) (nat_lt at.probe.len a
     go false false e = absurd cc
 
 pub reads_on : (hash : ℕ) (at other : Place) (mode : ResizeMode) (hint : ℕ) → search_specs.hinted at hash hint ≡ seen.On (searches.Reading other)
-    → carries.hinted hash at mode hint ≡ Carry_on (Reading hash at)
+    → carries.hinted hash at mode hint ≡ Carry_on (Reading hash other)
 reads_on hash at other mode hint = go (may_hold hint hash) (nat_lt at.probe.len at.limit)
   where
     go : (held more : Bool) → cond held (seen.On (searches.Reading at)) (cond more (seen.On (searches.Looking (next_place at))) (seen.Over at.table))
         ≡ seen.On (searches.Reading other) → cond held (Carry_on (Reading hash at))
-        (cond more (Carry_on (Looking hash (next_place at))) (Carry_on (carries.fills hash at.table mode))) ≡ Carry_on (Reading hash at)
-    go true more e = refl
+        (cond more (Carry_on (Looking hash (next_place at))) (Carry_on (carries.fills hash at.table mode))) ≡ Carry_on (Reading hash other)
+    go true more e = let same : at ≡ other = cc e in ap (λ p. Carry_on (Reading hash p)) same
     go false true e = absurd cc
     go false false e = absurd cc
 
@@ -172,13 +174,13 @@ module _ {K V S : Type 0} (eq : K → K → Bool) (hash : S → K → ℕ) where
               subst (λ x. Settles eq hash mode slot s (carried (Looking hashed at)) s (settled_by marked mode x)) is
               (told_word s s (settles.Carrying marked (Looking hashed at)) (hint_at s.words at.table at.probe.i) (refl, refl))
 
-          pub looks_further : (next : Place) → search_specs.hinted at hashed (hint_at s.words at.table at.probe.i) ≡ seen.On (searches.Looking next)
+          looks_further : (next : Place) → search_specs.hinted at hashed (hint_at s.words at.table at.probe.i) ≡ seen.On (searches.Looking next)
               → Settles eq hash mode slot s (carried (Looking hashed at)) s (carried (Looking hashed next))
           looks_further next is = hinted_so (Looking hashed next) (looks_on hashed at next mode (hint_at s.words at.table at.probe.i) is)
 
-          pub reads : (other : Place) → search_specs.hinted at hashed (hint_at s.words at.table at.probe.i) ≡ seen.On (searches.Reading other)
-              → Settles eq hash mode slot s (carried (Looking hashed at)) s (carried (Reading hashed at))
-          reads other is = hinted_so (Reading hashed at) (reads_on hashed at other mode (hint_at s.words at.table at.probe.i) is)
+          reads : (other : Place) → search_specs.hinted at hashed (hint_at s.words at.table at.probe.i) ≡ seen.On (searches.Reading other)
+              → Settles eq hash mode slot s (carried (Looking hashed at)) s (carried (Reading hashed other))
+          reads other is = hinted_so (Reading hashed other) (reads_on hashed at other mode (hint_at s.words at.table at.probe.i) is)
 
           -- and its word, where the place is empty
           pub finds : word_at s.words (Slot_at at.table at.probe.i) ≡ 0
@@ -186,6 +188,25 @@ module _ {K V S : Type 0} (eq : K → K → Bool) (hash : S → K → ℕ) where
           finds empty =
               subst (λ x. Settles eq hash mode slot s (carried (Reading hashed at)) s (settled_by marked mode (carries.look hashed at mode x))) empty
               (told_word s s (settles.Carrying marked (Reading hashed at)) (word_at s.words (Slot_at at.table at.probe.i)) (refl, refl))
+
+        -- a search for a place passed by others
+        pub reads_passed : (hashed n : ℕ) (at place : Place) → passed_by s hashed n at ≡ seen.On (searches.Reading place)
+            → Settles eq hash mode slot s (carried (Looking hashed at)) s (carried (Reading hashed place))
+        reads_passed hashed zero at place is = reads hashed at place is
+        reads_passed hashed (suc n) at place is = go (seen_at s hashed at) refl is (λ next. reads_passed hashed n next place)
+          where
+            go : (told : Probed) → seen_at s hashed at ≡ told → passed_on (λ next. passed_by s hashed n next) told ≡ seen.On (searches.Reading place)
+                → ((next : Place) → passed_by s hashed n next ≡ seen.On (searches.Reading place)
+                → Settles eq hash mode slot s (carried (Looking hashed next)) s (carried (Reading hashed place)))
+                → Settles eq hash mode slot s (carried (Looking hashed at)) s (carried (Reading hashed place))
+            go (seen.On (searches.Sizing t)) tells e rest = absurd cc
+            go (seen.On (searches.Looking next)) tells e rest =
+                carry_then (Looking hashed at) (Looking hashed next) (Reading hashed place) (looks_further hashed at next tells) (rest next e)
+            go (seen.On (searches.Reading other)) tells e rest = reads hashed at place (tells ∙ e)
+            go (seen.On (searches.Comparing other word)) tells e rest = absurd cc
+            go (seen.Empty other) tells e rest = absurd cc
+            go (seen.Here other word) tells e rest = absurd cc
+            go (seen.Over t) tells e rest = absurd cc
 
       -- the word of the slot
       module _ (s : StoreState K V S) where

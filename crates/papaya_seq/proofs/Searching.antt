@@ -1,10 +1,8 @@
 -- The search of one table: each turn is one to three answers of the machine, and brings it nearer its end.
-use Rattle.std.proofs.Common.{◌≡◌, ℕ, ◌+◌, ◌*◌, ◌-◌, ◌<◌, ◌≤◌, nat_lt, ltb-true, if◌then◌else◌}
-use Rattle.std.proofs.Common.{Bool, true, false, List, [], ◌∷◌, ◌++◌, Option, Some, length, slice_get, slice_index, refl, sym, ◌∙◌, ap}
+use Rattle.std.proofs.Common.{◌≡◌, ℕ, zero, suc, ◌+◌, ◌*◌, ◌-◌, ◌<◌, ◌≤◌, nat_lt, ltb-true, if◌then◌else◌}
+use Rattle.std.proofs.Common.{Bool, true, false, List, [], ◌∷◌, ◌++◌, Option, refl, sym, ◌∙◌, ap}
 use Rattle.std.proofs.Common.{subst, arith}
-use Rattle.std.proofs.lemmas.Bool.{cond_both, lt-ltb, ne_eqb}
-use Rattle.std.proofs.lemmas.Option.{get_or_from_slice_get}
-use Rattle.papaya_words.specs.Table.{TableWords}
+use Rattle.std.proofs.lemmas.Bool.{cond_both, ne_eqb}
 use Rattle.papaya_words.specs.Word.{kind_of, may_hold, pair_of as number_of}
 use Rattle.papaya_words.specs.declared.word.Kind.{Kind}
 use Rattle.papaya_words.specs.declared.word.Kind.TheVariants as kinds
@@ -27,9 +25,10 @@ use Rattle.papaya_call.specs.declared.compute.Gap.TheVariants.{NoRoot}
 use Rattle.papaya_call.specs.Machine.{absent, after, at_root, goes}
 use Rattle.papaya_store.specs.Store.{StoreState, pair_of}
 use Rattle.papaya_store.specs.Performs.{size_of}
-use Rattle.papaya_store.specs.Tables.{hint_at, slot_hint, table_of, word_at, word_in}
+use Rattle.papaya_store.specs.Tables.{hint_at, table_of, word_at}
 use Rattle.papaya_seq.specs.Looks.{Comes, matches_in}
-use Rattle.papaya_seq.specs.Searches.{IsMatchedBy, IsPassedTo, IsPlaceOf, IsTurn, IsTurnFrom, IsTurned, Sees, SeesFrom, StandsBy, left_at, left_to, seen_by}
+use Rattle.papaya_seq.specs.Searches.{IsMatchedBy, IsPassedTo, IsTurn, IsTurnFrom, IsTurned, Sees, SeesFrom, StandsBy, left_at, left_to, passed_by, passed_on}
+use Rattle.papaya_seq.specs.Searches.{seen_by}
 use Rattle.papaya_seq.specs.declared.search.Turn.{Turn}
 use Rattle.papaya_seq.specs.declared.search.Turn.TheVariants as turns
 
@@ -139,84 +138,30 @@ stands_yes words at word true is = stands_match words (kind_of word) at word is
 stands_yes words at word false is = stands_on words at
 
 -- a hint that leads on to no next place leads to its word, or past the table
-abbrev Unlooked : {K V S : Type 0} → StoreState K V S → TableWords → Place → Probed → Type 0
-Unlooked store t first seen = ((place : Place) → seen ≡ On (Looking place) → ⊥) → IsPassedTo store t first seen
+abbrev Unlooked : Place → Probed → Type 0
+Unlooked first seen = ((place : Place) → seen ≡ On (Looking place) → ⊥) → IsPassedTo first seen
 
-pub hinted_led : {K V S : Type 0} (store : StoreState K V S) (t : TableWords) (first at : Place) (hash hint : ℕ) → IsPlaceOf store t at
-    → left_at at ≤ left_at first → Unlooked store t first (hinted at hash hint)
-hinted_led store t first at hash hint held near = cond_both (may_hold hint hash) (On (Reading at)) (go_on at) (Unlooked store t first)
-    (λ _ none. (held, near))
-    (λ _. cond_both (nat_lt at.probe.len at.limit) (On (Looking (next_place at))) (Over at.table) (Unlooked store t first)
+pub hinted_led : (first at : Place) (hash hint : ℕ) → left_at at ≤ left_at first → Unlooked first (hinted at hash hint)
+hinted_led first at hash hint near = cond_both (may_hold hint hash) (On (Reading at)) (go_on at) (Unlooked first) (λ _ none. near)
+    (λ _. cond_both (nat_lt at.probe.len at.limit) (On (Looking (next_place at))) (Over at.table) (Unlooked first)
     (λ _ none. absurd (none (next_place at) refl)) (λ _ none. tt))
 
--- the place after one of a table is one of it
-abbrev Stays : {K V S : Type 0} → StoreState K V S → TableWords → Probed → Type 0
-Stays store t seen = (place : Place) → seen ≡ On (Looking place) → IsPlaceOf store t place
-
-on_stays : {K V S : Type 0} (store : StoreState K V S) (t : TableWords) (at : Place) → IsPlaceOf store t at → Stays store t (go_on at)
-on_stays store t at held = cond_both (nat_lt at.probe.len at.limit) (On (Looking (next_place at))) (Over at.table) (Stays store t)
-    (λ _ place e. let is : next_place at ≡ place = cc e in subst (IsPlaceOf store t) is (record { table = held.table; len = held.len }))
-    (λ _ place e. absurd cc)
-
-pub hinted_stays : {K V S : Type 0} (store : StoreState K V S) (t : TableWords) (at : Place) (hash hint : ℕ) → IsPlaceOf store t at
-    → Stays store t (hinted at hash hint)
-hinted_stays store t at hash hint held = cond_both (may_hold hint hash) (On (Reading at)) (go_on at) (Stays store t) (λ _ place e. absurd cc)
-    (λ _. on_stays store t at held)
-
-pub look_stays : {K V S : Type 0} (store : StoreState K V S) (t : TableWords) (kind : Kind) (at : Place) (word : ℕ) → IsPlaceOf store t at
-    → Stays store t (look_at kind at word)
-look_stays store t kinds.Empty at word held = λ place e. absurd cc
-look_stays store t kinds.Live at word held = λ place e. absurd cc
-look_stays store t kinds.Marked at word held = λ place e. absurd cc
-look_stays store t kinds.Copied at word held = λ place e. absurd cc
-look_stays store t kinds.Tombstone at word held = on_stays store t at held
-look_stays store t kinds.Closed at word held = on_stays store t at held
-
-match_stays : {K V S : Type 0} (store : StoreState K V S) (t : TableWords) (kind : Kind) (at : Place) (word : ℕ)
-    → Stays store t (match_at kind at word)
-match_stays store t kinds.Empty at word = λ place e. absurd cc
-match_stays store t kinds.Live at word = λ place e. absurd cc
-match_stays store t kinds.Marked at word = λ place e. absurd cc
-match_stays store t kinds.Copied at word = λ place e. absurd cc
-match_stays store t kinds.Tombstone at word = λ place e. absurd cc
-match_stays store t kinds.Closed at word = λ place e. absurd cc
-
-pub yes_stays : {K V S : Type 0} (store : StoreState K V S) (t : TableWords) (at : Place) (word : ℕ) (same : Bool) → IsPlaceOf store t at
-    → Stays store t (at_yes (Comparing at word) same)
-yes_stays store t at word true held = match_stays store t (kind_of word) at word
-yes_stays store t at word false held = on_stays store t at held
-
 -- a search that passed by places stands by no word, and has found no pair
-pub passed_stands : {K V S : Type 0} (store : StoreState K V S) (t : TableWords) (words : At → ℕ) (first : Place) (seen : Probed)
-    → IsPassedTo store t first seen → StandsBy words seen
-passed_stands store t words first (On (Sizing n)) led = tt
-passed_stands store t words first (On (Looking at)) led = tt
-passed_stands store t words first (On (Reading at)) led = tt
-passed_stands store t words first (On (Comparing at word)) led = absurd led
-passed_stands store t words first (Empty at) led = absurd led
-passed_stands store t words first (Here at word) led = absurd led
-passed_stands store t words first (Over n) led = tt
+pub passed_stands : (words : At → ℕ) (first : Place) (seen : Probed) → IsPassedTo first seen → StandsBy words seen
+passed_stands words first (On (Sizing n)) led = tt
+passed_stands words first (On (Looking at)) led = tt
+passed_stands words first (On (Reading at)) led = tt
+passed_stands words first (On (Comparing at word)) led = absurd led
+passed_stands words first (Empty at) led = absurd led
+passed_stands words first (Here at word) led = absurd led
+passed_stands words first (Over n) led = tt
 
-pub passed_matched : {K V S : Type 0} (store : StoreState K V S) (t : TableWords) (matches : K → Bool) (hash : ℕ) (first : Place) (seen : Probed)
-    → IsPassedTo store t first seen → IsMatchedBy matches store hash seen
-passed_matched store t matches hash first (On search) led = tt
-passed_matched store t matches hash first (Empty at) led = tt
-passed_matched store t matches hash first (Here at word) led = absurd led
-passed_matched store t matches hash first (Over n) led = tt
-
--- the word and the hint at a place of a table
-pub word_held : {K V S : Type 0} (store : StoreState K V S) (t : TableWords) (at : Place) (word : ℕ) → IsPlaceOf store t at
-    → slice_get t.slots at.probe.i ≡ Some word → word ≡ word_at store.words (Slot at.table at.probe.i)
-word_held store t at word held is = sym (ap (word_in (λ x. slice_index x.slots at.probe.i)) held.table
-    ∙ get_or_from_slice_get t.slots at.probe.i word 0 is)
-
-pub hint_held : {K V S : Type 0} (store : StoreState K V S) (t : TableWords) (at : Place) (hint : ℕ) → IsPlaceOf store t at → at.probe.i < at.len
-    → slice_get t.hints at.probe.i ≡ Some hint → hint ≡ hint_at store.words at.table at.probe.i
-hint_held store t at hint held within is =
-    let inside : at.probe.i < length t.slots = subst (λ n. at.probe.i < n) held.len within in
-    sym (ap (word_in (λ x. slot_hint x at.probe.i)) held.table
-    ∙ ap (λ (b : Bool). if b then slice_index t.hints at.probe.i else 0) (lt-ltb at.probe.i (length t.slots) inside)
-    ∙ get_or_from_slice_get t.hints at.probe.i hint 0 is)
+pub passed_matched : {K V S : Type 0} (store : StoreState K V S) (matches : K → Bool) (hash : ℕ) (first : Place) (seen : Probed)
+    → IsPassedTo first seen → IsMatchedBy matches store hash seen
+passed_matched store matches hash first (On search) led = tt
+passed_matched store matches hash first (Empty at) led = tt
+passed_matched store matches hash first (Here at word) led = absurd led
+passed_matched store matches hash first (Over n) led = tt
 
 -- a call that loaded the number of a root searches it
 root_searched : (task : Task) (fill : Option ℕ) (root : ℕ) → (root ≡ 0 → ⊥) → at_root task fill root ≡ Searching (Sizing root)
@@ -260,6 +205,17 @@ module _ {K V S : Type 0} (matches : K → Bool) (store : StoreState K V S) wher
       -- the hint was loaded
       pub sees_hint : Sees matches store hash at (hinted at hash hint_there)
       sees_hint m = (Word_read hint_there ∷ [], (tt, refl, refl))
+
+      -- and the search went on from there
+      passed_then : (rest : Place → Probed) → ((next : Place) → Sees matches store hash next (rest next)) → (seen : Probed)
+          → Sees matches store hash at seen → Sees matches store hash at (passed_on rest seen)
+      passed_then rest more (On (Sizing n)) before = before
+      passed_then rest more (On (Looking next)) before = sees_on at (Looking next) (rest next) before (more next)
+      passed_then rest more (On (Reading next)) before = before
+      passed_then rest more (On (Comparing next word)) before = before
+      passed_then rest more (Empty next) before = before
+      passed_then rest more (Here next word) before = before
+      passed_then rest more (Over n) before = before
 
       -- the word was loaded
       pub sees_word : SeesFrom matches store hash (Searching (Reading at)) (look at word_there)
@@ -314,6 +270,12 @@ module _ {K V S : Type 0} (matches : K → Bool) (store : StoreState K V S) wher
           → IsMatchedBy matches store hash (at_yes (Comparing at word) same)
       matched_yes word true is = matched_kind (kind_of word) word (sym is)
       matched_yes word false is = matched_on
+
+    -- a search sees so what the hints of the places tell that it passes by
+    pub sees_passed : (n : ℕ) (at : Place) → Sees matches store hash at (passed_by store hash n at)
+    sees_passed zero at = sees_hint at
+    sees_passed (suc n) at =
+        passed_then at (λ next. passed_by store hash n next) (λ next. sees_passed n next) (hinted at hash (hint_there at)) (sees_hint at)
 
     -- a turn from where the turns before it led
     pub turns_on : (at place : Place) (turn : Turn) → IsTurn matches store hash at (turns.Next place) → IsTurn matches store hash place turn

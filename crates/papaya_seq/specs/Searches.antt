@@ -1,6 +1,5 @@
 -- The search of one table: where its turns lead the machine of a call, that nothing runs.
-use Rattle.std.specs.Prelude.{◌≡◌, ℕ, ◌+◌, ◌*◌, ◌-◌, ◌≤◌, Bool, true, List, Some, length}
-use Rattle.papaya_words.specs.Table.{TableWords}
+use Rattle.std.specs.Prelude.{◌≡◌, ℕ, zero, suc, ◌+◌, ◌*◌, ◌-◌, ◌≤◌, Bool, true, List}
 use Rattle.papaya_words.specs.Word.{kind_of, pair_of as number_of}
 use Rattle.papaya_words.specs.declared.word.Kind.TheVariants.{Empty as Is_empty}
 use Rattle.papaya_ask.specs.declared.ask.Answer.{Answer}
@@ -10,13 +9,13 @@ use Rattle.papaya_ask.specs.declared.search.Place.{Place}
 use Rattle.papaya_ask.specs.declared.search.Search.TheVariants.{Sizing, Looking, Reading, Comparing}
 use Rattle.papaya_ask.specs.declared.search.Probed.{Probed}
 use Rattle.papaya_ask.specs.declared.search.Probed.TheVariants.{On, Empty, Here, Over}
-use Rattle.papaya_ask.specs.Search.{IsProbed}
+use Rattle.papaya_ask.specs.Search.{IsProbed, hinted}
 use Rattle.papaya_call.specs.declared.machine.Machine.{Machine}
 use Rattle.papaya_call.specs.declared.machine.State.{State}
 use Rattle.papaya_call.specs.declared.machine.State.TheVariants.{AtRoot, Searching}
 use Rattle.papaya_call.specs.Machine.{goes}
 use Rattle.papaya_store.specs.Store.{StoreState, pair_of}
-use Rattle.papaya_store.specs.Tables.{table_of, word_at}
+use Rattle.papaya_store.specs.Tables.{hint_at, word_at}
 use Rattle.papaya_seq.specs.Looks.{Comes, matches_in}
 use Rattle.papaya_seq.specs.declared.search.Turn.{Turn}
 use Rattle.papaya_seq.specs.declared.search.Turn.TheVariants as turns
@@ -94,21 +93,30 @@ module _ {K V S : Type 0} (matches : K → Bool) (store : StoreState K V S) (has
     pub stands : StandsBy (λ at. word_at store.words at) (seen_by turn)
     pub matched : IsMatchedBy (seen_by turn)
 
-module _ {K V S : Type 0} (store : StoreState K V S) (t : TableWords) where
-  -- The place is one of this table, which is as long as the place says.
-  pub record IsPlaceOf (at : Place) : Type 0 where
-    pub table : table_of store.words.tables at.table ≡ Some t
-    pub len : at.len ≡ length t.slots
+-- A search passed by the places of other keys, from the first one on: it loads the word of a place
+-- that is no further from its end, or the table is passed.
+abbrev pub IsPassedTo : Place → Probed → Type 0
+IsPassedTo first (On (Reading at)) = left_at at ≤ left_at first
+IsPassedTo first (Over n) = Unit {0}
+IsPassedTo first _ = ⊥
 
-  -- A search that began at the first place passes by no place but those of other keys: it loads the
-  -- word of a place that is no further from its end, or the table is passed.
-  abbrev pub IsPassedTo : Place → Probed → Type 0
-  IsPassedTo first (On (Reading at)) = IsPlaceOf at × (left_at at ≤ left_at first)
-  IsPassedTo first (Over n) = Unit {0}
-  IsPassedTo first _ = ⊥
+-- where a search goes on, that looks at a place next
+abbrev pub passed_on : (Place → Probed) → Probed → Probed
+passed_on rest (On (Looking next)) = rest next
+passed_on rest seen = seen
+
+module _ {K V S : Type 0} (store : StoreState K V S) (hash : ℕ) where
+  -- what the hint of a place tells
+  abbrev pub seen_at : Place → Probed
+  seen_at at = hinted at hash (hint_at store.words at.table at.probe.i)
+
+  -- and those of so many places behind it, while each leads on
+  abbrev pub passed_by : ℕ → Place → Probed
+  passed_by zero at = seen_at at
+  passed_by (suc n) at = passed_on (λ next. passed_by n next) (seen_at at)
 
   -- A search passed by places, from this one on, by their hints alone.
-  pub record IsPassed (hash : ℕ) (at : Place) (seen : Probed) : Type 0 where
-    pub sees : (matches : K → Bool) → Sees matches store hash at seen
+  pub record IsPassed (at : Place) (seen : Probed) : Type 0 where
+    pub hints : (n : ℕ) × (seen ≡ passed_by n at)
     pub within : IsProbed seen
     pub led : IsPassedTo at seen

@@ -5,8 +5,7 @@ ghost use Rattle.papaya_ask.specs.Search.{IsWithin};
 ghost use Rattle.papaya_ask.specs.declared.ask.At.TheVariants as words;
 ghost use Rattle.papaya_chain.specs.Machine.{IsStanding};
 ghost use Rattle.papaya_chain.specs.Resizer.{IsStandingResizer};
-ghost use Rattle.papaya_copy.specs.Step.{IsStandingChunk, IsStandingCursor, IsStandingStep};
-ghost use Rattle.papaya_copy.specs.Step.{next_cursor};
+ghost use Rattle.papaya_copy.specs.Step.{IsStandingChunk, IsStandingCursor};
 ghost use Rattle.papaya_copy.specs.declared.carry.Carry.TheVariants as carries;
 ghost use Rattle.papaya_copy.specs.declared.settle.Settle.TheVariants as settles;
 ghost use Rattle.papaya_copy.specs.declared.settle.Settled.TheVariants.{On};
@@ -17,6 +16,7 @@ ghost use Rattle.papaya_store.specs.Tables.{word_at};
 ghost use Rattle.papaya_words.specs.declared.probe.ResizeMode as modes;
 ghost use Rattle.papaya_seq.specs.Copies.{CopiesCall, CopiesResizer, IsSized, Settles, Steps, settled_as};
 
+use crate::search::pass_by;
 use papaya_ask::ask::{Answer, At};
 use papaya_ask::search::{Place, Probed, Search};
 use papaya_chain::machine::{Machine, Phase};
@@ -45,18 +45,14 @@ fn find_place<K: Hash + Eq, V, S: BuildHasher>(
     ensures empty { (hashed : ℕ) (at : _) → result ≡ carries.Placing hashed at
         → word_at store.now.words (words.Slot at.table at.probe.i) ≡ 0 }
 {
-    let mut place = place;
-    loop {
-        match place.hinted(hash, store.hint(place.table, place.probe.i)) {
-            Probed::On(Search::Looking(next)) => place = next,
-            Probed::On(Search::Reading(_)) => {
-                if store.word(At::Slot(place.table, place.probe.i)) == 0 {
-                    return Carry::Placing { hash, place };
-                }
-                return Carry::Reading { hash, place };
+    match pass_by(store, hash, place) {
+        Probed::On(Search::Reading(place)) => {
+            if store.word(At::Slot(place.table, place.probe.i)) == 0 {
+                return Carry::Placing { hash, place };
             }
-            _ => return Carry::Looking { hash, place },
+            Carry::Reading { hash, place }
         }
+        _ => Carry::Looking { hash, place },
     }
 }
 
@@ -143,31 +139,6 @@ fn copy_slot<K: Hash + Eq, V, S: BuildHasher>(
     }
 }
 
-/// Where a copy goes behind a chunk that is copied: its machine does the same.
-#[inline(always)]
-fn step_behind(mut cursor: Cursor) -> Step
-    requires { IsStandingCursor cursor }
-    ensures value { result ≡ next_cursor cursor }
-    ensures standing { IsStandingStep result }
-{
-    let further = cursor.slots < cursor.len - cursor.begun;
-    if further && !(cursor.wrapped && cursor.at + 1 >= cursor.start) {
-        cursor.at += 1;
-        cursor.begun += cursor.slots;
-        Step::AtChunk(cursor)
-    } else if !cursor.wrapped && cursor.start > 0 {
-        cursor.at = 0;
-        cursor.begun = 0;
-        cursor.wrapped = true;
-        Step::AtChunk(cursor)
-    } else {
-        Step::Promoting {
-            from: cursor.from,
-            to: cursor.to,
-        }
-    }
-}
-
 /// Says that a chunk is copied, and passes by those behind it that are: where the copy stands then.
 #[inline]
 fn advance<K: Hash + Eq, V, S: BuildHasher>(store: &mut Store<K, V, S>, mut cursor: Cursor) -> Step
@@ -179,7 +150,7 @@ fn advance<K: Hash + Eq, V, S: BuildHasher>(store: &mut Store<K, V, S>, mut curs
     let _ = store.exchange(At::Done(cursor.to, cursor.at), 0, 1);
     cursor.copied = true;
     loop {
-        let step = step_behind(cursor);
+        let step = cursor.next();
         let Step::AtChunk(at) = step else {
             return step;
         };

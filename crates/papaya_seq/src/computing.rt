@@ -167,7 +167,7 @@ fn compute_fast<
         }
         Some(Turn::Here(place, word)) if Word(word).kind() == Kind::Live => {
             let pair = Word(word).pair();
-            let operation = decide(store.pair(pair), f);
+            let operation = decide(Some(store.logged(pair)), f);
             let at = Write { place, old: word };
             Ok((Some(pair), operate(store, alloc, key, hash, at, operation)))
         }

@@ -45,7 +45,7 @@ impl<K: Hash + Eq, V, S: BuildHasher> HashMap<K, V, S> {
         let mut number = self.store.word(At::Root);
         while let Some(table) = self.store.table(number) {
             let first = Place::first(hash, number, table.len(), table.limit());
-            match search(&self.store, table, key, hash, first) {
+            match search(&self.store, key, hash, first) {
                 Turn::Here(_, word) => return Some(Word(word).pair()),
                 Turn::Over(passed) => match self.mode.resize {
                     ResizeMode::Incremental(_) => number = self.store.word(At::Next(passed)),

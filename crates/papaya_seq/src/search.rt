@@ -2,8 +2,8 @@
 ghost use Rattle.std.specs.Prelude.{◌≡◌, ◌+◌, ◌<◌, ℕ, Some, length};
 ghost use Rattle.papaya_ask.specs.Search.{IsSize, IsWithin};
 ghost use Rattle.papaya_store.specs.Tables.{table_of};
-ghost use Rattle.papaya_seq.specs.Searches.{IsPassed, IsPlaceOf, IsReadTurn, IsRootTurn, IsTurn};
-ghost use Rattle.papaya_seq.specs.Searches.{IsTurned, left_at, left_to, seen_by};
+ghost use Rattle.papaya_seq.specs.Searches.{IsPassed, IsReadTurn, IsRootTurn, IsTurn, IsTurned};
+ghost use Rattle.papaya_seq.specs.Searches.{left_at, left_to, seen_by};
 ghost use Rattle.papaya_seq.specs.declared.search.Turn.TheVariants.{Next};
 
 use crate::lookup::matches;
@@ -11,7 +11,6 @@ use papaya_ask::ask::At;
 use papaya_ask::search::{Place, Probed, Search};
 use papaya_keys::guard::Equivalent;
 use papaya_store::store::Store;
-use papaya_words::table::Table;
 use papaya_words::word::Word;
 use std::hash::{BuildHasher, Hash};
 
@@ -47,17 +46,14 @@ fn turn_of(seen: Probed) -> Turn
 #[inline(always)]
 fn read_at<K: Hash + Eq, V, S: BuildHasher, Q: Equivalent<K>>(
     store: &Store<K, V, S>,
-    table: &Table,
     key: &Q,
     at: Place,
 ) -> Turn
-    requires within { IsWithin at }
-    requires held { IsPlaceOf store.now table.now at }
+    requires { IsWithin at }
     ensures turn { (hash : ℕ) → IsReadTurn (Q.matches key.now) store.now hash at result }
     ensures fewer { left_to result + 1 < left_at at }
-    ensures held { (place : _) → result ≡ Next place → IsPlaceOf store.now table.now place }
 {
-    let word = table.slot(at.probe.i);
+    let word = store.word(At::Slot(at.table, at.probe.i));
     let seen = at.look(word);
     match seen {
         Probed::On(Search::Comparing(place, named)) => {
@@ -71,21 +67,17 @@ fn read_at<K: Hash + Eq, V, S: BuildHasher, Q: Equivalent<K>>(
 /// Passes by the places that hold other keys, as their hints say, from this one on. This loop
 /// calls nothing, so where the hints lie stays in a register.
 #[inline(always)]
-fn pass_by<K: Hash + Eq, V, S: BuildHasher>(
+pub(crate) fn pass_by<K: Hash + Eq, V, S: BuildHasher>(
     store: &Store<K, V, S>,
-    table: &Table,
     hash: u64,
     at: Place,
 ) -> Probed
-    requires within { IsWithin at }
-    requires held { IsPlaceOf store.now table.now at }
-    ensures { IsPassed store.now table.now hash at result }
+    requires { IsWithin at }
+    ensures { IsPassed store.now hash at result }
 {
-    let _ = store;
     let mut place = at;
     loop {
-        let hint = table.hint(place.probe.i);
-        match place.hinted(hash, u64::from(hint)) {
+        match place.hinted(hash, store.hint(place.table, place.probe.i)) {
             Probed::On(Search::Looking(next)) => place = next,
             seen => return seen,
         }
@@ -96,20 +88,17 @@ fn pass_by<K: Hash + Eq, V, S: BuildHasher>(
 #[inline(always)]
 fn look_at<K: Hash + Eq, V, S: BuildHasher, Q: Equivalent<K>>(
     store: &Store<K, V, S>,
-    table: &Table,
     key: &Q,
     hash: u64,
     at: Place,
 ) -> Turn
-    requires within { IsWithin at }
-    requires held { IsPlaceOf store.now table.now at }
+    requires { IsWithin at }
     ensures turn { IsTurn (Q.matches key.now) store.now hash at result }
     ensures fewer { left_to result < left_at at }
-    ensures held { (place : _) → result ≡ Next place → IsPlaceOf store.now table.now place }
 {
-    let seen = pass_by(store, table, hash, at);
+    let seen = pass_by(store, hash, at);
     match seen {
-        Probed::On(Search::Reading(place)) => read_at(store, table, key, place),
+        Probed::On(Search::Reading(place)) => read_at(store, key, place),
         _ => turn_of(seen),
     }
 }
@@ -118,19 +107,17 @@ fn look_at<K: Hash + Eq, V, S: BuildHasher, Q: Equivalent<K>>(
 #[inline(always)]
 pub(crate) fn search<K: Hash + Eq, V, S: BuildHasher, Q: Equivalent<K>>(
     store: &Store<K, V, S>,
-    table: &Table,
     key: &Q,
     hash: u64,
     at: Place,
 ) -> Turn
-    requires within { IsWithin at }
-    requires held { IsPlaceOf store.now table.now at }
+    requires { IsWithin at }
     ensures turn { IsTurn (Q.matches key.now) store.now hash at result }
     ensures over { (place : _) → result ≡ Next place → ⊥ }
 {
     let mut place = at;
     loop {
-        match look_at(store, table, key, hash, place) {
+        match look_at(store, key, hash, place) {
             Turn::Next(next) => place = next,
             turn => return turn,
         }
@@ -151,5 +138,5 @@ pub(crate) fn search_root<K: Hash + Eq, V, S: BuildHasher, Q: Equivalent<K>>(
     let number = store.word(At::Root);
     let table = store.table(number)?;
     let first = Place::first(hash, number, table.len(), table.limit());
-    Some(search(store, table, key, hash, first))
+    Some(search(store, key, hash, first))
 }

@@ -332,10 +332,7 @@ impl<K: Hash + Eq, V, S: BuildHasher> HashMap<K, V, S> {
         requires { IsSome (pair_of self.now.store n) }
         ensures { (p : _) → pair_of self.now.store n ≡ Some p → result.now ≡ p.value }
     {
-        match self.store.pair(n) {
-            Some((_, value)) => value,
-            None => unreachable!(),
-        }
+        self.store.logged_value(n)
     }
 }
 

@@ -29,7 +29,8 @@ fn marks<K: Hash + Eq, V, S: BuildHasher>(
 ) -> bool
     requires { (n : _) (t : _) → table_of store.now.words.tables n ≡ Some t
         → IsSize (length t.slots) t.limit }
-    ensures { MatchBool result (HasMark store.now table pair) (HasNoMark store.now hash table pair) }
+    ensures { MatchBool result (HasMark store.now table pair)
+        (HasNoMark store.now hash table pair) }
 {
     let Answer::Size { len, limit } = store.size_of(table) else {
         return false;
@@ -268,7 +269,8 @@ impl<'a, K: Hash + Eq, V, S: BuildHasher> Model for Iter<'a, K, V, S> {
 
     ghost view = { λ it. entries_left K.eq it.map.now.store it.at };
 
-    ghost invariant = { λ it. IsStand it.map.now it.at × IsHeld it.map.now.store it.at it.root it.end };
+    ghost invariant = { λ it. IsStand it.map.now it.at
+        × IsHeld it.map.now.store it.at it.root it.end };
 }
 
 impl<'a, K: Hash + Eq, V, S: BuildHasher> Iter<'a, K, V, S> {

@@ -32,12 +32,12 @@ loop-at-init g c = (
 pub returns-in_default : goal.returns-in_default
 returns-in_default g c mode =
     subst (λ x. Steps g.K.PartialEq.eq (hash g) mode c.args.store.now (Advancing c.args.cursor) c.exchange.new.self x)
-    (sym c.step_behind-step.ensures.value) (c.loop-at.invariant.1 mode)
+    (sym c.next-step.ensures.value) (c.loop-at.invariant.1 mode)
 
 pub returns-then-word-eq0 : goal.returns-then-word-eq0
 returns-then-word-eq0 g c mode =
     subst (λ x. Steps g.K.PartialEq.eq (hash g) mode c.args.store.now (Advancing c.args.cursor) c.exchange.new.self x)
-    (sym c.step_behind-step.ensures.value ∙ c.in-AtChunk.is) (c.loop-at.invariant.1 mode)
+    (sym c.next-step.ensures.value ∙ c.in-AtChunk.is) (c.loop-at.invariant.1 mode)
 
 pub loop-at-preserved : goal.loop-at-preserved
 loop-at-preserved g c =
@@ -47,8 +47,8 @@ loop-at-preserved g c =
     let some : word_at s'.words (Done at.to at.at) ≡ 0 → ⊥ = λ zero. search rules in
     let before : (mode : ResizeMode) → Steps g.K.PartialEq.eq (hash g) mode s (Advancing c.args.cursor) s' (AtChunk at) = λ mode. subst
     (λ x. Steps g.K.PartialEq.eq (hash g) mode s (Advancing c.args.cursor) s' x)
-    (sym c.step_behind-step.ensures.value ∙ c.in-AtChunk.is) (c.loop-at.invariant.1 mode) in (
-      subst IsStandingStep c.in-AtChunk.is c.step_behind-step.ensures.standing,
+    (sym c.next-step.ensures.value ∙ c.in-AtChunk.is) (c.loop-at.invariant.1 mode) in (
+      subst IsStandingStep c.in-AtChunk.is c.next-step.ensures.standing,
       λ mode aim. comes_then g.K.PartialEq.eq (hash g) mode s (On (Stepping aim (Advancing c.args.cursor))) s' (On (Stepping aim (AtChunk at))) s'
           (On (Stepping aim (next_cursor at))) (before mode aim)
           (chunk_led g.K.PartialEq.eq (hash g) mode s' at (next_cursor at) (chunk_passed at (word_at s'.words (Done at.to at.at)) some) aim),

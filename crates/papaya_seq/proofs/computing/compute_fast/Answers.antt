@@ -57,8 +57,11 @@ returns-in-Some-Empty-clause-ok g c mode initial =
     (c.no_pair.result, ap (λ o. option_map deref_pair o) c.no_pair.ensures, c.decide-operation.ensures) c.operate.ensures
 
 -- the pair that was found is of the log
-logged : (g : Over) (c : In-Some-Here g) → IsSome (pair_of c.args.store.now (number_of c.in-Some-Here.word))
-logged g c = some_matched (g.K.PartialEq.eq c.args.key) (pair_of c.args.store.now (number_of c.in-Some-Here.word)) (here g c).matched
+in_log : (g : Over) (c : In-Some-Here g) → IsSome (pair_of c.args.store.now (number_of c.in-Some-Here.word))
+in_log g c = some_matched (g.K.PartialEq.eq c.args.key) (pair_of c.args.store.now (number_of c.in-Some-Here.word)) (here g c).matched
+
+pub logged-requires : goal.logged-requires
+logged-requires g c = subst (λ n. IsSome (pair_of c.args.store.now n)) (sym c.pair-pair.ensures) (in_log g (goal.at.logged-requires g c).In-Some-Here)
 
 -- and is shown to the closure
 shows : (g : Over) (c : In-Some-Here g) (n : ℕ) → n ≡ number_of c.in-Some-Here.word → (entry : Option (Bor g.row.K.Denot × Bor g.row.V.Denot))
@@ -68,29 +71,29 @@ shows : (g : Over) (c : In-Some-Here g) (n : ℕ) → n ≡ number_of c.in-Some-
 shows g c n is entry refers =
     shown_pair c.args.store.now (number_of c.in-Some-Here.word) entry
     (subst (λ i. MatchOption entry (pair_of c.args.store.now i ≡ None)
-    (λ p. pair_of c.args.store.now i ≡ Some (record { number = i; key = p.0.now; value = p.1.now }))) is refers) (logged g c)
+    (λ p. pair_of c.args.store.now i ≡ Some (record { number = i; key = p.0.now; value = p.1.now }))) is refers) (in_log g c)
 
 pub decide-operation-requires-in-Some-Here : goal.decide-operation-requires-in-Some-Here
 decide-operation-requires-in-Some-Here g c =
     let at = (goal.at.decide-operation-requires-in-Some-Here g c).In-Some-Here in
     let live : kind_of c.in-Some-Here.word ≡ Live = search rules in
-    let (p, number, there, are) = shows g at c.pair-pair.result c.pair-pair.ensures c.pair.result c.pair.ensures in
-    c.requires.takes (turns.Here c.in-Some-Here.place c.in-Some-Here.word) (here g at) live c.pair.result (are ∙ ap (λ o. option_map entry_of o) (sym there))
+    let (p, number, there, are) = shows g at c.pair-pair.result c.pair-pair.ensures (Some c.logged.result) c.logged.ensures in
+    c.requires.takes (turns.Here c.in-Some-Here.place c.in-Some-Here.word) (here g at) live (Some c.logged.result) (are ∙ ap (λ o. option_map entry_of o) (sym there))
 
 pub operate-requires-in-Some-Here-clause-stands : goal.operate-requires-in-Some-Here-clause-stands
 operate-requires-in-Some-Here-clause-stands g c = (here g (goal.at.operate-requires-in-Some-Here-clause-stands g c).In-Some-Here).stands
 
 pub operate-requires-in-Some-Here-clause-pair : goal.operate-requires-in-Some-Here-clause-pair
-operate-requires-in-Some-Here-clause-pair g c = λ some. logged g (goal.at.operate-requires-in-Some-Here-clause-pair g c).In-Some-Here
+operate-requires-in-Some-Here-clause-pair g c = λ some. in_log g (goal.at.operate-requires-in-Some-Here-clause-pair g c).In-Some-Here
 
 pub returns-in-Some-Here-clause-ok : goal.returns-in-Some-Here-clause-ok
 returns-in-Some-Here-clause-ok g c mode initial =
     let at = (goal.at.returns-in-Some-Here-clause-ok g c).In-Some-Here in
     let hashes = hash_of g.K.Hash.hash_input g.S.BuildHasher.build_hasher g.S.Hasher.Hasher.write g.S.Hasher.Hasher.finish in
     let live : kind_of c.in-Some-Here.word ≡ Live = search rules in
-    let (p, number, there, are) = shows g at c.pair-pair.result c.pair-pair.ensures c.pair.result c.pair.ensures in
+    let (p, number, there, are) = shows g at c.pair-pair.result c.pair-pair.ensures (Some c.logged.result) c.logged.ensures in
     subst (λ n. IsComputedFrom g.K.PartialEq.eq hashes c.args.key (said g c.args.f) c.args.store.now (started Compute c.args.hash mode initial None)
     (Some n) c.operate-in-Some-Here.result c.operate-in-Some-Here.new.store) (sym c.pair-pair.ensures)
     (pair_computed g.K.PartialEq.eq hashes c.args.store.now c.args.key c.args.hash c.in-Some-Here.place mode initial (said g c.args.f)
     c.decide-operation-in-Some-Here.result c.operate-in-Some-Here.result c.operate-in-Some-Here.new.store c.in-Some-Here.word live (here g at) p number there
-    (c.pair.result, are, c.decide-operation-in-Some-Here.ensures) c.operate-in-Some-Here.ensures)
+    (Some c.logged.result, are, c.decide-operation-in-Some-Here.ensures) c.operate-in-Some-Here.ensures)

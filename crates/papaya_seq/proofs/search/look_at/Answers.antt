@@ -1,10 +1,10 @@
-use Rattle.std.proofs.Common.{rules, ◌≡◌, subst}
+use Rattle.std.proofs.Common.{rules, ◌≡◌, sym, ◌∙◌, subst}
 use Rattle.papaya_ask.specs.declared.search.Probed.TheVariants.{On}
 use Rattle.papaya_ask.specs.declared.search.Search.TheVariants.{Looking, Reading}
 use Rattle.papaya_call.specs.declared.machine.State.TheVariants.{Searching}
 use Rattle.papaya_store.specs.Tables.{word_at}
 use Rattle.papaya_seq.specs.Searches.{Sees, seen_by}
-use Rattle.papaya_seq.proofs.Searching.{passed_matched, passed_stands, sees_on, turn_seen}
+use Rattle.papaya_seq.proofs.Searching.{passed_matched, passed_stands, sees_on, sees_passed, turn_seen}
 use Rattle.papaya_seq.proofs.search.look_at.Goals as goal
 
 pub returns-in-On-Reading-clause-turn : goal.returns-in-On-Reading-clause-turn
@@ -12,10 +12,11 @@ returns-in-On-Reading-clause-turn g c =
     let matches = g.Q.Equivalent.matches c.args.key.now in
     let store = c.args.store.now in
     let turn = c.read_at.ensures.turn c.args.hash in
+    let hints = c.pass_by-seen.ensures.hints in
     let reads : c.pass_by-seen.result ≡ On (Reading c.in-On-Reading.place) = search rules in
     record {
       sees = sees_on matches store c.args.hash c.args.at (Reading c.in-On-Reading.place) (seen_by c.read_at.result)
-          (subst (Sees matches store c.args.hash c.args.at) reads (c.pass_by-seen.ensures.sees matches)) turn.sees;
+          (subst (Sees matches store c.args.hash c.args.at) (sym hints.1 ∙ reads) (sees_passed matches store c.args.hash hints.0 c.args.at)) turn.sees;
       within = turn.within;
       stands = turn.stands;
       matched = turn.matched;
@@ -26,7 +27,8 @@ returns-in_default-clause-turn g c =
     let matches = g.Q.Equivalent.matches c.args.key.now in
     let store = c.args.store.now in
     let seen = c.pass_by-seen.result in
+    let hints = c.pass_by-seen.ensures.hints in
     turn_seen matches store c.args.hash c.args.at (Searching (Looking c.args.at)) c.turn_of.result seen c.turn_of.ensures
-    (c.pass_by-seen.ensures.sees matches) c.pass_by-seen.ensures.within
-    (passed_stands store c.args.table.now (λ w. word_at store.words w) c.args.at seen c.pass_by-seen.ensures.led)
-    (passed_matched store c.args.table.now matches c.args.hash c.args.at seen c.pass_by-seen.ensures.led)
+    (subst (Sees matches store c.args.hash c.args.at) (sym hints.1) (sees_passed matches store c.args.hash hints.0 c.args.at))
+    c.pass_by-seen.ensures.within (passed_stands (λ w. word_at store.words w) c.args.at seen c.pass_by-seen.ensures.led)
+    (passed_matched store matches c.args.hash c.args.at seen c.pass_by-seen.ensures.led)

@@ -1,14 +1,12 @@
-use Rattle.std.specs.Prelude.{◌≤◌}
+use Rattle.std.specs.Prelude.{◌≡◌, ◌≤◌, ℕ}
 use Rattle.papaya_ask.specs.Search.{IsWithin}
-use Rattle.papaya_ask.specs.declared.search.Search.TheVariants.{Looking}
-use Rattle.papaya_ask.specs.declared.search.Probed.TheVariants.{On}
-use Rattle.papaya_seq.specs.Searches.{IsPlaceOf, Sees, left_at}
+use Rattle.papaya_seq.specs.Searches.{left_at, passed_by}
 use Rattle.papaya_seq.proofs.search.pass_by.Given as goal
 
--- the search came from the first place to this one, of the same table
+-- whatever the hints from this place on tell, those from the first one on do
 abbrev pub invariant-loop-next : goal.invariant-loop-next
-invariant-loop-next g l = ((matches : g.row.K.Denot → _) → Sees matches l.store l.hash l.fn.at (On (Looking l.place)))
-    × IsWithin l.place × IsPlaceOf l.store l.table l.place × (left_at l.place ≤ left_at l.fn.at)
+invariant-loop-next g l = ((n : ℕ) → (all : ℕ) × (passed_by l.store l.hash n l.place ≡ passed_by l.store l.hash all l.fn.at))
+    × IsWithin l.place × (left_at l.place ≤ left_at l.fn.at)
 
 -- the answers that are left to the search
 abbrev pub decreases-loop-next : goal.decreases-loop-next

@@ -6,7 +6,7 @@ use Rattle.papaya_call.specs.declared.machine.State.TheVariants.{Searching}
 use Rattle.papaya_words.specs.Word.{kind_of}
 use Rattle.papaya_store.specs.Tables.{word_at}
 use Rattle.papaya_seq.specs.Searches.{IsMatchedBy, SeesFrom, StandsBy}
-use Rattle.papaya_seq.proofs.Searching.{matched_look, matched_yes, sees_same, sees_word, stands_look, stands_yes, turn_seen, word_held, word_there}
+use Rattle.papaya_seq.proofs.Searching.{matched_look, matched_yes, sees_same, sees_word, stands_look, stands_yes, turn_seen, word_there}
 use Rattle.papaya_seq.proofs.search.read_at.Goals as goal
 
 pub returns-in-On-Comparing-clause-turn : goal.returns-in-On-Comparing-clause-turn
@@ -14,8 +14,7 @@ returns-in-On-Comparing-clause-turn g c hash =
     let matches = g.Q.Equivalent.matches c.args.key.now in
     let store = c.args.store.now in
     let from = Searching (Reading c.args.at) in
-    let word : c.slot-word.result ≡ word_there matches store hash c.args.at = word_held store c.args.table.now c.args.at c.slot-word.result c.requires.held
-    c.slot-word.ensures in
+    let word : c.word-word.result ≡ word_there matches store hash c.args.at = c.word-word.ensures in
     let seen : c.look-seen.result ≡ On (Comparing c.in-On-Comparing.place c.in-On-Comparing.named) = search rules in
     let compares : look c.args.at (word_there matches store hash c.args.at) ≡ On (Comparing c.in-On-Comparing.place c.in-On-Comparing.named) = sym
     (c.look-seen.ensures.value ∙ ap (look c.args.at) word) ∙ seen in
@@ -36,8 +35,7 @@ pub returns-in_default-clause-turn : goal.returns-in_default-clause-turn
 returns-in_default-clause-turn g c hash =
     let matches = g.Q.Equivalent.matches c.args.key.now in
     let store = c.args.store.now in
-    let word : c.slot-word.result ≡ word_there matches store hash c.args.at = word_held store c.args.table.now c.args.at c.slot-word.result c.requires.held
-    c.slot-word.ensures in
+    let word : c.word-word.result ≡ word_there matches store hash c.args.at = c.word-word.ensures in
     let from = Searching (Reading c.args.at) in
     turn_seen matches store hash c.args.at from c.turn_of-in_default.result c.look-seen.result c.turn_of-in_default.ensures
     (subst (SeesFrom matches store hash from) (sym (c.look-seen.ensures.value ∙ ap (look c.args.at) word))

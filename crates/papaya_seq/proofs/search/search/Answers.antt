@@ -5,15 +5,13 @@ use Rattle.papaya_seq.proofs.search.search.Goals as goal
 
 pub loop-next-preserved : goal.loop-next-preserved
 loop-next-preserved g c =
-    let matches = g.Q.Equivalent.matches c.args.key.now in (
-      subst (IsTurn matches c.args.store.now c.args.hash c.args.at) c.in-Next.is
-          (turns_on matches c.args.store.now c.args.hash c.args.at c.loop-next.place c.look_at.result c.loop-next.invariant.0 c.look_at.ensures.turn),
-      c.look_at.ensures.held c.in-Next.next c.in-Next.is,
-    )
+    let matches = g.Q.Equivalent.matches c.args.key.now in
+    subst (IsTurn matches c.args.store.now c.args.hash c.args.at) c.in-Next.is
+    (turns_on matches c.args.store.now c.args.hash c.args.at c.loop-next.place c.look_at.result c.loop-next.invariant c.look_at.ensures.turn)
 
 pub returns-in_default : goal.returns-in_default
 returns-in_default g c = record {
   turn = turns_on (g.Q.Equivalent.matches c.args.key.now) c.args.store.now c.args.hash c.args.at c.loop-next.place c.look_at.result
-      c.loop-next.invariant.0 c.look_at.ensures.turn;
+      c.loop-next.invariant c.look_at.ensures.turn;
   over = λ place e. search rules;
 }
