@@ -72,7 +72,6 @@ pub fn remove_fast<
     ensures removed { IsTriedRemoval K.eq (Q.matches key.now) (past window.old) (past window.new)
         (Judges F.FnMut) agrees.old agrees.new result }
 {
-    let (root, _) = window.root();
     let Some(hit) = find(window, key) else {
         return Some(Ok(None));
     };
@@ -85,6 +84,7 @@ pub fn remove_fast<
         met,
         key: stored_key,
         value,
+        later,
     } = hit;
     if !agrees(stored_key, value) {
         return Some(Err((stored_key, value)));
@@ -101,7 +101,7 @@ pub fn remove_fast<
         return None;
     }
     means.shard.add(slot as u64, -1);
-    help(means, window.book, place.table != root);
+    help(means, window.book, later);
     let Some(taken) = before else { unreachable!() };
     window.book.parts.pairs.agrees(&stored, &taken);
     Some(Ok(Some((stored_key, value))))

@@ -8,7 +8,6 @@ use Rattle.papaya_book.specs.Calls.{IsSlotTried}
 use Rattle.papaya_book.specs.Hashes.{hash_of}
 use Rattle.papaya_book.specs.Parts.{begun_of}
 use Rattle.papaya_book.specs.Windows.{Does}
-use Rattle.papaya_book.proofs.Logs.{prefix_trans}
 use Rattle.papaya_lookup.specs.Answers.{IsHitAnsweredBetween}
 use Rattle.papaya_lookup.specs.Drivers.{past}
 use Rattle.papaya_lookup.specs.History.{history_of}
@@ -36,8 +35,7 @@ returns-then-not-agrees-clause-removed g c =
     let judged : Judges g.F.FnMut c.args.agrees.now met.stored false
     c.agrees.new.self = subst (λ (z : Bool). Judges g.F.FnMut c.args.agrees.now met.stored z c.agrees.new.self) said
     (hit.key, hit.value, (h.2.1, h.2.2), c.agrees.ensures) in
-    removal_since g.K.PartialEq.eq (g.Q.Equivalent.matches c.args.key.now) _ _ _
-    (history_since c.args.window.now.sight.log h.0 (prefix_trans _ _ _ c.root-root.ensures.sees.log h.1))
+    removal_since g.K.PartialEq.eq (g.Q.Equivalent.matches c.args.key.now) _ _ _ (history_since c.args.window.now.sight.log h.0 h.1)
     (Judges g.F.FnMut) c.args.agrees.now _ (stays g.K.PartialEq.eq g.K.Hash.hash_input g.S.BuildHasher.build_hasher g.S.Hasher.Hasher.write
     g.S.Hasher.Hasher.finish g.met.K.Eq.laws g.met.K.Hash.respects_eq b w.begun.book (g.Q.Equivalent.matches c.args.key.now)
     (g.Q.Hash.hash_input c.args.key.now) lawful (Judges g.F.FnMut) c.args.agrees.now h.0 log h.2.0 w.chunked c.fits.ensures hit.table met h.2.3 live
@@ -104,7 +102,7 @@ returns-then-found-word-clause-removed g c =
     g.met.K.Hash.respects_eq b w.begun.book (g.Q.Equivalent.matches c.args.key.now) (g.Q.Hash.hash_input c.args.key.now) lawful (Judges g.F.FnMut)
     c.args.agrees.now h.0 log h.2.0 w.chunked c.fits.ensures hit.table met h.2.3 live c.agrees.new.self judged) in
     one_shown g.K.PartialEq.eq (g.Q.Equivalent.matches c.args.key.now) _ _ _ (Judges g.F.FnMut) c.args.agrees.now c.agrees.new.self met.stored true
-    judged was (history_since c.args.window.now.sight.log h.0 (prefix_trans _ _ _ c.root-root.ensures.sees.log h.1))
+    judged was (history_since c.args.window.now.sight.log h.0 h.1)
 
 pub returns-clause-made : goal.returns-clause-made
 returns-clause-made g c =
@@ -128,7 +126,7 @@ returns-clause-made g c =
     None names.Nothing log put.result.0 log' put.result.1) word put.ensures.tried in
     let is : (put.result.0 == met.word) ≡ true = search rules in
     let does = subst (λ (z : Bool). Does z c.find.new.window put.new.self) is put.ensures.does in
-    rw (sym (c.find.ensures.own ∙ c.root-root.ensures.own)) (makes g.K.PartialEq.eq None h.0 put.result.1 None
+    rw (sym c.find.ensures.own) (makes g.K.PartialEq.eq None h.0 put.result.1 None
     (ended g.K.PartialEq.eq g.K.Hash.hash_input g.S.BuildHasher.build_hasher g.S.Hasher.Hasher.write g.S.Hasher.Hasher.finish g.met.K.Eq.laws
     g.met.K.Hash.respects_eq b w.begun.book (g.Q.Equivalent.matches c.args.key.now) (g.Q.Hash.hash_input c.args.key.now) lawful (Judges g.F.FnMut)
     c.args.agrees.now h.0 log h.2.0 w.chunked c.fits.ensures hit.table met h.2.3 live c.agrees.new.self judged put.new.self.sight.log
@@ -159,8 +157,7 @@ returns-clause-removed g c =
     let tried = subst (λ (n : ℕ). IsSlotTried g.K.PartialEq.eq hash b w.begun.book met.place.table met.place.probe.i (Some steps.Delete) met.word n
     None names.Nothing log put.result.0 log' put.result.1) word put.ensures.tried in
     let is : (put.result.0 == met.word) ≡ true = search rules in
-    removal_since g.K.PartialEq.eq (g.Q.Equivalent.matches c.args.key.now) _ _ _
-    (history_since c.args.window.now.sight.log h.0 (prefix_trans _ _ _ c.root-root.ensures.sees.log h.1))
+    removal_since g.K.PartialEq.eq (g.Q.Equivalent.matches c.args.key.now) _ _ _ (history_since c.args.window.now.sight.log h.0 h.1)
     (Judges g.F.FnMut) c.args.agrees.now _ (hit_went g.K.PartialEq.eq g.K.Hash.hash_input g.S.BuildHasher.build_hasher g.S.Hasher.Hasher.write
     g.S.Hasher.Hasher.finish g.met.K.Eq.laws g.met.K.Hash.respects_eq b w.begun.book (g.Q.Equivalent.matches c.args.key.now)
     (g.Q.Hash.hash_input c.args.key.now) lawful (Judges g.F.FnMut) c.args.agrees.now h.0 log h.2.0 w.chunked c.fits.ensures hit.table met h.2.3 live
@@ -170,18 +167,12 @@ returns-clause-removed g c =
 pub returns-in_default-clause-removed : goal.returns-in_default-clause-removed
 returns-in_default-clause-removed g c =
     let none_found : c.find.result ≡ None = search rules in
-    let none = subst (IsHitAnsweredBetween g.K.PartialEq.eq (g.Q.Equivalent.matches c.args.key.now) (past c.root-root.new.self) (past c.find.new.window))
+    let none = subst (IsHitAnsweredBetween g.K.PartialEq.eq (g.Q.Equivalent.matches c.args.key.now) (past c.args.window.now) (past c.find.new.window))
     none_found c.find.ensures.answered in
     record {
       said = [];
       left = c.args.agrees.now;
       has_said = refl;
       held = tt;
-      answered = record {
-        seen = none.seen;
-        since = prefix_trans _ _ _
-            (history_since c.args.window.now.sight.log c.root-root.new.self.sight.log c.root-root.ensures.sees.log) none.since;
-        until = none.until;
-        is = none.is;
-      };
+      answered = record { seen = none.seen; since = none.since; until = none.until; is = none.is };
     }
