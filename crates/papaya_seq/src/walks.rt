@@ -85,6 +85,10 @@ impl<K: Hash + Eq, V, S: BuildHasher> HashMap<K, V, S> {
         // By this read the map is known to be in order.
         let _mode = self.mode;
         let word = Word(table.slot(at.slot));
+        // Most slots that hold no pair are empty, and one comparison tells those.
+        if word == Word::EMPTY {
+            return None;
+        }
         match word.kind() {
             Kind::Live | Kind::Marked if at.passed == 0 || !self.is_copy(word.pair(), at) => {
                 Some(word.pair())

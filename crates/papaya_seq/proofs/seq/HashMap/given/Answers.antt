@@ -39,6 +39,17 @@ module _ (g : Over) where
   kind_is : (c : After-kind g) → c.kind.result ≡ kind_of (word_at c.args.self.now.store.words (Slot c.args.at.table c.args.at.slot))
   kind_is c = c.kind.ensures ∙ ap kind_of (word_is c)
 
+pub returns-then-eq : goal.returns-then-eq
+returns-then-eq g c =
+    let s = c.args.self.now in
+    let lawful = subst (Orderly g) c.self.view_is c.self.invariant in
+    let empty : word_at s.store.words (Slot c.args.at.table c.args.at.slot) ≡ 0 = sym
+    (slot_read s.store.words c.args.at.table c.args.at.slot c.slot.result c.args.table.now c.requires.table c.slot.ensures) ∙ search rules in
+    word_bare g.K.PartialEq.eq (key_hash g s.store.hasher) s lawful.lawful (keys g s) c.args.at c.requires.stands
+    (held_within s.store.words c.args.at.table c.args.at.slot c.args.table.now c.requires.table c.requires.within)
+    (λ live. let e : kind_of 0 ≡ Live = sym (ap kind_of empty) ∙ live in absurd cc)
+    (λ marked. let e : kind_of 0 ≡ Marked = sym (ap kind_of empty) ∙ marked in absurd cc)
+
 pub returns-in-Live : goal.returns-in-Live
 returns-in-Live g c =
     let s = c.args.self.now in
