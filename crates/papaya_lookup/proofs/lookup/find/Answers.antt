@@ -75,8 +75,13 @@ returns-in-Found-clause-hits g c =
     let after : IsPrefix c.learn.new.self.sight.log c.search.new.window.sight.log = rw (sym c.again-began.ensures)
     (prefix_trans _ _ _ c.loop-held.invariant.3 c.search.ensures.sees.log) in
     let f = turned.found c.in-Found.met c.in-Found.entry refl in
-    λ hit e. let one : record { table = c.in-Some.table; met = c.in-Found.met; key = c.in-Found.entry.0; value = c.in-Found.entry.1;
-    later = not (c.loop-held.number == c.root-root.result.0) } ≡ hit = cc e in
+    λ hit e. let one : record {
+      table = c.in-Some.table;
+      met = c.in-Found.met;
+      key = c.in-Found.entry.0;
+      value = c.in-Found.entry.1;
+      later = not (c.loop-held.number == c.root-root.result.0);
+    } ≡ hit = cc e in
     rw (← one) (c.learn.new.self.sight.log, c.learn.ensures.sees.log, (after, f.1, f.2, f.3))
 
 pub loop-held-smaller : goal.loop-held-smaller
