@@ -5,9 +5,8 @@ use Rattle.logbook.specs.Pages.{nib, may_write}
 use Rattle.logbook.specs.declared.tokens.Pen.{Pen}
 use Rattle.boxcar.specs.Table.{Where}
 use Rattle.papaya_ask.specs.declared.ask.At.{At}
-use Rattle.papaya_ask.specs.declared.ask.At.TheVariants.{Root, Next, Slot}
-use Rattle.papaya_ask.specs.declared.ask.StepKind.{StepKind}
-use Rattle.papaya_ask.specs.declared.ask.StepKind.TheVariants.{Open, Link}
+use Rattle.papaya_ask.specs.declared.ask.At.TheVariants.{Root}
+use Rattle.papaya_ask.specs.declared.ask.StepKind.TheVariants.{Open}
 use Rattle.papaya_book.specs.declared.book.Book.{Book}
 use Rattle.papaya_book.specs.declared.rule.entry.Event.{Event}
 use Rattle.papaya_book.specs.declared.rule.entry.Named.{Named}
@@ -16,9 +15,7 @@ use Rattle.papaya_book.specs.declared.rule.steps.Laying.{Laying}
 use Rattle.papaya_book.specs.declared.rule.steps.Put.{Put}
 use Rattle.papaya_book.specs.declared.rule.steps.Wish.{Wish}
 use Rattle.papaya_book.specs.Calls as calls
-use Rattle.papaya_book.specs.Hinted as hinted
 use Rattle.papaya_book.specs.Keys.{Keys}
-use Rattle.papaya_book.specs.Logs.{Stored}
 use Rattle.papaya_book.specs.Makers as makers
 use Rattle.papaya_book.specs.Parts.{begun_of}
 use Rattle.papaya_book.specs.Plays as plays
@@ -51,21 +48,8 @@ module _ {K V S H : Type 0} (keys : Keys K S) (book : Book K V S H) where
   abbrev pub IsRead : At → ℕ → List (Event K V S) → Option (Named K V) → Type 0
   IsRead = calls.IsRead keys.eq keys.hash (begun_of book.parts)
 
-  abbrev pub IsSlot : ℕ → ℕ → ℕ → List (Event K V S) → Option (Stored K V) → Type 0
-  IsSlot = calls.IsSlot keys.eq keys.hash (begun_of book.parts) book.begun.book
-
-  abbrev pub IsSlotWord : ℕ → ℕ → ℕ → List (Event K V S) → Option (Named K V) → Type 0
-  IsSlotWord = calls.IsSlotWord keys.eq keys.hash (begun_of book.parts) book.begun.book
-
-  -- the number may be the hint of slot x of table t after the log
-  abbrev pub IsHint : (t x hint : ℕ) → List (Event K V S) → Type 0
-  IsHint = hinted.IsSlotHint keys.eq keys.hash (begun_of book.parts)
-
   abbrev pub IsRoot : ℕ → List (Event K V S) → Option (Bor Sheet) → Type 0
   IsRoot = calls.IsRoot keys.eq keys.hash (begun_of book.parts) book.begun.book
-
-  abbrev pub IsNext : ℕ → ℕ → List (Event K V S) → Option (Bor Sheet) → Type 0
-  IsNext = calls.IsNext keys.eq keys.hash (begun_of book.parts) book.begun.book
 
   -- an exchange with which nothing comes
   abbrev pub CanTry : Wish K V → (old new : ℕ) → List (Event K V S) → Type 0
@@ -102,55 +86,3 @@ module _ {K V S H : Type 0} (keys : Keys K S) (book : Book K V S H) where
       → Type 0
   Opens table = calls.IsTried keys.eq keys.hash (begun_of book.parts) Root (Some Open) 0
       (table.index + 1) None (names.Table table)
-
-  -- the same exchanges of a slot, which tell the pair that it named
-  abbrev pub CanTrySlot : (t x : ℕ) → Option StepKind → (words : ℕ × ℕ) → List (Event K V S)
-      → Type 0
-  CanTrySlot t x kind words = plays.CanExchange keys.eq keys.hash (begun_of book.parts) (Slot t x)
-      kind words.0 words.1 None names.Nothing
-
-  abbrev pub TriesSlot : (t x : ℕ) → Option StepKind → (words : ℕ × ℕ) → List (Event K V S) → ℕ
-      → List (Event K V S) → Option (Stored K V) → Type 0
-  TriesSlot t x kind words = calls.IsSlotTried keys.eq keys.hash (begun_of book.parts)
-      book.begun.book t x kind words.0 words.1 None names.Nothing
-
-  abbrev pub CanPutSlot : (t x : ℕ) → Option StepKind → Stored K V → (words : ℕ × ℕ)
-      → List (Event K V S) → Type 0
-  CanPutSlot t x kind made words = plays.CanExchange keys.eq keys.hash (begun_of book.parts)
-      (Slot t x) kind words.0 words.1 (Some made) (names.Pair made)
-
-  abbrev pub PutsSlot : (t x : ℕ) → Option StepKind → Stored K V → (words : ℕ × ℕ)
-      → List (Event K V S) → ℕ → List (Event K V S) → Option (Stored K V) → Type 0
-  PutsSlot t x kind made words = calls.IsSlotTried keys.eq keys.hash (begun_of book.parts)
-      book.begun.book t x kind words.0 words.1 (Some made) (names.Pair made)
-
-  -- the word that stands at a place
-  abbrev pub IsWord : At → ℕ → List (Event K V S) → Type 0
-  IsWord = calls.IsWord keys.eq keys.hash (begun_of book.parts)
-
-  -- an exchange for a copy, which may carry this pair: nothing comes with it
-  abbrev pub CanCopy : At → Option StepKind → (kept : Option (Stored K V)) → (words : ℕ × ℕ)
-      → List (Event K V S) → Type 0
-  CanCopy at kind kept words = plays.CanExchange keys.eq keys.hash (begun_of book.parts) at kind
-      words.0 words.1 kept names.Nothing
-
-  abbrev pub CopiesWord : At → Option StepKind → (kept : Option (Stored K V)) → (words : ℕ × ℕ)
-      → List (Event K V S) → ℕ → List (Event K V S) → Type 0
-  CopiesWord at kind kept words seen found log = (state : Option (Named K V))
-      × calls.IsTried keys.eq keys.hash (begun_of book.parts) at kind words.0 words.1 kept
-      names.Nothing seen found log state
-
-  abbrev pub CopiesSlot : (t x : ℕ) → Option StepKind → (kept : Option (Stored K V))
-      → (words : ℕ × ℕ) → List (Event K V S) → ℕ → List (Event K V S) → Option (Stored K V) → Type 0
-  CopiesSlot t x kind kept words = calls.IsSlotTried keys.eq keys.hash (begun_of book.parts)
-      book.begun.book t x kind words.0 words.1 kept names.Nothing
-
-  -- an exchange that makes the table the next one after t, which had none
-  abbrev pub CanLink : (t : ℕ) → Where Sheet → List (Event K V S) → Type 0
-  CanLink t table = plays.CanExchange keys.eq keys.hash (begun_of book.parts) (Next t) (Some Link) 0
-      (table.index + 1) None (names.Table table)
-
-  abbrev pub Links : (t : ℕ) → Where Sheet → List (Event K V S) → ℕ → List (Event K V S) → Type 0
-  Links t table seen found log = (state : Option (Named K V))
-      × calls.IsTried keys.eq keys.hash (begun_of book.parts) (Next t) (Some Link) 0
-      (table.index + 1) None (names.Table table) seen found log state

@@ -1,18 +1,24 @@
 -- What a call sees of a map, and what a step adds to it.
-use Rattle.std.specs.Prelude.{◌≡◌, ℕ, Bool, Option, ◌++◌}
+use Rattle.std.specs.Prelude.{◌≡◌, ◌+◌, ℕ, Bool, Option, None, Some, ◌++◌}
 use mathlib.Core.List.{IsPrefix}
 use denote.Bor.{Bor}
 use Rattle.boxcar.specs.Table.{Where}
 use Rattle.papaya_ask.specs.declared.ask.At.{At}
+use Rattle.papaya_ask.specs.declared.ask.At.TheVariants.{Next, Slot}
 use Rattle.papaya_ask.specs.declared.ask.StepKind.{StepKind}
+use Rattle.papaya_ask.specs.declared.ask.StepKind.TheVariants.{Link}
 use Rattle.papaya_book.specs.declared.keyed.Keyed as keyed
 use Rattle.papaya_book.specs.declared.rule.entry.Named.{Named}
+use Rattle.papaya_book.specs.declared.rule.entry.Named.TheVariants as names
 use Rattle.papaya_book.specs.declared.window.Window.{Window}
 use Rattle.papaya_book.specs.Books as books
 use Rattle.papaya_book.specs.Calls as calls
+use Rattle.papaya_book.specs.Hinted.{IsSlotHint}
 use Rattle.papaya_book.specs.Logs.{Stored, steps_of}
 use Rattle.papaya_book.specs.Makers as makers
 use Rattle.papaya_book.specs.Own.{last_if}
+use Rattle.papaya_book.specs.Parts.{begun_of}
+use Rattle.papaya_book.specs.Plays as plays
 use Rattle.papaya_book.specs.Sheets.{Sheet}
 
 module _ {K V S H : Type 0} {d : keyed.Ghosts S K H} where
@@ -42,68 +48,86 @@ module _ {K V S H : Type 0} {d : keyed.Ghosts S K H} where
   abbrev pub IsMade : Window K V S H d → Sheet → Type 0
   IsMade w sheet = makers.IsMade sheet w.sight.log
 
+  -- an exchange that may carry a logged pair: nothing comes with it
+  abbrev pub CanCopy : Window K V S H d → At → Option StepKind → (kept : Option (Stored K V))
+      → (words : ℕ × ℕ) → Type 0
+  CanCopy w at kind kept words = plays.CanExchange d.keys.eq d.keys.hash (begun_of w.book.now.parts)
+      at kind words.0 words.1 kept names.Nothing w.sight.log
+
+  -- an exchange of a slot with which nothing comes
+  abbrev pub CanTrySlot : Window K V S H d → (t x : ℕ) → Option StepKind → (words : ℕ × ℕ) → Type 0
+  CanTrySlot w t x kind words = CanCopy w (Slot t x) kind None words
+
+  -- an exchange of a slot with which the pair comes that the call has made
+  abbrev pub CanPutSlot : Window K V S H d → (t x : ℕ) → Option StepKind → Stored K V
+      → (words : ℕ × ℕ) → Type 0
+  CanPutSlot w t x kind made words = plays.CanExchange d.keys.eq d.keys.hash
+      (begun_of w.book.now.parts) (Slot t x) kind words.0 words.1 (Some made) (names.Pair made)
+      w.sight.log
+
+  -- an exchange that makes the table the next one after t, which had none
+  abbrev pub CanLink : Window K V S H d → (t : ℕ) → Where Sheet → Type 0
+  CanLink w t table = plays.CanExchange d.keys.eq d.keys.hash (begun_of w.book.now.parts) (Next t)
+      (Some Link) 0 (table.index + 1) None (names.Table table) w.sight.log
+
   module _ (w w' : Window K V S H d) where
     abbrev pub IsRoot : ℕ → Option (Bor Sheet) → Type 0
     IsRoot word = books.IsRoot d.keys w.book.now word w'.sight.log
 
     abbrev pub IsNext : ℕ → ℕ → Option (Bor Sheet) → Type 0
-    IsNext number word = books.IsNext d.keys w.book.now number word w'.sight.log
+    IsNext number word = calls.IsNext d.keys.eq d.keys.hash (begun_of w.book.now.parts)
+        w.book.now.begun.book number word w'.sight.log
 
     abbrev pub IsSlot : ℕ → ℕ → ℕ → Option (Stored K V) → Type 0
-    IsSlot number place word = books.IsSlot d.keys w.book.now number place word w'.sight.log
+    IsSlot number place word = calls.IsSlot d.keys.eq d.keys.hash (begun_of w.book.now.parts)
+        w.book.now.begun.book number place word w'.sight.log
 
     abbrev pub IsSlotWord : ℕ → ℕ → ℕ → Option (Named K V) → Type 0
-    IsSlotWord number place word state = books.IsSlotWord d.keys w.book.now number place word
-        w'.sight.log state
+    IsSlotWord number place word state = calls.IsSlotWord d.keys.eq d.keys.hash
+        (begun_of w.book.now.parts) w.book.now.begun.book number place word w'.sight.log state
 
+    -- the number may be the hint of the slot
     abbrev pub IsHint : (number place hint : ℕ) → Type 0
-    IsHint number place hint = books.IsHint d.keys w.book.now number place hint w'.sight.log
+    IsHint number place hint = IsSlotHint d.keys.eq d.keys.hash (begun_of w.book.now.parts) number
+        place hint w'.sight.log
+
+    -- the word that stands at a place
+    abbrev pub IsWord : At → ℕ → Type 0
+    IsWord at word = calls.IsWord d.keys.eq d.keys.hash (begun_of w.book.now.parts) at word
+        w'.sight.log
 
     abbrev pub Opens : Where Sheet → ℕ → Type 0
     Opens table found = (state : Option (Named K V))
         × books.Opens d.keys w.book.now table w.sight.log found w'.sight.log state
 
-    abbrev pub TriesSlot : (t x : ℕ) → Option StepKind → (words : ℕ × ℕ) → ℕ → Option (Stored K V)
-        → Type 0
-    TriesSlot t x kind words found = books.TriesSlot d.keys w.book.now t x kind words w.sight.log
-        found w'.sight.log
-
-    abbrev pub PutsSlot : (t x : ℕ) → Option StepKind → Stored K V → (words : ℕ × ℕ) → ℕ
-        → Option (Stored K V) → Type 0
-    PutsSlot t x kind made words found = books.PutsSlot d.keys w.book.now t x kind made words
-        w.sight.log found w'.sight.log
-
-    abbrev pub IsWord : At → ℕ → Type 0
-    IsWord at word = books.IsWord d.keys w.book.now at word w'.sight.log
-
+    -- the same exchanges, as they were tried: of slots, with the pair that was named before
     abbrev pub CopiesWord : At → Option StepKind → (kept : Option (Stored K V)) → (words : ℕ × ℕ)
         → ℕ → Type 0
-    CopiesWord at kind kept words found = books.CopiesWord d.keys w.book.now at kind kept words
-        w.sight.log found w'.sight.log
+    CopiesWord at kind kept words found = (state : Option (Named K V))
+        × calls.IsTried d.keys.eq d.keys.hash (begun_of w.book.now.parts) at kind words.0 words.1
+        kept names.Nothing w.sight.log found w'.sight.log state
 
     abbrev pub CopiesSlot : (t x : ℕ) → Option StepKind → (kept : Option (Stored K V))
         → (words : ℕ × ℕ) → ℕ → Option (Stored K V) → Type 0
-    CopiesSlot t x kind kept words found = books.CopiesSlot d.keys w.book.now t x kind kept words
-        w.sight.log found w'.sight.log
+    CopiesSlot t x kind kept words found = calls.IsSlotTried d.keys.eq d.keys.hash
+        (begun_of w.book.now.parts) w.book.now.begun.book t x kind words.0 words.1 kept
+        names.Nothing w.sight.log found w'.sight.log
+
+    abbrev pub TriesSlot : (t x : ℕ) → Option StepKind → (words : ℕ × ℕ) → ℕ → Option (Stored K V)
+        → Type 0
+    TriesSlot t x kind words = CopiesSlot t x kind None words
+
+    abbrev pub PutsSlot : (t x : ℕ) → Option StepKind → Stored K V → (words : ℕ × ℕ) → ℕ
+        → Option (Stored K V) → Type 0
+    PutsSlot t x kind made words found = calls.IsSlotTried d.keys.eq d.keys.hash
+        (begun_of w.book.now.parts) w.book.now.begun.book t x kind words.0 words.1 (Some made)
+        (names.Pair made) w.sight.log found w'.sight.log
 
     abbrev pub Links : (t : ℕ) → Where Sheet → ℕ → Type 0
-    Links t table found = books.Links d.keys w.book.now t table w.sight.log found w'.sight.log
-
-  abbrev pub CanCopy : Window K V S H d → At → Option StepKind → (kept : Option (Stored K V))
-      → (words : ℕ × ℕ) → Type 0
-  CanCopy w at kind kept words = books.CanCopy d.keys w.book.now at kind kept words w.sight.log
-
-  abbrev pub CanLink : Window K V S H d → (t : ℕ) → Where Sheet → Type 0
-  CanLink w t table = books.CanLink d.keys w.book.now t table w.sight.log
+    Links t table found = (state : Option (Named K V)) × calls.IsTried d.keys.eq d.keys.hash
+        (begun_of w.book.now.parts) (Next t) (Some Link) 0 (table.index + 1) None
+        (names.Table table) w.sight.log found w'.sight.log state
 
   -- the hint may be written
   abbrev pub MayHint : Window K V S H d → (number place hint : ℕ) → Type 0
   MayHint w = IsHint w w
-
-  abbrev pub CanTrySlot : Window K V S H d → (t x : ℕ) → Option StepKind → (words : ℕ × ℕ) → Type 0
-  CanTrySlot w t x kind words = books.CanTrySlot d.keys w.book.now t x kind words w.sight.log
-
-  abbrev pub CanPutSlot : Window K V S H d → (t x : ℕ) → Option StepKind → Stored K V
-      → (words : ℕ × ℕ) → Type 0
-  CanPutSlot w t x kind made words = books.CanPutSlot d.keys w.book.now t x kind made words
-      w.sight.log

@@ -52,7 +52,7 @@ pub struct Book<K: Hash + Eq, V, S: BuildHasher> {
 }
 
 impl<K: Hash + Eq, V, S: BuildHasher> Book<K, V, S> {
-    ghost use Rattle.papaya_book.specs.Books.{CanPut, CanTry, IsIn, IsLawfulLog, IsRead, IsRoot, Puts, Tries};
+    ghost use Rattle.papaya_book.specs.Books.{CanPut, CanTry, IsIn, IsRead, IsRoot, Puts, Tries};
 
     /// One atomic load: the word that stands there. The offer gains what it names.
     pub fn read(
@@ -146,15 +146,5 @@ impl<K: Hash + Eq, V, S: BuildHasher> Book<K, V, S> {
         let known = offer::table_known(offer.into_gain());
         let token = token(known, (found - 1) as usize);
         (found, Some(self.parts.tables.value(&token)))
-    }
-
-    /// What the book was opened with, and what it says by now.
-    pub fn learn(&self, sight: &mut Seen<K, V, S>)
-        requires book { sight.old.book ≡ self.now.begun.book }
-        ensures book { sight.new.book ≡ sight.old.book }
-        ensures seen { IsPrefix sight.old.log sight.new.log }
-        ensures lawful { IsLawfulLog ⟦<S as Keyed<K>>⟧.keys self.now sight.new.log }
-    {
-        sight.learn(&self.begun);
     }
 }

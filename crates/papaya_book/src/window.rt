@@ -73,7 +73,7 @@ impl<'a, K: Hash + Eq, V, S: BuildHasher> Window<'a, K, V, S> {
         ensures lawful { IsLawful self.new }
         ensures own { self.new.own ≡ self.old.own }
     {
-        self.book.learn(&mut self.sight);
+        self.sight.learn(&self.book.begun);
     }
 
     /// One atomic load of the root: its number, and its table. That is the one kept, where the

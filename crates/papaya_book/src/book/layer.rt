@@ -1,5 +1,5 @@
 //! Making and opening tables.
-ghost use Rattle.papaya_book.specs.Books.{IsIn, IsLeft, Opens, Seals};
+ghost use Rattle.papaya_book.specs.Books.{IsIn, IsLawfulLog, IsLeft, Opens, Seals};
 ghost use Rattle.std.specs.Prelude.{◌≡◌, ◌+◌, ◌-◌, ◌≤◌, ◌⊎◌, Some, None};
 ghost use Rattle.std.specs.Prelude.{[], ◌∷◌, IfErr, IfOk, IfSome, length, map};
 ghost use mathlib.Core.List.{IsPrefix};
@@ -194,6 +194,8 @@ impl<K: Hash + Eq, V, S: BuildHasher> Book<K, V, S> {
     ) -> Result<Seen<K, V, S>, Refused>
         requires { IsEntriesFor capacity initial × (initial ≤ MAX_TABLE_LEN) }
         ensures book { IfOk result (λ sight. sight.book ≡ self.now.begun.book) }
+        ensures lawful { IfOk result (λ sight. IsLawfulLog ⟦<S as Keyed<K>>⟧.keys self.now
+            sight.log) }
         ensures came { IfOk result (λ sight. HasTableFrom initial (tables_of sight.log)) }
         ensures err { IfErr result (λ e. e ≡ Refused.Memory) }
     {

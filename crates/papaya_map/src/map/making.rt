@@ -40,9 +40,7 @@ fn first_table<R: Wait, K: Hash + Eq, V, S: BuildHasher>(
     if capacity == 0 {
         return Ok(book.unseen());
     }
-    let mut sight = book.open_first(rt, alloc, capacity, initial)?;
-    book.learn(&mut sight);
-    Ok(sight)
+    book.open_first(rt, alloc, capacity, initial)
 }
 
 impl<K: Hash + Eq + Drop, V: Drop, S: BuildHasher + Drop> HashMap<K, V, S> {

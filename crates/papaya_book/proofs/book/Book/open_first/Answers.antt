@@ -16,6 +16,9 @@ lay_table-requires-clause-size g c =
     let limit : IsLimit (max c.args.initial 8) c.limit.result = subst (λ (n : ℕ). IsLimit n c.limit.result) c.table_len-len.ensures c.limit.ensures.log in
     subst (λ (n : ℕ). IsSize n c.limit.result) (sym c.table_len-len.ensures) (table_size c.args.initial c.limit.result c.requires.0.0 c.requires.1 limit)
 
+pub returns-clause-lawful : goal.returns-clause-lawful
+returns-clause-lawful g c = c.open-found.ensures.tried.now
+
 pub returns-clause-came : goal.returns-clause-came
 returns-clause-came g c =
     let hash = hash_of g.K.Hash.hash_input g.S.BuildHasher.build_hasher g.S.Hasher.Hasher.write g.S.Hasher.Hasher.finish in
