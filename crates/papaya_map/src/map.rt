@@ -8,11 +8,13 @@ ghost use Rattle.papaya_map.specs.Powers.{IsPowerOfTwo-prop};
 ghost use Rattle.papaya_book.specs.Logs.{state_of};
 ghost use Rattle.papaya_book.specs.Parts.{begun_of};
 ghost use Rattle.papaya_book.specs.Limits.{HasNoRoom, tables_of};
+ghost use Rattle.papaya_book.specs.Windows.{IsLawful};
 ghost use Rattle.papaya_change.specs.Changes.{IsPut};
 ghost use Rattle.papaya_change.specs.Resizing.{HasNoRoomAhead, HasRoomAhead};
 ghost use Rattle.papaya_change.specs.Writing.{IsMemoryOrCapacity};
 ghost use Rattle.papaya_compute.specs.ComputeAnswers.{IsComputeBy, changes};
 ghost use Rattle.papaya_compute.specs.Deciding.{IsDecided, puts};
+ghost use Rattle.papaya_lookup.specs.Drivers.{own, past};
 ghost use Rattle.papaya_lookup.specs.History.{IsLegalHistory, Makes, Past, changes_by, history_of, key_of};
 ghost use Rattle.papaya_lookup.specs.Answers.{IsAnsweredBetween, IsPairAnsweredBetween};
 ghost use Rattle.papaya_change.specs.RemovalAnswers.{IsRemovalBy, IsRemoved, took, went};
@@ -127,6 +129,21 @@ impl<K: Hash + Eq, V, S: BuildHasher> Pass<K, V, S> {
         ensures legal { IsLegalHistory K.eq key_of (history_of result.log) }
     {
         tell(answer, &self.sight)
+    }
+
+    /// Takes what a call saw and did through its window. Nothing is done when the program runs.
+    #[inline(always)]
+    fn keep(&mut self, window: Window<'_, K, V, S>)
+        requires { IsLawful window }
+        ensures book { self.new.book ≡ window.entry.book.now.begun.book }
+        ensures history { self.new.history ≡ past window.entry }
+        ensures made { self.new.made ≡ own window.entry }
+        ensures tables { self.new.tables ≡ tables_of window.entry.sight.log }
+        ensures taken { self.new.taken ≡ (state_of window.entry.sight.log).made }
+        ensures given { self.new.given ≡ self.old.given }
+    {
+        self.sight = window.sight;
+        self.own = window.own;
     }
 }
 
@@ -279,6 +296,20 @@ impl<'a, K: Hash + Eq, V, S: BuildHasher> HashMapRef<'a, K, V, S> {
         }
     }
 
+    /// Through which a call by this pass works on the map: it has seen what the pass has.
+    #[inline(always)]
+    fn window(&self, pass: &Pass<K, V, S>) -> Window<'a, K, V, S>
+        requires { pass.now.book ≡ self.now.map.book }
+        ensures book { result.book.now.begun.book ≡ pass.now.book }
+        ensures begun { begun_of result.book.now.parts ≡ self.now.map.begun }
+        ensures history { past result ≡ pass.now.history }
+        ensures made { own result ≡ pass.now.made }
+        ensures tables { tables_of result.sight.log ≡ pass.now.tables }
+    {
+        let map = self.map;
+        Window::new(&map.book, &self.kept, &pass.sight, &pass.own)
+    }
+
     /// Tells each of two passes of this map what the other has seen. Afterwards both have seen one
     /// history, which begins with what each had seen. Nothing is done when the program runs, and
     /// the call is never refused.
@@ -322,11 +353,9 @@ impl<'a, K: Hash + Eq, V, S: BuildHasher> HashMapRef<'a, K, V, S> {
         ensures answered { IsAnsweredBetween K.eq (Q.matches key.now) pass.old.history
             pass.new.history result }
     {
-        let map: &'a HashMap<K, V, S> = self.map;
-        let mut window = Window::new(&map.book, &self.kept, &pass.sight, &pass.own);
+        let mut window = self.window(pass);
         let found = look_up(&mut window, key);
-        pass.sight = window.sight;
-        pass.own = window.own;
+        pass.keep(window);
         found
     }
 
@@ -346,11 +375,9 @@ impl<'a, K: Hash + Eq, V, S: BuildHasher> HashMapRef<'a, K, V, S> {
         ensures answered { IsPairAnsweredBetween K.eq (Q.matches key.now) pass.old.history
             pass.new.history result }
     {
-        let map: &'a HashMap<K, V, S> = self.map;
-        let mut window = Window::new(&map.book, &self.kept, &pass.sight, &pass.own);
+        let mut window = self.window(pass);
         let found = look_up_pair(&mut window, key);
-        pass.sight = window.sight;
-        pass.own = window.own;
+        pass.keep(window);
         found
     }
 
@@ -380,22 +407,19 @@ impl<'a, K: Hash + Eq, V, S: BuildHasher> HashMapRef<'a, K, V, S> {
         ensures crowded { result ≡ Err Refused.Capacity → HasNoRoomAhead self.now.map.initial
             additional pass.new.tables pass.new.given }
     {
-        let map: &'a HashMap<K, V, S> = self.map;
+        let map = self.map;
         let shard = map.count.shard(pass.number);
-        let mut window = Window::new(&map.book, &self.kept, &pass.sight, &pass.own);
-        let mut given = OwnSteps::nothing();
+        let mut window = self.window(pass);
         let reserved = resize(
             rt,
             map.alloc,
             map.initial,
             &shard,
             &mut window,
-            &mut given,
+            &mut pass.given,
             Resize::Reserve(additional),
         );
-        pass.sight = window.sight;
-        pass.own = window.own;
-        pass.given = given;
+        pass.keep(window);
         reserved
     }
 
@@ -429,22 +453,19 @@ impl<'a, K: Hash + Eq, V, S: BuildHasher> HashMapRef<'a, K, V, S> {
         ensures crowded { result ≡ Err Refused.Capacity → HasNoRoom self.now.map.initial
             pass.new.tables pass.new.given }
     {
-        let map: &'a HashMap<K, V, S> = self.map;
+        let map = self.map;
         let shard = map.count.shard(pass.number);
-        let mut window = Window::new(&map.book, &self.kept, &pass.sight, &pass.own);
-        let mut given = OwnSteps::nothing();
+        let mut window = self.window(pass);
         let retained = retain(
             rt,
             map.alloc,
             map.initial,
             &shard,
             &mut window,
-            &mut given,
+            &mut pass.given,
             stays,
         );
-        pass.sight = window.sight;
-        pass.own = window.own;
-        pass.given = given;
+        pass.keep(window);
         retained
     }
 
@@ -515,23 +536,20 @@ impl<'a, K: Hash + Eq, V, S: BuildHasher> HashMapRef<'a, K, V, S> {
         ensures crowded { result ≡ Err Refused.Capacity → HasNoRoom self.now.map.initial
             pass.new.tables pass.new.given }
     {
-        let map: &'a HashMap<K, V, S> = self.map;
+        let map = self.map;
         let shard = map.count.shard(pass.number);
-        let mut window = Window::new(&map.book, &self.kept, &pass.sight, &pass.own);
-        let mut given = OwnSteps::nothing();
+        let mut window = self.window(pass);
         let removed = remove(
             rt,
             map.alloc,
             map.initial,
             &shard,
             &mut window,
-            &mut given,
+            &mut pass.given,
             key,
             should_remove,
         );
-        pass.sight = window.sight;
-        pass.own = window.own;
-        pass.given = given;
+        pass.keep(window);
         removed
     }
 
@@ -599,23 +617,20 @@ impl<'a, K: Hash + Eq + Drop, V: Drop, S: BuildHasher> HashMapRef<'a, K, V, S> {
         ensures crowded { result ≡ Err Refused.Capacity → HasNoRoom self.now.map.initial
             pass.new.tables pass.new.given }
     {
-        let map: &'a HashMap<K, V, S> = self.map;
+        let map = self.map;
         let shard = map.count.shard(pass.number);
-        let mut window = Window::new(&map.book, &self.kept, &pass.sight, &pass.own);
-        let mut given = OwnSteps::nothing();
+        let mut window = self.window(pass);
         let before = insert(
             rt,
             map.alloc,
             map.initial,
             &shard,
             &mut window,
-            &mut given,
+            &mut pass.given,
             key,
             value,
         );
-        pass.sight = window.sight;
-        pass.own = window.own;
-        pass.given = given;
+        pass.keep(window);
         before
     }
 
@@ -650,23 +665,20 @@ impl<'a, K: Hash + Eq + Drop, V: Drop, S: BuildHasher> HashMapRef<'a, K, V, S> {
         ensures computed { IsComputeBy K.eq key pass.old.history pass.new.history (Operates F.FnMut)
             f result }
     {
-        let map: &'a HashMap<K, V, S> = self.map;
+        let map = self.map;
         let shard = map.count.shard(pass.number);
-        let mut window = Window::new(&map.book, &self.kept, &pass.sight, &pass.own);
-        let mut given = OwnSteps::nothing();
+        let mut window = self.window(pass);
         let computed = compute(
             rt,
             map.alloc,
             map.initial,
             &shard,
             &mut window,
-            &mut given,
+            &mut pass.given,
             key,
             f,
         );
-        pass.sight = window.sight;
-        pass.own = window.own;
-        pass.given = given;
+        pass.keep(window);
         computed
     }
 
@@ -693,23 +705,20 @@ impl<'a, K: Hash + Eq + Drop, V: Drop, S: BuildHasher> HashMapRef<'a, K, V, S> {
         ensures computed { IsComputeBy K.eq key pass.old.history pass.new.history (Operates F.FnMut)
             f result }
     {
-        let map: &'a HashMap<K, V, S> = self.map;
+        let map = self.map;
         let shard = map.count.shard(pass.number);
-        let mut window = Window::new(&map.book, &self.kept, &pass.sight, &pass.own);
-        let mut given = OwnSteps::nothing();
+        let mut window = self.window(pass);
         let computed = compute_lent(
             rt,
             map.alloc,
             map.initial,
             &shard,
             &mut window,
-            &mut given,
+            &mut pass.given,
             key,
             f,
         );
-        pass.sight = window.sight;
-        pass.own = window.own;
-        pass.given = given;
+        pass.keep(window);
         computed
     }
 
@@ -734,23 +743,20 @@ impl<'a, K: Hash + Eq + Drop, V: Drop, S: BuildHasher> HashMapRef<'a, K, V, S> {
         ensures spent { result ≡ Err Refused.Limit → self.now.map.begun.limit
             ≡ Some pass.new.taken }
     {
-        let map: &'a HashMap<K, V, S> = self.map;
+        let map = self.map;
         let shard = map.count.shard(pass.number);
-        let mut window = Window::new(&map.book, &self.kept, &pass.sight, &pass.own);
-        let mut given = OwnSteps::nothing();
+        let mut window = self.window(pass);
         let decided = decide(
             rt,
             map.alloc,
             map.initial,
             &shard,
             &mut window,
-            &mut given,
+            &mut pass.given,
             key,
             rule,
         );
-        pass.sight = window.sight;
-        pass.own = window.own;
-        pass.given = given;
+        pass.keep(window);
         decided
     }
 }
