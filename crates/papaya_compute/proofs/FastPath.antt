@@ -1,4 +1,4 @@
--- What a compute answers that was made at once: its closure was shown once what there is, or its rule was.
+-- What a compute answers that its fast path made: its closure was shown once what there is, or its rule was.
 use Rattle.std.proofs.Common.{◌≡◌, inl, inr, ⊎_elim, Bool, false, Option, None, Some, Result, Ok}
 use Rattle.std.proofs.Common.{Err, List, [], ◌∷◌, ◌++◌, option_map, refl, sym, ap, ◌∙◌, subst}
 use denote.Bor.{Bor}
@@ -40,6 +40,10 @@ module _ {C A : Type 0} where
   pub if_over : (P Q : A → Type 0) (x : First C A) → ((a : A) → P a → Q a) → IfOver x P → IfOver x Q
   if_over P Q (Over a) f h = f a h
   if_over P Q (On x) f h = tt
+
+  pub over_any : (P : Type 0) (x : First C A) → P → IfOver x (λ a. P)
+  over_any P (Over a) h = h
+  over_any P (On x) h = tt
 
   pub if_on : (P Q : C → Type 0) (x : First C A) → ((y : C) → P y → Q y) → IfOn x P → IfOn x Q
   if_on P Q (Over a) f h = tt

@@ -1,26 +1,36 @@
--- A compute that is tried at once: what it has come to.
-use Rattle.std.specs.Prelude.{◌≡◌, ℕ, false, Option, Some, Result, List, [], ◌∷◌}
+-- The fast path of a compute: what it has come to, and where the machine starts where it gave up.
+use Rattle.std.specs.Prelude.{◌≡◌, ℕ, ◌<◌, ◌^◌, false, true, Option, None, Some, Result, List, []}
+use Rattle.std.specs.Prelude.{◌∷◌}
+use mathlib.Core.List.{IsPrefix}
 use Rattle.papaya_words.specs.declared.probe.Refused.{Refused}
 use Rattle.papaya_call.specs.declared.answers.Operation.{Operation}
+use Rattle.papaya_call.specs.declared.answers.Operation.TheVariants as operation
 use Rattle.papaya_call.specs.declared.machine.State.{State}
 use Rattle.papaya_chain.specs.declared.machine.Phase.TheVariants.{Calling}
 use Rattle.papaya_chain.specs.Machine.{IsStanding}
 use Rattle.papaya_keys.specs.declared.compute.Compute.{Compute as Computed}
 use Rattle.papaya_book.specs.declared.keyed.Keyed as keyed
 use Rattle.papaya_book.specs.declared.rule.entry.Event.{Event}
+use Rattle.papaya_book.specs.declared.rule.entry.Named.TheVariants.{Pair}
 use Rattle.papaya_book.specs.declared.window.Window.{Window}
 use Rattle.papaya_book.specs.Logs.{Stored}
 use Rattle.papaya_book.specs.Parts.{begun_of}
 use Rattle.papaya_book.specs.Sheets.{Sheet}
+use Rattle.papaya_book.specs.Windows.{IsIn, IsLawful}
 use Rattle.papaya_lookup.specs.Drivers.{past}
-use Rattle.papaya_lookup.specs.History.{history_of}
+use Rattle.papaya_lookup.specs.History.{history_of, key_of}
+use Rattle.papaya_lookup.specs.declared.lookup.Met.{Met}
 use Rattle.papaya_change.specs.Doing.{has_changed}
 use Rattle.papaya_change.specs.Seeking.{Seeker, leads, met_by}
 use Rattle.papaya_change.specs.Window.Seeking.{IsSeekingAt}
-use Rattle.papaya_change.specs.Showings.{HasSaid}
+use Rattle.papaya_change.specs.Showings.{AllShown, HasSaid, WasHeld}
+use Rattle.papaya_change.specs.Writing.{HasKeyAt}
 use Rattle.papaya_change.specs.declared.fast_path.Turn.{Turn}
 use Rattle.papaya_compute.specs.declared.fast_path.First.{First}
 use Rattle.papaya_compute.specs.declared.fast_path.First.TheVariants.{Over, On}
+use Rattle.papaya_compute.specs.declared.fast_path.Start.{Start}
+use Rattle.papaya_compute.specs.declared.fast_path.Start.TheVariants.{Anew, Filled, Replaced}
+use Rattle.papaya_compute.specs.declared.fast_path.Start.TheVariants.{Removing}
 use Rattle.papaya_compute.specs.declared.computing.Computing.{Computing}
 use Rattle.papaya_compute.specs.Computing as computing
 use Rattle.papaya_compute.specs.Computing.{IsReplied}
@@ -48,28 +58,71 @@ module _ {K V S H : Type 0} {d : keyed.Ghosts S K H} where
   IsFoundAt w key begun table turn = (who : Seeker) (state : State) → leads who turn ≡ Some state
       → IsSeekingAt who w key begun state (met_by turn) table
 
+  -- A pair of this key is at hand that was made of what the closure answered.
+  pub record IsMade (w : Window K V S H d) (key : K) (hash : ℕ) (pair : Stored K V) : Type 0 where
+    pub lawful : IsLawful w
+    pub hashed : hash ≡ d.keys.hash w.book.now.parts.hasher key
+    pub placed : IsIn w (Pair pair)
+    pub number : pair.index < 2 ^ 48
+    pub same : d.keys.eq key (key_of pair) ≡ true
+
+  -- It was made in the place of the pair that was met.
+  pub record IsMadeFor (w : Window K V S H d) (met : Met K V) (pair : Stored K V) : Type 0 where
+    pub shown : IsIn w (Pair met.stored)
+    pub kept : key_of pair ≡ key_of met.stored
+    pub there : HasKeyAt w.sight.log met.place.table met.place.probe.i (key_of pair)
+
+  -- The pair is at hand that the closure was shown, and answered that it is to go.
+  pub record IsShown (w : Window K V S H d) (key : K) (hash : ℕ) (pair : Stored K V) : Type 0 where
+    pub lawful : IsLawful w
+    pub hashed : hash ≡ d.keys.hash w.book.now.parts.hasher key
+    pub placed : IsIn w (Pair pair)
+
 module _ {K V S T H : Type 0} {d : keyed.Ghosts S K H} where
+  -- A machine of this key can start so whose closure was shown and answered these.
+  abbrev pub CanStart : Window K V S H d → K → Start K V
+      → List (Option (Stored K V) × Operation V T) → Type 0
+  CanStart w key (Anew own) heard = (own ≡ key) × (heard ≡ [])
+  CanStart w key (Filled hash pair) heard = IsMade w key hash pair × (key_of pair ≡ key)
+      × (heard ≡ ((None, operation.Insert pair.value.value) ∷ []))
+  CanStart w key (Replaced own hash met pair) heard = (own ≡ key) × IsMade w key hash pair
+      × IsMadeFor w met pair
+      × (heard ≡ ((Some met.stored, operation.Insert pair.value.value) ∷ []))
+  CanStart w key (Removing own hash shown) heard = (own ≡ key) × IsShown w key hash shown
+      × (heard ≡ ((Some shown, operation.Remove) ∷ []))
+
+  -- And it was shown what was the map's since this log.
+  abbrev pub HasHeard : Window K V S H d → K → List (Event K V S) → Start K V
+      → List (Option (Stored K V) × Operation V T) → Type 0
+  HasHeard w key begun start heard = CanStart w key start heard × IsPrefix begun w.sight.log
+      × AllShown (WasHeld d.keys.eq (d.keys.eq key) (history_of begun) (past w)) heard
+
+  -- and then the machine goes on so
+  abbrev pub GoesFrom : (w : Window K V S H d) → Start K V → (w' : Window K V S H d)
+      → Computing K V S T H → Type 0
+  GoesFrom w start w' x = (key : K) (begun : List (Event K V S))
+      (heard : List (Option (Stored K V) × Operation V T)) → HasHeard w key begun start heard
+      → computing.IsUnderWay d.keys.eq d.keys.hash (begun_of w'.book.now.parts)
+      w'.book.now.begun.book key begun w'.sight.log x heard
+
   -- Where its closure was shown once what the search found, and answered so, and it is over, it
   -- answers so since each log at which the search may have begun.
   abbrev pub RepliesOnce : (w w' : Window K V S H d) → K → Sheet → Turn K V → Operation V T
-      → First (Computing K V S T H) (Result (Computed K V T) Refused) → Type 0
+      → First (Start K V) (Result (Computed K V T) Refused) → Type 0
   RepliesOnce w w' key table turn done first = IfOver first (λ answer. (begun : List (Event K V S))
       → IsFoundAt w key begun table turn
       → IsReplied d.keys.eq key (history_of begun) (past w') ((met_by turn, done) ∷ []) answer)
 
-  -- and else it goes on so
+  -- and else its machine starts so
   abbrev pub GoesOnce : (w w' : Window K V S H d) → K → Sheet → Turn K V → Operation V T
-      → First (Computing K V S T H) (Result (Computed K V T) Refused) → Type 0
-  GoesOnce w w' key table turn done first = IfOn first (λ x. (begun : List (Event K V S))
-      → IsFoundAt w key begun table turn
-      → computing.IsComputing d.keys.eq d.keys.hash (begun_of w'.book.now.parts)
-      w'.book.now.begun.book key begun w'.sight.log x ((met_by turn, done) ∷ []))
+      → First (Start K V) (Result (Computed K V T) Refused) → Type 0
+  GoesOnce w w' key table turn done first = IfOn first (λ start. (begun : List (Event K V S))
+      → IsFoundAt w key begun table turn → HasHeard w' key begun start ((met_by turn, done) ∷ []))
 
-  -- One of this key is under way that began since what was seen first. Its closure was `first`
-  -- then, and is `left` now.
+  -- One of this key starts so that began since what was seen first. Its closure was `first` then,
+  -- and is `left` now.
   abbrev pub IsOnItsWay : {F : Type 0} → (w w' : Window K V S H d) → K
       → (F → Option (Stored K V) → Operation V T → F → Type 0) → (first left : F)
-      → Computing K V S T H → Type 0
-  IsOnItsWay w w' key says first left x = (heard : List (Option (Stored K V) × Operation V T))
-      × computing.IsUnderWay d.keys.eq d.keys.hash (begun_of w'.book.now.parts)
-      w'.book.now.begun.book key w.sight.log w'.sight.log x heard × HasSaid says first heard left
+      → Start K V → Type 0
+  IsOnItsWay w w' key says first left start = (heard : List (Option (Stored K V) × Operation V T))
+      × HasHeard w' key w.sight.log start heard × HasSaid says first heard left

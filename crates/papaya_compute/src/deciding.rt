@@ -16,11 +16,11 @@ ghost use Rattle.papaya_change.specs.Doing.{has_changed};
 ghost use Rattle.papaya_compute.specs.Computes.{CanDecide, Decides};
 ghost use Rattle.papaya_compute.specs.Deciding.{IsDecided, Wishes, answer_of, outcome_of};
 ghost use Rattle.papaya_compute.specs.Deciding.{outcomes, puts};
-ghost use Rattle.papaya_compute.specs.FastPath.{IfOn, IfOver, IsAhead, IsOnItsWay};
+ghost use Rattle.papaya_compute.specs.FastPath.{IfOn, IfOver, IsOnItsWay};
 ghost use Rattle.papaya_compute.specs.declared.fast_path.First.TheVariants.{Over};
 
 use crate::computing::{Computing, Turn as Next, value_in};
-use crate::fast_path::{First, begin, fill, look, renew};
+use crate::fast_path::{First, Start, fill, look, machine_of, renew};
 use papaya_book::book::Book;
 use papaya_book::count::Shard;
 use papaya_book::rule::entry::Stored;
@@ -155,7 +155,7 @@ fn decision<'a, K, V>(
     }
 }
 
-/// The same of a compute that was tried at once.
+/// The same of a compute that was tried by the fast path.
 #[inline(always)]
 fn settle<'a, C: Drop, K, V>(
     first: First<C, Result<Compute<'a, K, V, ()>, Refused>>,
@@ -166,26 +166,27 @@ fn settle<'a, C: Drop, K, V>(
 {
     match first {
         First::Over(answer) => First::Over(decision(answer, current)),
-        First::On(computing) => First::On(computing),
+        First::On(start) => First::On(start),
     }
 }
 
 /// Looks for the key in the root, and stores at once what the rule answers where the search ends at
-/// an empty place or at a live pair. Else, and where another call was first, the machine goes on.
+/// an empty place or at a live pair. Else, and where another call was first, it tells where the
+/// machine starts.
 #[inline(always)]
-fn decide_at_once<'a, R: Wait, K: Hash + Eq + Drop, V: Drop, S: BuildHasher, D: Rule<V>>(
+fn decide_fast<'a, R: Wait, K: Hash + Eq + Drop, V: Drop, S: BuildHasher, D: Rule<V>>(
     means: &Means<'_, '_, R>,
     window: &mut Window<'a, K, V, S>,
     given: &mut OwnSteps<CapacityCause>,
     key: K,
     rule: &mut D,
-) -> First<Computing<'a, K, V, S, ()>, Result<Outcome<'a, V>, Refused>>
+) -> First<Start<K, V>, Result<Outcome<'a, V>, Refused>>
     requires callable { D.callable rule.old }
     requires initial { IsPowerOfTwo means.now.initial }
     requires lawful { IsLawful window.old }
     ensures callable { D.callable rule.new }
     ensures sees { Sees window.old window.new }
-    ensures lawful { IsLawful window.new }
+    ensures lawful { IfOver result (λ answer. IsLawful window.new) }
     ensures made { IfOver result (λ answer. Makes (puts answer) (own window.old) (own window.new)
         (past window.new)) }
     ensures crowded { result ≡ Over (Err Refused.Capacity) → HasNoRoom means.now.initial
@@ -194,15 +195,14 @@ fn decide_at_once<'a, R: Wait, K: Hash + Eq + Drop, V: Drop, S: BuildHasher, D: 
         window.new.sight.log }
     ensures decided { IfOver result (λ answer. IsDecided K.eq key (past window.old)
         (past window.new) D.decides rule.old rule.new answer) }
-    ensures ahead { IfOn result (λ x. IsAhead means.now.initial x
-        × Does false window.old window.new) }
+    ensures idle { IfOn result (λ start. Does false window.old window.new) }
     ensures goes { IfOn result (IsOnItsWay window.old window.new key (Wishes D.decides) rule.old
         rule.new) }
 {
     let book = window.book;
     let hash = hash(&book.parts.hasher, &key);
     let Some(spot) = look(window, &key, hash) else {
-        return First::On(begin(window, means.initial, key));
+        return First::On(Start::Anew(key));
     };
     let table = spot.table;
     match spot.turn {
@@ -217,8 +217,54 @@ fn decide_at_once<'a, R: Wait, K: Hash + Eq + Drop, V: Drop, S: BuildHasher, D: 
             let renewed = renew(means, window, given, key, hash, table, met, again);
             settle(renewed, value_in(book, &shown))
         }
-        _ => First::On(begin(window, means.initial, key)),
+        _ => First::On(Start::Anew(key)),
     }
+}
+
+/// Runs the machine to its end that starts so. It is a call of its own, since no frame of a fast
+/// path shall hold a machine.
+#[inline(never)]
+fn decide_slow<'a, R: Wait, K: Hash + Eq + Drop, V: Drop, S: BuildHasher, D: Rule<V>>(
+    means: &Means<'_, '_, R>,
+    window: &mut Window<'a, K, V, S>,
+    given: &mut OwnSteps<CapacityCause>,
+    start: Start<K, V>,
+    rule: &mut D,
+) -> Result<Outcome<'a, V>, Refused>
+    requires callable { D.callable rule.old }
+    requires initial { IsPowerOfTwo means.now.initial }
+    requires can { (since : _) × (key : K) × (first : D) × IsOnItsWay since window.old key
+        (Wishes D.decides) first rule.old start }
+    ensures sees { Sees window.old window.new }
+    ensures lawful { IsLawful window.new }
+    ensures made { Makes (puts result) (own window.old) (own window.new) (past window.new) }
+    ensures crowded { result ≡ Err Refused.Capacity → HasNoRoom means.now.initial
+        (tables_of window.new.sight.log) given.new.done }
+    ensures spent { result ≡ Err Refused.Limit → IsSpent window.new.book.now.parts.limit
+        window.new.sight.log }
+    ensures decided { (since : _) (key : K) (first : D) → IsOnItsWay since window.old key
+        (Wishes D.decides) first rule.old start → IsDecided K.eq key (past since)
+        (past window.new) D.decides first rule.new result }
+{
+    let book = window.book;
+    let mut computing = machine_of(window, means.initial, start);
+    for _ in means.rt.forever() {
+        match computing.turn(means.rt, means.alloc, means.shard, window) {
+            Next::Answered(answer) => {
+                computing.tell(means.rt, means.alloc, means.shard, answer, window)
+            }
+            Next::Shows(shown) => {
+                let operation = wish(book, &shown, rule);
+                let answer = computing.hear(shown, operation);
+                computing.tell(means.rt, means.alloc, means.shard, answer, window);
+            }
+            Next::Replied => {
+                *given = computing.writer.call.given.again();
+                return decided(&mut computing, window);
+            }
+        }
+    }
+    unreachable!()
 }
 
 /// Stores for a key what the rule answers. Where it is refused for want of room, `given` tells the
@@ -246,30 +292,14 @@ pub fn decide<'a, R: Wait, K: Hash + Eq + Drop, V: Drop, S: BuildHasher, D: Rule
         rule.new result }
 {
     window.learn();
-    let book = window.book;
     let means = Means {
         rt,
         alloc,
         initial,
         shard,
     };
-    let mut computing = match decide_at_once(&means, window, given, key, rule) {
-        First::Over(answer) => return answer,
-        First::On(computing) => computing,
-    };
-    for _ in rt.forever() {
-        match computing.turn(rt, alloc, shard, window) {
-            Next::Answered(answer) => computing.tell(rt, alloc, shard, answer, window),
-            Next::Shows(shown) => {
-                let operation = wish(book, &shown, rule);
-                let answer = computing.hear(shown, operation);
-                computing.tell(rt, alloc, shard, answer, window);
-            }
-            Next::Replied => {
-                *given = computing.writer.call.given.again();
-                return decided(&mut computing, window);
-            }
-        }
+    match decide_fast(&means, window, given, key, rule) {
+        First::Over(answer) => answer,
+        First::On(start) => decide_slow(&means, window, given, start, rule),
     }
-    unreachable!()
 }

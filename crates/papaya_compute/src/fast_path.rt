@@ -1,24 +1,27 @@
 //! Computes whose search of the root ends at an empty place or at a live pair: what their closure
-//! answered is done at once. Where another call was first, their machine goes on.
-ghost use Rattle.std.specs.Prelude.{◌≡◌, false, None, Some, Err, Option};
+//! answered is done at once. Where another call was first, they tell in a few words where their
+//! machine starts. A machine is large, so that no fast path makes one.
+ghost use Rattle.std.specs.Prelude.{◌≡◌, false, None, Some, Err, List, Option};
 ghost use Rattle.std.specs.Int.{IsPowerOfTwo};
+ghost use Rattle.papaya_call.specs.declared.answers.Operation.{Operation};
 ghost use Rattle.papaya_words.specs.Word.{kind_of};
 ghost use Rattle.papaya_words.specs.declared.word.Kind.TheVariants.{Live};
 ghost use Rattle.papaya_book.specs.Limits.{HasNoRoom, IsSpent, tables_of};
+ghost use Rattle.papaya_book.specs.Logs.{Stored};
 ghost use Rattle.papaya_book.specs.Windows.{Does, IsLawful, Sees};
 ghost use Rattle.papaya_lookup.specs.Drivers.{own, past};
 ghost use Rattle.papaya_lookup.specs.History.{Makes};
 ghost use Rattle.papaya_change.specs.Window.Seeking.{IsFoundFor};
 ghost use Rattle.papaya_change.specs.declared.fast_path.Turn.TheVariants.{Empty, Met as MetPair};
 ghost use Rattle.papaya_compute.specs.ComputeAnswers.{changes};
-ghost use Rattle.papaya_compute.specs.FastPath.{GoesOnce, IfOn, IfOver, IsAhead, IsFoundAt};
-ghost use Rattle.papaya_compute.specs.FastPath.{RepliesOnce};
-ghost use Rattle.papaya_compute.specs.Computes.{IsBegun};
+ghost use Rattle.papaya_compute.specs.FastPath.{GoesFrom, GoesOnce, HasHeard, IfOn, IfOver};
+ghost use Rattle.papaya_compute.specs.FastPath.{IsAhead, IsFoundAt, RepliesOnce};
 ghost use Rattle.papaya_compute.specs.declared.fast_path.First.TheVariants.{Over};
 
 use crate::computing::Computing;
 use papaya_ask::search::Place;
 use papaya_book::keyed::Hashed;
+use papaya_book::rule::entry::Stored;
 use papaya_book::rule::own::{CapacityCause, OwnSteps};
 use papaya_book::table::Table;
 use papaya_book::window::Window;
@@ -37,8 +40,33 @@ use std::sync::Wait;
 pub enum First<C, A> {
     /// The call is over, and answers this.
     Over(A),
-    /// Its machine goes on.
+    /// Its machine goes on from here.
     On(C),
+}
+
+/// Where the machine of a compute starts whose fast path has given up.
+#[derive(Drop)]
+pub enum Start<K, V> {
+    /// Anew: its closure was asked nothing yet.
+    Anew(K),
+    /// With this pair, made where its closure was shown that there is none.
+    Filled {
+        hash: u64,
+        pair: Stored<K, V>,
+    },
+    /// With this pair, made where its closure was shown the pair that was met.
+    Replaced {
+        key: K,
+        hash: u64,
+        met: Met<K, V>,
+        pair: Stored<K, V>,
+    },
+    /// With the removal of this pair, which its closure was shown.
+    Removing {
+        key: K,
+        hash: u64,
+        shown: Stored<K, V>,
+    },
 }
 
 /// Where the search of the root has led a compute. None where there is no root, and where there is
@@ -65,21 +93,36 @@ pub fn look<'a, K: Hash + Eq, V, S: BuildHasher>(
     find_place(window, key, hash)
 }
 
-/// A compute whose machine begins.
-pub fn begin<'a, K: Hash + Eq + Drop, V: Drop, S: BuildHasher, T: Drop>(
+/// The machine of a compute that starts so.
+pub fn machine_of<'a, K: Hash + Eq + Drop, V: Drop, S: BuildHasher, T: Drop>(
     window: &mut Window<'a, K, V, S>,
     initial: usize,
-    key: K,
+    start: Start<K, V>,
 ) -> Computing<'a, K, V, S, T>
     requires initial { IsPowerOfTwo initial }
+    requires can { (key : K) × (begun : _) × (heard : List (Option (Stored K V) × Operation V T))
+        × HasHeard window.old key begun start heard }
     ensures sees { Sees window.old window.new }
     ensures own { window.new.own ≡ window.old.own }
-    ensures lawful { IsLawful window.new }
     ensures ahead { IsAhead initial result }
-    ensures begins { IsBegun window.new key result }
+    ensures goes { GoesFrom window.old start window.new result }
 {
-    window.learn();
-    Computing::new(window, initial, key)
+    match start {
+        Start::Anew(key) => {
+            window.learn();
+            Computing::new(window, initial, key)
+        }
+        Start::Filled { hash, pair } => Computing::filled(window, initial, hash, pair),
+        Start::Replaced {
+            key,
+            hash,
+            met,
+            pair,
+        } => Computing::replaced(window, initial, key, hash, met, pair),
+        Start::Removing { key, hash, shown } => {
+            Computing::removing(window, initial, key, hash, shown)
+        }
+    }
 }
 
 /// Does what the closure answered that was shown that there is none, at the empty place that a
@@ -94,7 +137,7 @@ pub fn fill<'a, R: Wait, K: Hash + Eq + Drop, V: Drop, S: BuildHasher, T: Drop>(
     table: &Table<K, V, S>,
     at: Place,
     operation: Operation<V, T>,
-) -> First<Computing<'a, K, V, S, T>, Result<Compute<'a, K, V, T>, Refused>>
+) -> First<Start<K, V>, Result<Compute<'a, K, V, T>, Refused>>
     requires initial { IsPowerOfTwo means.now.initial }
     requires hashed { hash ≡ ⟦<S as Hashed<K>>⟧.hash window.old.book.now.parts.hasher key }
     requires limit { window.old.book.now.parts.limit ≡ None }
@@ -108,8 +151,7 @@ pub fn fill<'a, R: Wait, K: Hash + Eq + Drop, V: Drop, S: BuildHasher, T: Drop>(
     ensures spent { result ≡ Over (Err Refused.Limit) → IsSpent window.new.book.now.parts.limit
         window.new.sight.log }
     ensures replies { RepliesOnce window.old window.new key table.now (Empty at) operation result }
-    ensures ahead { IfOn result (λ x. IsAhead means.now.initial x
-        × Does false window.old window.new) }
+    ensures idle { IfOn result (λ start. Does false window.old window.new) }
     ensures goes { GoesOnce window.old window.new key table.now (Empty at) operation result }
 {
     match operation {
@@ -119,9 +161,7 @@ pub fn fill<'a, R: Wait, K: Hash + Eq + Drop, V: Drop, S: BuildHasher, T: Drop>(
                     let (key, value) = entry(window.book, &pair);
                     First::Over(Ok(Compute::Inserted(key, value)))
                 }
-                Ok(Tried::Lost(pair)) => {
-                    First::On(Computing::filled(window, means.initial, hash, pair))
-                }
+                Ok(Tried::Lost(pair)) => First::On(Start::Filled { hash, pair }),
                 Err(refused) => First::Over(Err(refused)),
             }
         }
@@ -141,7 +181,7 @@ pub fn renew<'a, R: Wait, K: Hash + Eq + Drop, V: Drop, S: BuildHasher, T: Drop>
     table: &Table<K, V, S>,
     met: Met<K, V>,
     operation: Operation<V, T>,
-) -> First<Computing<'a, K, V, S, T>, Result<Compute<'a, K, V, T>, Refused>>
+) -> First<Start<K, V>, Result<Compute<'a, K, V, T>, Refused>>
     requires initial { IsPowerOfTwo means.now.initial }
     requires hashed { hash ≡ ⟦<S as Hashed<K>>⟧.hash window.old.book.now.parts.hasher key }
     requires limit { window.old.book.now.parts.limit ≡ None }
@@ -157,8 +197,7 @@ pub fn renew<'a, R: Wait, K: Hash + Eq + Drop, V: Drop, S: BuildHasher, T: Drop>
         window.new.sight.log }
     ensures replies { RepliesOnce window.old window.new key table.now (MetPair met) operation
         result }
-    ensures ahead { IfOn result (λ x. IsAhead means.now.initial x
-        × Does false window.old window.new) }
+    ensures idle { IfOn result (λ start. Does false window.old window.new) }
     ensures goes { GoesOnce window.old window.new key table.now (MetPair met) operation result }
 {
     match operation {
@@ -168,15 +207,18 @@ pub fn renew<'a, R: Wait, K: Hash + Eq + Drop, V: Drop, S: BuildHasher, T: Drop>
                 let (old, new) = (entry(book, &met.stored), entry(book, &pair));
                 First::Over(Ok(Compute::Updated { old, new }))
             }
-            Ok(Tried::Lost(pair)) => {
-                First::On(Computing::replaced(window, means.initial, key, hash, met, pair))
-            }
+            Ok(Tried::Lost(pair)) => First::On(Start::Replaced {
+                key,
+                hash,
+                met,
+                pair,
+            }),
             Err(refused) => First::Over(Err(refused)),
         },
         Operation::Remove => {
             if !delete(means.shard, window, table, &met) {
-                let call = Computing::removing(window, means.initial, key, hash, met.stored);
-                return First::On(call);
+                let shown = met.stored;
+                return First::On(Start::Removing { key, hash, shown });
             }
             let (key, value) = entry(window.book, &met.stored);
             First::Over(Ok(Compute::Removed(key, value)))

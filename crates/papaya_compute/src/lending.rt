@@ -8,14 +8,14 @@ ghost use Rattle.papaya_book.specs.Limits.{HasNoRoom, IsSpent, tables_of};
 ghost use Rattle.papaya_book.specs.Logs.{pair_named};
 ghost use Rattle.papaya_book.specs.Windows.{Does, IsLawful, Sees};
 ghost use Rattle.papaya_change.specs.Showings.{Operates};
-ghost use Rattle.papaya_compute.specs.FastPath.{IfOn, IfOver, IsAhead, IsOnItsWay};
+ghost use Rattle.papaya_compute.specs.FastPath.{IfOn, IfOver, IsOnItsWay};
 ghost use Rattle.papaya_compute.specs.ComputeAnswers.{IsComputeBy, changes};
 ghost use Rattle.papaya_compute.specs.declared.fast_path.First.TheVariants.{Over};
 ghost use Rattle.papaya_lookup.specs.Drivers.{own, past};
 ghost use Rattle.papaya_lookup.specs.History.{Makes};
 
-use crate::computing::{Computing, Turn as Next};
-use crate::fast_path::{First, begin, fill, look, renew};
+use crate::computing::Turn as Next;
+use crate::fast_path::{First, Start, fill, look, machine_of, renew};
 use papaya_book::book::Book;
 use papaya_book::count::Shard;
 use papaya_book::rule::entry::Stored;
@@ -57,10 +57,10 @@ fn operate<K: Hash + Eq, V, S: BuildHasher, T, F: FnMut(Option<(&K, &V)>) -> Ope
 }
 
 /// Looks for the key in the root, and does at once what the closure answers where the search
-/// ends at an empty place or at a live pair. Else, and where another call was first, the machine
-/// goes on.
+/// ends at an empty place or at a live pair. Else, and where another call was first, it tells where
+/// the machine starts.
 #[inline(always)]
-fn lend_at_once<
+fn lend_fast<
     'a,
     R: Wait,
     K: Hash + Eq + Drop,
@@ -74,13 +74,13 @@ fn lend_at_once<
     given: &mut OwnSteps<CapacityCause>,
     key: K,
     f: &mut F,
-) -> First<Computing<'a, K, V, S, T>, Result<Compute<'a, K, V, T>, Refused>>
+) -> First<Start<K, V>, Result<Compute<'a, K, V, T>, Refused>>
     requires callable { F.IsAlwaysCallable f.old }
     requires initial { IsPowerOfTwo means.now.initial }
     requires lawful { IsLawful window.old }
     ensures callable { F.IsAlwaysCallable f.new }
     ensures sees { Sees window.old window.new }
-    ensures lawful { IsLawful window.new }
+    ensures lawful { IfOver result (λ answer. IsLawful window.new) }
     ensures made { IfOver result (λ answer. Makes (changes answer) (own window.old) (own window.new)
         (past window.new)) }
     ensures crowded { result ≡ Over (Err Refused.Capacity) → HasNoRoom means.now.initial
@@ -89,15 +89,14 @@ fn lend_at_once<
         window.new.sight.log }
     ensures computed { IfOver result (λ answer. IsComputeBy K.eq key (past window.old)
         (past window.new) (Operates F.FnMut) f.old answer) }
-    ensures ahead { IfOn result (λ x. IsAhead means.now.initial x
-        × Does false window.old window.new) }
+    ensures idle { IfOn result (λ start. Does false window.old window.new) }
     ensures goes { IfOn result (IsOnItsWay window.old window.new key (Operates F.FnMut) f.old
         f.new) }
 {
     let book = window.book;
     let hash = hash(&book.parts.hasher, &key);
     let Some(spot) = look(window, &key, hash) else {
-        return First::On(begin(window, means.initial, key));
+        return First::On(Start::Anew(key));
     };
     let table = spot.table;
     match spot.turn {
@@ -110,8 +109,62 @@ fn lend_at_once<
             let again = operate(book, &shown, f);
             renew(means, window, given, key, hash, table, met, again)
         }
-        _ => First::On(begin(window, means.initial, key)),
+        _ => First::On(Start::Anew(key)),
     }
+}
+
+/// Runs the machine to its end that starts so. It is a call of its own, since no frame of a fast
+/// path shall hold a machine.
+#[inline(never)]
+fn lend_slow<
+    'a,
+    R: Wait,
+    K: Hash + Eq + Drop,
+    V: Drop,
+    S: BuildHasher,
+    T: Drop,
+    F: FnMut(Option<(&K, &V)>) -> Operation<V, T>,
+>(
+    means: &Means<'_, '_, R>,
+    window: &mut Window<'a, K, V, S>,
+    given: &mut OwnSteps<CapacityCause>,
+    start: Start<K, V>,
+    f: &mut F,
+) -> Result<Compute<'a, K, V, T>, Refused>
+    requires callable { F.IsAlwaysCallable f.old }
+    requires initial { IsPowerOfTwo means.now.initial }
+    requires can { (since : _) × (key : K) × (first : F) × IsOnItsWay since window.old key
+        (Operates F.FnMut) first f.old start }
+    ensures sees { Sees window.old window.new }
+    ensures lawful { IsLawful window.new }
+    ensures made { Makes (changes result) (own window.old) (own window.new) (past window.new) }
+    ensures crowded { result ≡ Err Refused.Capacity → HasNoRoom means.now.initial
+        (tables_of window.new.sight.log) given.new.done }
+    ensures spent { result ≡ Err Refused.Limit → IsSpent window.new.book.now.parts.limit
+        window.new.sight.log }
+    ensures computed { (since : _) (key : K) (first : F) → IsOnItsWay since window.old key
+        (Operates F.FnMut) first f.old start → IsComputeBy K.eq key (past since)
+        (past window.new) (Operates F.FnMut) first result }
+{
+    let book = window.book;
+    let mut computing = machine_of(window, means.initial, start);
+    for _ in means.rt.forever() {
+        match computing.turn(means.rt, means.alloc, means.shard, window) {
+            Next::Answered(answer) => {
+                computing.tell(means.rt, means.alloc, means.shard, answer, window)
+            }
+            Next::Shows(shown) => {
+                let operation = operate(book, &shown, f);
+                let answer = computing.hear(shown, operation);
+                computing.tell(means.rt, means.alloc, means.shard, answer, window);
+            }
+            Next::Replied => {
+                *given = computing.writer.call.given.again();
+                return computing.replied(window);
+            }
+        }
+    }
+    unreachable!()
 }
 
 /// Does with a key's pair, or where it has none, what the closure answers that is lent it. Where it
@@ -148,30 +201,14 @@ pub fn compute_lent<
         result }
 {
     window.learn();
-    let book = window.book;
     let means = Means {
         rt,
         alloc,
         initial,
         shard,
     };
-    let mut computing = match lend_at_once(&means, window, given, key, &mut f) {
-        First::Over(answer) => return answer,
-        First::On(computing) => computing,
-    };
-    for _ in rt.forever() {
-        match computing.turn(rt, alloc, shard, window) {
-            Next::Answered(answer) => computing.tell(rt, alloc, shard, answer, window),
-            Next::Shows(shown) => {
-                let operation = operate(book, &shown, &mut f);
-                let answer = computing.hear(shown, operation);
-                computing.tell(rt, alloc, shard, answer, window);
-            }
-            Next::Replied => {
-                *given = computing.writer.call.given.again();
-                return computing.replied(window);
-            }
-        }
+    match lend_fast(&means, window, given, key, &mut f) {
+        First::Over(answer) => answer,
+        First::On(start) => lend_slow(&means, window, given, start, &mut f),
     }
-    unreachable!()
 }

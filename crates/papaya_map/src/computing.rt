@@ -8,7 +8,7 @@ ghost use Rattle.papaya_book.specs.Limits.{HasNoRoom, IsSpent, tables_of};
 ghost use Rattle.papaya_book.specs.Logs.{pair_named};
 ghost use Rattle.papaya_book.specs.Windows.{Does, IsLawful, Sees};
 ghost use Rattle.papaya_change.specs.Showings.{Operates};
-ghost use Rattle.papaya_compute.specs.FastPath.{IfOn, IfOver, IsAhead, IsOnItsWay};
+ghost use Rattle.papaya_compute.specs.FastPath.{IfOn, IfOver, IsOnItsWay};
 ghost use Rattle.papaya_compute.specs.ComputeAnswers.{IsComputeBy, changes};
 ghost use Rattle.papaya_compute.specs.declared.fast_path.First.TheVariants.{Over};
 ghost use Rattle.papaya_lookup.specs.Drivers.{own, past};
@@ -23,8 +23,8 @@ use papaya_call::answers::Operation;
 use papaya_change::fast_path::Turn;
 use papaya_change::means::Means;
 use papaya_change::removal::entry;
-use papaya_compute::computing::{Computing, Turn as Next};
-use papaya_compute::fast_path::{First, begin, fill, look, renew};
+use papaya_compute::computing::Turn as Next;
+use papaya_compute::fast_path::{First, Start, fill, look, machine_of, renew};
 use papaya_keys::compute::Compute;
 use papaya_lookup::lookup::hash;
 use papaya_words::probe::Refused;
@@ -60,8 +60,8 @@ fn operate<
 }
 
 /// Looks for the key in the root, and does at once what the closure answers where the search
-/// ends at an empty place or at a live pair. Else, and where another call was first, the machine
-/// goes on.
+/// ends at an empty place or at a live pair. Else, and where another call was first, it tells where
+/// the machine starts.
 #[inline(always)]
 fn compute_fast<
     'a,
@@ -77,13 +77,13 @@ fn compute_fast<
     given: &mut OwnSteps<CapacityCause>,
     key: K,
     f: &mut F,
-) -> First<Computing<'a, K, V, S, T>, Result<Compute<'a, K, V, T>, Refused>>
+) -> First<Start<K, V>, Result<Compute<'a, K, V, T>, Refused>>
     requires callable { F.IsAlwaysCallable f.old }
     requires initial { IsPowerOfTwo means.now.initial }
     requires lawful { IsLawful window.old }
     ensures callable { F.IsAlwaysCallable f.new }
     ensures sees { Sees window.old window.new }
-    ensures lawful { IsLawful window.new }
+    ensures lawful { IfOver result (λ answer. IsLawful window.new) }
     ensures made { IfOver result (λ answer. Makes (changes answer) (own window.old) (own window.new)
         (past window.new)) }
     ensures crowded { result ≡ Over (Err Refused.Capacity) → HasNoRoom means.now.initial
@@ -92,15 +92,14 @@ fn compute_fast<
         window.new.sight.log }
     ensures computed { IfOver result (λ answer. IsComputeBy K.eq key (past window.old)
         (past window.new) (Operates F.FnMut) f.old answer) }
-    ensures ahead { IfOn result (λ x. IsAhead means.now.initial x
-        × Does false window.old window.new) }
+    ensures idle { IfOn result (λ start. Does false window.old window.new) }
     ensures goes { IfOn result (IsOnItsWay window.old window.new key (Operates F.FnMut) f.old
         f.new) }
 {
     let book = window.book;
     let hash = hash(&book.parts.hasher, &key);
     let Some(spot) = look(window, &key, hash) else {
-        return First::On(begin(window, means.initial, key));
+        return First::On(Start::Anew(key));
     };
     let table = spot.table;
     match spot.turn {
@@ -113,8 +112,62 @@ fn compute_fast<
             let again = operate(book, &shown, f);
             renew(means, window, given, key, hash, table, met, again)
         }
-        _ => First::On(begin(window, means.initial, key)),
+        _ => First::On(Start::Anew(key)),
     }
+}
+
+/// Runs the machine to its end that starts so. It is a call of its own, since no frame of a fast
+/// path shall hold a machine.
+#[inline(never)]
+fn compute_slow<
+    'a,
+    R: Wait,
+    K: Hash + Eq + Drop,
+    V: Drop,
+    S: BuildHasher,
+    T: Drop,
+    F: FnMut(Option<(&'a K, &'a V)>) -> Operation<V, T>,
+>(
+    means: &Means<'_, '_, R>,
+    window: &mut Window<'a, K, V, S>,
+    given: &mut OwnSteps<CapacityCause>,
+    start: Start<K, V>,
+    f: &mut F,
+) -> Result<Compute<'a, K, V, T>, Refused>
+    requires callable { F.IsAlwaysCallable f.old }
+    requires initial { IsPowerOfTwo means.now.initial }
+    requires can { (since : _) × (key : K) × (first : F) × IsOnItsWay since window.old key
+        (Operates F.FnMut) first f.old start }
+    ensures sees { Sees window.old window.new }
+    ensures lawful { IsLawful window.new }
+    ensures made { Makes (changes result) (own window.old) (own window.new) (past window.new) }
+    ensures crowded { result ≡ Err Refused.Capacity → HasNoRoom means.now.initial
+        (tables_of window.new.sight.log) given.new.done }
+    ensures spent { result ≡ Err Refused.Limit → IsSpent window.new.book.now.parts.limit
+        window.new.sight.log }
+    ensures computed { (since : _) (key : K) (first : F) → IsOnItsWay since window.old key
+        (Operates F.FnMut) first f.old start → IsComputeBy K.eq key (past since)
+        (past window.new) (Operates F.FnMut) first result }
+{
+    let book = window.book;
+    let mut computing = machine_of(window, means.initial, start);
+    for _ in means.rt.forever() {
+        match computing.turn(means.rt, means.alloc, means.shard, window) {
+            Next::Answered(answer) => {
+                computing.tell(means.rt, means.alloc, means.shard, answer, window)
+            }
+            Next::Shows(shown) => {
+                let operation = operate(book, &shown, f);
+                let answer = computing.hear(shown, operation);
+                computing.tell(means.rt, means.alloc, means.shard, answer, window);
+            }
+            Next::Replied => {
+                *given = computing.writer.call.given.again();
+                return computing.replied(window);
+            }
+        }
+    }
+    unreachable!()
 }
 
 /// Does with a key's pair, or where it has none, what the closure answers that is shown it. Where
@@ -151,30 +204,14 @@ pub fn compute<
         result }
 {
     window.learn();
-    let book = window.book;
     let means = Means {
         rt,
         alloc,
         initial,
         shard,
     };
-    let mut computing = match compute_fast(&means, window, given, key, &mut f) {
-        First::Over(answer) => return answer,
-        First::On(computing) => computing,
-    };
-    for _ in rt.forever() {
-        match computing.turn(rt, alloc, shard, window) {
-            Next::Answered(answer) => computing.tell(rt, alloc, shard, answer, window),
-            Next::Shows(shown) => {
-                let operation = operate(book, &shown, &mut f);
-                let answer = computing.hear(shown, operation);
-                computing.tell(rt, alloc, shard, answer, window);
-            }
-            Next::Replied => {
-                *given = computing.writer.call.given.again();
-                return computing.replied(window);
-            }
-        }
+    match compute_fast(&means, window, given, key, &mut f) {
+        First::Over(answer) => answer,
+        First::On(start) => compute_slow(&means, window, given, start, &mut f),
     }
-    unreachable!()
 }

@@ -19,8 +19,6 @@ use Rattle.papaya_change.specs.Tries.{IsLoggedAs, is_put, pair_in}
 use Rattle.papaya_change.specs.Writing.{IsMemoryOrCapacity}
 use Rattle.papaya_change.proofs.Showings.{held_wider}
 use Rattle.papaya_change.proofs.Trading.{met_none}
-use Rattle.papaya_compute.specs.Computing.{IsComputing}
-use Rattle.papaya_compute.specs.Resuming.{IsResumed}
 use Rattle.papaya_compute.proofs.FastPath.{aborts, inserts, refuses, removes_nothing}
 use Rattle.papaya_compute.proofs.Found.{none_found}
 use Rattle.papaya_compute.proofs.fast_path.fill.Goals as goal
@@ -65,44 +63,10 @@ entry-requires g c =
     let l = subst (λ (z : Result (Tried _ _) _). IfOk z (λ t. IsLoggedAs c.claim.new.window key value (pair_in t))) is c.claim.ensures.logged in
     l.placed
 
-pub filled-requires-clause-placed : goal.filled-requires-clause-placed
-filled-requires-clause-placed g c =
-    let w = c.args.window.now in let log = w.sight.log in let key = c.args.key in let b = begun_of w.book.now.parts in
-    let name = w.book.now.begun.book in let hash =
-    (hash_of g.K.Hash.hash_input g.S.BuildHasher.build_hasher g.S.Hasher.Hasher.write g.S.Hasher.Hasher.finish) in
-    let value = c.in-Insert.value in let done = c.in-Ok-Lost in let is = done.is ∙ ap (λ z. Ok z) done.field-0-is in let q = done.pair in
-    let l = subst (λ (z : Result (Tried _ _) _). IfOk z (λ t. IsLoggedAs c.claim.new.window key value (pair_in t))) is c.claim.ensures.logged in
-    l.placed
-
-pub filled-requires-clause-number : goal.filled-requires-clause-number
-filled-requires-clause-number g c =
-    let w = c.args.window.now in let log = w.sight.log in let key = c.args.key in let b = begun_of w.book.now.parts in
-    let name = w.book.now.begun.book in let hash =
-    (hash_of g.K.Hash.hash_input g.S.BuildHasher.build_hasher g.S.Hasher.Hasher.write g.S.Hasher.Hasher.finish) in
-    let value = c.in-Insert.value in let done = c.in-Ok-Lost in let is = done.is ∙ ap (λ z. Ok z) done.field-0-is in let q = done.pair in
-    let l = subst (λ (z : Result (Tried _ _) _). IfOk z (λ t. IsLoggedAs c.claim.new.window key value (pair_in t))) is c.claim.ensures.logged in
-    l.number
-
-pub filled-requires-clause-hashed : goal.filled-requires-clause-hashed
-filled-requires-clause-hashed g c =
-    let w = c.args.window.now in let log = w.sight.log in let key = c.args.key in let b = begun_of w.book.now.parts in
-    let name = w.book.now.begun.book in let hash =
-    (hash_of g.K.Hash.hash_input g.S.BuildHasher.build_hasher g.S.Hasher.Hasher.write g.S.Hasher.Hasher.finish) in
-    let value = c.in-Insert.value in let done = c.in-Ok-Lost in let is = done.is ∙ ap (λ z. Ok z) done.field-0-is in let q = done.pair in
-    let l = subst (λ (z : Result (Tried _ _) _). IfOk z (λ t. IsLoggedAs c.claim.new.window key value (pair_in t))) is c.claim.ensures.logged in
-    rw c.claim.ensures.sees.book (c.requires.hashed ∙ ap (hash w.book.now.parts.hasher) (sym l.key_is))
-
-pub returns-in-Ok-Lost-clause-ahead : goal.returns-in-Ok-Lost-clause-ahead
-returns-in-Ok-Lost-clause-ahead g c =
-    let w = c.args.window.now in let done = c.in-Ok-Lost in let is = done.is ∙ ap (λ z. Ok z) done.field-0-is in (
-      record {
-        standing = c.filled.ensures.standing;
-        calling = c.filled.ensures.calling;
-        initial_is = c.filled.ensures.initial;
-        unchanged = c.filled.ensures.unchanged;
-      },
-      subst (λ (z : Result (Tried _ _) _). Does (is_put z) w c.claim.new.window) is c.claim.ensures.does,
-    )
+pub returns-in-Ok-Lost-clause-idle : goal.returns-in-Ok-Lost-clause-idle
+returns-in-Ok-Lost-clause-idle g c =
+    let done = c.in-Ok-Lost in let is = done.is ∙ ap (λ z. Ok z) done.field-0-is in
+    subst (λ (z : Result (Tried _ _) _). Does (is_put z) c.args.window.now c.claim.new.window) is c.claim.ensures.does
 
 pub returns-in-Ok-Lost-clause-goes : goal.returns-in-Ok-Lost-clause-goes
 returns-in-Ok-Lost-clause-goes g c = λ begun found.
@@ -117,11 +81,21 @@ returns-in-Ok-Lost-clause-goes g c = λ begun found.
     (history_of log) (history_of then.sight.log) ([], append-nil (history_of begun)) (history_since log then.sight.log c.claim.ensures.sees.log) None was in
     let value = c.in-Insert.value in let done = c.in-Ok-Lost in let is = done.is ∙ ap (λ z. Ok z) done.field-0-is in let q = done.pair in
     let l = subst (λ (z : Result (Tried _ _) _). IfOk z (λ t. IsLoggedAs c.claim.new.window key value (pair_in t))) is c.claim.ensures.logged in
-    let op : c.args.operation ≡ operation.Insert q.value.value = c.in-Insert.is ∙ ap (λ v. operation.Insert v) (sym l.value_is) in
-    let x = c.filled.result in
-    let resumes = subst (λ k. IsResumed then k None (operation.Insert q.value.value) x) l.key_is c.filled.ensures.resumes in
-    subst (λ (o : Operation _ _). IsComputing g.K.PartialEq.eq hash (begun_of then.book.now.parts) then.book.now.begun.book key begun then.sight.log x
-    ((None, o) ∷ [])) (sym op) (resumes begun (prefix_trans begun log then.sight.log there.4.seen c.claim.ensures.sees.log) later)
+    let op : c.args.operation ≡ operation.Insert q.value.value = c.in-Insert.is ∙ ap (λ v. operation.Insert v) (sym l.value_is) in (
+      (
+        record {
+          lawful = c.claim.ensures.lawful;
+          hashed = rw c.claim.ensures.sees.book c.requires.hashed;
+          placed = l.placed;
+          number = l.number;
+          same = ap (g.K.PartialEq.eq key) l.key_is ∙ g.met.K.Eq.laws.refl key;
+        },
+        l.key_is,
+        ap (λ (o : Operation _ _). (None, o) ∷ []) op,
+      ),
+      prefix_trans begun log then.sight.log there.4.seen c.claim.ensures.sees.log,
+      (later, tt),
+    )
 
 pub returns-in-Err-clause-replies : goal.returns-in-Err-clause-replies
 returns-in-Err-clause-replies g c = λ begun found.

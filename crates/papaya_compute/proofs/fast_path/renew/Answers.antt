@@ -20,7 +20,6 @@ use Rattle.papaya_change.specs.Writing.{HasKeyAt, IsMemoryOrCapacity}
 use Rattle.papaya_change.proofs.Replacing.{live_full, met_key_there, met_same}
 use Rattle.papaya_change.proofs.Showings.{held_wider}
 use Rattle.papaya_change.proofs.Trading.{met_some}
-use Rattle.papaya_compute.specs.Computing.{IsComputing}
 use Rattle.papaya_compute.proofs.FastPath.{aborts, refuses, removed, updates}
 use Rattle.papaya_compute.proofs.Found.{pair_found, pair_placed}
 use Rattle.papaya_compute.proofs.fast_path.renew.Goals as goal
@@ -79,90 +78,10 @@ returns-in-Ok-Put-clause-made g c =
     let w = c.args.window.now in let then = c.replace.new.window in let done = c.in-Ok-Put in let is = done.is ∙ ap (λ z. Ok z) done.field-0-is in
     subst (λ (z : Result (Tried _ _) _). Makes (is_put z) (own w) (own then) (past then)) is c.replace.ensures.made
 
-pub replaced-requires-clause-shown : goal.replaced-requires-clause-shown
-replaced-requires-clause-shown g c =
-    let w = c.args.window.now in let log = w.sight.log in let key = c.args.key in let b = begun_of w.book.now.parts in
-    let name = w.book.now.begun.book in let hash =
-    (hash_of g.K.Hash.hash_input g.S.BuildHasher.build_hasher g.S.Hasher.Hasher.write g.S.Hasher.Hasher.finish) in
-    let met = c.args.met in let p = met.stored in let write = Writing (record { place = met.place; old = met.word }) in
-    let found = c.requires.found in
-    rw c.replace.ensures.sees.book (pair_placed g.K.PartialEq.eq g.K.Hash.hash_input g.S.BuildHasher.build_hasher g.S.Hasher.Hasher.write
-    g.S.Hasher.Hasher.finish g.met.K.Eq.laws g.met.K.Hash.respects_eq b name key found.0 log c.args.table.now met.place met.word p
-    (found.1 Computes (Showing (record { place = met.place; word = met.word })) refl))
-
-pub replaced-requires-clause-placed : goal.replaced-requires-clause-placed
-replaced-requires-clause-placed g c =
-    let w = c.args.window.now in let log = w.sight.log in let key = c.args.key in let b = begun_of w.book.now.parts in
-    let name = w.book.now.begun.book in let hash =
-    (hash_of g.K.Hash.hash_input g.S.BuildHasher.build_hasher g.S.Hasher.Hasher.write g.S.Hasher.Hasher.finish) in
-    let met = c.args.met in let p = met.stored in let write = Writing (record { place = met.place; old = met.word }) in
-    let value = c.in-Insert.value in let done = c.in-Ok-Lost in let is = done.is ∙ ap (λ z. Ok z) done.field-0-is in let q = done.pair in
-    let l = subst (λ (z : Result (Tried _ _) _). IfOk z (λ t. IsLoggedAs c.replace.new.window (key_of p) value (pair_in t))) is c.replace.ensures.logged in
-    l.placed
-
-pub replaced-requires-clause-number : goal.replaced-requires-clause-number
-replaced-requires-clause-number g c =
-    let w = c.args.window.now in let log = w.sight.log in let key = c.args.key in let b = begun_of w.book.now.parts in
-    let name = w.book.now.begun.book in let hash =
-    (hash_of g.K.Hash.hash_input g.S.BuildHasher.build_hasher g.S.Hasher.Hasher.write g.S.Hasher.Hasher.finish) in
-    let met = c.args.met in let p = met.stored in let write = Writing (record { place = met.place; old = met.word }) in
-    let value = c.in-Insert.value in let done = c.in-Ok-Lost in let is = done.is ∙ ap (λ z. Ok z) done.field-0-is in let q = done.pair in
-    let l = subst (λ (z : Result (Tried _ _) _). IfOk z (λ t. IsLoggedAs c.replace.new.window (key_of p) value (pair_in t))) is c.replace.ensures.logged in
-    l.number
-
-pub replaced-requires-clause-hashed : goal.replaced-requires-clause-hashed
-replaced-requires-clause-hashed g c = rw c.replace.ensures.sees.book c.requires.hashed
-
-pub replaced-requires-clause-kept : goal.replaced-requires-clause-kept
-replaced-requires-clause-kept g c =
-    let w = c.args.window.now in let log = w.sight.log in let key = c.args.key in let b = begun_of w.book.now.parts in
-    let name = w.book.now.begun.book in let hash =
-    (hash_of g.K.Hash.hash_input g.S.BuildHasher.build_hasher g.S.Hasher.Hasher.write g.S.Hasher.Hasher.finish) in
-    let met = c.args.met in let p = met.stored in let write = Writing (record { place = met.place; old = met.word }) in
-    let value = c.in-Insert.value in let done = c.in-Ok-Lost in let is = done.is ∙ ap (λ z. Ok z) done.field-0-is in let q = done.pair in
-    let l = subst (λ (z : Result (Tried _ _) _). IfOk z (λ t. IsLoggedAs c.replace.new.window (key_of p) value (pair_in t))) is c.replace.ensures.logged in
-    l.key_is
-
-pub replaced-requires-clause-same : goal.replaced-requires-clause-same
-replaced-requires-clause-same g c =
-    let w = c.args.window.now in let log = w.sight.log in let key = c.args.key in let b = begun_of w.book.now.parts in
-    let name = w.book.now.begun.book in let hash =
-    (hash_of g.K.Hash.hash_input g.S.BuildHasher.build_hasher g.S.Hasher.Hasher.write g.S.Hasher.Hasher.finish) in
-    let met = c.args.met in let p = met.stored in let write = Writing (record { place = met.place; old = met.word }) in
-    let found = c.requires.found in let begun = found.0 in let writes = found.1 Inserts write refl in let full = live_full met.word c.requires.live in
-    let value = c.in-Insert.value in let done = c.in-Ok-Lost in let is = done.is ∙ ap (λ z. Ok z) done.field-0-is in let q = done.pair in
-    let l = subst (λ (z : Result (Tried _ _) _). IfOk z (λ t. IsLoggedAs c.replace.new.window (key_of p) value (pair_in t))) is c.replace.ensures.logged in
-    ap (g.K.PartialEq.eq key) l.key_is ∙ met_same g.K.PartialEq.eq g.K.Hash.hash_input g.S.BuildHasher.build_hasher g.S.Hasher.Hasher.write
-    g.S.Hasher.Hasher.finish g.met.K.Eq.laws g.met.K.Hash.respects_eq b name key begun log met.place met.word full p c.args.table.now writes
-
-pub replaced-requires-clause-there : goal.replaced-requires-clause-there
-replaced-requires-clause-there g c =
-    let w = c.args.window.now in let log = w.sight.log in let key = c.args.key in let b = begun_of w.book.now.parts in
-    let name = w.book.now.begun.book in let hash =
-    (hash_of g.K.Hash.hash_input g.S.BuildHasher.build_hasher g.S.Hasher.Hasher.write g.S.Hasher.Hasher.finish) in
-    let met = c.args.met in let p = met.stored in let write = Writing (record { place = met.place; old = met.word }) in
-    let found = c.requires.found in let begun = found.0 in let writes = found.1 Inserts write refl in let full = live_full met.word c.requires.live in
-    let value = c.in-Insert.value in let done = c.in-Ok-Lost in let is = done.is ∙ ap (λ z. Ok z) done.field-0-is in let q = done.pair in
-    let l = subst (λ (z : Result (Tried _ _) _). IfOk z (λ t. IsLoggedAs c.replace.new.window (key_of p) value (pair_in t))) is c.replace.ensures.logged in
-    let then = c.replace.new.window in
-    subst (HasKeyAt then.sight.log met.place.table met.place.probe.i) (sym l.key_is)
-    (key_at_stays g.K.PartialEq.eq g.K.Hash.hash_input g.S.BuildHasher.build_hasher g.S.Hasher.Hasher.write g.S.Hasher.Hasher.finish g.met.K.Eq.laws
-    g.met.K.Hash.respects_eq b log then.sight.log (rw (sym c.replace.ensures.sees.book) c.replace.ensures.lawful) c.replace.ensures.sees.log
-    met.place.table met.place.probe.i (key_of p)
-    (met_key_there g.K.PartialEq.eq g.K.Hash.hash_input g.S.BuildHasher.build_hasher g.S.Hasher.Hasher.write g.S.Hasher.Hasher.finish
-    g.met.K.Eq.laws g.met.K.Hash.respects_eq b name key begun log met.place met.word full p c.args.table.now writes))
-
-pub returns-in-Ok-Lost-clause-ahead : goal.returns-in-Ok-Lost-clause-ahead
-returns-in-Ok-Lost-clause-ahead g c =
-    let w = c.args.window.now in let done = c.in-Ok-Lost in let is = done.is ∙ ap (λ z. Ok z) done.field-0-is in (
-      record {
-        standing = c.replaced.ensures.standing;
-        calling = c.replaced.ensures.calling;
-        initial_is = c.replaced.ensures.initial;
-        unchanged = c.replaced.ensures.unchanged;
-      },
-      subst (λ (z : Result (Tried _ _) _). Does (is_put z) w c.replace.new.window) is c.replace.ensures.does,
-    )
+pub returns-in-Ok-Lost-clause-idle : goal.returns-in-Ok-Lost-clause-idle
+returns-in-Ok-Lost-clause-idle g c =
+    let done = c.in-Ok-Lost in let is = done.is ∙ ap (λ z. Ok z) done.field-0-is in
+    subst (λ (z : Result (Tried _ _) _). Does (is_put z) c.args.window.now c.replace.new.window) is c.replace.ensures.does
 
 pub returns-in-Ok-Lost-clause-goes : goal.returns-in-Ok-Lost-clause-goes
 returns-in-Ok-Lost-clause-goes g c = λ begun found.
@@ -179,9 +98,32 @@ returns-in-Ok-Lost-clause-goes g c = λ begun found.
     let value = c.in-Insert.value in let done = c.in-Ok-Lost in let is = done.is ∙ ap (λ z. Ok z) done.field-0-is in let q = done.pair in
     let l = subst (λ (z : Result (Tried _ _) _). IfOk z (λ t. IsLoggedAs c.replace.new.window (key_of p) value (pair_in t))) is c.replace.ensures.logged in
     let op : c.args.operation ≡ operation.Insert q.value.value = c.in-Insert.is ∙ ap (λ v. operation.Insert v) (sym l.value_is) in
-    let x = c.replaced.result in
-    subst (λ (o : Operation _ _). IsComputing g.K.PartialEq.eq hash (begun_of then.book.now.parts) then.book.now.begun.book key begun then.sight.log x
-    ((Some p, o) ∷ [])) (sym op) (c.replaced.ensures.resumes begun (prefix_trans begun log then.sight.log there.4.seen c.replace.ensures.sees.log) later)
+    let found_first = found Inserts write refl in let full = live_full met.word c.requires.live in
+    let same = ap (g.K.PartialEq.eq key) l.key_is ∙ met_same g.K.PartialEq.eq g.K.Hash.hash_input g.S.BuildHasher.build_hasher g.S.Hasher.Hasher.write
+    g.S.Hasher.Hasher.finish g.met.K.Eq.laws g.met.K.Hash.respects_eq b name key begun log met.place met.word full p c.args.table.now found_first in
+    let key_there = subst (HasKeyAt then.sight.log met.place.table met.place.probe.i) (sym l.key_is)
+    (key_at_stays g.K.PartialEq.eq g.K.Hash.hash_input g.S.BuildHasher.build_hasher g.S.Hasher.Hasher.write g.S.Hasher.Hasher.finish g.met.K.Eq.laws
+    g.met.K.Hash.respects_eq b log then.sight.log (rw (sym c.replace.ensures.sees.book) c.replace.ensures.lawful) c.replace.ensures.sees.log
+    met.place.table met.place.probe.i (key_of p)
+    (met_key_there g.K.PartialEq.eq g.K.Hash.hash_input g.S.BuildHasher.build_hasher g.S.Hasher.Hasher.write g.S.Hasher.Hasher.finish
+    g.met.K.Eq.laws g.met.K.Hash.respects_eq b name key begun log met.place met.word full p c.args.table.now found_first)) in
+    let at_hand = pair_placed g.K.PartialEq.eq g.K.Hash.hash_input g.S.BuildHasher.build_hasher g.S.Hasher.Hasher.write g.S.Hasher.Hasher.finish
+    g.met.K.Eq.laws g.met.K.Hash.respects_eq b name key begun log c.args.table.now met.place met.word p there in (
+      (
+        refl,
+        record {
+          lawful = c.replace.ensures.lawful;
+          hashed = rw c.replace.ensures.sees.book c.requires.hashed;
+          placed = l.placed;
+          number = l.number;
+          same = same;
+        },
+        record { shown = rw c.replace.ensures.sees.book at_hand; kept = l.key_is; there = key_there },
+        ap (λ (o : Operation _ _). (Some p, o) ∷ []) op,
+      ),
+      prefix_trans begun log then.sight.log there.4.seen c.replace.ensures.sees.log,
+      (later, tt),
+    )
 
 pub returns-in-Insert-clause-replies : goal.returns-in-Insert-clause-replies
 returns-in-Insert-clause-replies g c = λ begun found.
@@ -215,20 +157,6 @@ delete-requires g c =
     let met = c.args.met in let p = met.stored in let show = Showing (record { place = met.place; word = met.word }) in
     let found = c.requires.found in record { shows = (key, found.0, found.1 Computes show refl) }
 
-pub removing-call-requires-clause-shown : goal.removing-call-requires-clause-shown
-removing-call-requires-clause-shown g c =
-    let w = c.args.window.now in let log = w.sight.log in let key = c.args.key in let b = begun_of w.book.now.parts in
-    let name = w.book.now.begun.book in let hash =
-    (hash_of g.K.Hash.hash_input g.S.BuildHasher.build_hasher g.S.Hasher.Hasher.write g.S.Hasher.Hasher.finish) in
-    let met = c.args.met in let p = met.stored in let show = Showing (record { place = met.place; word = met.word }) in
-    let found = c.requires.found in rw c.delete.ensures.sees.book
-    (pair_placed g.K.PartialEq.eq g.K.Hash.hash_input g.S.BuildHasher.build_hasher g.S.Hasher.Hasher.write g.S.Hasher.Hasher.finish g.met.K.Eq.laws
-    g.met.K.Hash.respects_eq b name key found.0 log c.args.table.now met.place met.word p (found.1 Computes show refl))
-
-pub removing-call-requires-clause-hashed : goal.removing-call-requires-clause-hashed
-removing-call-requires-clause-hashed g c =
-    rw c.delete.ensures.sees.book c.requires.hashed
-
 pub returns-then-not-delete-clause-goes : goal.returns-then-not-delete-clause-goes
 returns-then-not-delete-clause-goes g c = λ begun found.
     let w = c.args.window.now in let log = w.sight.log in let key = c.args.key in let b = begun_of w.book.now.parts in
@@ -241,22 +169,24 @@ returns-then-not-delete-clause-goes g c = λ begun found.
     let then = c.delete.new.window in let later = held_wider g.K.PartialEq.eq (g.K.PartialEq.eq key) (history_of begun) (history_of begun)
     (history_of log) (history_of then.sight.log) ([], append-nil (history_of begun)) (history_since log then.sight.log c.delete.ensures.sees.log)
     (Some p) was in
-    let x = c.removing-call.result in
-    subst (λ (o : Operation _ _). IsComputing g.K.PartialEq.eq hash (begun_of then.book.now.parts) then.book.now.begun.book key begun then.sight.log x
-    ((Some p, o) ∷ [])) (sym c.in-Remove.is)
-    (c.removing-call.ensures.resumes begun (prefix_trans begun log then.sight.log there.4.seen c.delete.ensures.sees.log) later)
-
-pub returns-then-not-delete-clause-ahead : goal.returns-then-not-delete-clause-ahead
-returns-then-not-delete-clause-ahead g c =
-    let not : c.delete.result ≡ false = search rules in (
-      record {
-        standing = c.removing-call.ensures.standing;
-        calling = c.removing-call.ensures.calling;
-        initial_is = c.removing-call.ensures.initial;
-        unchanged = c.removing-call.ensures.unchanged;
-      },
-      subst (λ (z : Bool). Does z c.args.window.now c.delete.new.window) not c.delete.ensures.does,
+    let at_hand = pair_placed g.K.PartialEq.eq g.K.Hash.hash_input g.S.BuildHasher.build_hasher g.S.Hasher.Hasher.write g.S.Hasher.Hasher.finish
+    g.met.K.Eq.laws g.met.K.Hash.respects_eq b name key begun log c.args.table.now met.place met.word p there in (
+      (
+        refl,
+        record {
+          lawful = c.delete.ensures.lawful;
+          hashed = rw c.delete.ensures.sees.book c.requires.hashed;
+          placed = rw c.delete.ensures.sees.book at_hand;
+        },
+        ap (λ (o : Operation _ _). (Some p, o) ∷ []) c.in-Remove.is,
+      ),
+      prefix_trans begun log then.sight.log there.4.seen c.delete.ensures.sees.log,
+      (later, tt),
     )
+
+pub returns-then-not-delete-clause-idle : goal.returns-then-not-delete-clause-idle
+returns-then-not-delete-clause-idle g c =
+    let not : c.delete.result ≡ false = search rules in subst (λ (z : Bool). Does z c.args.window.now c.delete.new.window) not c.delete.ensures.does
 
 pub entry-requires : goal.entry-requires
 entry-requires g c =

@@ -4,7 +4,6 @@ use Rattle.papaya_book.specs.declared.rule.entry.Named.TheVariants as names
 use Rattle.papaya_book.specs.Rule.{IsPlaced}
 use Rattle.papaya_book.specs.Logs.{Stored}
 use Rattle.papaya_book.specs.Parts.{begun_of}
-use Rattle.papaya_book.proofs.Logs.{prefix_trans}
 use Rattle.papaya_lookup.specs.Drivers.{past}
 use Rattle.papaya_lookup.specs.declared.lookup.Met.{Met}
 use Rattle.papaya_change.specs.declared.fast_path.Turn.{Turn}
@@ -12,30 +11,18 @@ use Rattle.papaya_change.specs.Seeking.{Computes, leads, met_by}
 use Rattle.papaya_change.specs.Window.Seeking.{IsSeekingAt}
 use Rattle.papaya_change.specs.Showings.{Operates}
 use Rattle.papaya_change.specs.declared.fast_path.Turn.TheVariants.{Empty, Met as MetPair}
+use Rattle.papaya_change.proofs.Doing.{idles}
 use Rattle.papaya_compute.specs.FastPath.{GoesOnce, IsFoundAt, RepliesOnce}
-use Rattle.papaya_compute.proofs.FastPath.{does_since, if_on, if_over}
+use Rattle.papaya_compute.proofs.FastPath.{does_since, if_on, if_over, over_any}
 use Rattle.papaya_compute.proofs.ComputeReplies.{computed_by}
 use Rattle.papaya_compute.proofs.Found.{pair_placed}
 use Rattle.papaya_map.proofs.computing.compute_fast.Goals as goal
 
 pub returns-in_default-clause-goes : goal.returns-in_default-clause-goes
-returns-in_default-clause-goes g c = (
-  [],
-  (
-    c.begin.new.window.sight.log,
-    prefix_trans c.args.window.now.sight.log c.look.new.window.sight.log c.begin.new.window.sight.log
-        c.look.ensures.sees.log c.begin.ensures.sees.log,
-    c.begin.ensures.begins,
-  ),
-  refl,
-)
+returns-in_default-clause-goes g c = ([], ((refl, refl), c.look.ensures.sees.log, tt), refl)
 
-pub returns-in_default-clause-ahead : goal.returns-in_default-clause-ahead
-returns-in_default-clause-ahead g c = (
-  c.begin.ensures.ahead,
-  ap (λ (o : _). o.done) (c.begin.ensures.own ∙ c.look.ensures.own)
-      ∙ sym (append-nil c.args.window.now.own.done),
-)
+pub returns-in_default-clause-idle : goal.returns-in_default-clause-idle
+returns-in_default-clause-idle g c = idles c.args.window.now c.look.new.window c.look.ensures.own
 
 pub fill-requires-clause-found : goal.fill-requires-clause-found
 fill-requires-clause-found g c =
@@ -61,6 +48,9 @@ returns-in-Empty-clause-computed g c =
     if_over _ _ tried.result (λ a h. computed_by g.K.PartialEq.eq key _ _ _ ([], append-nil (past w)) (Operates g.F.FnMut) c.args.f.now
     c.operate-operation.new.f ((None, done) ∷ []) (c.args.f.now, refl, c.operate-operation.ensures.operates) a (h log found)) tried.ensures.replies
 
+pub returns-in-Empty-clause-lawful : goal.returns-in-Empty-clause-lawful
+returns-in-Empty-clause-lawful g c = over_any _ c.fill.result c.fill.ensures.lawful
+
 pub returns-in-Empty-clause-made : goal.returns-in-Empty-clause-made
 returns-in-Empty-clause-made g c =
     let w = c.args.window.now in let log = w.sight.log in let key = c.args.key in let mid = c.look.new.window in let spot = c.in-Some.spot in
@@ -70,14 +60,14 @@ returns-in-Empty-clause-made g c =
     let tried = c.fill in let then = tried.new.window in let done = c.operate-operation.result in
     rw (sym c.look.ensures.own) tried.ensures.made
 
-pub returns-in-Empty-clause-ahead : goal.returns-in-Empty-clause-ahead
-returns-in-Empty-clause-ahead g c =
+pub returns-in-Empty-clause-idle : goal.returns-in-Empty-clause-idle
+returns-in-Empty-clause-idle g c =
     let w = c.args.window.now in let log = w.sight.log in let key = c.args.key in let mid = c.look.new.window in let spot = c.in-Some.spot in
     let found : IsFoundAt mid key log spot.table.now (Empty c.in-Empty.at) = λ who state.
     subst (λ (z : Turn _ _). leads who z ≡ Some state → IsSeekingAt who mid key log state (met_by z) spot.table.now) c.in-Empty.is
     (c.look.ensures.found spot c.in-Some.is who state) in
     let tried = c.fill in let then = tried.new.window in let done = c.operate-operation.result in
-    if_on _ _ tried.result (λ x h. (h.0, does_since w mid then c.look.ensures.own h.1)) tried.ensures.ahead
+    if_on _ _ tried.result (λ x h. does_since w mid then c.look.ensures.own h) tried.ensures.idle
 
 pub returns-in-Empty-clause-goes : goal.returns-in-Empty-clause-goes
 returns-in-Empty-clause-goes g c =
@@ -88,7 +78,7 @@ returns-in-Empty-clause-goes g c =
     let tried = c.fill in let then = tried.new.window in let done = c.operate-operation.result in
     if_on _ _ tried.result (λ x h. (
       (None, done) ∷ [],
-      (log, ([], append-nil log), h log found),
+      h log found,
       (c.args.f.now, refl, c.operate-operation.ensures.operates),
     )) tried.ensures.goes
 
@@ -122,6 +112,9 @@ returns-in-Met-clause-computed g c =
     ) a (h log found))
     (subst (λ (z : Met _ _). RepliesOnce mid then key spot.table.now (MetPair z) done tried.result) c.in-Met.met-is tried.ensures.replies)
 
+pub returns-in-Met-clause-lawful : goal.returns-in-Met-clause-lawful
+returns-in-Met-clause-lawful g c = over_any _ c.renew.result c.renew.ensures.lawful
+
 pub returns-in-Met-clause-made : goal.returns-in-Met-clause-made
 returns-in-Met-clause-made g c =
     let w = c.args.window.now in let log = w.sight.log in let key = c.args.key in let mid = c.look.new.window in let spot = c.in-Some.spot in
@@ -131,14 +124,14 @@ returns-in-Met-clause-made g c =
     let tried = c.renew in let then = tried.new.window in let done = c.operate-again.result in
     rw (sym c.look.ensures.own) tried.ensures.made
 
-pub returns-in-Met-clause-ahead : goal.returns-in-Met-clause-ahead
-returns-in-Met-clause-ahead g c =
+pub returns-in-Met-clause-idle : goal.returns-in-Met-clause-idle
+returns-in-Met-clause-idle g c =
     let w = c.args.window.now in let log = w.sight.log in let key = c.args.key in let mid = c.look.new.window in let spot = c.in-Some.spot in
     let found : IsFoundAt mid key log spot.table.now (MetPair c.in-Met.met) = λ who state.
     subst (λ (z : Turn _ _). leads who z ≡ Some state → IsSeekingAt who mid key log state (met_by z) spot.table.now) c.in-Met.is
     (c.look.ensures.found spot c.in-Some.is who state) in
     let tried = c.renew in let then = tried.new.window in let done = c.operate-again.result in
-    if_on _ _ tried.result (λ x h. (h.0, does_since w mid then c.look.ensures.own h.1)) tried.ensures.ahead
+    if_on _ _ tried.result (λ x h. does_since w mid then c.look.ensures.own h) tried.ensures.idle
 
 pub returns-in-Met-clause-goes : goal.returns-in-Met-clause-goes
 returns-in-Met-clause-goes g c =
@@ -149,7 +142,7 @@ returns-in-Met-clause-goes g c =
     let tried = c.renew in let then = tried.new.window in let done = c.operate-again.result in
     if_on _ _ tried.result (λ x h. (
       ((Some c.in-Met.met.stored), done) ∷ [],
-      (log, ([], append-nil log), h log found),
+      h log found,
       (
         c.args.f.now,
         refl,
@@ -183,20 +176,7 @@ pub renew-requires-clause-live : goal.renew-requires-clause-live
 renew-requires-clause-live g c = rw c.in-Met.met-is (c.look.ensures.live c.in-Some.spot c.in-Some.is c.in-Met.met c.in-Met.is)
 
 pub returns-in_default-turn-clause-goes : goal.returns-in_default-turn-clause-goes
-returns-in_default-turn-clause-goes g c = (
-  [],
-  (
-    c.begin-in_default-turn.new.window.sight.log,
-    prefix_trans c.args.window.now.sight.log c.look.new.window.sight.log
-        c.begin-in_default-turn.new.window.sight.log c.look.ensures.sees.log c.begin-in_default-turn.ensures.sees.log,
-    c.begin-in_default-turn.ensures.begins,
-  ),
-  refl,
-)
+returns-in_default-turn-clause-goes g c = ([], ((refl, refl), c.look.ensures.sees.log, tt), refl)
 
-pub returns-in_default-turn-clause-ahead : goal.returns-in_default-turn-clause-ahead
-returns-in_default-turn-clause-ahead g c = (
-  c.begin-in_default-turn.ensures.ahead,
-  ap (λ (o : _). o.done) (c.begin-in_default-turn.ensures.own ∙ c.look.ensures.own)
-      ∙ sym (append-nil c.args.window.now.own.done),
-)
+pub returns-in_default-turn-clause-idle : goal.returns-in_default-turn-clause-idle
+returns-in_default-turn-clause-idle g c = idles c.args.window.now c.look.new.window c.look.ensures.own

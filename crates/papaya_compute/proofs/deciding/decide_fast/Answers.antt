@@ -1,4 +1,4 @@
-use Rattle.std.proofs.Common.{◌≡◌, false, None, Some, [], ◌∷◌, append-nil, refl, sym, ap, ◌∙◌, subst}
+use Rattle.std.proofs.Common.{◌≡◌, false, None, Some, [], ◌∷◌, refl, sym, ap, ◌∙◌, subst}
 use Rattle.papaya_words.specs.declared.probe.Refused.TheVariants.{Capacity, Limit}
 use Rattle.papaya_call.specs.declared.machine.State.TheVariants.{Showing}
 use Rattle.papaya_book.specs.declared.rule.entry.Named.TheVariants as names
@@ -6,7 +6,6 @@ use Rattle.papaya_book.specs.Rule.{IsPlaced}
 use Rattle.papaya_book.specs.Logs.{Stored}
 use Rattle.papaya_book.specs.Parts.{begun_of}
 use Rattle.papaya_book.specs.Windows.{Does}
-use Rattle.papaya_book.proofs.Logs.{prefix_trans}
 use Rattle.papaya_lookup.specs.Drivers.{own, past}
 use Rattle.papaya_lookup.specs.History.{Makes}
 use Rattle.papaya_lookup.specs.declared.lookup.Met.{Met}
@@ -14,32 +13,20 @@ use Rattle.papaya_change.specs.declared.fast_path.Turn.{Turn}
 use Rattle.papaya_change.specs.Seeking.{Computes, leads, met_by}
 use Rattle.papaya_change.specs.Window.Seeking.{IsSeekingAt}
 use Rattle.papaya_change.specs.declared.fast_path.Turn.TheVariants.{Empty, Met as MetPair}
-use Rattle.papaya_compute.specs.FastPath.{GoesOnce, IfOn, IfOver, IsAhead, IsFoundAt, IsOnItsWay, RepliesOnce}
+use Rattle.papaya_change.proofs.Doing.{idles}
+use Rattle.papaya_compute.specs.FastPath.{GoesOnce, IfOn, IfOver, IsFoundAt, IsOnItsWay, RepliesOnce}
 use Rattle.papaya_compute.specs.Computing.{value_in}
 use Rattle.papaya_compute.specs.Deciding.{IsDecided, Wishes, puts}
 use Rattle.papaya_compute.specs.declared.fast_path.First.{First}
-use Rattle.papaya_compute.proofs.FastPath.{decided_once, does_since, if_on, if_over, made_still, on_still, refused_still, said_once, unremoved}
+use Rattle.papaya_compute.proofs.FastPath.{decided_once, does_since, if_on, if_over, made_still, on_still, over_any, refused_still, said_once, unremoved}
 use Rattle.papaya_compute.proofs.Found.{pair_placed}
-use Rattle.papaya_compute.proofs.deciding.decide_at_once.Goals as goal
+use Rattle.papaya_compute.proofs.deciding.decide_fast.Goals as goal
 
 pub returns-in_default-clause-goes : goal.returns-in_default-clause-goes
-returns-in_default-clause-goes g c = (
-  [],
-  (
-    c.begin.new.window.sight.log,
-    prefix_trans c.args.window.now.sight.log c.look.new.window.sight.log c.begin.new.window.sight.log
-        c.look.ensures.sees.log c.begin.ensures.sees.log,
-    c.begin.ensures.begins,
-  ),
-  refl,
-)
+returns-in_default-clause-goes g c = ([], ((refl, refl), c.look.ensures.sees.log, tt), refl)
 
-pub returns-in_default-clause-ahead : goal.returns-in_default-clause-ahead
-returns-in_default-clause-ahead g c = (
-  c.begin.ensures.ahead,
-  ap (λ (o : _). o.done) (c.begin.ensures.own ∙ c.look.ensures.own)
-      ∙ sym (append-nil c.args.window.now.own.done),
-)
+pub returns-in_default-clause-idle : goal.returns-in_default-clause-idle
+returns-in_default-clause-idle g c = idles c.args.window.now c.look.new.window c.look.ensures.own
 
 pub fill-filled-requires-clause-found : goal.fill-filled-requires-clause-found
 fill-filled-requires-clause-found g c =
@@ -78,6 +65,9 @@ returns-in-Empty-clause-decided g c =
     (decided_once None g.K.PartialEq.eq key (past w) (past then) g.D.Rule.decides c.args.rule.now c.wish-wished.new.rule None done wished refl
     tried.result replies)
 
+pub returns-in-Empty-clause-lawful : goal.returns-in-Empty-clause-lawful
+returns-in-Empty-clause-lawful g c = over_any _ c.settle.result c.fill-filled.ensures.lawful
+
 pub returns-in-Empty-clause-made : goal.returns-in-Empty-clause-made
 returns-in-Empty-clause-made g c =
     let w = c.args.window.now in let log = w.sight.log in let key = c.args.key in let mid = c.look.new.window in let spot = c.in-Some.spot in
@@ -97,15 +87,15 @@ returns-in-Empty-clause-crowded g c = λ e. c.fill-filled.ensures.crowded (refus
 pub returns-in-Empty-clause-spent : goal.returns-in-Empty-clause-spent
 returns-in-Empty-clause-spent g c = λ e. c.fill-filled.ensures.spent (refused_still None c.fill-filled.result Limit (sym c.settle.ensures ∙ e))
 
-pub returns-in-Empty-clause-ahead : goal.returns-in-Empty-clause-ahead
-returns-in-Empty-clause-ahead g c =
+pub returns-in-Empty-clause-idle : goal.returns-in-Empty-clause-idle
+returns-in-Empty-clause-idle g c =
     let w = c.args.window.now in let log = w.sight.log in let key = c.args.key in let mid = c.look.new.window in let spot = c.in-Some.spot in
     let found : IsFoundAt mid key log spot.table.now (Empty c.in-Empty.at) = λ who state.
     subst (λ (z : Turn _ _). leads who z ≡ Some state → IsSeekingAt who mid key log state (met_by z) spot.table.now) c.in-Empty.is
     (c.look.ensures.found spot c.in-Some.is who state) in
     let tried = c.fill-filled in let then = tried.new.window in
-    subst (λ (z : First _ _). IfOn z (λ x. IsAhead c.args.means.now.initial x × Does false w then)) (sym c.settle.ensures)
-    (on_still None _ tried.result (if_on _ _ tried.result (λ x h. (h.0, does_since w mid then c.look.ensures.own h.1)) tried.ensures.ahead))
+    subst (λ (z : First _ _). IfOn z (λ x. Does false w then)) (sym c.settle.ensures)
+    (on_still None _ tried.result (if_on _ _ tried.result (λ x h. does_since w mid then c.look.ensures.own h) tried.ensures.idle))
 
 pub returns-in-Empty-clause-goes : goal.returns-in-Empty-clause-goes
 returns-in-Empty-clause-goes g c =
@@ -119,7 +109,7 @@ returns-in-Empty-clause-goes g c =
     (on_still None _ tried.result (if_on _ _ tried.result
     (λ x h. (
       (None, done) ∷ [],
-      (log, ([], append-nil log), h log found),
+      h log found,
       said_once None g.K.PartialEq.eq key (past w) (past then) g.D.Rule.decides
           c.args.rule.now c.wish-wished.new.rule None done wished,
     )) tried.ensures.goes))
@@ -169,6 +159,9 @@ returns-in-Met-clause-decided g c =
     (Some c.in-Met.met.stored) done wished (c.value_in.ensures
     ∙ ap (λ (z : Stored _ _). value_in (Some z)) (c.again.ensures ∙ ap (λ (z : Met _ _). z.stored) c.in-Met.met-is)) tried.result replies)
 
+pub returns-in-Met-clause-lawful : goal.returns-in-Met-clause-lawful
+returns-in-Met-clause-lawful g c = over_any _ c.settle-in-Met.result c.renew-renewed.ensures.lawful
+
 pub returns-in-Met-clause-made : goal.returns-in-Met-clause-made
 returns-in-Met-clause-made g c =
     let w = c.args.window.now in let log = w.sight.log in let key = c.args.key in let mid = c.look.new.window in let spot = c.in-Some.spot in
@@ -194,15 +187,15 @@ pub returns-in-Met-clause-spent : goal.returns-in-Met-clause-spent
 returns-in-Met-clause-spent g c = λ e. c.renew-renewed.ensures.spent
     (refused_still c.value_in.result c.renew-renewed.result Limit (sym c.settle-in-Met.ensures ∙ e))
 
-pub returns-in-Met-clause-ahead : goal.returns-in-Met-clause-ahead
-returns-in-Met-clause-ahead g c =
+pub returns-in-Met-clause-idle : goal.returns-in-Met-clause-idle
+returns-in-Met-clause-idle g c =
     let w = c.args.window.now in let log = w.sight.log in let key = c.args.key in let mid = c.look.new.window in let spot = c.in-Some.spot in
     let found : IsFoundAt mid key log spot.table.now (MetPair c.in-Met.met) = λ who state.
     subst (λ (z : Turn _ _). leads who z ≡ Some state → IsSeekingAt who mid key log state (met_by z) spot.table.now) c.in-Met.is
     (c.look.ensures.found spot c.in-Some.is who state) in
     let tried = c.renew-renewed in let then = tried.new.window in
-    subst (λ (z : First _ _). IfOn z (λ x. IsAhead c.args.means.now.initial x × Does false w then)) (sym c.settle-in-Met.ensures)
-    (on_still c.value_in.result _ tried.result (if_on _ _ tried.result (λ x h. (h.0, does_since w mid then c.look.ensures.own h.1)) tried.ensures.ahead))
+    subst (λ (z : First _ _). IfOn z (λ x. Does false w then)) (sym c.settle-in-Met.ensures)
+    (on_still c.value_in.result _ tried.result (if_on _ _ tried.result (λ x h. does_since w mid then c.look.ensures.own h) tried.ensures.idle))
 
 pub returns-in-Met-clause-goes : goal.returns-in-Met-clause-goes
 returns-in-Met-clause-goes g c =
@@ -219,7 +212,7 @@ returns-in-Met-clause-goes g c =
     (on_still c.value_in.result _ tried.result
     (if_on _ _ tried.result (λ x h. (
       ((Some c.in-Met.met.stored), done) ∷ [],
-      (log, ([], append-nil log), h log found),
+      h log found,
       said_once c.value_in.result
           g.K.PartialEq.eq key (past w) (past then) g.D.Rule.decides c.args.rule.now c.wish-again.new.rule (Some c.in-Met.met.stored) done wished,
     ))
@@ -257,20 +250,7 @@ pub renew-renewed-requires-clause-live : goal.renew-renewed-requires-clause-live
 renew-renewed-requires-clause-live g c = rw c.in-Met.met-is (c.look.ensures.live c.in-Some.spot c.in-Some.is c.in-Met.met c.in-Met.is)
 
 pub returns-in_default-turn-clause-goes : goal.returns-in_default-turn-clause-goes
-returns-in_default-turn-clause-goes g c = (
-  [],
-  (
-    c.begin-in_default-turn.new.window.sight.log,
-    prefix_trans c.args.window.now.sight.log c.look.new.window.sight.log
-        c.begin-in_default-turn.new.window.sight.log c.look.ensures.sees.log c.begin-in_default-turn.ensures.sees.log,
-    c.begin-in_default-turn.ensures.begins,
-  ),
-  refl,
-)
+returns-in_default-turn-clause-goes g c = ([], ((refl, refl), c.look.ensures.sees.log, tt), refl)
 
-pub returns-in_default-turn-clause-ahead : goal.returns-in_default-turn-clause-ahead
-returns-in_default-turn-clause-ahead g c = (
-  c.begin-in_default-turn.ensures.ahead,
-  ap (λ (o : _). o.done) (c.begin-in_default-turn.ensures.own ∙ c.look.ensures.own)
-      ∙ sym (append-nil c.args.window.now.own.done),
-)
+pub returns-in_default-turn-clause-idle : goal.returns-in_default-turn-clause-idle
+returns-in_default-turn-clause-idle g c = idles c.args.window.now c.look.new.window c.look.ensures.own
