@@ -164,7 +164,8 @@ impl<T: Blank + Drop> Log<T> {
         if let Some(written) = self.rows[row].witness() {
             return Ok(written);
         }
-        let (first, len) = (first_of(self.first_bits, row), length_of(self.first_bits, row));
+        let first = first_of(self.first_bits, row);
+        let len = length_of(self.first_bits, row);
         let slots = new_row(self.alloc, &self.next, first, len, value)?;
         let made = self.rows[row].set_written(slots).map_err(|_| AllocError);
         drop(turn);

@@ -4,7 +4,7 @@ use native.Mathlib.Decide.{dec_le}
 use mathlib.Core.Logic.{dite}
 use seplogic.Ra.Ura.{Ura}
 use base.Logic.{SProp, ent, sep, wand, ex, emp, upd, upd_i}
-use base.Fml.{Lft, Share, Fml, ftrue, fsep, fbor, flft, finv}
+use base.Fml.{Lft, Share, Fml, ftrue, fsep, fbor, flft}
 use lib.Dec.{T}
 use prog.Atomic.{bump, either}
 use types.Keyed.{token, ticket, tickets_from, entries_take}

@@ -1,15 +1,15 @@
 -- The steps on a slot: whoever brings the ticket takes the blank; whoever wrote shares the value; and
 -- a token finds it. The machine's step may be one on any word that the caller has.
-use Rattle.std.proofs.Common.{◌≡◌, ℕ, zero, ◌+◌, List, [], ◌∷◌, sym, refl, ap, subst, arith}
+use Rattle.std.proofs.Common.{◌≡◌, ℕ, [], ◌∷◌, sym, ap, subst, arith}
 use seplogic.Ra.Ura.{Ura}
 use base.Stored.{Gv, gnil, gnum, gcons}
-use base.Logic.{SProp, ent, sep, wand, ex, emp, upd, upd_i, never, never_e, via, fst∗}
-use base.Fml.{Lft, Incl, GName, Share, Fml, ftrue, fsep, fex, fobs, fauth, fres, fbor, flft, finv}
+use base.Logic.{SProp, ent, sep, ex, upd, upd_i, never, never_e}
+use base.Fml.{Lft, Incl, GName, Share, Fml, fsep, fobs, fauth, fres, fbor, flft, finv}
 use base.Before.{before}
 use ghost.Rules.{Toks, span}
 use types.Keyed.{ticket, ticket_once}
 use types.Logic.{Logic, sem, lfts}
-use types.Kit.{‵, raw, ◌⊛◌, some, given, later, ◌$◌, ◌∵◌, !, qed, by, move, keep, drop, use1, use2, use3, split, split3}
+use types.Kit.{‵, raw, ◌⊛◌, some, given, later, ◌$◌, ◌∵◌, !, qed, by, move, keep, drop, use1, use2, use3, split}
 use types.Kit.{fsplit, fsplit3, fjoin, fjoin3, fpick, fpack, pick, learn, show, frame, each, assume, suffices, await}
 use types.Kit.{updating, now, settle, done}
 use types.Tokens.{res_dup}
@@ -23,7 +23,7 @@ use denote.Steps.{nothing}
 use Rattle.core.specs.Sync.RawAtomic.{word, asks, always}
 use Rattle.core.proofs.raw_atomic.Asked.{borrowed, Lies, Again}
 use Rattle.boxcar.specs.Slot.{Phase, free, busy, full, Turn, written}
-use Rattle.papaya_slot.specs.Slots.{Named, at, mark, told, Value, tie, lent, standing, Cell, kept}
+use Rattle.papaya_slot.specs.Slots.{Named, at, mark, Value, tie, lent, standing, Cell, kept}
 
 abbrev head : Gv → Gv
 head (gcons a b) = a

@@ -34,9 +34,7 @@ impl Move for Counter {
 impl Counter {
     /// A counter that has given out no number.
     pub fn new() -> Counter {
-        Counter {
-            next: 0,
-        }
+        Counter { next: 0 }
     }
 
     /// The next number, and the right to write a slot with it. `None` where no number is left.

@@ -101,9 +101,7 @@ impl<T> Slot<T> {
         ensures { (result.counter ≡ counter.now) × (result.number ≡ number) }
     {
         let _ = counter;
-        Slot {
-            value: blank,
-        }
+        Slot { value: blank }
     }
 
     /// Writes the value, and gives the blank back.

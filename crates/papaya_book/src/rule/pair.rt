@@ -32,7 +32,7 @@ impl<K, V> Model for Shown<K, V> {
 
 /// What lies where no pair is logged yet. It has no bytes. Contracts see a key and a value of it, as
 /// of a pair, but both are named as lying where no log has anything.
-pub struct Nobody<K, V> {
+pub(crate) struct Nobody<K, V> {
     marker: PhantomData<(K, V)>,
     pub ghost key: { K },
     pub ghost value: { V },

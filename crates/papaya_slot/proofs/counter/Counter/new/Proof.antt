@@ -1,5 +1,5 @@
 -- `new` makes the tickets of all numbers.
-use Rattle.std.proofs.Common.{ℕ, [], ◌∷◌, refl, lit<}
+use Rattle.std.proofs.Common.{[], ◌∷◌, refl, lit<}
 use base.Logic.{SProp, emp, ex, via, id⊢}
 use base.Fml.{GName, ftrue}
 use mir.Val.{Val}

@@ -1,7 +1,7 @@
 -- `take` is one step, which finds the number and gains its ticket.
 use Rattle.std.proofs.Common.{◌≡◌, ℕ, ◌+◌, ◌^◌, ◌<◌, List, [], ◌∷◌, ◌++◌, refl, lit<, ltb→lt, arith, w64}
 use native.Mathlib.Decide.{dec_le}
-use base.Logic.{SProp, wand, emp, via, apply∗, guard_i, id⊢}
+use base.Logic.{SProp, wand, emp, via, apply∗, guard_i}
 use base.Fml.{Lft, Share, Fml, ftrue, feq, fsep, flft}
 use mir.Syntax.{named}
 use mir.Val.{Val, Fits, vint, vptr, vstruct, vcons, vnil, of_list}

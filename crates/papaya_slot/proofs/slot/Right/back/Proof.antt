@@ -1,5 +1,5 @@
 -- `back` is one step, at which the counter has its ticket again, if it is at the next number.
-use Rattle.std.proofs.Common.{◌≡◌, ℕ, ◌+◌, ◌^◌, ◌<◌, List, [], ◌∷◌, refl, lit<, arith, w64}
+use Rattle.std.proofs.Common.{◌≡◌, ℕ, ◌+◌, ◌^◌, ◌<◌, List, [], ◌∷◌, refl, arith, w64}
 use base.Logic.{SProp, wand, emp, via, apply∗, id⊢}
 use base.Fml.{Lft, Share, Fml, ftrue, fsep, flft}
 use mir.Syntax.{named}
@@ -16,7 +16,7 @@ use denote.Builtin.{RefOf, u64, unit}
 use denote.Exit.{yes}
 use denote.Opens.{unhide}
 use denote.Plain.{uint_vals, uint_Tells}
-use denote.RattleType.{RattleType, owns}
+use denote.RattleType.{owns}
 use denote.RawPtr.{block_ptr}
 use denote.Ref.{shr_vals, shr_Tells}
 use denote.Signature.{types_at, plain}

@@ -1,5 +1,5 @@
 -- A `&` to a slot is made of a borrow of it: the slot takes a turn.
-use Rattle.std.proofs.Common.{◌≡◌, ℕ, zero, ◌+◌, List, [], ◌∷◌, ◌++◌, sym, refl, subst}
+use Rattle.std.proofs.Common.{◌≡◌, ℕ, zero, List, [], ◌∷◌, ◌++◌, sym, refl, subst}
 use seplogic.Ra.Ura.{Ura}
 use mir.Val.{Val}
 use base.Fraction.{full_share}
@@ -30,7 +30,7 @@ use denote.Struct.Parts.{shape_of, PartsBack, Struct-parts}
 use denote.Struct.Struct.{Struct}
 use Rattle.core.proofs.cell.Borrows.{by_one}
 use Rattle.boxcar.specs.Slot.{Phase, free, busy, full, Turn}
-use Rattle.papaya_slot.specs.Slots.{Named, Rest, Lies, at, told, resting, Value, tie, lent, tied, standing, Cell, kept, shared_at, mark}
+use Rattle.papaya_slot.specs.Slots.{Named, Rest, Lies, at, resting, Value, tie, lent, tied, standing, Cell, kept, shared_at}
 use Rattle.papaya_slot.specs.contracts.slot.Slot as C
 use Rattle.papaya_slot.proofs.Steps.{kept_dup}
 use Rattle.papaya_slot.proofs.slot.Slot.TheLaw.Statement.{statement}

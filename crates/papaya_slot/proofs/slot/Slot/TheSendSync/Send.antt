@@ -5,9 +5,12 @@ use Rattle.papaya_slot.specs.contracts.slot.Slot.{the_row}
 
 pub send : (T : RattleType) → IsSend T → IsSend (the_row T)
 send T s = record {
-  owned = λ d vs. ((λ _. tt), λ u. (
-    (λ vss. (tt, (s.owned u.0 vss.0, tt))),
-    (tt, (told_keyless T d u.1, λ _. tt)),
-  ));
+  owned = λ d vs. (
+    (λ _. tt),
+    λ u. (
+      (λ vss. (tt, (s.owned u.0 vss.0, tt))),
+      (tt, (told_keyless T d u.1, λ _. tt)),
+    ),
+  );
   leaving = λ k d w. tt;
 }

@@ -2,7 +2,7 @@
 use Rattle.std.proofs.Common.{◌≡◌, ℕ, List, [], ◌∷◌, sym, refl, lit<, w64}
 use base.Stored.{gnil}
 use base.Logic.{SProp, ent, emp, id⊢}
-use base.Fml.{Fml, ftrue, fsep, fex}
+use base.Fml.{ftrue, fsep, fex}
 use mir.Syntax.{a_type}
 use mir.Val.{Val, vint, vptr, vstruct, vcons, vnil}
 use mir.MapTy.{inst_fn}

@@ -1,7 +1,7 @@
 -- `value` finds the shared value by the token, at a load of its own word.
-use Rattle.std.proofs.Common.{◌≡◌, ℕ, List, [], ◌∷◌, sym, refl, lit<, w64}
+use Rattle.std.proofs.Common.{◌≡◌, ℕ, List, [], ◌∷◌, sym, refl, lit<}
 use mir.Syntax.{a_type, named}
-use mir.Val.{Val, vint, vptr}
+use mir.Val.{Val, vptr}
 use mir.MapTy.{inst_fn}
 use base.Logic.{SProp, wand, emp, via, apply∗}
 use base.Fml.{Lft, Share, Fml, ftrue, fsep, flft}
