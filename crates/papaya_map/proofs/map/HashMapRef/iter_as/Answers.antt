@@ -1,38 +1,18 @@
-use Rattle.std.proofs.Common.{sym, subst}
-use mathlib.Core.List.{IsPrefix}
-use Rattle.papaya_lookup.specs.History.{Past, history_of}
-use Rattle.papaya_book.specs.Limits.{tables_of}
-use Rattle.papaya_book.specs.Parts.{begun_of}
+use Rattle.std.proofs.Common.{sym}
 use Rattle.papaya_book.proofs.Lengths.{tables_since}
-use Rattle.papaya_lookup.proofs.Histories.{history_legal, history_since}
+use Rattle.papaya_lookup.proofs.Histories.{history_since}
 use Rattle.papaya_map.proofs.map.HashMapRef.iter_as.Goals as goal
 
-pub invariant_of-pass : goal.invariant_of-pass
-invariant_of-pass g c = rw c.again.ensures
-    (history_legal g.K.PartialEq.eq g.K.Hash.hash_input g.S.BuildHasher.build_hasher g.S.Hasher.Hasher.write g.S.Hasher.Hasher.finish g.met.K.Eq.laws
-    g.met.K.Hash.respects_eq (begun_of c.take_root-taken.new.window.book.now.parts) c.take_root-taken.new.window.sight.log c.take_root-taken.ensures.lawful)
-
-pub invariant_of-pass-2 : goal.invariant_of-pass-2
-invariant_of-pass-2 g c = rw c.again.ensures
-    (history_legal g.K.PartialEq.eq g.K.Hash.hash_input g.S.BuildHasher.build_hasher g.S.Hasher.Hasher.write g.S.Hasher.Hasher.finish g.met.K.Eq.laws
-    g.met.K.Hash.respects_eq (begun_of c.take_root-taken.new.window.book.now.parts) c.take_root-taken.new.window.sight.log c.take_root-taken.ensures.lawful)
-
 pub returns-in-Ok-clause-seen : goal.returns-in-Ok-clause-seen
-returns-in-Ok-clause-seen g c = rw c.again.ensures
-    (subst (λ (z : Past g.row.K.Denot g.row.V.Denot). IsPrefix z.history (history_of c.take_root-taken.new.window.sight.log)) c.pass.view_is
-    (history_since c.pass.inside.sight.log c.take_root-taken.new.window.sight.log (rw (sym c.new-window.ensures.sight) c.take_root-taken.ensures.sees.log)))
+returns-in-Ok-clause-seen g c = rw c.keep.ensures.history
+    (rw (sym c.window-window.ensures.history) (history_since _ _ c.take_root-taken.ensures.sees.log))
 
-pub returns-clause-seen : goal.returns-clause-seen
-returns-clause-seen g c = rw c.again.ensures
-    (subst (λ (z : Past g.row.K.Denot g.row.V.Denot). IsPrefix z.history (history_of c.take_root-taken.new.window.sight.log)) c.pass.view_is
-    (history_since c.pass.inside.sight.log c.take_root-taken.new.window.sight.log (rw (sym c.new-window.ensures.sight) c.take_root-taken.ensures.sees.log)))
+pub returns-in-Err-clause-seen : goal.returns-in-Err-clause-seen
+returns-in-Err-clause-seen g c = rw c.keep.ensures.history (rw (sym c.window-window.ensures.history) (history_since _ _ c.take_root-taken.ensures.sees.log))
 
 pub returns-in-Ok-clause-tables : goal.returns-in-Ok-clause-tables
-returns-in-Ok-clause-tables g c = rw c.again.ensures
-    (subst (λ (z : Past g.row.K.Denot g.row.V.Denot). IsPrefix z.tables (tables_of c.take_root-taken.new.window.sight.log)) c.pass.view_is
-    (tables_since c.pass.inside.sight.log c.take_root-taken.new.window.sight.log (rw (sym c.new-window.ensures.sight) c.take_root-taken.ensures.sees.log)))
+returns-in-Ok-clause-tables g c = rw c.keep.ensures.tables
+    (rw (sym c.window-window.ensures.tables) (tables_since _ _ c.take_root-taken.ensures.sees.log))
 
-pub returns-clause-tables : goal.returns-clause-tables
-returns-clause-tables g c = rw c.again.ensures
-    (subst (λ (z : Past g.row.K.Denot g.row.V.Denot). IsPrefix z.tables (tables_of c.take_root-taken.new.window.sight.log)) c.pass.view_is
-    (tables_since c.pass.inside.sight.log c.take_root-taken.new.window.sight.log (rw (sym c.new-window.ensures.sight) c.take_root-taken.ensures.sees.log)))
+pub returns-in-Err-clause-tables : goal.returns-in-Err-clause-tables
+returns-in-Err-clause-tables g c = rw c.keep.ensures.tables (rw (sym c.window-window.ensures.tables) (tables_since _ _ c.take_root-taken.ensures.sees.log))

@@ -1,9 +1,11 @@
-//! The calls that store a value where a key has none, pinned and with a guard.
-ghost use Rattle.std.specs.Prelude.{◌≡◌, ◌⊎◌, [], None, Some, Option, Err, IfErr, IfOk, MatchOption};
+//! The calls that store a value, whether a key has one or where it has none: by a pass, without
+//! one, and by a guard.
+ghost use Rattle.std.specs.Prelude.{◌≡◌, Err, IfErr, IfOk, MatchOption, None, [], is_ok};
 ghost use Rattle.std.specs.Borrow.{sem};
 ghost use mathlib.Core.List.{IsPrefix};
-ghost use Rattle.papaya_book.specs.contracts.rule.entry.Event.{the_row as EventOf};
 ghost use Rattle.papaya_book.specs.Limits.{HasNoRoom};
+ghost use Rattle.papaya_book.specs.contracts.rule.entry.Event.{the_row as EventOf};
+ghost use Rattle.papaya_change.specs.Changes.{IsPut};
 ghost use Rattle.papaya_keys.specs.declared.occupied.NotInserted.TheVariants.{Logged, Value};
 ghost use Rattle.papaya_lookup.specs.History.{IsLegalHistory, Makes, history_of, key_of};
 ghost use Rattle.papaya_map.specs.Limited.{IsPlainRefusal, IsWriteRefusal};
@@ -15,6 +17,7 @@ use crate::told::{Saying, Told};
 use logbook::Rule;
 use papaya_book::rule::entry::{Event, Named};
 use papaya_book::rule::law::Law;
+use papaya_change::fast_path::insert;
 use papaya_compute::deciding::Outcome;
 use papaya_compute::rules::{Giving, Made, Ready};
 use papaya_keys::guard::Guard;
@@ -37,6 +40,87 @@ fn not_inserted<V>(supply: Option<Ready<V>>, spare: Option<&V>) -> NotInserted<'
 }
 
 impl<'a, K: Hash + Eq + Drop, V: Drop, S: BuildHasher> HashMapRef<'a, K, V, S> {
+    /// Stores a pair, and answers the value that its key had: `insert` of 0.2.5. As its text
+    /// says, a key that is stored stays: the one that was handed in is dropped then.
+    ///
+    /// Where the key finds no place in the table, the call makes a further one, to which the pairs
+    /// are copied. `Refused::Memory` where a growth was refused. `Refused::Capacity` where the log
+    /// of pairs or that of tables is full: it gave a number past its limit, which the pass shows
+    /// then. Or where the next table would be too long, by the sum of the count that the pass shows
+    /// then and the length of a table that it has seen. `Refused::Limit` where the map has a limit
+    /// on pairs, and as many were logged, or were about to be. Refused, the pass makes no change,
+    /// and else this one.
+    pub fn insert_as<R: Wait>(
+        &self,
+        rt: &R,
+        key: K,
+        value: V,
+        pass: &mut Pass<K, V, S>,
+    ) -> Result<Option<&'a V>, Refused>
+        requires { pass.old.book ≡ self.now.map.book }
+        ensures book { pass.new.book ≡ pass.old.book }
+        ensures seen { IsPrefix pass.old.history pass.new.history }
+        ensures tables { IsPrefix pass.old.tables pass.new.tables }
+        ensures made { Makes (is_ok result) pass.old.made pass.new.made pass.new.history }
+        ensures put { IfOk result (λ answer. IsPut K.eq key value pass.old.history pass.new.history
+            answer) }
+        ensures refused { IfErr result (IsWriteRefusal self.now.map.begun.limit pass.new.taken) }
+        ensures crowded { result ≡ Err Refused.Capacity → HasNoRoom self.now.map.initial
+            pass.new.tables pass.new.given }
+    {
+        let map = self.map;
+        let shard = map.count.shard(pass.number);
+        let mut window = self.window(pass);
+        let before = insert(
+            rt,
+            map.alloc,
+            map.initial,
+            &shard,
+            &mut window,
+            &mut pass.given,
+            key,
+            value,
+        );
+        pass.keep(window);
+        before
+    }
+
+    /// The same, with what was seen.
+    #[inline(always)]
+    fn insert_told<R: Wait>(
+        &self,
+        rt: &R,
+        key: K,
+        value: V,
+    ) -> Saying<Result<Option<&'a V>, Refused>, K, V, S>
+        ensures book { result.book ≡ self.now.map.book }
+        ensures legal { IsLegalHistory K.eq key_of (history_of result.log) }
+        ensures seen { IsPrefix self.now.seen (history_of result.log) }
+        ensures put { IfOk result.answer (IsPut K.eq key value self.now.seen (history_of
+            result.log)) }
+        ensures refused { IfErr result.answer (IsPlainRefusal self.now.map.begun.limit) }
+    {
+        let mut pass = self.begun(None);
+        let answer = self.insert_as(rt, key, value, &mut pass);
+        pass.tell(answer)
+    }
+
+    /// Stores a pair, and answers the value that its key had: `insert` of 0.2.5. As its text
+    /// says, a key that is stored stays: the one that was handed in is dropped then.
+    ///
+    /// Refused as [`HashMapRef::insert_as`] is, and then it changes nothing.
+    pub fn insert<R: Wait>(&self, rt: &R, key: K, value: V) -> Result<Option<&'a V>, Refused>
+        ensures* own { sem 𝓛 (of_its_history (EventOf K.row V.row S.row).coded.code
+            (rule_of ⟦<Law<K, V, S> as Rule<Event<K, V, S>, Named<K, V>>>⟧) self.now K.eq
+            (λ h. IfOk result (IsPut K.eq key value self.now.seen h))) }
+        ensures put { IfOk result (λ answer. IsOfHistory K.eq (λ h. IsPut K.eq key value [] h
+            answer)) }
+        ensures refused { IfErr result (IsPlainRefusal self.now.map.begun.limit) }
+    {
+        let Told { answer, marker: _ } = self.insert_told(rt, key, value);
+        answer
+    }
+
     /// Stores a pair where the key has none, and answers its value: `try_insert` of 0.2.5.
     /// Where the key has a value, that stays, and what was handed in is given back, or it lies
     /// in the log.
@@ -340,6 +424,57 @@ impl<'a, K: Hash + Eq + Drop, V: Drop, S: BuildHasher> HashMapRef<'a, K, V, S> {
 impl<K: Hash + Eq + Drop, V: Drop, S: BuildHasher> HashMap<K, V, S> {
     /// The same, with what was seen.
     #[inline(always)]
+    fn insert_told<'g, R: Wait, G: Guard>(
+        &'g self,
+        rt: &R,
+        key: K,
+        value: V,
+        guard: &'g G,
+    ) -> Saying<Result<Option<&'g V>, Refused>, K, V, S>
+        ensures book { result.book ≡ self.now.book }
+        ensures legal { IsLegalHistory K.eq key_of (history_of result.log) }
+        ensures seen { IsPrefix self.now.seen (history_of result.log) }
+        ensures put { IfOk result.answer (IsPut K.eq key value self.now.seen
+            (history_of result.log)) }
+        ensures right { G.collector_number guard.now ≡ self.now.collector
+            → IfErr result.answer (IsPlainRefusal self.now.begun.limit) }
+        ensures wrong { (G.collector_number guard.now ≡ self.now.collector → ⊥)
+            → result.answer ≡ Err Refused.WrongGuard }
+    {
+        match self.begun_by(guard) {
+            Ok(mut pass) => {
+                let answer = self.pin().insert_as(rt, key, value, &mut pass);
+                pass.tell(answer)
+            }
+            Err(refused) => self.tell_refused(refused),
+        }
+    }
+
+    /// Stores a pair, and answers the value that its key had: `insert` of 0.2.5. As its text says,
+    /// a key that is stored stays. Refused for a wrong guard, and as [`HashMapRef::insert_as`].
+    pub fn insert<'g, R: Wait, G: Guard>(
+        &'g self,
+        rt: &R,
+        key: K,
+        value: V,
+        guard: &'g G,
+    ) -> Result<Option<&'g V>, Refused>
+        ensures* own { sem 𝓛 (of_its_history (EventOf K.row V.row S.row).coded.code
+            (rule_of ⟦<Law<K, V, S> as Rule<Event<K, V, S>, Named<K, V>>>⟧) (unpinned self.now) K.eq
+            (λ h. IfOk result (IsPut K.eq key value self.now.seen h))) }
+        ensures put { IfOk result (λ answer. IsOfHistory K.eq
+            (λ h. IsPut K.eq key value [] h answer)) }
+        ensures right { G.collector_number guard.now ≡ self.now.collector
+            → IfErr result (IsPlainRefusal self.now.begun.limit) }
+        ensures wrong { (G.collector_number guard.now ≡ self.now.collector → ⊥)
+            → result ≡ Err Refused.WrongGuard }
+    {
+        let Told { answer, marker: _ } = self.insert_told(rt, key, value, guard);
+        answer
+    }
+
+    /// The same, with what was seen.
+    #[inline(always)]
     fn try_insert_told<'g, R: Wait, G: Guard>(
         &'g self,
         rt: &R,
@@ -357,9 +492,8 @@ impl<K: Hash + Eq + Drop, V: Drop, S: BuildHasher> HashMap<K, V, S> {
         ensures wrong { (G.collector_number guard.now ≡ self.now.collector → ⊥)
             → result.answer ≡ Err Refused.WrongGuard }
     {
-        match self.verify(guard) {
-            Ok(()) => {
-                let mut pass = self.begun(Some(guard.number()));
+        match self.begun_by(guard) {
+            Ok(mut pass) => {
                 let answer = self.pin().try_insert_as(rt, key, value, &mut pass);
                 pass.tell(answer)
             }
@@ -410,9 +544,8 @@ impl<K: Hash + Eq + Drop, V: Drop, S: BuildHasher> HashMap<K, V, S> {
         ensures wrong { (G.collector_number guard.now ≡ self.now.collector → ⊥)
             → result.answer ≡ Err Refused.WrongGuard }
     {
-        match self.verify(guard) {
-            Ok(()) => {
-                let mut pass = self.begun(Some(guard.number()));
+        match self.begun_by(guard) {
+            Ok(mut pass) => {
                 let answer = self.pin().try_insert_with_as(rt, key, f, &mut pass);
                 pass.tell(answer)
             }
@@ -464,9 +597,8 @@ impl<K: Hash + Eq + Drop, V: Drop, S: BuildHasher> HashMap<K, V, S> {
         ensures wrong { (G.collector_number guard.now ≡ self.now.collector → ⊥)
             → result.answer ≡ Err Refused.WrongGuard }
     {
-        match self.verify(guard) {
-            Ok(()) => {
-                let mut pass = self.begun(Some(guard.number()));
+        match self.begun_by(guard) {
+            Ok(mut pass) => {
                 let answer = self.pin().get_or_insert_as(rt, key, value, &mut pass);
                 pass.tell(answer)
             }
@@ -517,9 +649,8 @@ impl<K: Hash + Eq + Drop, V: Drop, S: BuildHasher> HashMap<K, V, S> {
         ensures wrong { (G.collector_number guard.now ≡ self.now.collector → ⊥)
             → result.answer ≡ Err Refused.WrongGuard }
     {
-        match self.verify(guard) {
-            Ok(()) => {
-                let mut pass = self.begun(Some(guard.number()));
+        match self.begun_by(guard) {
+            Ok(mut pass) => {
                 let answer = self.pin().get_or_insert_with_as(rt, key, f, &mut pass);
                 pass.tell(answer)
             }

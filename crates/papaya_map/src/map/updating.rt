@@ -1,15 +1,16 @@
-//! The calls that replace a key's value by what a closure makes of it, pinned and with a guard.
-ghost use Rattle.std.specs.Prelude.{◌≡◌, is_ok, [], Err, IfErr, IfOk};
-ghost use Rattle.std.specs.Fn.{FnReturnsAt};
+//! The calls that put what a closure makes in the place of a key's value: by a pass, without one,
+//! and by a guard.
+ghost use Rattle.std.specs.Prelude.{◌≡◌, Err, IfErr, IfOk, [], is_ok};
 ghost use Rattle.std.specs.Borrow.{sem};
+ghost use Rattle.std.specs.Fn.{FnReturnsAt};
 ghost use mathlib.Core.List.{IsPrefix};
-ghost use Rattle.papaya_book.specs.contracts.rule.entry.Event.{the_row as EventOf};
 ghost use Rattle.papaya_book.specs.Limits.{HasNoRoom};
+ghost use Rattle.papaya_book.specs.contracts.rule.entry.Event.{the_row as EventOf};
 ghost use Rattle.papaya_change.specs.RemovalAnswers.{took};
 ghost use Rattle.papaya_lookup.specs.History.{IsLegalHistory, Makes, history_of, key_of};
 ghost use Rattle.papaya_map.specs.Limited.{IsPlainRefusal, IsWriteRefusal};
 ghost use Rattle.papaya_map.specs.Plain.{IsOfHistory, of_its_history, rule_of, unpinned};
-ghost use Rattle.papaya_map.specs.Storing.{IsUpdated, IsUpserted};
+ghost use Rattle.papaya_map.specs.Storing.{IsUpdated, IsUpserted, stored};
 
 use crate::map::{HashMap, HashMapRef, Pass};
 use crate::told::{Saying, Told};
@@ -305,9 +306,8 @@ impl<K: Hash + Eq + Drop, V: Drop, S: BuildHasher> HashMap<K, V, S> {
         ensures wrong { (G.collector_number guard.now ≡ self.now.collector → ⊥)
             → result.answer ≡ Err Refused.WrongGuard }
     {
-        match self.verify(guard) {
-            Ok(()) => {
-                let mut pass = self.begun(Some(guard.number()));
+        match self.begun_by(guard) {
+            Ok(mut pass) => {
                 let answer = self.pin().update_as(rt, key, f, &mut pass);
                 pass.tell(answer)
             }
@@ -361,9 +361,8 @@ impl<K: Hash + Eq + Drop, V: Drop, S: BuildHasher> HashMap<K, V, S> {
         ensures wrong { (G.collector_number guard.now ≡ self.now.collector → ⊥)
             → result.answer ≡ Err Refused.WrongGuard }
     {
-        match self.verify(guard) {
-            Ok(()) => {
-                let mut pass = self.begun(Some(guard.number()));
+        match self.begun_by(guard) {
+            Ok(mut pass) => {
                 let answer = self
                     .pin()
                     .update_or_insert_as(rt, key, update, value, &mut pass);
@@ -421,9 +420,8 @@ impl<K: Hash + Eq + Drop, V: Drop, S: BuildHasher> HashMap<K, V, S> {
         ensures wrong { (G.collector_number guard.now ≡ self.now.collector → ⊥)
             → result.answer ≡ Err Refused.WrongGuard }
     {
-        match self.verify(guard) {
-            Ok(()) => {
-                let mut pass = self.begun(Some(guard.number()));
+        match self.begun_by(guard) {
+            Ok(mut pass) => {
                 let answer = self
                     .pin()
                     .update_or_insert_with_as(rt, key, update, f, &mut pass);

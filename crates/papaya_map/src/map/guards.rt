@@ -1,0 +1,69 @@
+//! Guards of a map, and what a call that takes one begins with. With a guard of another collector
+//! it is refused, and changes nothing.
+ghost use Rattle.std.specs.Prelude.{◌≡◌, Err, IfOk, Ok, [], is_ok, true};
+ghost use mathlib.Core.List.{IsPrefix};
+ghost use Rattle.papaya_lookup.specs.History.{IsLegalHistory, history_of, key_of};
+
+use crate::map::{HashMap, Pass};
+use crate::told::Saying;
+use papaya_keys::guard::{Guard, LocalGuard, OwnedGuard};
+use papaya_words::probe::Refused;
+use std::hash::{BuildHasher, Hash};
+
+impl<K: Hash + Eq, V, S: BuildHasher> HashMap<K, V, S> {
+    /// A guard of the map's collector: `guard` of 0.2.5.
+    pub fn guard(&self) -> LocalGuard<'_>
+        ensures { result.collector ≡ self.now.collector }
+    {
+        self.collector.enter()
+    }
+
+    /// A guard that may go to another thread: `owned_guard` of 0.2.5.
+    pub fn owned_guard(&self) -> OwnedGuard<'_>
+        ensures { result.collector ≡ self.now.collector }
+    {
+        self.collector.enter_owned()
+    }
+
+    /// Is the guard of the map's collector? `Refused::WrongGuard` where it is not. In 0.2.5 a call
+    /// with such a guard panics.
+    #[inline]
+    pub fn verify<G: Guard>(&self, guard: &G) -> Result<(), Refused>
+        ensures right { G.collector_number guard.now ≡ self.now.collector → result ≡ Ok tt }
+        ensures wrong { (G.collector_number guard.now ≡ self.now.collector → ⊥)
+            → result ≡ Err Refused.WrongGuard }
+    {
+        if guard.collector_number() == self.collector.number() {
+            Ok(())
+        } else {
+            Err(Refused::WrongGuard)
+        }
+    }
+
+    /// A new pass for a call by this guard: it has seen what had been seen when the map was made,
+    /// and picks the count's shard by the guard's number. Refused as [`HashMap::verify`] is.
+    #[inline(always)]
+    pub(crate) fn begun_by<G: Guard>(&self, guard: &G) -> Result<Pass<K, V, S>, Refused>
+        ensures book { IfOk result (λ pass. pass.book ≡ self.now.book) }
+        ensures seen { IfOk result (λ pass. pass.history ≡ self.now.seen) }
+        ensures made { IfOk result (λ pass. pass.made ≡ []) }
+        ensures right { G.collector_number guard.now ≡ self.now.collector → is_ok result ≡ true }
+        ensures wrong { (G.collector_number guard.now ≡ self.now.collector → ⊥)
+            → result ≡ Err Refused.WrongGuard }
+    {
+        self.verify(guard)?;
+        Ok(self.begun(Some(guard.number())))
+    }
+
+    /// A refusal, with what had been seen when the map was made.
+    #[inline(always)]
+    pub(crate) fn tell_refused<B>(&self, refused: Refused) -> Saying<Result<B, Refused>, K, V, S>
+        ensures answer { result.answer ≡ Err refused }
+        ensures book { result.book ≡ self.now.book }
+        ensures legal { IsLegalHistory K.eq key_of (history_of result.log) }
+        ensures seen { IsPrefix self.now.seen (history_of result.log) }
+    {
+        let pass = self.begun(None);
+        pass.tell(Err(refused))
+    }
+}

@@ -1,0 +1,401 @@
+//! The calls that remove a key's pair: by a pass, without one, and by a guard.
+ghost use Rattle.std.specs.Prelude.{◌≡◌, Err, [], true};
+ghost use Rattle.std.specs.Borrow.{sem};
+ghost use mathlib.Core.List.{IsPrefix};
+ghost use Rattle.papaya_book.specs.Limits.{HasNoRoom};
+ghost use Rattle.papaya_book.specs.contracts.rule.entry.Event.{the_row as EventOf};
+ghost use Rattle.papaya_change.specs.RemovalAnswers.{IsEntryRemoved, IsRemovalBy, IsRemoved};
+ghost use Rattle.papaya_change.specs.RemovalAnswers.{took, went};
+ghost use Rattle.papaya_change.specs.Showings.{Judges};
+ghost use Rattle.papaya_lookup.specs.History.{IsLegalHistory, Makes, history_of, key_of};
+ghost use Rattle.papaya_map.specs.Plain.{IsOfHistory, of_its_history, rule_of, unpinned};
+
+use crate::map::{HashMap, HashMapRef, Pass};
+use crate::told::{Saying, Told};
+use logbook::Rule;
+use papaya_book::rule::entry::{Event, Named};
+use papaya_book::rule::law::Law;
+use papaya_change::removal::remove;
+use papaya_keys::guard::{Equivalent, Guard};
+use papaya_words::probe::Refused;
+use std::hash::{BuildHasher, Hash};
+use std::sync::Wait;
+
+impl<'a, K: Hash + Eq, V, S: BuildHasher> HashMapRef<'a, K, V, S> {
+    /// Removes a key's pair if the closure, which is shown it, answers true: `remove_if` of 0.2.5.
+    ///
+    /// `Ok(None)` where the key is absent, `Ok(Some(pair))` where that very pair was removed, and
+    /// `Err(pair)` where the closure answered false for it. The closure may be asked again, where
+    /// another call was first to replace or remove the pair that it was shown.
+    ///
+    /// A removal makes nothing for itself. But where it helps to copy the table to a further one,
+    /// it may be refused as an insertion is: `Refused::Memory` where a growth was refused, and
+    /// `Refused::Capacity` where the log of tables is full or the next table would be too long.
+    /// Refused, the pass makes no change. It makes one where a pair was removed, and else none.
+    pub fn remove_if_as<R: Wait, Q: Equivalent<K>, F: FnMut(&K, &V) -> bool>(
+        &self,
+        rt: &R,
+        key: &Q,
+        should_remove: F,
+        pass: &mut Pass<K, V, S>,
+    ) -> Result<Result<Option<(&'a K, &'a V)>, (&'a K, &'a V)>, Refused>
+        requires book { pass.old.book ≡ self.now.map.book }
+        requires callable { F.IsAlwaysCallable should_remove }
+        ensures book { pass.new.book ≡ pass.old.book }
+        ensures seen { IsPrefix pass.old.history pass.new.history }
+        ensures tables { IsPrefix pass.old.tables pass.new.tables }
+        ensures made { Makes (went result) pass.old.made pass.new.made pass.new.history }
+        ensures removed { IsRemovalBy K.eq (Q.matches key.now) pass.old.history pass.new.history
+            (Judges F.FnMut) should_remove result }
+        ensures crowded { result ≡ Err Refused.Capacity → HasNoRoom self.now.map.initial
+            pass.new.tables pass.new.given }
+    {
+        let map = self.map;
+        let shard = map.count.shard(pass.number);
+        let mut window = self.window(pass);
+        let removed = remove(
+            rt,
+            map.alloc,
+            map.initial,
+            &shard,
+            &mut window,
+            &mut pass.given,
+            key,
+            should_remove,
+        );
+        pass.keep(window);
+        removed
+    }
+
+    /// The same, with what was seen.
+    #[inline(always)]
+    fn remove_if_told<R: Wait, Q: Equivalent<K>, F: FnMut(&K, &V) -> bool>(
+        &self,
+        rt: &R,
+        key: &Q,
+        should_remove: F,
+    ) -> Saying<Result<Result<Option<(&'a K, &'a V)>, (&'a K, &'a V)>, Refused>, K, V, S>
+        requires { F.IsAlwaysCallable should_remove }
+        ensures book { result.book ≡ self.now.map.book }
+        ensures legal { IsLegalHistory K.eq key_of (history_of result.log) }
+        ensures seen { IsPrefix self.now.seen (history_of result.log) }
+        ensures removed { IsRemovalBy K.eq (Q.matches key.now) self.now.seen (history_of
+            result.log) (Judges F.FnMut)
+            should_remove result.answer }
+    {
+        let mut pass = self.begun(None);
+        let answer = self.remove_if_as(rt, key, should_remove, &mut pass);
+        pass.tell(answer)
+    }
+
+    /// Removes a key's pair if the closure, which is shown it, answers true: `remove_if` of 0.2.5.
+    ///
+    /// It answers and is refused as [`HashMapRef::remove_if_as`] is.
+    pub fn remove_if<R: Wait, Q: Equivalent<K>, F: FnMut(&K, &V) -> bool>(
+        &self,
+        rt: &R,
+        key: &Q,
+        should_remove: F,
+    ) -> Result<Result<Option<(&'a K, &'a V)>, (&'a K, &'a V)>, Refused>
+        requires { F.IsAlwaysCallable should_remove }
+        ensures* own { sem 𝓛 (of_its_history (EventOf K.row V.row S.row).coded.code
+            (rule_of ⟦<Law<K, V, S> as Rule<Event<K, V, S>, Named<K, V>>>⟧) self.now K.eq
+            (λ h. IsRemovalBy K.eq (Q.matches key.now) self.now.seen h (Judges F.FnMut)
+            should_remove result)) }
+        ensures removed { IsOfHistory K.eq (λ h. IsRemovalBy K.eq (Q.matches key.now) [] h
+            (Judges F.FnMut) should_remove result) }
+    {
+        let Told { answer, marker: _ } = self.remove_if_told(rt, key, should_remove);
+        answer
+    }
+
+    /// Removes a key's pair, and answers its value: `remove` of 0.2.5. It is refused as
+    /// [`HashMapRef::remove_if_as`] is.
+    pub fn remove_as<R: Wait, Q: Equivalent<K>>(
+        &self,
+        rt: &R,
+        key: &Q,
+        pass: &mut Pass<K, V, S>,
+    ) -> Result<Option<&'a V>, Refused>
+        requires { pass.old.book ≡ self.now.map.book }
+        ensures book { pass.new.book ≡ pass.old.book }
+        ensures seen { IsPrefix pass.old.history pass.new.history }
+        ensures tables { IsPrefix pass.old.tables pass.new.tables }
+        ensures made { Makes (took result) pass.old.made pass.new.made pass.new.history }
+        ensures removed { IsRemoved K.eq (Q.matches key.now) pass.old.history pass.new.history
+            result }
+        ensures crowded { result ≡ Err Refused.Capacity → HasNoRoom self.now.map.initial
+            pass.new.tables pass.new.given }
+    {
+        let removed = self.remove_if_as(
+            rt,
+            key,
+            |_, _|
+                ensures { result ≡ true }
+            { true },
+            pass,
+        );
+        match removed {
+            Ok(Ok(Some((_, value)))) => Ok(Some(value)),
+            Ok(Ok(None)) => Ok(None),
+            Ok(Err(_)) => unreachable!(),
+            Err(refused) => Err(refused),
+        }
+    }
+
+    /// The same, with what was seen.
+    #[inline(always)]
+    fn remove_told<R: Wait, Q: Equivalent<K>>(
+        &self,
+        rt: &R,
+        key: &Q,
+    ) -> Saying<Result<Option<&'a V>, Refused>, K, V, S>
+        ensures book { result.book ≡ self.now.map.book }
+        ensures legal { IsLegalHistory K.eq key_of (history_of result.log) }
+        ensures seen { IsPrefix self.now.seen (history_of result.log) }
+        ensures removed { IsRemoved K.eq (Q.matches key.now) self.now.seen (history_of result.log)
+            result.answer }
+    {
+        let mut pass = self.begun(None);
+        let answer = self.remove_as(rt, key, &mut pass);
+        pass.tell(answer)
+    }
+
+    /// Removes a key's pair, and answers its value: `remove` of 0.2.5.
+    ///
+    /// Refused as [`HashMapRef::remove_if_as`] is, and then it changes nothing.
+    pub fn remove<R: Wait, Q: Equivalent<K>>(
+        &self,
+        rt: &R,
+        key: &Q,
+    ) -> Result<Option<&'a V>, Refused>
+        ensures* own { sem 𝓛 (of_its_history (EventOf K.row V.row S.row).coded.code
+            (rule_of ⟦<Law<K, V, S> as Rule<Event<K, V, S>, Named<K, V>>>⟧) self.now K.eq
+            (λ h. IsRemoved K.eq (Q.matches key.now) self.now.seen h result)) }
+        ensures removed { IsOfHistory K.eq (λ h. IsRemoved K.eq (Q.matches key.now) [] h result) }
+    {
+        let Told { answer, marker: _ } = self.remove_told(rt, key);
+        answer
+    }
+
+    /// Removes a key's pair, and answers it: `remove_entry` of 0.2.5. It is refused as
+    /// [`HashMapRef::remove_if_as`] is.
+    pub fn remove_entry_as<R: Wait, Q: Equivalent<K>>(
+        &self,
+        rt: &R,
+        key: &Q,
+        pass: &mut Pass<K, V, S>,
+    ) -> Result<Option<(&'a K, &'a V)>, Refused>
+        requires { pass.old.book ≡ self.now.map.book }
+        ensures book { pass.new.book ≡ pass.old.book }
+        ensures seen { IsPrefix pass.old.history pass.new.history }
+        ensures tables { IsPrefix pass.old.tables pass.new.tables }
+        ensures made { Makes (took result) pass.old.made pass.new.made pass.new.history }
+        ensures removed { IsEntryRemoved K.eq (Q.matches key.now) pass.old.history
+            pass.new.history result }
+        ensures crowded { result ≡ Err Refused.Capacity → HasNoRoom self.now.map.initial
+            pass.new.tables pass.new.given }
+    {
+        let removed = self.remove_if_as(
+            rt,
+            key,
+            |_, _|
+                ensures { result ≡ true }
+            { true },
+            pass,
+        );
+        match removed {
+            Ok(Ok(Some(entry))) => Ok(Some(entry)),
+            Ok(Ok(None)) => Ok(None),
+            Ok(Err(_)) => unreachable!(),
+            Err(refused) => Err(refused),
+        }
+    }
+
+    /// The same, with what was seen.
+    #[inline(always)]
+    fn remove_entry_told<R: Wait, Q: Equivalent<K>>(
+        &self,
+        rt: &R,
+        key: &Q,
+    ) -> Saying<Result<Option<(&'a K, &'a V)>, Refused>, K, V, S>
+        ensures book { result.book ≡ self.now.map.book }
+        ensures legal { IsLegalHistory K.eq key_of (history_of result.log) }
+        ensures seen { IsPrefix self.now.seen (history_of result.log) }
+        ensures removed { IsEntryRemoved K.eq (Q.matches key.now) self.now.seen (history_of
+            result.log) result.answer }
+    {
+        let mut pass = self.begun(None);
+        let answer = self.remove_entry_as(rt, key, &mut pass);
+        pass.tell(answer)
+    }
+
+    /// Removes a key's pair, and answers it: `remove_entry` of 0.2.5.
+    ///
+    /// Refused as [`HashMapRef::remove_if_as`] is, and then it changes nothing.
+    pub fn remove_entry<R: Wait, Q: Equivalent<K>>(
+        &self,
+        rt: &R,
+        key: &Q,
+    ) -> Result<Option<(&'a K, &'a V)>, Refused>
+        ensures* own { sem 𝓛 (of_its_history (EventOf K.row V.row S.row).coded.code
+            (rule_of ⟦<Law<K, V, S> as Rule<Event<K, V, S>, Named<K, V>>>⟧) self.now K.eq
+            (λ h. IsEntryRemoved K.eq (Q.matches key.now) self.now.seen h result)) }
+        ensures removed { IsOfHistory K.eq (λ h. IsEntryRemoved K.eq (Q.matches key.now) [] h
+            result) }
+    {
+        let Told { answer, marker: _ } = self.remove_entry_told(rt, key);
+        answer
+    }
+}
+
+impl<K: Hash + Eq, V, S: BuildHasher> HashMap<K, V, S> {
+    /// The same, with what was seen.
+    #[inline(always)]
+    fn remove_if_told<'g, R: Wait, Q: Equivalent<K>, F: FnMut(&K, &V) -> bool, G: Guard>(
+        &'g self,
+        rt: &R,
+        key: &Q,
+        should_remove: F,
+        guard: &'g G,
+    ) -> Saying<Result<Result<Option<(&'g K, &'g V)>, (&'g K, &'g V)>, Refused>, K, V, S>
+        requires { F.IsAlwaysCallable should_remove }
+        ensures book { result.book ≡ self.now.book }
+        ensures legal { IsLegalHistory K.eq key_of (history_of result.log) }
+        ensures seen { IsPrefix self.now.seen (history_of result.log) }
+        ensures right { G.collector_number guard.now ≡ self.now.collector
+            → IsRemovalBy K.eq (Q.matches key.now) self.now.seen (history_of result.log)
+            (Judges F.FnMut) should_remove result.answer }
+        ensures wrong { (G.collector_number guard.now ≡ self.now.collector → ⊥)
+            → result.answer ≡ Err Refused.WrongGuard }
+    {
+        match self.begun_by(guard) {
+            Ok(mut pass) => {
+                let answer = self.pin().remove_if_as(rt, key, should_remove, &mut pass);
+                pass.tell(answer)
+            }
+            Err(refused) => self.tell_refused(refused),
+        }
+    }
+
+    /// Removes a key's pair if the closure, which is shown it, answers true: `remove_if` of 0.2.5.
+    /// It answers as [`HashMapRef::remove_if_as`], and is refused as [`HashMap::remove`].
+    pub fn remove_if<'g, R: Wait, Q: Equivalent<K>, F: FnMut(&K, &V) -> bool, G: Guard>(
+        &'g self,
+        rt: &R,
+        key: &Q,
+        should_remove: F,
+        guard: &'g G,
+    ) -> Result<Result<Option<(&'g K, &'g V)>, (&'g K, &'g V)>, Refused>
+        requires { F.IsAlwaysCallable should_remove }
+        ensures* own { sem 𝓛 (of_its_history (EventOf K.row V.row S.row).coded.code
+            (rule_of ⟦<Law<K, V, S> as Rule<Event<K, V, S>, Named<K, V>>>⟧) (unpinned self.now) K.eq
+            (λ h. G.collector_number guard.now ≡ self.now.collector
+            → IsRemovalBy K.eq (Q.matches key.now) self.now.seen h
+            (Judges F.FnMut) should_remove result)) }
+        ensures right { G.collector_number guard.now ≡ self.now.collector
+            → IsOfHistory K.eq
+            (λ h. IsRemovalBy K.eq (Q.matches key.now) [] h (Judges F.FnMut) should_remove result) }
+        ensures wrong { (G.collector_number guard.now ≡ self.now.collector → ⊥)
+            → result ≡ Err Refused.WrongGuard }
+    {
+        let Told { answer, marker: _ } = self.remove_if_told(rt, key, should_remove, guard);
+        answer
+    }
+
+    /// The same, with what was seen.
+    #[inline(always)]
+    fn remove_told<'g, R: Wait, Q: Equivalent<K>, G: Guard>(
+        &'g self,
+        rt: &R,
+        key: &Q,
+        guard: &'g G,
+    ) -> Saying<Result<Option<&'g V>, Refused>, K, V, S>
+        ensures book { result.book ≡ self.now.book }
+        ensures legal { IsLegalHistory K.eq key_of (history_of result.log) }
+        ensures seen { IsPrefix self.now.seen (history_of result.log) }
+        ensures right { G.collector_number guard.now ≡ self.now.collector
+            → IsRemoved K.eq (Q.matches key.now) self.now.seen
+            (history_of result.log) result.answer }
+        ensures wrong { (G.collector_number guard.now ≡ self.now.collector → ⊥)
+            → result.answer ≡ Err Refused.WrongGuard }
+    {
+        match self.begun_by(guard) {
+            Ok(mut pass) => {
+                let answer = self.pin().remove_as(rt, key, &mut pass);
+                pass.tell(answer)
+            }
+            Err(refused) => self.tell_refused(refused),
+        }
+    }
+
+    /// Removes a key's pair, and answers its value: `remove` of 0.2.5. Refused for a wrong guard,
+    /// and as [`HashMapRef::remove_if_as`].
+    pub fn remove<'g, R: Wait, Q: Equivalent<K>, G: Guard>(
+        &'g self,
+        rt: &R,
+        key: &Q,
+        guard: &'g G,
+    ) -> Result<Option<&'g V>, Refused>
+        ensures* own { sem 𝓛 (of_its_history (EventOf K.row V.row S.row).coded.code
+            (rule_of ⟦<Law<K, V, S> as Rule<Event<K, V, S>, Named<K, V>>>⟧) (unpinned self.now) K.eq
+            (λ h. G.collector_number guard.now ≡ self.now.collector
+            → IsRemoved K.eq (Q.matches key.now) self.now.seen h result)) }
+        ensures right { G.collector_number guard.now ≡ self.now.collector
+            → IsOfHistory K.eq
+            (λ h. IsRemoved K.eq (Q.matches key.now) [] h result) }
+        ensures wrong { (G.collector_number guard.now ≡ self.now.collector → ⊥)
+            → result ≡ Err Refused.WrongGuard }
+    {
+        let Told { answer, marker: _ } = self.remove_told(rt, key, guard);
+        answer
+    }
+
+    /// The same, with what was seen.
+    #[inline(always)]
+    fn remove_entry_told<'g, R: Wait, Q: Equivalent<K>, G: Guard>(
+        &'g self,
+        rt: &R,
+        key: &Q,
+        guard: &'g G,
+    ) -> Saying<Result<Option<(&'g K, &'g V)>, Refused>, K, V, S>
+        ensures book { result.book ≡ self.now.book }
+        ensures legal { IsLegalHistory K.eq key_of (history_of result.log) }
+        ensures seen { IsPrefix self.now.seen (history_of result.log) }
+        ensures right { G.collector_number guard.now ≡ self.now.collector
+            → IsEntryRemoved K.eq (Q.matches key.now) self.now.seen
+            (history_of result.log) result.answer }
+        ensures wrong { (G.collector_number guard.now ≡ self.now.collector → ⊥)
+            → result.answer ≡ Err Refused.WrongGuard }
+    {
+        match self.begun_by(guard) {
+            Ok(mut pass) => {
+                let answer = self.pin().remove_entry_as(rt, key, &mut pass);
+                pass.tell(answer)
+            }
+            Err(refused) => self.tell_refused(refused),
+        }
+    }
+
+    /// Removes a key's pair, and answers it: `remove_entry` of 0.2.5. Refused as
+    /// [`HashMap::remove`].
+    pub fn remove_entry<'g, R: Wait, Q: Equivalent<K>, G: Guard>(
+        &'g self,
+        rt: &R,
+        key: &Q,
+        guard: &'g G,
+    ) -> Result<Option<(&'g K, &'g V)>, Refused>
+        ensures* own { sem 𝓛 (of_its_history (EventOf K.row V.row S.row).coded.code
+            (rule_of ⟦<Law<K, V, S> as Rule<Event<K, V, S>, Named<K, V>>>⟧) (unpinned self.now) K.eq
+            (λ h. G.collector_number guard.now ≡ self.now.collector
+            → IsEntryRemoved K.eq (Q.matches key.now) self.now.seen h result)) }
+        ensures right { G.collector_number guard.now ≡ self.now.collector
+            → IsOfHistory K.eq
+            (λ h. IsEntryRemoved K.eq (Q.matches key.now) [] h result) }
+        ensures wrong { (G.collector_number guard.now ≡ self.now.collector → ⊥)
+            → result ≡ Err Refused.WrongGuard }
+    {
+        let Told { answer, marker: _ } = self.remove_entry_told(rt, key, guard);
+        answer
+    }
+}
