@@ -1,7 +1,7 @@
 use Rattle.std.specs.Prelude.{◌≡◌}
 use Rattle.papaya_chain.specs.declared.machine.Phase.TheVariants.{Calling}
 use Rattle.papaya_chain.specs.Machine.{IsStanding}
-use Rattle.papaya_compute.specs.Computing.{IsUnderWay}
+use Rattle.papaya_compute.specs.Computing.{IsComputing, IsUnderWay}
 use Rattle.papaya_compute.specs.FastPath.{IsOnItsWay}
 use Rattle.papaya_compute.specs.Deciding.{Wishes}
 use Rattle.papaya_book.specs.Hashes.{hash_of}
@@ -25,3 +25,6 @@ invariant-loop g l =
     × Sees l.fn.window l.window
     × g.D.Rule.callable l.rule
     × Does (has_changed l.computing.writer.call.machine) l.fn.window l.window
+    × ((key : _) × (begun : _) × (heard : _) × IsComputing g.K.PartialEq.eq
+    (hash_of g.K.Hash.hash_input g.S.BuildHasher.build_hasher g.S.Hasher.Hasher.write g.S.Hasher.Hasher.finish) (begun_of l.window.book.now.parts)
+    l.window.book.now.begun.book key begun l.window.sight.log l.computing heard)

@@ -45,14 +45,14 @@ lend_slow-requires-clause-can g c =
           at.ensures.goes,
     )
 
-pub returns-in-On-clause-made : goal.returns-in-On-clause-made
-returns-in-On-clause-made g c =
+pub returns-clause-made : goal.returns-clause-made
+returns-clause-made g c =
     let before = c.args.window.now in let at = c.lend_fast in let then = at.new.window in let slow = c.lend_slow in
     let idle = subst (λ (z : First _ _). IfOn z (λ start. Does false c.learn.new.self then)) c.in-On.is at.ensures.idle in
     makes_since (changes slow.result) before then slow.new.window (does_since before c.learn.new.self then c.learn.ensures.own idle) slow.ensures.made
 
-pub returns-in-On-clause-computed : goal.returns-in-On-clause-computed
-returns-in-On-clause-computed g c =
+pub returns-clause-computed : goal.returns-clause-computed
+returns-clause-computed g c =
     let first = c.learn.new.self in let at = c.lend_fast in
     let goes = subst (λ (z : First _ _). IfOn z (IsOnItsWay first at.new.window c.args.key (Operates g.F.FnMut) c.args.f at.new.f)) c.in-On.is
     at.ensures.goes in

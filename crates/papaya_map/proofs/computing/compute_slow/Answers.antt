@@ -28,6 +28,7 @@ loop-init g c =
       at.ensures.sees,
       c.requires.callable,
       subst (λ (changed : Bool). Does changed start then) (sym ahead.unchanged) (idles start then at.ensures.own),
+      (let way = c.requires.can in let on = at.ensures.goes way.1 way.0.sight.log way.3.0 way.3.1 in (way.1, on.0, way.3.0, on.2)),
     )
 
 pub machine_of-computing-requires-clause-can : goal.machine_of-computing-requires-clause-can
@@ -57,6 +58,9 @@ loop-preserved-in-Answered g c =
       helped_does (after c.turn.new.self.writer.call.machine (answers.Call answer)) then.machine (tables_of c.tell.new.window.sight.log)
           then.given.done c.tell.ensures.calling c.tell.ensures.helped c.args.window.now c.turn.new.window c.tell.new.window c.tell.ensures.still
           c.tell.ensures.own does_call,
+      (let way = c.requires.can in let u = c.loop.invariant.0 way.0 way.1 way.2 way.3 in
+          let on = c.in-Answered.ensures.turns.0 way.1 u.1.0 u.0 u.1.2 in
+          (way.1, u.1.0, u.0, rw c.tell.ensures.sees.book (c.tell.ensures.takes way.1 u.1.0 u.0 (rw c.turn.ensures.sees.book on)))),
     )
 
 pub tell-requires-in-Shows-clause-can : goal.tell-requires-in-Shows-clause-can
@@ -96,6 +100,10 @@ loop-preserved g c =
       helped_does (after c.hear-answer.new.self.writer.call.machine (answers.Call answer)) then.machine
           (tables_of c.tell-in-Shows.new.window.sight.log) then.given.done c.tell-in-Shows.ensures.calling c.tell-in-Shows.ensures.helped
           c.args.window.now c.turn.new.window c.tell-in-Shows.new.window c.tell-in-Shows.ensures.still c.tell-in-Shows.ensures.own does_call,
+      (let way = c.requires.can in let u = c.loop.invariant.0 way.0 way.1 way.2 way.3 in
+          let heard = (c.in-Shows.shown, c.operate-operation.result) ∷ u.0 in
+          let on = (c.hear-answer.ensures.hears c.turn.new.window).1 way.1 u.1.0 u.0 (rw (same.1, same.2) u.1.2) in
+          (way.1, u.1.0, heard, rw c.tell-in-Shows.ensures.sees.book (c.tell-in-Shows.ensures.takes way.1 u.1.0 heard on))),
     )
 
 pub replied-requires-clause-can : goal.replied-requires-clause-can
