@@ -1,4 +1,4 @@
-use Rattle.std.proofs.Common.{false, ap, ◌∙◌, subst}
+use Rattle.std.proofs.Common.{false, ap, refl, ◌∙◌, subst}
 use Rattle.papaya_chain.specs.declared.ask.Answer.TheVariants as answers
 use Rattle.papaya_book.specs.Windows.{Does}
 use Rattle.papaya_change.specs.Showings.{Operates}
@@ -35,15 +35,12 @@ returns-in-Over-clause-computed g c =
     computed_by g.K.PartialEq.eq c.args.key _ _ _ (history_since c.args.window.now.sight.log first.sight.log c.learn.ensures.sees.log)
     (Operates g.F.FnMut) c.args.f d.left d.said d.has_said c.in-Over.answer (record { held = d.held; none_once = d.none_once; operated = d.operated })
 
-pub compute_slow-requires-clause-can : goal.compute_slow-requires-clause-can
-compute_slow-requires-clause-can g c =
-    let first = c.learn.new.self in let at = c.compute_fast in (
-      first,
-      c.args.key,
-      c.args.f,
-      subst (λ (z : First _ _). IfOn z (IsOnItsWay first at.new.window c.args.key (Operates g.F.FnMut) c.args.f at.new.f)) c.in-On.is
-          at.ensures.goes,
-    )
+pub compute_slow-requires : goal.compute_slow-requires
+compute_slow-requires g c =
+    let first = c.learn.new.self in let at = c.compute_fast in
+    let goes = subst (λ (z : First _ _). IfOn z (IsOnItsWay first at.new.window c.args.key (Operates g.F.FnMut) c.args.f at.new.f)) c.in-On.is
+    at.ensures.goes in
+    λ k. ((refl, tt), (at.ensures.callable, (c.requires.initial, (first, c.args.key, c.args.f, goes))))
 
 pub returns-clause-made : goal.returns-clause-made
 returns-clause-made g c =
