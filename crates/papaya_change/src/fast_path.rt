@@ -472,7 +472,10 @@ pub fn insert<'a, R: Wait, K: Hash + Eq + Drop, V: Drop, S: BuildHasher>(
         initial,
         shard,
     };
-    // Where there is a limit, each pair needs a number, which its machine takes.
+    // The root is searched for the key's pair or an empty place. The new pair is logged first, and
+    // then one exchange puts it there, by which the insertion takes effect. Where a limit asks for
+    // a number, the root has no place, pairs are being moved or the exchange is lost, the machine
+    // of the call does it step by step.
     if window.book.parts.limit.is_some() {
         return insert_slow(&means, window, given, key, value);
     }

@@ -392,6 +392,10 @@ impl<K: Hash + Eq, V, S: BuildHasher> Copier<K, V, S> {
         ensures ends { Ends window.old mode (at_slot aim chunk settles.Looking) self.old window.new
             self.new result }
     {
+        // An empty slot is closed, so that no pair comes to it. A live one is marked, so that no
+        // call changes its pair, the pair is put into the next table, and the slot says that it was
+        // copied. The chunk's word comes last: who reads 1 there need not look at its slots. Others
+        // may copy the chunk at once, and of each two exchanges one is lost.
         let table = window.table(chunk.cursor.from);
         let mut site = Site {
             table,

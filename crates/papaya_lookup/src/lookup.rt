@@ -198,6 +198,10 @@ pub fn find<'a, K: Hash + Eq, V, S: BuildHasher, Q: Equivalent<K>>(
     ensures hits { (hit : _) → result ≡ Some hit → Hits (⟦<S as Asked<K, Q>>⟧.query key.now)
         window.old window.new hit }
 {
+    // The root is searched first, then each table to which pairs are moved from the one before: a
+    // pair that the earlier table has no more is in the next. A search ends at the key's pair, at a
+    // slot where none ever stood, or at the probe limit. With `Blocking` nobody reads a next table
+    // before it is the root. The answer is the map's at one of these loads.
     window.learn();
     let began = window.sight.again();
     let hash = hash(&window.book.parts.hasher, key);

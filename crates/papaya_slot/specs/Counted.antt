@@ -1,5 +1,5 @@
--- What a counter owns: beside its word, the ticket of each number that it has not given out, or that
--- came back.
+-- What a counter owns: beside its word, the ticket of each number that it has not given out, or
+-- that came back.
 use Rattle.core.specs.Prelude.{ℕ, zero, suc}
 use base.Fml.{Lft, Fml, ffalse, fsep, fex, fbor, finv}
 use base.Before.{before}

@@ -1,5 +1,5 @@
--- What a slot owns and shares. After boxcar's `OnceSlot`, with no word: whoever writes it brings the
--- ticket of its number, which stays with the slot, so it is brought once.
+-- What a slot owns and shares. After boxcar's `OnceSlot`, with no word: whoever writes it brings
+-- the ticket of its number, which stays with the slot, so it is brought once.
 -- Each time the slot is shared it takes a turn: a lifetime, and a name that tracks the value.
 use Rattle.core.specs.Prelude.{◌≡◌, ℕ, ◌+◌}
 use base.Stored.{Gv, Coded, gnil, gnum, gcons, coded×, coded_ℕ, coded_via}
