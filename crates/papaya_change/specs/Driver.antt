@@ -1,5 +1,5 @@
 -- What a changing call under way holds, and what a load gives it.
-use Rattle.std.specs.Prelude.{◌≡◌, ℕ, Bool, MatchOption, Option, List, ◌<◌, length}
+use Rattle.std.specs.Prelude.{◌≡◌, ℕ, Bool, MatchOption, Option, None, List, [], ◌<◌, length}
 use denote.Bor.{Bor}
 use Rattle.logbook.specs.Pages.{Book}
 use Rattle.papaya_ask.specs.declared.ask.At.{At}
@@ -10,6 +10,7 @@ use Rattle.papaya_book.specs.declared.rule.entry.Begun.{Begun}
 use Rattle.papaya_book.specs.declared.rule.entry.Event.{Event}
 use Rattle.papaya_book.specs.Calls.{IsNext, IsRoot, IsSlot, IsTable, IsWord}
 use Rattle.papaya_book.specs.Logs.{Stored}
+use Rattle.papaya_change.specs.declared.driver.Driver.{Driver}
 
 module _ {K V S : Type 0} where
   -- the table is held, and where a slot is asked for it has the slot
@@ -40,3 +41,9 @@ module _ {K V S : Type 0} where
   IsLoaded eq hash b name (Done t chunk) word log table table' last last' = ⊥
   IsLoaded eq hash b name Made word log table table' last last' = IsWord eq hash b Made word log
       × (table' ≡ table) × (last' ≡ last)
+
+-- a call that begins holds nothing yet
+pub record HoldsNothing {K V S H : Type 0} (c : Driver K V S H) : Type 0 where
+  pub table : (c.table ≡ None) × (c.fresh ≡ None)
+  pub pairs : (c.last ≡ None) × (c.kept ≡ None) × (c.taken ≡ None) × (c.put ≡ None)
+  pub given : c.given.done ≡ []

@@ -1,5 +1,6 @@
 //! A changing call under way, whatever its task: what it holds, and its loads.
-ghost use Rattle.std.specs.Prelude.{◌≡◌, [], None, Some};
+ghost use Rattle.papaya_change.specs.Driver.{HoldsNothing};
+ghost use Rattle.std.specs.Prelude.{◌≡◌, None};
 ghost use Rattle.std.specs.Int.{IsPowerOfTwo};
 ghost use Rattle.papaya_words.specs.Mode.{IsChunked};
 ghost use Rattle.papaya_call.specs.Machine.{IsFit as IsCallFit};
@@ -11,7 +12,7 @@ ghost use Rattle.papaya_call_law.specs.Told.{or_last};
 ghost use Rattle.papaya_book.specs.Windows.{CanTrySlot, Does, IsHint, MayHint, Sees};
 ghost use Rattle.papaya_change.specs.Doing.{was_made};
 ghost use Rattle.papaya_change.specs.Window.Driver.{Holds, Loads};
-ghost use Rattle.papaya_change.specs.Window.LookingOn.{CanLookOn, HasLookedOn, LooksOn};
+ghost use Rattle.papaya_change.specs.Window.LookingOn.{CanLookOn, GoesOver, LooksOn};
 ghost use Rattle.papaya_change.specs.Window.Steps.{CanTake, Deletes, HasTried, IsSizeOf, Takes};
 
 use crate::fast_path::pass_over;
@@ -60,10 +61,7 @@ impl<'a, K: Hash + Eq, V, S: BuildHasher> Driver<'a, K, V, S> {
         requires initial { IsPowerOfTwo initial }
         ensures machine { result.machine ≡ started task hash mode initial 0 limit }
         ensures standing { IsStanding result.machine }
-        ensures table { (result.table ≡ None) × (result.fresh ≡ None) }
-        ensures pairs { (result.last ≡ None) × (result.kept ≡ None) × (result.taken ≡ None)
-            × (result.put ≡ None) }
-        ensures given { result.given.done ≡ [] }
+        ensures empty { HoldsNothing result }
     {
         Driver {
             machine: Machine::new(task, hash, mode, initial, 0, limit),
@@ -100,10 +98,7 @@ impl<'a, K: Hash + Eq, V, S: BuildHasher> Driver<'a, K, V, S> {
         requires standing { IsStanding self.old.machine }
         requires calling { self.old.machine.phase ≡ Calling }
         requires can { CanLookOn window.old key.now self.old }
-        ensures sees { Sees window.old window.new }
-        ensures own { window.new.own ≡ window.old.own }
-        ensures standing { IsStanding self.new.machine }
-        ensures looked { HasLookedOn window.old self.old window.new self.new }
+        ensures over { GoesOver window.old self.old window.new self.new }
         ensures looks { LooksOn window.old key.now self.old window.new self.new }
     {
         let (State::Searching(Search::Looking(at)), Some(table)) = (

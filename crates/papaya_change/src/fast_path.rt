@@ -1,5 +1,6 @@
 //! Insertions whose search of the root ends where most do: their pair is logged and put in at once.
 //! The machine stands in the proof. Computes search so too, and put their pairs in so.
+ghost use Rattle.papaya_change.specs.Window.Ends.{Ends, HasTried, TellsWhy};
 ghost use Rattle.std.specs.Prelude.{◌≡◌, ◌<◌, true, is_ok, Ok, Err, IfErr, IfOk, None, Some};
 ghost use Rattle.std.specs.Int.{IsPowerOfTwo};
 ghost use Rattle.papaya_ask.specs.Search.{IsWithin};
@@ -7,23 +8,22 @@ ghost use Rattle.papaya_ask.specs.declared.search.Search.TheVariants.{Looking, R
 ghost use Rattle.papaya_call.specs.declared.machine.State.TheVariants.{Searching};
 ghost use Rattle.papaya_words.specs.Word.{kind_of};
 ghost use Rattle.papaya_words.specs.declared.word.Kind.TheVariants.{Live};
-ghost use Rattle.papaya_book.specs.Limits.{HasNoRoom, IsSpent, tables_of};
 ghost use Rattle.papaya_book.specs.Windows.{Does, IsLawful, Sees};
 ghost use Rattle.papaya_lookup.specs.Drivers.{own, past};
-ghost use Rattle.papaya_lookup.specs.History.{Makes, key_of};
+ghost use Rattle.papaya_lookup.specs.History.{key_of};
 ghost use Rattle.papaya_change.specs.Changes.{IsPut};
 ghost use Rattle.papaya_change.specs.Seeking.{left_at, left_to, turn_of};
 ghost use Rattle.papaya_change.specs.Window.Seeking.{HasWritten, IsFoundFor, LooksAt, ReadsAt, StandsBy};
 ghost use Rattle.papaya_change.specs.Window.Seeking.{Turns};
-ghost use Rattle.papaya_change.specs.Tries.{IsLoggedAs, Offers, ShowsMet, TakesOut, is_put, pair_in};
+ghost use Rattle.papaya_change.specs.Tries.{Offers, ShowsMet, TakesOut};
 ghost use Rattle.papaya_change.specs.declared.fast_path.Tried.TheVariants.{Put};
 ghost use Rattle.papaya_change.specs.declared.fast_path.Turn.TheVariants.{Empty, Next};
 ghost use Rattle.papaya_change.specs.declared.fast_path.Turn.TheVariants.{Met as MetPair};
-ghost use Rattle.papaya_change.specs.Writing.{IsMemoryCapacityOrLimit, IsMemoryOrCapacity};
+ghost use Rattle.papaya_change.specs.Writing.{IsMemoryCapacityOrLimit};
 
 use crate::insertion::{insert_logged, insert_met, insert_onward, insert_slow};
 use crate::means::Means;
-use crate::removal::entry;
+use crate::removal::value_of;
 use papaya_ask::ask::StepKind;
 use papaya_ask::search::{Place, Probed, Search};
 use papaya_book::book::gains::named_pair;
@@ -54,7 +54,7 @@ pub enum Turn<K, V> {
     Met(Met<K, V>),
     /// The table of this number has no place for the key.
     Over(u64),
-    /// The pair of the key is being moved.
+    /// The pair of the key is being moved, or a pair's value is another pair's.
     Else,
 }
 
@@ -97,7 +97,10 @@ fn read_at<K: Hash + Eq, V, S: BuildHasher>(
             let book = window.book;
             let stored = named_pair(word, offer);
             let pair = book.pair(&stored);
-            let same = *key == *book.key(pair);
+            let Some(entry) = book.near_entry(pair) else {
+                return Turn::Else;
+            };
+            let same = *key == *entry.0;
             let compared = Search::Comparing(at, word).at_yes(same);
             match compared {
                 Probed::Here(..) if Word(word).kind() == Kind::Live => Turn::Met(Met {
@@ -255,16 +258,10 @@ pub fn claim<R: Wait, K: Hash + Eq + Drop, V: Drop, S: BuildHasher>(
     requires hashed { hash ≡ ⟦<S as Hashed<K>>⟧.hash window.old.book.now.parts.hasher key }
     requires limit { window.old.book.now.parts.limit ≡ None }
     requires stands { StandsBy window.old key table.now (Empty at) }
-    ensures sees { Sees window.old window.new }
-    ensures lawful { IsLawful window.new }
-    ensures logged { IfOk result (λ tried. IsLoggedAs window.new key value (pair_in tried)) }
+    ensures tried { HasTried means.now.initial key value window.old window.new given.new.done
+        result }
     ensures put { (q : _) → result ≡ Ok (Put q) → Offers window.old window.new key table.now
         (Empty at) q }
-    ensures refused { IfErr result (λ refused. IsMemoryOrCapacity refused) }
-    ensures crowded { result ≡ Err Refused.Capacity → HasNoRoom means.now.initial
-        (tables_of window.new.sight.log) given.new.done }
-    ensures does { Does (is_put result) window.old window.new }
-    ensures made { Makes (is_put result) (own window.old) (own window.new) (past window.new) }
 {
     let book = window.book;
     let Ok(pair) = book.log_pair(means.rt, KeyPart::Own(key), ValuePart::Own(value)) else {
@@ -299,17 +296,10 @@ pub fn replace<R: Wait, K: Hash + Eq + Drop, V: Drop, S: BuildHasher>(
     requires limit { window.old.book.now.parts.limit ≡ None }
     requires stands { (key : K) × StandsBy window.old key table.now (MetPair met.now) }
     requires live { kind_of met.now.word ≡ Live }
-    ensures sees { Sees window.old window.new }
-    ensures lawful { IsLawful window.new }
-    ensures logged { IfOk result (λ tried. IsLoggedAs window.new (key_of met.now.stored) value
-        (pair_in tried)) }
+    ensures tried { HasTried means.now.initial (key_of met.now.stored) value window.old window.new
+        given.new.done result }
     ensures put { (q : _) → result ≡ Ok (Put q) → (key : K) → Offers window.old window.new key
         table.now (MetPair met.now) q }
-    ensures refused { IfErr result (λ refused. IsMemoryOrCapacity refused) }
-    ensures crowded { result ≡ Err Refused.Capacity → HasNoRoom means.now.initial
-        (tables_of window.new.sight.log) given.new.done }
-    ensures does { Does (is_put result) window.old window.new }
-    ensures made { Makes (is_put result) (own window.old) (own window.new) (past window.new) }
 {
     let book = window.book;
     let (place, word) = (met.place, met.word);
@@ -341,12 +331,10 @@ pub fn delete<K: Hash + Eq, V, S: BuildHasher>(
     met: &Met<K, V>,
 ) -> bool
     requires shows { (key : K) × (begun : _) × ShowsMet window.old key begun table.now met.now }
-    ensures sees { Sees window.old window.new }
-    ensures lawful { IsLawful window.new }
+    ensures ends { Ends result window.old window.new }
     ensures went { result ≡ true → (key : K) → TakesOut window.old window.new key table.now
         met.now }
     ensures does { Does result window.old window.new }
-    ensures made { Makes result (own window.old) (own window.new) (past window.new) }
 {
     let (place, word) = (met.place, met.word);
     let (slot, kind) = (place.probe.i, Some(StepKind::Delete));
@@ -378,16 +366,12 @@ fn claim_at<'a, R: Wait, K: Hash + Eq + Drop, V: Drop, S: BuildHasher>(
     requires hashed { hash ≡ ⟦<S as Hashed<K>>⟧.hash window.old.book.now.parts.hasher key }
     requires limit { window.old.book.now.parts.limit ≡ None }
     requires stands { StandsBy window.old key table.now (Empty at) }
-    ensures sees { Sees window.old window.new }
-    ensures lawful { IsLawful window.new }
+    ensures ends { Ends (is_ok result) window.old window.new }
     ensures put { IfOk result (λ answer. HasWritten window.old window.new key value
         table.now (Empty at) answer) }
     ensures refused { IfErr result (λ refused. IsMemoryCapacityOrLimit refused) }
-    ensures crowded { result ≡ Err Refused.Capacity → HasNoRoom means.now.initial
-        (tables_of window.new.sight.log) given.new.done }
-    ensures spent { result ≡ Err Refused.Limit → IsSpent window.new.book.now.parts.limit
-        window.new.sight.log }
-    ensures made { Makes (is_ok result) (own window.old) (own window.new) (past window.new) }
+    ensures tells { TellsWhy means.now.initial window.new given.new.done
+        (λ cause. result ≡ Err cause) }
 {
     match claim(means, window, given, key, value, hash, table, at) {
         Ok(Tried::Put(_)) => Ok(None),
@@ -415,20 +399,16 @@ fn replace_at<'a, R: Wait, K: Hash + Eq + Drop, V: Drop, S: BuildHasher>(
     requires limit { window.old.book.now.parts.limit ≡ None }
     requires stands { StandsBy window.old key table.now (MetPair met) }
     requires live { kind_of met.word ≡ Live }
-    ensures sees { Sees window.old window.new }
-    ensures lawful { IsLawful window.new }
+    ensures ends { Ends (is_ok result) window.old window.new }
     ensures put { IfOk result (λ answer. HasWritten window.old window.new key value
         table.now (MetPair met) answer) }
     ensures refused { IfErr result (λ refused. IsMemoryCapacityOrLimit refused) }
-    ensures crowded { result ≡ Err Refused.Capacity → HasNoRoom means.now.initial
-        (tables_of window.new.sight.log) given.new.done }
-    ensures spent { result ≡ Err Refused.Limit → IsSpent window.new.book.now.parts.limit
-        window.new.sight.log }
-    ensures made { Makes (is_ok result) (own window.old) (own window.new) (past window.new) }
+    ensures tells { TellsWhy means.now.initial window.new given.new.done
+        (λ cause. result ≡ Err cause) }
 {
     let book = window.book;
     match replace(means, window, given, value, table, &met) {
-        Ok(Tried::Put(_)) => Ok(Some(entry(book, &met.stored).1)),
+        Ok(Tried::Put(_)) => Ok(Some(value_of(book, &met.stored))),
         Ok(Tried::Lost(pair)) => {
             let write = Write {
                 place: met.place,
@@ -453,16 +433,11 @@ pub fn insert<'a, R: Wait, K: Hash + Eq + Drop, V: Drop, S: BuildHasher>(
     value: V,
 ) -> Result<Option<&'a V>, Refused>
     requires initial { IsPowerOfTwo initial }
-    ensures sees { Sees window.old window.new }
-    ensures lawful { IsLawful window.new }
+    ensures ends { Ends (is_ok result) window.old window.new }
     ensures put { IfOk result (λ answer. IsPut K.eq key value (past window.old) (past window.new)
         answer) }
     ensures refused { IfErr result (λ refused. IsMemoryCapacityOrLimit refused) }
-    ensures crowded { result ≡ Err Refused.Capacity → HasNoRoom initial
-        (tables_of window.new.sight.log) given.new.done }
-    ensures spent { result ≡ Err Refused.Limit → IsSpent window.new.book.now.parts.limit
-        window.new.sight.log }
-    ensures made { Makes (is_ok result) (own window.old) (own window.new) (past window.new) }
+    ensures tells { TellsWhy initial window.new given.new.done (λ cause. result ≡ Err cause) }
 {
     window.learn();
     let hash = hash(&window.book.parts.hasher, &key);

@@ -1,11 +1,9 @@
 //! Removals whose pair a lookup's search finds live: it is deleted at once. The machine stands in
 //! the proof.
-ghost use Rattle.std.specs.Prelude.{◌≡◌};
+ghost use Rattle.papaya_change.specs.Window.Ends.{Ends};
 ghost use Rattle.std.specs.Int.{IsPowerOfTwo};
 ghost use Rattle.papaya_call.specs.Made.{IsLimit};
-ghost use Rattle.papaya_book.specs.Windows.{IsLawful, Sees};
-ghost use Rattle.papaya_lookup.specs.Drivers.{own, past};
-ghost use Rattle.papaya_lookup.specs.History.{Makes};
+ghost use Rattle.papaya_lookup.specs.Drivers.{past};
 ghost use Rattle.papaya_change.specs.RemovalAnswers.{IsTriedRemoval, went_fast};
 ghost use Rattle.papaya_change.specs.Showings.{Judges};
 
@@ -65,10 +63,7 @@ pub fn remove_fast<
     requires callable { F.IsAlwaysCallable agrees.old }
     requires initial { IsPowerOfTwo means.now.initial }
     ensures callable { F.IsAlwaysCallable agrees.new }
-    ensures sees { Sees window.old window.new }
-    ensures lawful { IsLawful window.new }
-    ensures made { Makes (went_fast result) (own window.old) (own window.new)
-        (past window.new) }
+    ensures ends { Ends (went_fast result) window.old window.new }
     ensures removed { IsTriedRemoval K.eq (Q.matches key.now) (past window.old) (past window.new)
         (Judges F.FnMut) agrees.old agrees.new result }
 {

@@ -7,13 +7,12 @@ ghost use Rattle.papaya_chain.specs.declared.machine.Phase.TheVariants as phases
 ghost use Rattle.papaya_chain.specs.declared.machine.Phase.TheVariants.{Calling};
 ghost use Rattle.papaya_copy.specs.declared.settle.Settle.TheVariants.{Looking};
 ghost use Rattle.papaya_copy.specs.Link.{IsFitCopyAsk};
-ghost use Rattle.papaya_book.specs.Limits.{tables_of};
 ghost use Rattle.papaya_book.specs.Windows.{HasCome, IsLawful, IsTable, Sees};
 ghost use Rattle.papaya_change.specs.Copier.{copier_of, with_copier};
-ghost use Rattle.papaya_change.specs.Window.Driver.{CanGoOn, Copies, GoesOn};
+ghost use Rattle.papaya_change.specs.Window.Driver.{CanGoOn, Copies, GoesOn, Helps};
 ghost use Rattle.papaya_change.specs.Going.{with_machine};
 ghost use Rattle.papaya_change.specs.Window.Going.{GoesBy};
-ghost use Rattle.papaya_change.specs.Helping.{HasHelped, IsEntering};
+ghost use Rattle.papaya_change.specs.Helping.{IsEntering};
 ghost use Rattle.papaya_change.specs.Settling.{at_slot};
 
 use crate::copier::{Asked, Copier};
@@ -48,12 +47,7 @@ impl<'a, K: Hash + Eq, V, S: BuildHasher> Driver<'a, K, V, S> {
     )
         requires standing { IsStanding self.old.machine }
         requires can { CanGoOn window.old self.old }
-        ensures sees { Sees window.old window.new }
-        ensures own { window.new.own ≡ window.old.own }
-        ensures standing { IsStanding self.new.machine }
-        ensures calling { self.new.machine.phase ≡ Calling }
-        ensures helped { HasHelped self.old.machine self.new.machine
-            (tables_of window.new.sight.log) self.new.given.done }
+        ensures helps { Helps window.old self.old.machine window.new self.new }
         ensures goes_on { GoesOn window.old self.old window.new self.new }
         ensures rest { (self.new.taken ≡ self.old.taken) × (self.new.put ≡ self.old.put) }
         ensures still { self.old.machine.phase ≡ Calling
@@ -89,12 +83,7 @@ impl<'a, K: Hash + Eq, V, S: BuildHasher> Driver<'a, K, V, S> {
         requires standing { IsStanding self.old.machine }
         requires can { CanGoOn window.old self.old }
         requires aside { self.old.machine.phase ≢ Calling }
-        ensures sees { Sees window.old window.new }
-        ensures own { window.new.own ≡ window.old.own }
-        ensures standing { IsStanding self.new.machine }
-        ensures calling { self.new.machine.phase ≡ Calling }
-        ensures helped { HasHelped self.old.machine self.new.machine
-            (tables_of window.new.sight.log) self.new.given.done }
+        ensures helps { Helps window.old self.old.machine window.new self.new }
         ensures goes_on { GoesOn window.old self.old window.new self.new }
         ensures rest { (self.new.taken ≡ self.old.taken) × (self.new.put ≡ self.old.put) }
     {

@@ -1,12 +1,12 @@
 //! Insertions: their machine, answered by steps on the book.
-ghost use Rattle.papaya_lookup.specs.Drivers.{own, past};
-ghost use Rattle.papaya_lookup.specs.History.{Makes, key_of};
-ghost use Rattle.papaya_book.specs.Windows.{Does, IsIn, IsLawful, Sees};
+ghost use Rattle.papaya_change.specs.Window.Ends.{Ends, TellsWhy};
+ghost use Rattle.papaya_lookup.specs.Drivers.{past};
+ghost use Rattle.papaya_lookup.specs.History.{key_of};
+ghost use Rattle.papaya_book.specs.Windows.{Does, IsIn, Sees};
 ghost use Rattle.papaya_book.specs.declared.rule.entry.Named.TheVariants.{Pair as PairNamed};
 ghost use Rattle.papaya_change.specs.Doing.{Answers, has_changed, was_made};
-ghost use Rattle.papaya_book.specs.Limits.{HasNoRoom, IsSpent, tables_of};
 ghost use Rattle.papaya_change.specs.Window.Inserting.{CanInsert, HasPut, HasPutSince, Inserts};
-ghost use Rattle.std.specs.Prelude.{◌≡◌, ℕ, ◌<◌, ◌^◌, false, true, is_ok, None, Some, Err, IfErr, IfOk};
+ghost use Rattle.std.specs.Prelude.{◌≡◌, ℕ, ◌<◌, ◌^◌, false, true, is_ok, Some, Err, IfErr, IfOk};
 ghost use Rattle.std.specs.Int.{IsPowerOfTwo};
 ghost use Rattle.papaya_call.specs.Machine.{ask_of as call_ask_of};
 ghost use Rattle.papaya_chain.specs.Machine.{IsStanding, ask_of};
@@ -201,16 +201,12 @@ fn drive<'a, R: Wait, K: Hash + Eq + Drop, V: Drop, S: BuildHasher>(
     requires calling { begun.writer.call.machine.phase ≡ Calling }
     requires can { CanInsert window.old begun }
     requires unchanged { has_changed begun.writer.call.machine ≡ false }
-    ensures sees { Sees window.old window.new }
-    ensures lawful { IsLawful window.new }
+    ensures ends { Ends (is_ok result) window.old window.new }
     ensures put { IfOk result (λ answer. HasPutSince window.old begun.entry window.new
         answer) }
     ensures refused { IfErr result (λ refused. IsMemoryCapacityOrLimit refused) }
-    ensures crowded { result ≡ Err Refused.Capacity → HasNoRoom
-        begun.entry.writer.call.machine.call.initial (tables_of window.new.sight.log) given.new.done }
-    ensures spent { result ≡ Err Refused.Limit → IsSpent window.new.book.now.parts.limit
-        window.new.sight.log }
-    ensures made { Makes (is_ok result) (own window.old) (own window.new) (past window.new) }
+    ensures tells { TellsWhy begun.entry.writer.call.machine.call.initial window.new given.new.done
+        (λ cause. result ≡ Err cause) }
 {
     let mut insertion = begun;
     for _ in means.rt.forever() {
@@ -243,16 +239,12 @@ pub(crate) fn insert_slow<'a, R: Wait, K: Hash + Eq + Drop, V: Drop, S: BuildHas
     value: V,
 ) -> Result<Option<&'a V>, Refused>
     requires initial { IsPowerOfTwo means.now.initial }
-    ensures sees { Sees window.old window.new }
-    ensures lawful { IsLawful window.new }
+    ensures ends { Ends (is_ok result) window.old window.new }
     ensures put { IfOk result (λ answer. IsPut K.eq key value
         (past window.old) (past window.new) answer) }
     ensures refused { IfErr result (λ refused. IsMemoryCapacityOrLimit refused) }
-    ensures crowded { result ≡ Err Refused.Capacity → HasNoRoom means.now.initial
-        (tables_of window.new.sight.log) given.new.done }
-    ensures spent { result ≡ Err Refused.Limit → IsSpent window.new.book.now.parts.limit
-        window.new.sight.log }
-    ensures made { Makes (is_ok result) (own window.old) (own window.new) (past window.new) }
+    ensures tells { TellsWhy means.now.initial window.new given.new.done
+        (λ cause. result ≡ Err cause) }
 {
     window.learn();
     let book = window.book;
@@ -285,16 +277,12 @@ pub(crate) fn insert_onward<'a, R: Wait, K: Hash + Eq + Drop, V: Drop, S: BuildH
     requires initial { IsPowerOfTwo means.now.initial }
     requires hashed { hash ≡ ⟦<S as Hashed<K>>⟧.hash window.old.book.now.parts.hasher key }
     requires stands { StandsBy window.old key table.now (Over number) }
-    ensures sees { Sees window.old window.new }
-    ensures lawful { IsLawful window.new }
+    ensures ends { Ends (is_ok result) window.old window.new }
     ensures put { IfOk result (λ answer. HasWritten window.old window.new key value
         table.now (Over number) answer) }
     ensures refused { IfErr result (λ refused. IsMemoryCapacityOrLimit refused) }
-    ensures crowded { result ≡ Err Refused.Capacity → HasNoRoom means.now.initial
-        (tables_of window.new.sight.log) given.new.done }
-    ensures spent { result ≡ Err Refused.Limit → IsSpent window.new.book.now.parts.limit
-        window.new.sight.log }
-    ensures made { Makes (is_ok result) (own window.old) (own window.new) (past window.new) }
+    ensures tells { TellsWhy means.now.initial window.new given.new.done
+        (λ cause. result ≡ Err cause) }
 {
     let book = window.book;
     let task = Task::Insert { replace: true };
@@ -324,16 +312,12 @@ pub(crate) fn insert_logged<'a, R: Wait, K: Hash + Eq + Drop, V: Drop, S: BuildH
     requires hashed { hash ≡ ⟦<S as Hashed<K>>⟧.hash window.old.book.now.parts.hasher (key_of pair) }
     requires placed { IsIn window.old (PairNamed pair) }
     requires number { pair.index < 2 ^ 48 }
-    ensures sees { Sees window.old window.new }
-    ensures lawful { IsLawful window.new }
+    ensures ends { Ends (is_ok result) window.old window.new }
     ensures put { IfOk result (λ answer. IsPut K.eq (key_of pair) pair.value.value
         (past window.old) (past window.new) answer) }
     ensures refused { IfErr result (λ refused. IsMemoryCapacityOrLimit refused) }
-    ensures crowded { result ≡ Err Refused.Capacity → HasNoRoom means.now.initial
-        (tables_of window.new.sight.log) given.new.done }
-    ensures spent { result ≡ Err Refused.Limit → IsSpent window.new.book.now.parts.limit
-        window.new.sight.log }
-    ensures made { Makes (is_ok result) (own window.old) (own window.new) (past window.new) }
+    ensures tells { TellsWhy means.now.initial window.new given.new.done
+        (λ cause. result ≡ Err cause) }
 {
     window.learn();
     let book = window.book;
@@ -374,16 +358,12 @@ pub(crate) fn insert_met<'a, R: Wait, K: Hash + Eq + Drop, V: Drop, S: BuildHash
     requires number { pair.index < 2 ^ 48 }
     requires met { HasKeyAt window.old.sight.log write.place.table write.place.probe.i (key_of pair) }
     requires same { K.eq key (key_of pair) ≡ true }
-    ensures sees { Sees window.old window.new }
-    ensures lawful { IsLawful window.new }
+    ensures ends { Ends (is_ok result) window.old window.new }
     ensures put { IfOk result (λ answer. IsPut K.eq key pair.value.value
         (past window.old) (past window.new) answer) }
     ensures refused { IfErr result (λ refused. IsMemoryCapacityOrLimit refused) }
-    ensures crowded { result ≡ Err Refused.Capacity → HasNoRoom means.now.initial
-        (tables_of window.new.sight.log) given.new.done }
-    ensures spent { result ≡ Err Refused.Limit → IsSpent window.new.book.now.parts.limit
-        window.new.sight.log }
-    ensures made { Makes (is_ok result) (own window.old) (own window.new) (past window.new) }
+    ensures tells { TellsWhy means.now.initial window.new given.new.done
+        (λ cause. result ≡ Err cause) }
 {
     window.learn();
     let book = window.book;

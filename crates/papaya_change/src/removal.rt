@@ -1,8 +1,9 @@
 //! Removals: by a lookup's search where it finds their pair live, and else their machine, answered
 //! by steps on the book and by a closure.
-ghost use Rattle.papaya_lookup.specs.Drivers.{own, past};
-ghost use Rattle.papaya_lookup.specs.History.{Makes, key_of};
-ghost use Rattle.papaya_book.specs.Windows.{IsLawful, Sees};
+ghost use Rattle.papaya_change.specs.Window.Ends.{Ends};
+ghost use Rattle.papaya_lookup.specs.Drivers.{past};
+ghost use Rattle.papaya_lookup.specs.History.{key_of};
+ghost use Rattle.papaya_book.specs.Windows.{Sees};
 ghost use Rattle.papaya_book.specs.Books.{IsIn};
 ghost use Rattle.papaya_change.specs.Doing.{Answers};
 ghost use Rattle.papaya_change.specs.Window.Removing.{CanRemove, CanTell, Removes};
@@ -55,8 +56,19 @@ pub fn entry<'a, K: Hash + Eq, V, S: BuildHasher>(
     requires { IsIn book.now (pair_named (Some stored.now)) }
     ensures { AreOf result stored.now }
 {
-    let pair = book.pair(stored);
-    (book.key(pair), book.value(pair))
+    book.entry(book.pair(stored))
+}
+
+/// The value of a pair.
+#[inline(always)]
+pub fn value_of<'a, K: Hash + Eq, V, S: BuildHasher>(
+    book: &'a Book<K, V, S>,
+    stored: &Stored<K, V>,
+) -> &'a V
+    requires { IsIn book.now (pair_named (Some stored.now)) }
+    ensures { result.now ≡ stored.now.value.value }
+{
+    book.value(book.pair(stored))
 }
 
 impl<'a, K: Hash + Eq, V, S: BuildHasher> Removal<'a, K, V, S> {
@@ -193,9 +205,7 @@ pub fn remove_slow<
 ) -> Result<Result<Option<(&'a K, &'a V)>, (&'a K, &'a V)>, Refused>
     requires callable { F.IsAlwaysCallable agrees }
     requires initial { IsPowerOfTwo means.now.initial }
-    ensures sees { Sees window.old window.new }
-    ensures lawful { IsLawful window.new }
-    ensures made { Makes (went result) (own window.old) (own window.new) (past window.new) }
+    ensures ends { Ends (went result) window.old window.new }
     ensures removed { IsRemovalBy K.eq (Q.matches key.now) (past window.old) (past window.new)
         (Judges F.FnMut) agrees result }
     ensures crowded { result ≡ Err Refused.Capacity → HasNoRoom means.now.initial
@@ -254,9 +264,7 @@ pub fn remove<
 ) -> Result<Result<Option<(&'a K, &'a V)>, (&'a K, &'a V)>, Refused>
     requires callable { F.IsAlwaysCallable agrees }
     requires initial { IsPowerOfTwo initial }
-    ensures sees { Sees window.old window.new }
-    ensures lawful { IsLawful window.new }
-    ensures made { Makes (went result) (own window.old) (own window.new) (past window.new) }
+    ensures ends { Ends (went result) window.old window.new }
     ensures removed { IsRemovalBy K.eq (Q.matches key.now) (past window.old) (past window.new)
         (Judges F.FnMut) agrees result }
     ensures crowded { result ≡ Err Refused.Capacity → HasNoRoom initial

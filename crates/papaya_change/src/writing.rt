@@ -1,7 +1,7 @@
 //! What calls that insert have in common: their machine's asks, answered by steps on the book.
-ghost use Rattle.papaya_book.specs.Windows.{Does, IsIn, Sees};
-ghost use Rattle.papaya_change.specs.Window.LookingOn.{HasLookedOn};
-ghost use Rattle.papaya_change.specs.Window.Writing.{CanPut, CanWrite, MakesPart, Pairs, Puts, Writes};
+ghost use Rattle.papaya_book.specs.Windows.{IsIn};
+ghost use Rattle.papaya_change.specs.Window.LookingOn.{GoesOver};
+ghost use Rattle.papaya_change.specs.Window.Writing.{CanPut, CanWrite, Logs, MakesPart, Puts, Steps, Tries, Waits, Writes};
 ghost use Rattle.papaya_change.specs.Window.Writing.{WritesOn};
 ghost use Rattle.std.specs.Prelude.{◌≡◌, ◌⊎◌, ℕ, ◌<◌, ◌^◌, IfErr, IfOk, None, Some};
 ghost use Rattle.papaya_call.specs.Machine.{ask_of as call_ask_of};
@@ -15,11 +15,10 @@ ghost use Rattle.papaya_ask.specs.declared.ask.At.TheVariants.{Made as MadeWord,
 ghost use Rattle.papaya_ask.specs.declared.ask.StepKind.TheVariants.{Delete};
 ghost use Rattle.papaya_words.specs.Word.{pair_of};
 ghost use Rattle.papaya_book.specs.Plays.{IsPutting};
-ghost use Rattle.papaya_change.specs.Doing.{was_made};
 ghost use Rattle.papaya_lookup.specs.History.{key_of};
 ghost use Rattle.papaya_book.specs.Limits.{IsFull};
 ghost use Rattle.papaya_book.specs.PairParts.{key_in};
-ghost use Rattle.papaya_change.specs.Writing.{IsUnlogged, IsUnsaid, TellsTaken, held_value};
+ghost use Rattle.papaya_change.specs.Writing.{IsUnsaid, TellsTaken};
 ghost use Rattle.papaya_book.specs.declared.rule.entry.Named.TheVariants.{Pair as PairNamed};
 
 use crate::driver::Driver;
@@ -46,55 +45,38 @@ pub struct Writer<'a, K: Hash + Eq, V, S: BuildHasher> {
 impl<'a, K: Hash + Eq + Drop, V: Drop, S: BuildHasher> Writer<'a, K, V, S> {
     /// Loads a word.
     pub fn load(&mut self, at: At, window: &mut Window<'a, K, V, S>) -> Answer
-        requires can { CanWrite window.old self.old }
-        requires asks { ask_of self.old.call.machine ≡ Call (Load at) }
+        requires waits { Waits window.old self.old (Load at) }
         requires standing { IsStanding self.old.call.machine }
-        ensures sees { Sees window.old window.new }
-        ensures own { window.new.own ≡ window.old.own }
-        ensures machine { self.new.call.machine ≡ self.old.call.machine }
-        ensures value { self.new.value ≡ self.old.value }
-        ensures unsaid { IsUnsaid self.new.call.given.done result }
+        ensures steps { Steps window.old self.old window.new self.new result }
         ensures tells { TellsTaken window.new.sight.log (call_ask_of self.old.call.machine.call)
             result }
-        ensures put { self.new.call.put ≡ self.old.call.put }
-        ensures writes { Writes window.old self.old window.new self.new result }
     {
         Answer::Word(self.call.load(at, window))
     }
 
     /// Tries to take the number of a further pair, in a map that has a limit on them.
     pub fn take(&self, words: (u64, u64), window: &mut Window<'a, K, V, S>) -> Answer
-        requires can { CanWrite window.old self.now }
-        requires asks { ask_of self.now.call.machine ≡ Call (Exchange MadeWord words.0 words.1) }
+        requires waits { Waits window.old self.now (Exchange MadeWord words.0 words.1) }
         requires standing { IsStanding self.now.call.machine }
-        ensures sees { Sees window.old window.new }
-        ensures own { window.new.own ≡ window.old.own }
-        ensures unsaid { IsUnsaid self.now.call.given.done result }
+        ensures steps { Steps window.old self.now window.new self.now result }
         ensures tells { TellsTaken window.new.sight.log (call_ask_of self.now.call.machine.call)
             result }
-        ensures writes { Writes window.old self.now window.new self.now result }
     {
         self.call.take(words, window)
     }
 
     /// Loads the hint of a slot.
     pub fn hint(&self, number: u64, place: usize, window: &mut Window<'a, K, V, S>) -> Answer
-        requires can { CanWrite window.old self.now }
-        requires asks { ask_of self.now.call.machine ≡ Call (LoadHint number place) }
-        ensures sees { Sees window.old window.new }
-        ensures own { window.new.own ≡ window.old.own }
-        ensures unsaid { IsUnsaid self.now.call.given.done result }
-        ensures writes { Writes window.old self.now window.new self.now result }
+        requires waits { Waits window.old self.now (LoadHint number place) }
+        ensures steps { Steps window.old self.now window.new self.now result }
     {
         Answer::Word(self.call.hint(number, place, window))
     }
 
     /// Writes the hint of a slot, where it has none.
     pub fn note(&self, number: u64, place: usize, hint: u8, window: &Window<'a, K, V, S>) -> Answer
-        requires can { CanWrite window.now self.now }
-        requires asks { ask_of self.now.call.machine ≡ Call (WriteHint number place hint) }
-        ensures unsaid { IsUnsaid self.now.call.given.done result }
-        ensures writes { Writes window.now self.now window.now self.now result }
+        requires waits { Waits window.now self.now (WriteHint number place hint) }
+        ensures steps { Steps window.now self.now window.now self.now result }
     {
         self.call.note(number, place, hint, window);
         Answer::Ok
@@ -102,22 +84,18 @@ impl<'a, K: Hash + Eq + Drop, V: Drop, S: BuildHasher> Writer<'a, K, V, S> {
 
     /// The size of the table.
     pub fn size(&self, window: &Window<'a, K, V, S>) -> Answer
-        requires can { CanWrite window.now self.now }
-        requires asks { (t : ℕ) × (ask_of self.now.call.machine ≡ Call (SizeOf t)) }
+        requires waits { (t : ℕ) × Waits window.now self.now (SizeOf t) }
         requires standing { IsStanding self.now.call.machine }
-        ensures unsaid { IsUnsaid self.now.call.given.done result }
-        ensures writes { Writes window.now self.now window.now self.now result }
+        ensures steps { Steps window.now self.now window.now self.now result }
     {
         self.call.size()
     }
 
     /// Has the pair last loaded a key that equals the call's?
     pub fn same(&self, window: &Window<'a, K, V, S>) -> Answer
-        requires can { CanWrite window.now self.now }
-        requires asks { (n : ℕ) × (ask_of self.now.call.machine ≡ Call (SameKey n)) }
+        requires waits { (n : ℕ) × Waits window.now self.now (SameKey n) }
         requires standing { IsStanding self.now.call.machine }
-        ensures unsaid { IsUnsaid self.now.call.given.done result }
-        ensures writes { Writes window.now self.now window.now self.now result }
+        ensures steps { Steps window.now self.now window.now self.now result }
     {
         let Some(last) = &self.call.last else {
             unreachable!()
@@ -138,10 +116,7 @@ impl<'a, K: Hash + Eq + Drop, V: Drop, S: BuildHasher> Writer<'a, K, V, S> {
         requires can { CanWrite window.old self.old }
         requires standing { IsStanding self.old.call.machine }
         requires calling { self.old.call.machine.phase ≡ Calling }
-        ensures sees { Sees window.old window.new }
-        ensures own { window.new.own ≡ window.old.own }
-        ensures standing { IsStanding self.new.call.machine }
-        ensures looked { HasLookedOn window.old self.old.call window.new self.new.call }
+        ensures over { GoesOver window.old self.old.call window.new self.new.call }
         ensures looks { WritesOn window.old self.old window.new self.new }
         ensures rest { self.new ≡ record self.old { call = self.new.call } }
     {
@@ -172,21 +147,10 @@ impl<'a, K: Hash + Eq + Drop, V: Drop, S: BuildHasher> Writer<'a, K, V, S> {
         rt: &R,
         window: &Window<'a, K, V, S>,
     ) -> Result<Stored<K, V>, Answer>
-        requires can { CanWrite window.now self.old }
-        requires asks { ask_of self.old.call.machine ≡ Call MakePair }
+        requires waits { Waits window.now self.old MakePair }
         requires standing { IsStanding self.old.call.machine }
-        ensures machine { self.new.call.machine ≡ self.old.call.machine }
-        ensures put { self.new.call.put ≡ self.old.call.put }
-        ensures left { held_value self.new.value ≡ held_value self.old.value }
-        ensures number { IfOk result (λ q. q.index < 2 ^ 48) }
-        ensures placed { IfOk result (λ q. IsIn window.now (PairNamed q)) }
         ensures key { IfOk result (λ q. (k : _) → self.old.key ≡ Some k → key_of q ≡ key_in k) }
-        ensures value { IfOk result (λ q. held_value self.old.value ≡ Some q.value.value) }
-        ensures pairs { IfOk result (λ q. Pairs window.now self.old self.new q) }
-        ensures unlogged { IfErr result (λ answer. IsUnlogged answer) }
-        ensures unsaid { IfErr result (λ answer. IsUnsaid self.new.call.given.done answer) }
-        ensures writes { IfErr result (λ answer. Writes window.now self.old window.now self.new
-            answer) }
+        ensures logs { Logs window.now self.old self.new result }
     {
         let Some(value) = self.value.take() else {
             return Err(Answer::Ok);
@@ -214,22 +178,11 @@ impl<'a, K: Hash + Eq + Drop, V: Drop, S: BuildHasher> Writer<'a, K, V, S> {
         rt: &R,
         window: &Window<'a, K, V, S>,
     ) -> Result<Stored<K, V>, Answer>
-        requires can { CanWrite window.now self.old }
-        requires asks { (n : ℕ) × (ask_of self.old.call.machine ≡ Call (MakePairOf n)) }
+        requires waits { (n : ℕ) × Waits window.now self.old (MakePairOf n) }
         requires standing { IsStanding self.old.call.machine }
-        ensures machine { self.new.call.machine ≡ self.old.call.machine }
-        ensures put { self.new.call.put ≡ self.old.call.put }
-        ensures left { held_value self.new.value ≡ held_value self.old.value }
-        ensures number { IfOk result (λ q. q.index < 2 ^ 48) }
-        ensures placed { IfOk result (λ q. IsIn window.now (PairNamed q)) }
         ensures key { IfOk result (λ q. (p : _) → self.old.call.last ≡ Some p
             → key_of q ≡ key_of p) }
-        ensures value { IfOk result (λ q. held_value self.old.value ≡ Some q.value.value) }
-        ensures pairs { IfOk result (λ q. Pairs window.now self.old self.new q) }
-        ensures unlogged { IfErr result (λ answer. IsUnlogged answer) }
-        ensures unsaid { IfErr result (λ answer. IsUnsaid self.new.call.given.done answer) }
-        ensures writes { IfErr result (λ answer. Writes window.now self.old window.now self.new
-            answer) }
+        ensures logs { Logs window.now self.old self.new result }
     {
         let Some(value) = self.value.take() else {
             return Err(Answer::Ok);
@@ -280,17 +233,10 @@ impl<'a, K: Hash + Eq + Drop, V: Drop, S: BuildHasher> Writer<'a, K, V, S> {
         chunks: usize,
         window: &mut Window<'a, K, V, S>,
     ) -> Answer
-        requires can { CanWrite window.old self.old }
-        requires asks { ask_of self.old.call.machine ≡ Call (MakeTable len limit chunks) }
+        requires waits { Waits window.old self.old (MakeTable len limit chunks) }
         requires standing { IsStanding self.old.call.machine }
         requires size { IsSize len limit }
-        ensures sees { Sees window.old window.new }
-        ensures own { window.new.own ≡ window.old.own }
-        ensures machine { self.new.call.machine ≡ self.old.call.machine }
-        ensures value { self.new.value ≡ self.old.value }
-        ensures unsaid { IsUnsaid self.new.call.given.done result }
-        ensures put { self.new.call.put ≡ self.old.call.put }
-        ensures writes { Writes window.old self.old window.new self.new result }
+        ensures steps { Steps window.old self.old window.new self.new result }
     {
         let made = window.make_table(rt, alloc, len, limit, chunks, &mut self.call.given);
         window.learn();
@@ -306,17 +252,9 @@ impl<'a, K: Hash + Eq + Drop, V: Drop, S: BuildHasher> Writer<'a, K, V, S> {
 
     /// Tries to make the table that was made the root.
     pub fn open(&mut self, window: &mut Window<'a, K, V, S>) -> Answer
-        requires can { CanWrite window.old self.old }
-        requires asks { (old : ℕ) × (new : ℕ)
-            × (ask_of self.old.call.machine ≡ Call (Exchange Root old new)) }
+        requires waits { (old : ℕ) × (new : ℕ) × Waits window.old self.old (Exchange Root old new) }
         requires standing { IsStanding self.old.call.machine }
-        ensures sees { Sees window.old window.new }
-        ensures own { window.new.own ≡ window.old.own }
-        ensures machine { self.new.call.machine ≡ self.old.call.machine }
-        ensures value { self.new.value ≡ self.old.value }
-        ensures unsaid { IsUnsaid self.new.call.given.done result }
-        ensures put { self.new.call.put ≡ self.old.call.put }
-        ensures writes { Writes window.old self.old window.new self.new result }
+        ensures steps { Steps window.old self.old window.new self.new result }
     {
         let Some((table, mut seal)) = self.call.fresh.take() else {
             unreachable!()
@@ -345,13 +283,7 @@ impl<'a, K: Hash + Eq + Drop, V: Drop, S: BuildHasher> Writer<'a, K, V, S> {
             words.0 words.1) }
         requires kind { IsPutting (kind_of_ask self.old.call.machine) }
         requires standing { IsStanding self.old.call.machine }
-        ensures sees { Sees window.old window.new }
-        ensures does { Does (was_made result) window.old window.new }
-        ensures machine { self.new.call.machine ≡ self.old.call.machine }
-        ensures value { self.new.value ≡ self.old.value }
-        ensures unsaid { IsUnsaid self.new.call.given.done result }
-        ensures put { (self.new.call.put ≡ self.old.call.put)
-            ⊎ (self.new.call.put ≡ Some pair.now) }
+        ensures tries { Tries window.old self.old (Some pair.now) window.new self.new result }
         ensures writes { Puts window.old self.old number place words.0 pair.now window.new self.new
             result }
     {
@@ -372,17 +304,10 @@ impl<'a, K: Hash + Eq + Drop, V: Drop, S: BuildHasher> Writer<'a, K, V, S> {
         words: (u64, u64),
         window: &mut Window<'a, K, V, S>,
     ) -> Answer
-        requires can { CanWrite window.old self.old }
-        requires asks { ask_of self.old.call.machine ≡ Call (Exchange (Slot number place)
-            words.0 words.1) }
+        requires waits { Waits window.old self.old (Exchange (Slot number place) words.0 words.1) }
         requires kind { kind_of_ask self.old.call.machine ≡ Some Delete }
         requires standing { IsStanding self.old.call.machine }
-        ensures sees { Sees window.old window.new }
-        ensures does { Does (was_made result) window.old window.new }
-        ensures machine { self.new.call.machine ≡ self.old.call.machine }
-        ensures value { self.new.value ≡ self.old.value }
-        ensures unsaid { IsUnsaid self.new.call.given.done result }
-        ensures put { (self.new.call.put ≡ self.old.call.put) ⊎ (self.new.call.put ≡ None) }
+        ensures tries { Tries window.old self.old None window.new self.new result }
         ensures writes { Writes window.old self.old window.new self.new result }
     {
         self.call.delete(number, place, words, window)

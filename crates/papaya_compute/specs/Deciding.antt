@@ -44,13 +44,19 @@ abbrev pub outcomes : {C K V : Type 0} → First C (Result (Computed K V (Unit {
 outcomes (Over answer) current = Over (answer_of answer current)
 outcomes (On x) current = On x
 
+-- The rule is shown this value, or that there is none, and answers what is stored then, or that all
+-- is left as it is.
+abbrev pub WishesOf : {F V : Type 0} → (F → Option V → Option V → F → Type 0) → F → Option V
+    → Operation V (Unit {0}) → F → Type 0
+WishesOf decides f held (operation.Insert v) g = decides f held (Some v) g
+WishesOf decides f held operation.Remove g = ⊥
+WishesOf decides f held (operation.Abort t) g = decides f held None g
+
 module _ {K V : Type 0} where
-  -- The rule is shown this, and answers what is stored then, or that all is left as it is.
+  -- The rule is shown the value of this pair, or that there is none.
   abbrev pub Wishes : {F : Type 0} → (F → Option V → Option V → F → Type 0) → F
       → Option (Stored K V) → Operation V (Unit {0}) → F → Type 0
-  Wishes decides f held (operation.Insert v) g = decides f (value_in held) (Some v) g
-  Wishes decides f held operation.Remove g = ⊥
-  Wishes decides f held (operation.Abort t) g = decides f (value_in held) None g
+  Wishes decides f held done g = WishesOf decides f (value_in held) done g
 
   -- no answer was that a pair is to go
   abbrev pub HasNoRemoval : List (Option (Stored K V) × Operation V (Unit {0})) → Type 0

@@ -1,11 +1,12 @@
 //! Computes: their machine, answered by steps on the book and by a closure.
+ghost use Rattle.papaya_change.specs.Window.Driver.{Helps};
+ghost use Rattle.papaya_compute.specs.FastPath.{IsAhead};
 ghost use Rattle.papaya_book.specs.declared.rule.entry.Named.TheVariants.{Pair as PairNamed};
 ghost use Rattle.papaya_book.specs.Windows.{Does, IsIn as IsInWindow, IsLawful, Sees};
 ghost use Rattle.papaya_book.specs.Books.{IsIn};
 ghost use Rattle.papaya_book.specs.Logs.{pair_named};
-ghost use Rattle.papaya_change.specs.Helping.{HasHelped};
 ghost use Rattle.papaya_compute.specs.Computes.{CanCompute, CanTake, Computes, Hears, IsAnyCompute, IsBegun, Replies, Takes, Turns};
-ghost use Rattle.std.specs.Prelude.{◌≡◌, ◌⊎◌, ℕ, ◌<◌, ◌^◌, false, true, None, Some, Option, Ok, Err, IfErr, option_map};
+ghost use Rattle.std.specs.Prelude.{◌≡◌, ◌⊎◌, ℕ, ◌<◌, ◌^◌, true, None, Some, Ok, IfErr, option_map};
 ghost use Rattle.std.specs.Int.{IsPowerOfTwo};
 ghost use Rattle.papaya_call.specs.Compute.{IsRemembered};
 ghost use Rattle.papaya_call.specs.Machine.{IsFitAsk};
@@ -23,7 +24,6 @@ ghost use Rattle.papaya_change.specs.Doing.{has_changed, was_made};
 ghost use Rattle.papaya_change.specs.Writing.{HasKeyAt};
 ghost use Rattle.papaya_compute.specs.Resuming.{IsResumed, resumed_at};
 ghost use Rattle.papaya_lookup.specs.History.{key_of};
-ghost use Rattle.papaya_book.specs.Limits.{tables_of};
 
 use papaya_ask::ask::{Answer, Ask as CallAsk, At, OpKind, StepKind};
 use papaya_ask::call::{Reply, Task};
@@ -38,7 +38,7 @@ use papaya_call::compute::{Choice, Remembered};
 use papaya_call::write::Write;
 use papaya_chain::ask::Ask;
 use papaya_change::driver::Driver;
-use papaya_change::removal::entry;
+use papaya_change::removal::{entry, value_of};
 use papaya_change::writing::Writer;
 use papaya_keys::compute::Compute;
 use papaya_lookup::lookup::{Met, hash};
@@ -148,10 +148,7 @@ impl<'a, K: Hash + Eq + Drop, V: Drop, S: BuildHasher, T: Drop> Computing<'a, K,
     pub fn new(window: &Window<'a, K, V, S>, initial: usize, key: K) -> Computing<'a, K, V, S, T>
         requires lawful { IsLawful window.now }
         requires initial { IsPowerOfTwo initial }
-        ensures standing { IsStanding result.writer.call.machine }
-        ensures calling { result.writer.call.machine.phase ≡ Calling }
-        ensures initial { result.writer.call.machine.call.initial ≡ initial }
-        ensures unchanged { has_changed result.writer.call.machine ≡ false }
+        ensures ahead { IsAhead initial result }
         ensures begins { IsBegun window.now key result }
     {
         let book = window.book;
@@ -189,10 +186,7 @@ impl<'a, K: Hash + Eq + Drop, V: Drop, S: BuildHasher, T: Drop> Computing<'a, K,
             (key_of pair) }
         requires placed { IsInWindow window.now (PairNamed pair) }
         requires number { pair.index < 2 ^ 48 }
-        ensures standing { IsStanding result.writer.call.machine }
-        ensures calling { result.writer.call.machine.phase ≡ Calling }
-        ensures initial { result.writer.call.machine.call.initial ≡ initial }
-        ensures unchanged { has_changed result.writer.call.machine ≡ false }
+        ensures ahead { IsAhead initial result }
         ensures resumes { IsResumed window.now (key_of pair) None
             (Operation.Insert pair.value.value) result }
     {
@@ -233,10 +227,7 @@ impl<'a, K: Hash + Eq + Drop, V: Drop, S: BuildHasher, T: Drop> Computing<'a, K,
         requires same { K.eq key (key_of pair) ≡ true }
         requires there { HasKeyAt window.now.sight.log met.place.table met.place.probe.i
             (key_of pair) }
-        ensures standing { IsStanding result.writer.call.machine }
-        ensures calling { result.writer.call.machine.phase ≡ Calling }
-        ensures initial { result.writer.call.machine.call.initial ≡ initial }
-        ensures unchanged { has_changed result.writer.call.machine ≡ false }
+        ensures ahead { IsAhead initial result }
         ensures resumes { IsResumed window.now key (Some met.stored)
             (Operation.Insert pair.value.value) result }
     {
@@ -280,10 +271,7 @@ impl<'a, K: Hash + Eq + Drop, V: Drop, S: BuildHasher, T: Drop> Computing<'a, K,
         requires initial { IsPowerOfTwo initial }
         requires hashed { hash ≡ ⟦<S as Hashed<K>>⟧.hash window.now.book.now.parts.hasher key }
         requires shown { IsInWindow window.now (PairNamed shown) }
-        ensures standing { IsStanding result.writer.call.machine }
-        ensures calling { result.writer.call.machine.phase ≡ Calling }
-        ensures initial { result.writer.call.machine.call.initial ≡ initial }
-        ensures unchanged { has_changed result.writer.call.machine ≡ false }
+        ensures ahead { IsAhead initial result }
         ensures resumes { IsResumed window.now key (Some shown) Operation.Remove result }
     {
         let remembered = Remembered {
@@ -340,13 +328,8 @@ impl<'a, K: Hash + Eq + Drop, V: Drop, S: BuildHasher, T: Drop> Computing<'a, K,
     )
         requires standing { IsStanding self.old.writer.call.machine }
         requires can { CanTake window.old self.old answer }
-        ensures sees { Sees window.old window.new }
-        ensures standing { IsStanding self.new.writer.call.machine }
-        ensures calling { self.new.writer.call.machine.phase ≡ Calling }
-        ensures helped { HasHelped (after self.old.writer.call.machine (Told answer))
-            self.new.writer.call.machine (tables_of window.new.sight.log)
-            self.new.writer.call.given.done }
-        ensures own { window.new.own ≡ window.old.own }
+        ensures helps { Helps window.old (after self.old.writer.call.machine (Told answer))
+            window.new self.new.writer.call }
         ensures still { (after self.old.writer.call.machine (Told answer)).phase ≡ Calling
             → window.new ≡ window.old }
         ensures takes { Takes window.old self.old answer window.new self.new }
@@ -628,7 +611,7 @@ pub(crate) fn value_in<'a, K: Hash + Eq, V, S: BuildHasher>(
     ensures { option_map (λ v. v.now) result ≡ value_in pair.now }
 {
     match pair {
-        Some(pair) => Some(entry(book, pair).1),
+        Some(pair) => Some(value_of(book, pair)),
         None => None,
     }
 }

@@ -1,34 +1,32 @@
 //! Calls that store a value where their rule says so. Each is a compute whose rule is a type in the
 //! place of a closure, and no pair is removed by it.
-ghost use Rattle.std.specs.Prelude.{◌≡◌, false, None, Some, Option, Ok, Err, IfErr};
+ghost use Rattle.papaya_change.specs.Window.Ends.{Ends, TellsWhy};
+ghost use Rattle.std.specs.Prelude.{◌≡◌, false, None, Some, Option, Ok, Err, IfErr, option_map};
 ghost use Rattle.std.specs.Int.{IsPowerOfTwo};
 ghost use Rattle.papaya_ask.specs.declared.ask.Ask.TheVariants.{Done};
 ghost use Rattle.papaya_ask.specs.declared.call.Reply.TheVariants.{Refused as ReplyRefused};
 ghost use Rattle.papaya_chain.specs.declared.ask.Ask.TheVariants.{Call};
 ghost use Rattle.papaya_chain.specs.Machine.{IsStanding, ask_of};
-ghost use Rattle.papaya_book.specs.Books.{IsIn};
 ghost use Rattle.papaya_book.specs.Limits.{HasNoRoom, IsSpent, tables_of};
-ghost use Rattle.papaya_book.specs.Logs.{pair_named};
 ghost use Rattle.papaya_book.specs.Windows.{Does, IsLawful, Sees};
 ghost use Rattle.papaya_lookup.specs.Drivers.{own, past};
 ghost use Rattle.papaya_lookup.specs.History.{Makes};
 ghost use Rattle.papaya_change.specs.Doing.{has_changed};
 ghost use Rattle.papaya_compute.specs.Computes.{CanDecide, Decides};
-ghost use Rattle.papaya_compute.specs.Deciding.{IsDecided, Wishes, answer_of, outcome_of};
+ghost use Rattle.papaya_compute.specs.Deciding.{IsDecided, Wishes, WishesOf, answer_of, outcome_of};
 ghost use Rattle.papaya_compute.specs.Deciding.{outcomes, puts};
 ghost use Rattle.papaya_compute.specs.FastPath.{IfOn, IfOver, IsOnItsWay};
 ghost use Rattle.papaya_compute.specs.declared.fast_path.First.TheVariants.{Over};
 
 use crate::computing::{Computing, Turn as Next, value_in};
 use crate::fast_path::{First, Start, fill, look, machine_of, renew};
-use papaya_book::book::Book;
 use papaya_book::count::Shard;
-use papaya_book::rule::entry::Stored;
 use papaya_book::rule::own::{CapacityCause, OwnSteps};
 use papaya_book::window::Window;
 use papaya_call::answers::Operation;
 use papaya_change::fast_path::Turn;
 use papaya_change::means::Means;
+use papaya_change::removal::entry;
 use papaya_keys::compute::Compute;
 use papaya_lookup::lookup::hash;
 use papaya_words::probe::Refused;
@@ -73,20 +71,17 @@ pub enum Outcome<'a, V> {
     },
 }
 
-/// What the rule answers that is shown this pair, or that there is none.
-fn wish<K: Hash + Eq, V, S: BuildHasher, D: Rule<V>>(
-    book: &Book<K, V, S>,
-    shown: &Option<Stored<K, V>>,
-    rule: &mut D,
-) -> Operation<V, ()>
+/// What the rule answers that is shown this value, or that there is none.
+#[inline(always)]
+fn wish<V, D: Rule<V>>(shown: Option<&V>, rule: &mut D) -> Operation<V, ()>
     requires callable { D.callable rule.old }
-    requires placed { IsIn book.now (pair_named shown.now) }
     ensures callable { D.callable rule.new }
-    ensures wishes { Wishes D.decides rule.old shown.now result rule.new }
+    ensures wishes { WishesOf D.decides rule.old (option_map (λ v. v.now) shown.entry) result
+        rule.new }
 {
     let wanted = match shown {
         None => rule.absent(),
-        Some(pair) => rule.present(book.value(book.pair(pair))),
+        Some(value) => rule.present(value),
     };
     match wanted {
         Some(value) => Operation::Insert(value),
@@ -207,15 +202,15 @@ fn decide_fast<'a, R: Wait, K: Hash + Eq + Drop, V: Drop, S: BuildHasher, D: Rul
     let table = spot.table;
     match spot.turn {
         Turn::Empty(at) => {
-            let wished = wish(book, &None, rule);
+            let wished = wish(None, rule);
             let filled = fill(means, window, given, key, hash, table, at, wished);
             settle(filled, None)
         }
         Turn::Met(met) => {
-            let shown = Some(met.stored.again());
-            let again = wish(book, &shown, rule);
-            let renewed = renew(means, window, given, key, hash, table, met, again);
-            settle(renewed, value_in(book, &shown))
+            let old = entry(book, &met.stored);
+            let again = wish(Some(old.1), rule);
+            let renewed = renew(means, window, given, key, hash, table, met, old, again);
+            settle(renewed, Some(old.1))
         }
         _ => First::On(Start::Anew(key)),
     }
@@ -235,13 +230,9 @@ fn decide_slow<'a, R: Wait, K: Hash + Eq + Drop, V: Drop, S: BuildHasher, D: Rul
     requires initial { IsPowerOfTwo means.now.initial }
     requires can { (since : _) × (key : K) × (first : D) × IsOnItsWay since window.old key
         (Wishes D.decides) first rule.old start }
-    ensures sees { Sees window.old window.new }
-    ensures lawful { IsLawful window.new }
-    ensures made { Makes (puts result) (own window.old) (own window.new) (past window.new) }
-    ensures crowded { result ≡ Err Refused.Capacity → HasNoRoom means.now.initial
-        (tables_of window.new.sight.log) given.new.done }
-    ensures spent { result ≡ Err Refused.Limit → IsSpent window.new.book.now.parts.limit
-        window.new.sight.log }
+    ensures ends { Ends (puts result) window.old window.new }
+    ensures tells { TellsWhy means.now.initial window.new given.new.done
+        (λ cause. result ≡ Err cause) }
     ensures decided { (since : _) (key : K) (first : D) → IsOnItsWay since window.old key
         (Wishes D.decides) first rule.old start → IsDecided K.eq key (past since)
         (past window.new) D.decides first rule.new result }
@@ -254,7 +245,7 @@ fn decide_slow<'a, R: Wait, K: Hash + Eq + Drop, V: Drop, S: BuildHasher, D: Rul
                 computing.tell(means.rt, means.alloc, means.shard, answer, window)
             }
             Next::Shows(shown) => {
-                let operation = wish(book, &shown, rule);
+                let operation = wish(value_in(book, &shown), rule);
                 let answer = computing.hear(shown, operation);
                 computing.tell(means.rt, means.alloc, means.shard, answer, window);
             }
@@ -281,13 +272,8 @@ pub fn decide<'a, R: Wait, K: Hash + Eq + Drop, V: Drop, S: BuildHasher, D: Rule
 ) -> Result<Outcome<'a, V>, Refused>
     requires callable { D.callable rule.old }
     requires initial { IsPowerOfTwo initial }
-    ensures sees { Sees window.old window.new }
-    ensures lawful { IsLawful window.new }
-    ensures made { Makes (puts result) (own window.old) (own window.new) (past window.new) }
-    ensures crowded { result ≡ Err Refused.Capacity → HasNoRoom initial
-        (tables_of window.new.sight.log) given.new.done }
-    ensures spent { result ≡ Err Refused.Limit → IsSpent window.new.book.now.parts.limit
-        window.new.sight.log }
+    ensures ends { Ends (puts result) window.old window.new }
+    ensures tells { TellsWhy initial window.new given.new.done (λ cause. result ≡ Err cause) }
     ensures decided { IsDecided K.eq key (past window.old) (past window.new) D.decides rule.old
         rule.new result }
 {

@@ -11,6 +11,7 @@ ghost use Rattle.papaya_book.specs.Logs.{Stored};
 ghost use Rattle.papaya_book.specs.Windows.{Does, IsLawful, Sees};
 ghost use Rattle.papaya_lookup.specs.Drivers.{own, past};
 ghost use Rattle.papaya_lookup.specs.History.{Makes};
+ghost use Rattle.papaya_change.specs.Showings.{AreOf};
 ghost use Rattle.papaya_change.specs.Window.Seeking.{IsFoundFor};
 ghost use Rattle.papaya_change.specs.declared.fast_path.Turn.TheVariants.{Empty, Met as MetPair};
 ghost use Rattle.papaya_compute.specs.ComputeAnswers.{changes};
@@ -28,7 +29,7 @@ use papaya_book::window::Window;
 use papaya_call::answers::Operation;
 use papaya_change::fast_path::{Spot, Tried, claim, delete, find_place, replace};
 use papaya_change::means::Means;
-use papaya_change::removal::entry;
+use papaya_change::removal::{entry, value_of};
 use papaya_keys::compute::Compute;
 use papaya_lookup::lookup::Met;
 use papaya_words::probe::Refused;
@@ -170,7 +171,8 @@ pub fn fill<'a, R: Wait, K: Hash + Eq + Drop, V: Drop, S: BuildHasher, T: Drop>(
     }
 }
 
-/// Does what the closure answered that was shown the live pair which a search has met.
+/// Does what the closure answered that was shown the live pair which a search has met. The new pair
+/// has the same key, so that is not read again.
 #[inline(always)]
 pub fn renew<'a, R: Wait, K: Hash + Eq + Drop, V: Drop, S: BuildHasher, T: Drop>(
     means: &Means<'_, '_, R>,
@@ -180,6 +182,7 @@ pub fn renew<'a, R: Wait, K: Hash + Eq + Drop, V: Drop, S: BuildHasher, T: Drop>
     hash: u64,
     table: &Table<K, V, S>,
     met: Met<K, V>,
+    old: (&'a K, &'a V),
     operation: Operation<V, T>,
 ) -> First<Start<K, V>, Result<Compute<'a, K, V, T>, Refused>>
     requires initial { IsPowerOfTwo means.now.initial }
@@ -187,6 +190,7 @@ pub fn renew<'a, R: Wait, K: Hash + Eq + Drop, V: Drop, S: BuildHasher, T: Drop>
     requires limit { window.old.book.now.parts.limit ≡ None }
     requires found { (begun : _) × IsFoundAt window.old key begun table.now (MetPair met) }
     requires live { kind_of met.word ≡ Live }
+    requires shown { AreOf old met.stored }
     ensures sees { Sees window.old window.new }
     ensures lawful { IsLawful window.new }
     ensures made { IfOver result (λ answer. Makes (changes answer) (own window.old) (own window.new)
@@ -204,7 +208,7 @@ pub fn renew<'a, R: Wait, K: Hash + Eq + Drop, V: Drop, S: BuildHasher, T: Drop>
         Operation::Insert(value) => match replace(means, window, given, value, table, &met) {
             Ok(Tried::Put(pair)) => {
                 let book = window.book;
-                let (old, new) = (entry(book, &met.stored), entry(book, &pair));
+                let new = (old.0, value_of(book, &pair));
                 First::Over(Ok(Compute::Updated { old, new }))
             }
             Ok(Tried::Lost(pair)) => First::On(Start::Replaced {
@@ -220,8 +224,7 @@ pub fn renew<'a, R: Wait, K: Hash + Eq + Drop, V: Drop, S: BuildHasher, T: Drop>
                 let shown = met.stored;
                 return First::On(Start::Removing { key, hash, shown });
             }
-            let (key, value) = entry(window.book, &met.stored);
-            First::Over(Ok(Compute::Removed(key, value)))
+            First::Over(Ok(Compute::Removed(old.0, old.1)))
         }
         Operation::Abort(with) => First::Over(Ok(Compute::Aborted(with))),
     }

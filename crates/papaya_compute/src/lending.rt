@@ -1,6 +1,7 @@
 //! Computes whose closure is lent the pair that it is shown, for the time of its call alone. So
 //! the closure's type names no lifetime, and such a call can be made in other crates for keys of
 //! any type.
+ghost use Rattle.papaya_change.specs.Window.Ends.{Ends, TellsWhy};
 ghost use Rattle.std.specs.Prelude.{◌≡◌, false, None, Err};
 ghost use Rattle.std.specs.Int.{IsPowerOfTwo};
 ghost use Rattle.papaya_book.specs.Books.{IsIn};
@@ -105,9 +106,9 @@ fn lend_fast<
             fill(means, window, given, key, hash, table, at, operation)
         }
         Turn::Met(met) => {
-            let shown = Some(met.stored.again());
-            let again = operate(book, &shown, f);
-            renew(means, window, given, key, hash, table, met, again)
+            let old = entry(book, &met.stored);
+            let again = f(Some(old));
+            renew(means, window, given, key, hash, table, met, old, again)
         }
         _ => First::On(Start::Anew(key)),
     }
@@ -135,13 +136,9 @@ fn lend_slow<
     requires initial { IsPowerOfTwo means.now.initial }
     requires can { (since : _) × (key : K) × (first : F) × IsOnItsWay since window.old key
         (Operates F.FnMut) first f.old start }
-    ensures sees { Sees window.old window.new }
-    ensures lawful { IsLawful window.new }
-    ensures made { Makes (changes result) (own window.old) (own window.new) (past window.new) }
-    ensures crowded { result ≡ Err Refused.Capacity → HasNoRoom means.now.initial
-        (tables_of window.new.sight.log) given.new.done }
-    ensures spent { result ≡ Err Refused.Limit → IsSpent window.new.book.now.parts.limit
-        window.new.sight.log }
+    ensures ends { Ends (changes result) window.old window.new }
+    ensures tells { TellsWhy means.now.initial window.new given.new.done
+        (λ cause. result ≡ Err cause) }
     ensures computed { (since : _) (key : K) (first : F) → IsOnItsWay since window.old key
         (Operates F.FnMut) first f.old start → IsComputeBy K.eq key (past since)
         (past window.new) (Operates F.FnMut) first result }
@@ -190,13 +187,8 @@ pub fn compute_lent<
 ) -> Result<Compute<'a, K, V, T>, Refused>
     requires callable { F.IsAlwaysCallable f }
     requires initial { IsPowerOfTwo initial }
-    ensures sees { Sees window.old window.new }
-    ensures lawful { IsLawful window.new }
-    ensures made { Makes (changes result) (own window.old) (own window.new) (past window.new) }
-    ensures crowded { result ≡ Err Refused.Capacity → HasNoRoom initial
-        (tables_of window.new.sight.log) given.new.done }
-    ensures spent { result ≡ Err Refused.Limit → IsSpent window.new.book.now.parts.limit
-        window.new.sight.log }
+    ensures ends { Ends (changes result) window.old window.new }
+    ensures tells { TellsWhy initial window.new given.new.done (λ cause. result ≡ Err cause) }
     ensures computed { IsComputeBy K.eq key (past window.old) (past window.new) (Operates F.FnMut) f
         result }
 {

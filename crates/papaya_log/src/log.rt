@@ -151,6 +151,7 @@ impl<T: Drop> Log<T> {
 impl<T: Blank + Drop> Log<T> {
     /// Makes a row, if it is not there. Where several threads need it, one makes it.
     #[cold]
+    #[inline(never)]
     fn make_row<R: Wait>(
         &self,
         rt: &R,
@@ -188,7 +189,7 @@ impl<T: Blank + Drop> Log<T> {
 
     /// The value, pushed: what shows its number. It comes back where there is no memory, or no
     /// number is left; its number then goes to the next push, unless another push came between.
-    #[inline]
+    #[inline(always)]
     pub fn push_shown<R: Wait>(&self, rt: &R, value: T) -> Result<Pushed<T>, T>
         ensures ok { IfOk result (λ p. Shows self.now p × (p.value ≡ value)) }
         ensures err { IfErr result (λ back. back ≡ value) }

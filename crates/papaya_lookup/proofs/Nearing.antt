@@ -1,5 +1,5 @@
 -- One place of a search of the root alone: where it leads the machine that nothing runs.
-use Rattle.std.proofs.Common.{◌≡◌, ℕ, nat_lt, if◌then◌else◌, Bool, true, false, Option, Some, List, sym, ap, ◌∙◌, subst}
+use Rattle.std.proofs.Common.{◌≡◌, ℕ, nat_lt, if◌then◌else◌, Bool, true, false, MatchOption, Option, Some, List, sym, ap, ◌∙◌, subst}
 use Rattle.std.specs.Cmp.{IsEquivalence}
 use Rattle.std.proofs.lemmas.Bool.{ltb-true}
 use mathlib.Core.List.{IsPrefix}
@@ -27,8 +27,10 @@ use Rattle.papaya_book.specs.Hinted.{IsSlotHint}
 use Rattle.papaya_book.specs.Logs.{Stored}
 use Rattle.papaya_book.specs.Sheets.{Sheet}
 use Rattle.papaya_lookup.specs.History.{key_of}
-use Rattle.papaya_lookup.specs.Lookups.{IsReadingAt, IsTurned, turn_of}
+use Rattle.papaya_lookup.specs.Lookups.{IsReadingAt, IsTurned, turn_near, turn_of}
 use Rattle.papaya_lookup.specs.declared.lookup.Met.{Met}
+use Rattle.papaya_lookup.specs.declared.near.Near.{Near}
+use Rattle.papaya_lookup.specs.declared.near.Near.TheVariants as nears
 use Rattle.papaya_lookup.specs.declared.lookup.Turn.{Turn}
 use Rattle.papaya_lookup.specs.declared.lookup.Turn.TheVariants as turns
 use Rattle.papaya_lookup.proofs.Readings.{IsQuery, fed}
@@ -38,6 +40,15 @@ use Rattle.papaya_lookup.proofs.Turning.{here_not, hint_passed, on_not, other_pa
 on_within : (at : Place) → IsWithin at → IsProbed (go_on at)
 on_within at within = chosen IsProbed (nat_lt at.probe.len at.limit) (On (Looking (next_place at))) (Over at.table)
     (λ e. next_within at within (ltb-true at.probe.len at.limit e)) (λ e. tt)
+
+-- where no pair is at a place, and it is not the last, the next place is looked at
+pub went_on : {M E : Type 0} (P : Turn M E → Type 0) (at next : Place) (near : Near M E) → near ≡ nears.On → nat_lt at.probe.len at.limit ≡ true
+    → next ≡ next_place at → MatchOption (turn_near at near) (Unit {0}) P → P (turns.Next next)
+went_on {M} {E} P at next near on more is all =
+    let goes : go_on at ≡ On (Looking next) = ap (λ (o : Bool). if o then On (Looking (next_place at)) else Over at.table) more
+    ∙ ap (λ (p : Place). On (Looking p)) (sym is) in
+    let told : turn_near {M = M} {E = E} at near ≡ Some (turns.Next next) = ap (turn_near at) on ∙ ap (λ (s : Probed). Some (turn_of s)) goes in
+    subst (λ (o : Option (Turn M E)). MatchOption o (Unit {0}) P) told all
 
 -- what the word tells, by its kind
 pub looks : (at : Place) (word : ℕ) (kind : Kind) → kind_of word ≡ kind → look at word ≡ look_at kind at word

@@ -4,4 +4,4 @@
 
 pub mod history;
 pub mod lookup;
-mod near;
+pub mod near;

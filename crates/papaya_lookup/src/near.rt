@@ -1,5 +1,6 @@
 //! The search that most lookups make: a loop over the places of the root alone. Where a copier was
-//! there, or the limit is reached, it gives up, and the whole search is made.
+//! there, a pair's value is another pair's, or the limit is reached, it gives up, and the whole
+//! search is made.
 ghost use Rattle.std.specs.Prelude.{◌≡◌, MatchOption, map};
 ghost use Rattle.papaya_words.specs.Word.{may_hold};
 ghost use Rattle.papaya_ask.specs.Search.{IsWithin};
@@ -27,7 +28,7 @@ use std::hash::{BuildHasher, Hash};
 
 /// The slots of a table: a loop over them keeps where they lie.
 #[inline(always)]
-fn slots_of<K: Hash + Eq, V, S: BuildHasher>(table: &Table<K, V, S>) -> &[Slot<K, V, S>]
+pub fn slots_of<K: Hash + Eq, V, S: BuildHasher>(table: &Table<K, V, S>) -> &[Slot<K, V, S>]
     ensures { result.now ≡ map (word_named table.now.book) table.now.slots }
 {
     table.slots.as_slice()
@@ -54,7 +55,7 @@ fn hint_of<K: Hash + Eq, V, S: BuildHasher>(
 
 /// One atomic load of the word of a slot, as [`Window::slot_word`] does it.
 #[inline(always)]
-fn word_of<K: Hash + Eq, V, S: BuildHasher>(
+pub fn word_of<K: Hash + Eq, V, S: BuildHasher>(
     window: &mut Window<'_, K, V, S>,
     slot: &Slot<K, V, S>,
     number: u64,
@@ -81,7 +82,7 @@ pub(crate) enum Near<M, E> {
     Found(M, E),
     /// No pair has a matching key.
     Absent,
-    /// A copier was there, so the whole search is to be made.
+    /// A copier was there, or a pair's value is another pair's, so the whole search is to be made.
     Aside,
 }
 
@@ -99,31 +100,27 @@ fn holds(found: u64, hash: u64) -> bool
 fn read_slot<'a, K: Hash + Eq, V, S: BuildHasher, Q: Equivalent<K>>(
     window: &mut Window<'a, K, V, S>,
     key: &Q,
-    hash: u64,
-    began: &Seen<K, V, S>,
-    table: &Table<K, V, S>,
     slot: &Slot<K, V, S>,
     at: Place,
 ) -> Near<Met<K, V>, (&'a K, &'a V)>
     requires within { IsWithin at }
     requires slot { IsSlotAt window.old at.table at.probe.i slot.now }
-    requires reading { IsReadingAt (⟦<S as Asked<K, Q>>⟧.query key.now) began.now.log window.old
-        hash (Searching (Reading at)) table.now }
     ensures sees { Sees window.old window.new }
     ensures own { window.new.own ≡ window.old.own }
-    ensures near { IsNear (⟦<S as Asked<K, Q>>⟧.query key.now) began.now.log window.new hash
-        table.now at result }
+    ensures near { (began : _) (hash : _) (table : _)
+        → IsReadingAt (⟦<S as Asked<K, Q>>⟧.query key.now) began window.old hash
+        (Searching (Reading at)) table
+        → IsNear (⟦<S as Asked<K, Q>>⟧.query key.now) began window.new hash table at result }
 {
-    let _ = began;
-    let _ = hash;
-    let _ = table;
     let (word, offer) = word_of(window, slot, at.table, at.probe.i);
     match Word(word).kind() {
         Kind::Live => {
             let book = window.book;
             let stored = named_pair(word, offer);
             let pair = book.pair(&stored);
-            let entry = book.entry(pair);
+            let Some(entry) = book.near_entry(pair) else {
+                return Near::Aside;
+            };
             if !key.equivalent(entry.0) {
                 return Near::On;
             }
@@ -146,25 +143,23 @@ fn look_at_slot<'a, K: Hash + Eq, V, S: BuildHasher, Q: Equivalent<K>>(
     window: &mut Window<'a, K, V, S>,
     key: &Q,
     hash: u64,
-    began: &Seen<K, V, S>,
-    table: &Table<K, V, S>,
     slot: &Slot<K, V, S>,
     at: Place,
 ) -> Near<Met<K, V>, (&'a K, &'a V)>
     requires within { IsWithin at }
     requires slot { IsSlotAt window.old at.table at.probe.i slot.now }
-    requires reading { IsReadingAt (⟦<S as Asked<K, Q>>⟧.query key.now) began.now.log window.old
-        hash (Searching (Looking at)) table.now }
     ensures sees { Sees window.old window.new }
     ensures own { window.new.own ≡ window.old.own }
-    ensures near { IsNear (⟦<S as Asked<K, Q>>⟧.query key.now) began.now.log window.new hash
-        table.now at result }
+    ensures near { (began : _) (table : _)
+        → IsReadingAt (⟦<S as Asked<K, Q>>⟧.query key.now) began window.old hash
+        (Searching (Looking at)) table
+        → IsNear (⟦<S as Asked<K, Q>>⟧.query key.now) began window.new hash table at result }
 {
     let found = hint_of(window, slot, at.table, at.probe.i);
     if !holds(found, hash) {
         return Near::On;
     }
-    read_slot(window, key, hash, began, table, slot, at)
+    read_slot(window, key, slot, at)
 }
 
 /// Searches a table from this place on, as long as no copier was there and the limit is
@@ -188,11 +183,12 @@ fn search_slots<'a, K: Hash + Eq, V, S: BuildHasher, Q: Equivalent<K>>(
     ensures near { (last : _) × IsNear (⟦<S as Asked<K, Q>>⟧.query key.now) began.now.log
         window.new hash table.now last result }
 {
+    let _ = began;
     let slots = slots_of(table);
     let mut place = at;
     loop {
         let slot = &slots[place.probe.i];
-        match look_at_slot(window, key, hash, began, table, slot, place) {
+        match look_at_slot(window, key, hash, slot, place) {
             Near::On => {}
             turned => return turned,
         }

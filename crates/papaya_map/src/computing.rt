@@ -108,9 +108,9 @@ fn compute_fast<
             fill(means, window, given, key, hash, table, at, operation)
         }
         Turn::Met(met) => {
-            let shown = Some(met.stored.again());
-            let again = operate(book, &shown, f);
-            renew(means, window, given, key, hash, table, met, again)
+            let old = entry(book, &met.stored);
+            let again = f(Some(old));
+            renew(means, window, given, key, hash, table, met, old, again)
         }
         _ => First::On(Start::Anew(key)),
     }

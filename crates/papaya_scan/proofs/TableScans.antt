@@ -1,7 +1,8 @@
 -- What is so of a table and of a closure stays so, whatever is seen next.
-use Rattle.std.proofs.Common.{ℕ, ◌<◌, Bool, MatchOption, Option, None, Some, List, ◌≡◌, sym, subst, arith}
+use Rattle.std.proofs.Common.{ℕ, suc, ◌+◌, ◌-◌, ◌<◌, ◌≤◌, Bool, MatchOption, Option, None, Some, List, [], ◌∷◌, length, map, slice_get, ◌≡◌, refl, sym, ap, ◌∙◌, subst, arith}
 use mathlib.Core.List.{IsPrefix}
 use denote.Bor.{Bor}
+use Rattle.logbook.specs.Pages.{Named as Word}
 use Rattle.papaya_book.specs.declared.book.Book.{Book}
 use Rattle.papaya_book.specs.declared.keyed.Keyed as keyed
 use Rattle.papaya_book.specs.declared.rule.entry.Begun.{Begun}
@@ -11,17 +12,19 @@ use Rattle.papaya_book.specs.declared.window.Window.{Window}
 use Rattle.papaya_book.specs.Calls as calls
 use Rattle.papaya_book.specs.Logs.{Stored, steps_of}
 use Rattle.papaya_book.specs.Parts.{begun_of}
-use Rattle.papaya_book.specs.Sheets.{Sheet}
+use Rattle.papaya_book.specs.Sheets.{Sheet, word_named}
 use Rattle.papaya_book.specs.Windows.{IsTable, Sees}
 use Rattle.papaya_book.proofs.Loaded.{table_since}
 use Rattle.papaya_book.proofs.Logs.{prefix_trans, table_came}
 use Rattle.papaya_lookup.specs.Drivers.{own, past}
 use Rattle.papaya_lookup.specs.History.{Change, IsLegalHistory, changes_by, history_of, key_of}
+use Rattle.papaya_lookup.specs.Lookups.{IsSlotAt}
 use Rattle.papaya_lookup.proofs.Histories.{history_since}
+use Rattle.papaya_lookup.proofs.Slots.{named_len}
 use Rattle.papaya_scan.specs.Leaving as leaving
 use Rattle.papaya_scan.specs.TableScans.{HasShown, IsTaken, IsTakenAt, Scans}
 use Rattle.papaya_scan.specs.Taking as taking
-use Rattle.papaya_scan.specs.Walked.{Gives, HadEntry, IsRootOf, Walked, Walks}
+use Rattle.papaya_scan.specs.Walked.{AreLast, Gives, HadEntry, IsLeft, Walked, Walks}
 use Rattle.papaya_scan.proofs.Taken.{scanned_later, taken_later}
 use Rattle.papaya_scan.proofs.Scanning.{shown_later}
 
@@ -88,11 +91,52 @@ module _ {K V S H : Type 0} {d : keyed.Ghosts S K H} where
       scans_stopped w w' f f' from mid upto ended other never v first made said h =
           let one = v first made said h in (one.0, one.1, λ e. absurd (never e))
 
--- a root that was taken is held for good
-pub root_later : {K V S : Type 0} (b : Begun K V S) (began log log' : List (Event K V S)) (root : Option (ℕ × Bor Sheet)) → IsPrefix log log'
-    → IsRootOf b began log root → IsRootOf b began log' root
-root_later b began log log' None pre h = tt
-root_later b began log log' (Some root) pre h = (table_since log log' root.0 root.1.now pre h.0, taken_later b began log log' root.0 h.1 pre)
+-- a slot that is left of a table, once more is seen
+slot_later : {K V S : Type 0} (log log' : List (Event K V S)) (t x : ℕ) (word : Word) → IsPrefix log log' → IsSlotAt log t x word → IsSlotAt log' t x word
+slot_later log log' t x word pre h = (h.0, table_since log log' t h.0 pre h.1, h.2, h.3, h.4)
+
+pub last_later : {K V S : Type 0} (log log' : List (Event K V S)) (t len : ℕ) (words : List Word) → IsPrefix log log' → AreLast log t len words
+    → AreLast log' t len words
+last_later log log' t len [] pre h = tt
+last_later log log' t len (word ∷ words) pre (most, here, after) = (
+  most,
+  slot_later log log' t (len - suc (length words)) word pre here,
+  last_later log log' t len words pre after,
+)
+
+-- no more than the table has
+pub last_most : {K V S : Type 0} (log : List (Event K V S)) (t len : ℕ) (words : List Word) → AreLast log t len words → length words ≤ len
+last_most log t len [] h = omega arith
+last_most log t len (word ∷ words) (most, here, after) = most
+
+-- the slots of a table that are its last ones
+module _ {K V S : Type 0} (log : List (Event K V S)) (t : ℕ) (sheet : Sheet) (h : calls.IsTable log t sheet) where
+  are_last : (keys : List ℕ) → length keys ≤ length sheet.slots
+      → ((i : ℕ) → slice_get sheet.slots (length sheet.slots - length keys + i) ≡ slice_get keys i)
+      → AreLast log t (length sheet.slots) (map (word_named sheet.book) keys)
+  are_last [] most same = tt
+  are_last (k ∷ ks) most same =
+      let named = named_len sheet.book ks in
+      let here : length sheet.slots - suc (length (map (word_named sheet.book) ks)) ≡ length sheet.slots - suc (length ks) + 0 = omega (arith, named) in
+      let next : (i : ℕ) → length sheet.slots - suc (length ks) + suc i ≡ length sheet.slots - length ks + i = λ i. omega (arith, most) in (
+        omega (arith, named, most),
+        (sheet, h, k, ap (slice_get sheet.slots) here ∙ same 0, refl),
+        are_last ks (omega (arith, most)) (λ i. ap (slice_get sheet.slots) (sym (next i)) ∙ same (suc i)),
+      )
+
+  pub all_last : AreLast log t (length sheet.slots) (map (word_named sheet.book) sheet.slots)
+  all_last = are_last sheet.slots (omega arith) (λ i. ap (slice_get sheet.slots) (omega arith))
+
+-- a walk begins with all slots of the root, or with none
+pub all_left : {K V S : Type 0} (b : Begun K V S) (began log : List (Event K V S)) (t : ℕ) (sheet : Sheet) (words : List Word)
+    → calls.IsTable log t sheet → taking.IsTaken b began log t → words ≡ map (word_named sheet.book) sheet.slots
+    → IsLeft b began log t (length words) words
+all_left b began log t sheet words h taken is =
+    let all = subst (λ (n : ℕ). AreLast log t n (map (word_named sheet.book) sheet.slots)) (sym (named_len sheet.book sheet.slots)) (all_last log t sheet h) in
+    subst (λ (ws : List Word). IsLeft b began log t (length ws) ws) (sym is) (record { last = all; taken = λ some. taken })
+
+pub none_left : {K V S : Type 0} (b : Begun K V S) (began log : List (Event K V S)) → IsLeft b began log 0 0 []
+none_left b began log = record { last = tt; taken = λ some. absurd (omega (arith, some)) }
 
 -- what a walk gives, once it has gone on
 pub gives_next : {K V : Type 0} (eq : K → K → Bool) (before after : Walked K V) → Walks eq before after → (L : Type 0)

@@ -1,14 +1,15 @@
 -- What a walk shows, and what it gives.
-use Rattle.std.specs.Prelude.{◌≡◌, ℕ, ◌-◌, Bool, Option, None, Some, List, length}
+use Rattle.std.specs.Prelude.{◌≡◌, ℕ, suc, ◌<◌, ◌≤◌, ◌-◌, Bool, Option, None, Some, List, [], ◌∷◌, length}
 use mathlib.Core.List.{IsPrefix}
 use denote.Bor.{Bor}
-use Rattle.logbook.specs.Pages.{Book}
+use Rattle.logbook.specs.Pages.{Book, Named as Word}
 use Rattle.papaya_book.specs.declared.rule.entry.Begun.{Begun}
 use Rattle.papaya_book.specs.declared.rule.entry.Event.{Event}
 use Rattle.papaya_book.specs.Calls.{IsTable}
 use Rattle.papaya_book.specs.Logs.{Stored}
 use Rattle.papaya_book.specs.Sheets.{Sheet}
 use Rattle.papaya_lookup.specs.History.{Change, IsLegalHistory, key_of}
+use Rattle.papaya_lookup.specs.Lookups.{IsSlotAt}
 use Rattle.papaya_change.specs.Showings.{AreOf}
 use Rattle.papaya_scan.specs.Meeting.{HadPair}
 use Rattle.papaya_scan.specs.Taking.{IsTaken}
@@ -27,10 +28,17 @@ abbrev pub IsRootOf : {K V S : Type 0} → Begun K V S → (began log : List (Ev
 IsRootOf b began log None = Unit {0}
 IsRootOf b began log (Some root) = IsTable log root.0 root.1.now × IsTaken b began log root.0
 
--- the slots of a table from this place on
-abbrev pub left_from : Option (ℕ × Bor Sheet) → (place : ℕ) → ℕ
-left_from None place = 0
-left_from (Some root) place = length root.1.now.slots - place
+-- these are the words of the last slots of a table of this length
+abbrev pub AreLast : {K V S : Type 0} → List (Event K V S) → (t len : ℕ) → List Word → Type 0
+AreLast log t len [] = Unit {0}
+AreLast log t len (word ∷ words) = (suc (length words) ≤ len)
+    × IsSlotAt log t (len - suc (length words)) word × AreLast log t len words
+
+-- these are left of the root, which was taken if there is one
+pub record IsLeft {K V S : Type 0} (b : Begun K V S) (began log : List (Event K V S)) (t len : ℕ)
+    (words : List Word) : Type 0 where
+  pub last : AreLast log t len words
+  pub taken : 0 < length words → IsTaken b began log t
 
 -- These are the key and the value of a pair that the map had in a history between the two.
 abbrev pub HadEntry : {K V : Type 0} → (K → K → Bool) → (old new : List (Change K (Stored K V)))

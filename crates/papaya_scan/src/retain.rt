@@ -1,22 +1,20 @@
 //! Clear and retain: the pairs of a table are shown to a closure, and those deleted that are not
 //! to stay.
-ghost use Rattle.std.specs.Prelude.{◌≡◌, ◌<◌, suc, true, false, Err, IfErr, Some, length};
+ghost use Rattle.std.specs.Prelude.{◌≡◌, ◌<◌, suc, false, Err, IfErr, length};
 ghost use Rattle.std.specs.Int.{IsPowerOfTwo};
-ghost use Rattle.papaya_words.specs.Word.{kind_of};
 ghost use Rattle.papaya_book.specs.Limits.{HasNoRoom, tables_of};
-ghost use Rattle.papaya_book.specs.Windows.{IsLawful, IsTable, Sees};
+ghost use Rattle.papaya_book.specs.Windows.{IsIn, IsLawful, IsTable, Sees};
+ghost use Rattle.papaya_book.specs.declared.rule.entry.Named.TheVariants.{Pair as PairNamed};
 ghost use Rattle.papaya_lookup.specs.Drivers.{own, past};
 ghost use Rattle.papaya_change.specs.Showings.{Judges};
 ghost use Rattle.papaya_change.specs.Writing.{IsMemoryOrCapacity};
 ghost use Rattle.papaya_scan.specs.Leaving.{HasKept};
-ghost use Rattle.papaya_scan.specs.Meeting.{has_pair};
-ghost use Rattle.papaya_scan.specs.TableScans.{IsMet, IsTaken, Scans};
+ghost use Rattle.papaya_scan.specs.TableScans.{IsTaken, Scans};
 
 use crate::root::take_root;
 use crate::slot::{delete, load};
 use papaya_book::count::Shard;
 use papaya_book::rule::entry::Stored;
-use papaya_book::rule::offer::Seen;
 use papaya_book::rule::own::{CapacityCause, OwnSteps};
 use papaya_book::table::Table;
 use papaya_book::window::Window;
@@ -29,23 +27,17 @@ use std::alloc::Global;
 use std::hash::{BuildHasher, Hash};
 use std::sync::Wait;
 
-/// Shows the closure the pair of this word: does it stay?
+/// Shows the closure a pair: does it stay?
 fn show<'a, K: Hash + Eq, V, S: BuildHasher, F: FnMut(&K, &V) -> bool>(
-    word: u64,
-    pair: &Option<Stored<K, V>>,
+    stored: &Stored<K, V>,
     stays: &mut F,
-    began: &Seen<K, V, S>,
     window: &Window<'a, K, V, S>,
 ) -> bool
     requires callable { F.IsAlwaysCallable stays.old }
-    requires met { IsMet began.now.log window.now word pair.now }
-    requires some { has_pair (kind_of word) ≡ true }
+    requires placed { IsIn window.now (PairNamed stored.now) }
     ensures callable { F.IsAlwaysCallable stays.new }
-    ensures shown { (p : _) × (pair.now ≡ Some p) × Judges F.FnMut stays.old p result stays.new }
+    ensures shown { Judges F.FnMut stays.old stored.now result stays.new }
 {
-    let _ = began;
-    let _ = word;
-    let Some(stored) = pair else { unreachable!() };
     let (key, value) = entry(window.book, stored);
     stays(key, value)
 }
@@ -58,29 +50,30 @@ fn scan_slot<'a, R: Wait, K: Hash + Eq, V, S: BuildHasher, F: FnMut(&K, &V) -> b
     number: u64,
     place: usize,
     stays: &mut F,
-    began: &Seen<K, V, S>,
     window: &mut Window<'a, K, V, S>,
 ) -> bool
     requires callable { F.IsAlwaysCallable stays.old }
     requires table { IsTable window.old number table.now }
-    requires taken { IsTaken began.now.log window.old number }
+    requires taken { (began : _) × IsTaken began window.old number }
     requires place { place < length table.now.slots }
     ensures sees { Sees window.old window.new }
     ensures callable { F.IsAlwaysCallable stays.new }
-    ensures scans { Scans began.now.log (Judges F.FnMut) window.old stays.old window.new
-        stays.new number place (suc place) (result ≡ false) }
+    ensures scans { (began : _) → IsTaken began window.old number
+        → Scans began (Judges F.FnMut) window.old stays.old window.new stays.new number place
+        (suc place) (result ≡ false) }
 {
-    let (mut word, mut pair) = load(table, number, place, began, window);
+    let (mut word, mut pair) = load(table, number, place, window);
     for _ in rt.forever() {
         match Word(word).kind() {
             Kind::Live => {}
             Kind::Marked | Kind::Copied => return true,
             Kind::Empty | Kind::Tombstone | Kind::Closed => return false,
         }
-        if show(word, &pair, stays, began, window) {
+        let Some(stored) = &pair else { unreachable!() };
+        if show(stored, stays, window) {
             return false;
         }
-        let (found, other) = delete(table, number, place, word, &pair, began, window);
+        let (found, other) = delete(table, number, place, word, &pair, window);
         if found == word {
             shard.add(place as u64, -1);
             return false;
@@ -99,19 +92,19 @@ fn scan_table<'a, R: Wait, K: Hash + Eq, V, S: BuildHasher, F: FnMut(&K, &V) -> 
     table: &Table<K, V, S>,
     number: u64,
     stays: &mut F,
-    began: &Seen<K, V, S>,
     window: &mut Window<'a, K, V, S>,
 ) -> bool
     requires callable { F.IsAlwaysCallable stays.old }
     requires table { IsTable window.old number table.now }
-    requires taken { IsTaken began.now.log window.old number }
+    requires taken { (began : _) × IsTaken began window.old number }
     ensures sees { Sees window.old window.new }
     ensures callable { F.IsAlwaysCallable stays.new }
-    ensures scans { Scans began.now.log (Judges F.FnMut) window.old stays.old window.new
-        stays.new number 0 (length table.now.slots) (result ≡ false) }
+    ensures scans { (began : _) → IsTaken began window.old number
+        → Scans began (Judges F.FnMut) window.old stays.old window.new stays.new number 0
+        (length table.now.slots) (result ≡ false) }
 {
     for place in 0..table.len() {
-        if scan_slot(rt, shard, table, number, place, stays, began, window) {
+        if scan_slot(rt, shard, table, number, place, stays, window) {
             return true;
         }
     }
@@ -141,12 +134,11 @@ pub fn retain<'a, R: Wait, K: Hash + Eq, V, S: BuildHasher, F: FnMut(&K, &V) -> 
     ensures crowded { result ≡ Err Refused.Capacity → HasNoRoom initial
         (tables_of window.new.sight.log) given.new.done }
 {
-    let began = window.sight.again();
     for _ in rt.forever() {
         let Some((number, table)) = take_root(rt, alloc, initial, shard, window, given)? else {
             return Ok(());
         };
-        if !scan_table(rt, shard, table, number, &mut stays, &began, window) {
+        if !scan_table(rt, shard, table, number, &mut stays, window) {
             window.learn();
             return Ok(());
         }

@@ -7,31 +7,28 @@ ghost use Rattle.papaya_scan.specs.TableScans.{IsDeleted, IsMet, IsTaken};
 
 use papaya_ask::ask::StepKind;
 use papaya_book::rule::entry::Stored;
-use papaya_book::rule::offer::Seen;
 use papaya_book::table::Table;
 use papaya_book::window::Window;
 use papaya_words::word::Word;
 use std::hash::{BuildHasher, Hash};
 
-/// Loads a slot's word, and the pair that it names. `began` is what was seen as the call began.
+/// Loads a slot's word, and the pair that it names.
 #[inline(always)]
 pub fn load<'a, K: Hash + Eq, V, S: BuildHasher>(
     table: &Table<K, V, S>,
     number: u64,
     place: usize,
-    began: &Seen<K, V, S>,
     window: &mut Window<'a, K, V, S>,
 ) -> (u64, Option<Stored<K, V>>)
     requires table { IsTable window.old number table.now }
-    requires taken { IsTaken began.now.log window.old number }
     requires place { place < length table.now.slots }
     ensures sees { Sees window.old window.new }
     ensures lawful { IsLawful window.new }
     ensures own { window.new.own ≡ window.old.own }
     ensures slot { IsSlot window.old window.new number place result.0 result.1 }
-    ensures met { IsMet began.now.log window.new result.0 result.1 }
+    ensures met { (began : _) → IsTaken began window.old number
+        → IsMet began window.new result.0 result.1 }
 {
-    let _ = began;
     window.slot(table, number, place)
 }
 
@@ -43,11 +40,10 @@ pub fn delete<'a, K: Hash + Eq, V, S: BuildHasher>(
     place: usize,
     word: u64,
     pair: &Option<Stored<K, V>>,
-    began: &Seen<K, V, S>,
     window: &mut Window<'a, K, V, S>,
 ) -> (u64, Option<Stored<K, V>>)
     requires table { IsTable window.old number table.now }
-    requires taken { IsTaken began.now.log window.old number }
+    requires taken { (began : _) × IsTaken began window.old number }
     requires place { place < length table.now.slots }
     requires stood { IsSlot window.old window.old number place word pair.now }
     requires live { kind_of word ≡ Live }
@@ -58,9 +54,9 @@ pub fn delete<'a, K: Hash + Eq, V, S: BuildHasher>(
         × IsDeleted window.new number place shown }
     ensures found { (result.0 == word) ≡ false → IsSlot window.old window.new number place result.0
         result.1 }
-    ensures met { IsMet began.now.log window.new result.0 result.1 }
+    ensures met { (began : _) → IsTaken began window.old number
+        → IsMet began window.new result.0 result.1 }
 {
-    let _ = began;
     let tombstone = Word::tombstone(Word(word).pair());
     let words = (word, tombstone.0);
     let (found, other) = window.exchange_slot(table, number, place, Some(StepKind::Delete), words);

@@ -1,36 +1,40 @@
 //! Walks over the pairs of a map.
 ghost use Rattle.std.specs.Prelude.{◌≡◌, ◌<◌, ◌≤◌, MatchOption, length};
 ghost use Rattle.std.specs.Iterator.{at_most};
+ghost use Rattle.papaya_words.specs.Word.{kind_of};
 ghost use Rattle.papaya_book.specs.Parts.{begun_of};
-ghost use Rattle.papaya_book.specs.Windows.{IsLawful, IsTable, Sees};
-ghost use Rattle.papaya_lookup.specs.Drivers.{past};
+ghost use Rattle.papaya_book.specs.Windows.{IsLawful, Sees};
+ghost use Rattle.papaya_lookup.specs.Drivers.{IsSlotAt, past};
 ghost use Rattle.papaya_lookup.specs.History.{history_of};
 ghost use Rattle.papaya_scan.specs.Meeting.{has_pair};
 ghost use Rattle.papaya_scan.specs.TableScans.{IsTaken};
-ghost use Rattle.papaya_scan.specs.Walked.{Gives, GivesKey, GivesValue, HadEntry, IsRootOf, Walked, left_from};
+ghost use Rattle.papaya_scan.specs.Walked.{AreLast, Gives, GivesKey, GivesValue, HadEntry, IsLeft, IsRootOf, Walked};
 
-use crate::slot::load;
 use papaya_book::book::Book;
+use papaya_book::book::gains::named_pair;
 use papaya_book::book::kept::KeptRoot;
 use papaya_book::rule::offer::Seen;
 use papaya_book::rule::own::OwnSteps;
+use papaya_book::slot::Slot;
 use papaya_book::table::Table;
 use papaya_book::window::Window;
+use papaya_lookup::near::{slots_of, word_of};
 use papaya_words::word::{Kind, Word};
 use std::hash::{BuildHasher, Hash};
 use std::marker::Model;
 
-/// The pairs of a map, slot by slot of the root as it was taken: `Iter` of 0.2.5. Contracts see
-/// which book it is of, the history that was seen as the walk began, and the one that is seen
-/// by now.
+/// The pairs of a map, slot by slot of the root as it was taken: `Iter` of 0.2.5. It keeps the root's
+/// number, how many slots it has, and those that are left. Contracts see which book it is of, the
+/// history that was seen as the walk began, and the one that is seen by now.
 #[derive(Drop)]
 pub struct Iter<'a, K: Hash + Eq, V, S: BuildHasher> {
     book: &'a Book<K, V, S>,
     kept: KeptRoot<'a, K, V, S>,
     began: Seen<K, V, S>,
     sight: Seen<K, V, S>,
-    root: Option<(u64, &'a Table<K, V, S>)>,
-    place: usize,
+    number: u64,
+    len: usize,
+    rest: &'a [Slot<K, V, S>],
 }
 
 impl<'a, K: Hash + Eq, V, S: BuildHasher> Model for Iter<'a, K, V, S> {
@@ -40,12 +44,12 @@ impl<'a, K: Hash + Eq, V, S: BuildHasher> Model for Iter<'a, K, V, S> {
       book = i.book.now.begun.book;
       began = history_of i.began.log;
       history = history_of i.sight.log;
-      left = left_from i.root i.place;
+      left = length i.rest.now;
     } };
 
     ghost invariant = { λ i. (i.kept ≡ i.book.now.begun.book)
-        × (i.sight.book ≡ i.book.now.begun.book) × IsRootOf (begun_of i.book.now.parts) i.began.log
-        i.sight.log i.root };
+        × (i.sight.book ≡ i.book.now.begun.book) × IsLeft (begun_of i.book.now.parts) i.began.log
+        i.sight.log i.number i.len i.rest.now };
 }
 
 impl<'a, K: Hash + Eq, V, S: BuildHasher> Iter<'a, K, V, S> {
@@ -65,13 +69,18 @@ impl<'a, K: Hash + Eq, V, S: BuildHasher> Iter<'a, K, V, S> {
         ensures began { result.began ≡ history_of began.log }
         ensures history { result.history ≡ history_of sight.log }
     {
+        let (number, rest) = match root {
+            Some((number, table)) => (number, slots_of(table)),
+            None => (0, &[] as &[Slot<K, V, S>]),
+        };
         Iter {
             book,
             kept: kept.again(),
             began,
             sight,
-            root,
-            place: 0,
+            number,
+            len: rest.len(),
+            rest,
         }
     }
 
@@ -92,53 +101,75 @@ impl<'a, K: Hash + Eq, V, S: BuildHasher> Iter<'a, K, V, S> {
             kept: self.kept.again(),
             began: self.began.again(),
             sight: self.sight.again(),
-            root: self.root,
-            place: self.place,
+            number: self.number,
+            len: self.len,
+            rest: self.rest,
         }
     }
 }
 
-/// Does a word of this kind name a pair that the map has, or had until it was copied?
+/// Does this word name a pair that the map has, or had until it was copied? Most that do not are
+/// those of empty slots, so that is asked first.
 #[inline(always)]
-fn names_pair(kind: Kind) -> bool
-    ensures { result ≡ has_pair kind }
+fn names_pair(word: u64) -> bool
+    ensures { result ≡ has_pair (kind_of word) }
 {
-    match kind {
-        Kind::Live | Kind::Marked | Kind::Copied => true,
-        Kind::Empty | Kind::Tombstone | Kind::Closed => false,
-    }
+    word != Word::EMPTY.0
+        && match Word(word).kind() {
+            Kind::Live | Kind::Marked | Kind::Copied => true,
+            Kind::Empty | Kind::Tombstone | Kind::Closed => false,
+        }
 }
 
-/// The next pair of a table from this place on, and the place after it.
+/// Loads the word of a slot: the key and the value of its pair, if it names one.
+#[inline(always)]
+fn entry_at<'a, K: Hash + Eq, V, S: BuildHasher>(
+    window: &mut Window<'a, K, V, S>,
+    slot: &Slot<K, V, S>,
+    number: u64,
+    place: usize,
+) -> Option<(&'a K, &'a V)>
+    requires slot { IsSlotAt window.old number place slot.now }
+    ensures sees { Sees window.old window.new }
+    ensures lawful { IsLawful window.new }
+    ensures had { (began : _) → IsTaken began window.old number → MatchOption result Unit
+        (λ entry. HadEntry K.eq (history_of began) (past window.new) entry) }
+{
+    let (word, offer) = word_of(window, slot, number, place);
+    if !names_pair(word) {
+        return None;
+    }
+    let book = window.book;
+    Some(book.entry(book.pair(&named_pair(word, offer))))
+}
+
+/// The next pair of the last slots of a table, and the slots after it.
 #[inline(always)]
 fn next_pair<'a, K: Hash + Eq, V, S: BuildHasher>(
-    table: &Table<K, V, S>,
     number: u64,
-    from: usize,
-    began: &Seen<K, V, S>,
+    len: usize,
+    slots: &'a [Slot<K, V, S>],
     window: &mut Window<'a, K, V, S>,
-) -> (usize, Option<(&'a K, &'a V)>)
-    requires table { IsTable window.old number table.now }
-    requires taken { IsTaken began.now.log window.old number }
+) -> (&'a [Slot<K, V, S>], Option<(&'a K, &'a V)>)
+    requires last { AreLast window.old.sight.log number len slots.now }
     ensures sees { Sees window.old window.new }
     ensures lawful { MatchOption result.1 Unit (λ entry. IsLawful window.new) }
-    ensures after { MatchOption result.1 Unit (λ entry. (from < result.0)
-        × (result.0 ≤ length table.now.slots)) }
-    ensures had { MatchOption result.1 Unit (λ entry. HadEntry K.eq (history_of began.now.log)
-        (past window.new) entry) }
+    ensures last { AreLast window.new.sight.log number len result.0.now }
+    ensures fewer { length result.0.now ≤ length slots.now }
+    ensures after { MatchOption result.1 Unit (λ entry. length result.0.now < length slots.now) }
+    ensures had { (began : _) → (0 < length slots.now → IsTaken began window.old number)
+        → MatchOption result.1 Unit (λ entry. HadEntry K.eq (history_of began) (past window.new)
+        entry) }
 {
-    let len = table.len();
-    let mut place = from;
-    while place < len {
-        let (word, pair) = load(table, number, place, began, window);
-        place += 1;
-        if names_pair(Word(word).kind()) {
-            let Some(stored) = &pair else { unreachable!() };
-            let book = window.book;
-            return (place, Some(book.entry(book.pair(stored))));
+    let mut rest = slots;
+    while let Some((slot, later)) = rest.split_first() {
+        let found = entry_at(window, slot, number, len - rest.len());
+        rest = later;
+        if found.is_some() {
+            return (rest, found);
         }
     }
-    (len, None)
+    (rest, None)
 }
 
 impl<'a, K: Hash + Eq, V, S: BuildHasher> Iterator for Iter<'a, K, V, S> {
@@ -151,11 +182,10 @@ impl<'a, K: Hash + Eq, V, S: BuildHasher> Iterator for Iter<'a, K, V, S> {
     /// It loads words and nothing else: it waits for nobody, and takes no lock and no memory.
     #[inline(always)]
     fn next(&mut self) -> Option<(&'a K, &'a V)> {
-        let (number, table) = self.root?;
         let mut window = Window::new(self.book, &self.kept, &self.sight, &OwnSteps::nothing());
-        let (place, found) = next_pair(table, number, self.place, &self.began, &mut window);
+        let (rest, found) = next_pair(self.number, self.len, self.rest, &mut window);
         self.sight = window.sight;
-        self.place = place;
+        self.rest = rest;
         found
     }
 }

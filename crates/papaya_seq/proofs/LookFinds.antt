@@ -10,6 +10,7 @@ use Rattle.papaya_ask.specs.declared.call.Task.TheVariants.{Get as Get_task}
 use Rattle.papaya_ask.specs.declared.call.Reply.{Reply}
 use Rattle.papaya_ask.specs.declared.call.Reply.TheVariants.{Absent, Found, Inserted, Replaced, Occupied, Removed, Kept, Aborted, Done, Refused}
 use Rattle.papaya_call.specs.declared.machine.Machine.{Machine}
+use Rattle.papaya_call.specs.declared.machine.State.TheVariants.{Ended}
 use Rattle.papaya_call_law.specs.Alone.{HasMetNone}
 use Rattle.papaya_call.specs.Machine.{after, ask_of, started}
 use Rattle.papaya_call_law.proofs.Tasks.{same_task}
@@ -78,6 +79,16 @@ module _ {K V S : Type 0} (eq : K → K → Bool) (hash : K → ℕ) (mode : Mod
   does_find k alike Done fit m' done = absurd fit
   does_find k alike (Refused refused) fit m' done = absurd fit
 
+-- the number in a reply that names a pair that was found
+abbrev pub found_number : Reply → Option ℕ
+found_number (Found n) = Some n
+found_number _ = None
+
+-- the number in the reply is the pair's
+number_found : {K V : Type 0} (found : Option (Stored K V)) → found_number (reply_of found) ≡ option_map (λ p. p.number) found
+number_found None = refl
+number_found (Some p) = refl
+
 module _ {K V S H : Type 0} (eq : K → K → Bool) (input : K → List (List ℕ)) (build : S → H) (write : H → List ℕ → H) (finish : H → ℕ)
     (classes : IsEquivalence eq) (respects : (x y : K) → eq x y ≡ true → input x ≡ input y)
     (s : MapState K V S) (lawful : IsLawfulCore {A = Unit {0}} eq (hash_of input build write finish s.store.hasher) s.store [] s.mode)
@@ -115,7 +126,7 @@ module _ {K V S H : Type 0} (eq : K → K → Bool) (input : K → List (List �
           record { found = None; is_found = none_held s.store matches eq none; is_reply = sym absent }
 
   -- the pair that a lookup which was told of the tables has found when it replies
-  pub look_up_finds : (m : Machine) → IsLookUp matches s.store (started Get_task hashed s.mode.resize s.initial s.mode.limit) m → (reply : Reply)
+  look_up_finds : (m : Machine) → IsLookUp matches s.store (started Get_task hashed s.mode.resize s.initial s.mode.limit) m → (reply : Reply)
       → ask_of m ≡ Ask_done reply
       → (found : Option (Stored K V)) × LooksUp eq matches s.store (started Get_task hashed s.mode.resize s.initial s.mode.limit) found
       × (reply_of found ≡ reply)
@@ -134,12 +145,12 @@ module _ {K V S H : Type 0} (eq : K → K → Bool) (input : K → List (List �
         finds.is_reply,
       )
 
--- the number in a reply that names a pair that was found
-abbrev pub found_number : Reply → Option ℕ
-found_number (Found n) = Some n
-found_number _ = None
-
--- the number in the reply is the pair's
-pub number_found : {K V : Type 0} (found : Option (Stored K V)) → found_number (reply_of found) ≡ option_map (λ p. p.number) found
-number_found None = refl
-number_found (Some p) = refl
+  -- and so its number is what is answered
+  pub look_up_answers : (reply : Reply) (answer : Option ℕ) → answer ≡ found_number reply
+      → IsLookUp matches s.store (started Get_task hashed s.mode.resize s.initial s.mode.limit)
+      (record (started Get_task hashed s.mode.resize s.initial s.mode.limit) { state = Ended reply })
+      → (found : Option (Stored K V)) × LooksUp eq matches s.store (started Get_task hashed s.mode.resize s.initial s.mode.limit) found
+      × (answer ≡ option_map (λ p. p.number) found)
+  look_up_answers reply answer is came =
+      let finds = look_up_finds (record (started Get_task hashed s.mode.resize s.initial s.mode.limit) { state = Ended reply }) came reply refl in
+      (finds.0, finds.1, is ∙ sym (ap found_number finds.2) ∙ number_found finds.0)

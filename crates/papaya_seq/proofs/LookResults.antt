@@ -16,6 +16,12 @@ module _ {K V S : Type 0} (eq : K → K → Bool) (matches : K → Bool) (store 
   contains_found None there is e = subst (λ b. MatchBool b ((p : Stored K V) × Holds eq matches store p) (HasNone eq matches store)) (sym e) is
   contains_found (Some p) there is e = subst (λ b. MatchBool b ((q : Stored K V) × Holds eq matches store q) (HasNone eq matches store)) (sym e) (p, is.0)
 
+  -- the pair of a number that was found
+  pub number_logged : (found : Option (Stored K V)) (n : ℕ) → IsFound eq matches store found → Some n ≡ option_map (λ p. p.number) found
+      → (p : Stored K V) × (found ≡ Some p) × Holds eq matches store p × (pair_of store n ≡ Some p)
+  number_logged None n is e = absurd cc
+  number_logged (Some p) n is e = let number : n ≡ p.number = cc e in (p, refl, is.0, ap (pair_of store) number ∙ is.1)
+
   -- the references to a pair's key and value, by the pair's number
   abbrev Refers : ℕ → Option (Bor K × Bor V) → Type 0
   Refers n entry = MatchOption entry (pair_of store n ≡ None) (λ e. pair_of store n ≡ Some (record { number = n; key = e.0.now; value = e.1.now }))
@@ -57,7 +63,7 @@ pub number_there : {K V : Type 0} (found : Option (Stored K V)) → is_some (opt
 number_there None = refl
 number_there (Some p) = refl
 
--- the value of an entry
-pub entry_value : {K V : Type 0} (entry : Option (K × V)) (o : Option (Stored K V)) → entry ≡ option_map entry_of o → option_map (λ e. e.1) entry ≡ value_of o
-entry_value entry None is = ap (option_map (λ e. e.1)) is
-entry_value entry (Some p) is = ap (option_map (λ e. e.1)) is
+-- no value was found where no number was
+pub no_value : {K V : Type 0} (found : Option (Stored K V)) → None ≡ option_map (λ p. p.number) found → None ≡ value_of found
+no_value None is = refl
+no_value (Some p) is = absurd cc

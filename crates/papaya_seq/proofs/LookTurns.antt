@@ -11,6 +11,7 @@ use Rattle.papaya_ask.specs.declared.ask.At.TheVariants.{Next}
 use Rattle.papaya_ask.specs.declared.call.Reply.TheVariants.{Absent}
 use Rattle.papaya_ask.specs.declared.call.Task.TheVariants.{Get}
 use Rattle.papaya_ask.specs.declared.search.Place.{Place}
+use Rattle.papaya_ask.specs.declared.search.Probed.{Probed}
 use Rattle.papaya_ask.specs.declared.search.Search.TheVariants.{Sizing, Looking}
 use Rattle.papaya_ask.specs.Search.{IsSize, first_place}
 use Rattle.papaya_call.specs.declared.machine.Machine.{Machine}
@@ -24,7 +25,7 @@ use Rattle.papaya_store.specs.Tables.{table_of, word_at}
 use Rattle.papaya_timeline.specs.Kept.{IsLawfulCore}
 use Rattle.papaya_timeline.proofs.KeptSettings.{IsLawfulKeys}
 use Rattle.papaya_seq.specs.Looks.{Comes, IsToldBy}
-use Rattle.papaya_seq.specs.Searches.{IsTurn, seen_by}
+use Rattle.papaya_seq.specs.Searches.{IsTurn, SeesFrom, seen_by}
 use Rattle.papaya_seq.specs.declared.search.Turn.{Turn}
 use Rattle.papaya_seq.specs.declared.search.Turn.TheVariants as turns
 use Rattle.papaya_seq.proofs.LookSteps.{IsLookUp, look_up_begins, look_up_goes, lookup_left, lookup_nears}
@@ -81,6 +82,12 @@ module _ {K V S : Type 0} (eq : K → K → Bool) (hash : K → ℕ) (mode : Mod
       look_up_goes eq hash mode store lawful keys matches (stands_at s) kept.task kept.looking answer told begun kept,
       lookup_nears eq hash mode store lawful keys matches (stands_at s) kept.task kept.looking answer told kept.current,
     )
+
+    -- a search of the root led on
+    pub root_led : (seen : Probed) → SeesFrom matches store h AtRoot seen → HasCome (goes begun seen)
+    root_led seen sees =
+        let came = sees begun in
+        (look_up_comes begun came.0 begun (stands_at (goes begun seen)) (look_up_begins eq hash mode store lawful matches h initial) came.1).0
 
     -- the number of the root was loaded
     pub root_loaded : HasCome (numbered store.words.root)

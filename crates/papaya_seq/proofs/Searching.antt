@@ -1,8 +1,9 @@
 -- The search of one table: each turn is one to three answers of the machine, and brings it nearer its end.
-use Rattle.std.proofs.Common.{◌≡◌, ℕ, zero, suc, ◌+◌, ◌*◌, ◌-◌, ◌<◌, ◌≤◌, nat_lt, ltb-true, if◌then◌else◌}
-use Rattle.std.proofs.Common.{Bool, true, false, List, [], ◌∷◌, ◌++◌, Option, refl, sym, ◌∙◌, ap}
+use Rattle.std.proofs.Common.{◌≡◌, ℕ, zero, suc, ◌+◌, ◌*◌, ◌-◌, ◌<◌, ◌≤◌, nat_lt, lt-ltb, ltb-true, if◌then◌else◌}
+use Rattle.std.proofs.Common.{Bool, true, false, List, [], ◌∷◌, ◌++◌, length, slice_get, slice_index, Option, Some, refl, sym, ◌∙◌, ap}
 use Rattle.std.proofs.Common.{subst, arith}
 use Rattle.std.proofs.lemmas.Bool.{cond_both, ne_eqb}
+use Rattle.papaya_words.specs.Table.{TableWords}
 use Rattle.papaya_words.specs.Word.{kind_of, may_hold, pair_of as number_of}
 use Rattle.papaya_words.specs.declared.word.Kind.{Kind}
 use Rattle.papaya_words.specs.declared.word.Kind.TheVariants as kinds
@@ -25,12 +26,57 @@ use Rattle.papaya_call.specs.declared.compute.Gap.TheVariants.{NoRoot}
 use Rattle.papaya_call.specs.Machine.{absent, after, at_root, goes}
 use Rattle.papaya_store.specs.Store.{StoreState, pair_of}
 use Rattle.papaya_store.specs.Performs.{size_of}
-use Rattle.papaya_store.specs.Tables.{hint_at, table_of, word_at}
+use Rattle.papaya_store.specs.Tables.{Tables, hint_at, slot_hint, table_of, word_at, word_in}
 use Rattle.papaya_seq.specs.Looks.{Comes, matches_in}
-use Rattle.papaya_seq.specs.Searches.{IsMatchedBy, IsPassedTo, IsTurn, IsTurnFrom, IsTurned, Sees, SeesFrom, StandsBy, left_at, left_to, passed_by, passed_on}
+use Rattle.papaya_seq.specs.Searches.{GoesOnIn, IsMatchedBy, IsPassedTo, IsThere, IsTurn, IsTurnFrom, IsTurned, Sees, SeesFrom, StandsBy, left_at, left_to, passed_by, passed_on}
 use Rattle.papaya_seq.specs.Searches.{seen_by}
 use Rattle.papaya_seq.specs.declared.search.Turn.{Turn}
 use Rattle.papaya_seq.specs.declared.search.Turn.TheVariants as turns
+
+index_got : (items : List ℕ) (i item : ℕ) → slice_get items i ≡ Some item → item ≡ slice_index items i
+index_got [] i item e = absurd cc
+index_got (x ∷ xs) zero item e = cc
+index_got (x ∷ xs) (suc i) item e = index_got xs i item e
+
+-- the word of a slot of a table is the one that stands there
+pub slot_read : (w : Tables) (t i word : ℕ) (table : TableWords) → table_of w.tables t ≡ Some table → slice_get table.slots i ≡ Some word
+    → word ≡ word_at w (Slot t i)
+slot_read w t i word table there read = index_got table.slots i word read ∙ sym (ap (word_in (λ v. slice_index v.slots i)) there)
+
+-- and so is its hint
+pub hint_read : (w : Tables) (t i hint : ℕ) (table : TableWords) → table_of w.tables t ≡ Some table → i < length table.slots
+    → slice_get table.hints i ≡ Some hint → hint ≡ hint_at w t i
+hint_read w t i hint table there within read = index_got table.hints i hint read
+    ∙ ap (λ (b : Bool). if b then slice_index table.hints i else 0) (sym (lt-ltb i (length table.slots) within))
+    ∙ sym (ap (word_in (λ v. slot_hint v i)) there)
+
+module _ (so : (number slots : ℕ) → Type 0) where
+  -- a search goes on in the table where it stands
+  on_in : (at : Place) → so at.table at.len → GoesOnIn so (go_on at)
+  on_in at is = cond_both (nat_lt at.probe.len at.limit) (On (Looking (next_place at))) (Over at.table) (GoesOnIn so) (λ _. is) (λ _. tt)
+
+  pub hinted_in : (at : Place) (hash hint : ℕ) → so at.table at.len → GoesOnIn so (hinted at hash hint)
+  hinted_in at hash hint is = cond_both (may_hold hint hash) (On (Reading at)) (go_on at) (GoesOnIn so) (λ _. is) (λ _. on_in at is)
+
+  pub look_in : (kind : Kind) (at : Place) (word : ℕ) → so at.table at.len → GoesOnIn so (look_at kind at word)
+  look_in kinds.Empty at word is = tt
+  look_in kinds.Live at word is = is
+  look_in kinds.Marked at word is = is
+  look_in kinds.Copied at word is = is
+  look_in kinds.Tombstone at word is = on_in at is
+  look_in kinds.Closed at word is = on_in at is
+
+  match_in : (kind : Kind) (at : Place) (word : ℕ) → GoesOnIn so (match_at kind at word)
+  match_in kinds.Empty at word = tt
+  match_in kinds.Live at word = tt
+  match_in kinds.Marked at word = tt
+  match_in kinds.Copied at word = tt
+  match_in kinds.Tombstone at word = tt
+  match_in kinds.Closed at word = tt
+
+  pub yes_in : (at : Place) (word : ℕ) (same : Bool) → so at.table at.len → GoesOnIn so (at_yes (Comparing at word) same)
+  yes_in at word true is = match_in (kind_of word) at word
+  yes_in at word false is = on_in at is
 
 -- what is left to a search that has seen this
 abbrev pub left_seen : Probed → ℕ
@@ -235,11 +281,12 @@ module _ {K V S : Type 0} (matches : K → Bool) (store : StoreState K V S) wher
 
       -- what was seen is a turn
       pub turn_seen : (state : State) (turn : Turn) (seen : Probed) → seen_by turn ≡ seen → SeesFrom matches store hash state seen → IsProbed seen
-          → StandsBy (λ w. word_at store.words w) seen → IsMatchedBy matches store hash seen → IsTurnFrom matches store hash state turn
-      turn_seen state turn seen is sees within stands
+          → GoesOnIn (IsThere store) seen → StandsBy (λ w. word_at store.words w) seen → IsMatchedBy matches store hash seen → IsTurnFrom matches store hash state turn
+      turn_seen state turn seen is sees within there stands
           matched = record {
             sees = subst (SeesFrom matches store hash state) (sym is) sees;
             within = subst IsProbed (sym is) within;
+            there = subst (GoesOnIn (IsThere store)) (sym is) there;
             stands = subst (StandsBy (λ w. word_at store.words w)) (sym is) stands;
             matched = subst (IsMatchedBy matches store hash) (sym is) matched;
           }
@@ -283,6 +330,7 @@ module _ {K V S : Type 0} (matches : K → Bool) (store : StoreState K V S) wher
     turns_on at place turn before next = record {
       sees = sees_on at (Looking place) (seen_by turn) before.sees next.sees;
       within = next.within;
+      there = next.there;
       stands = next.stands;
       matched = next.matched;
     }

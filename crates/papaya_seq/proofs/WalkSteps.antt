@@ -1,6 +1,6 @@
 -- How a walk goes on.
 use Rattle.std.proofs.Common.{◌≡◌, ◌⊎◌, inl, inr, ℕ, zero, suc, ◌+◌, ◌<◌, ◌≤◌, ◌||◌, Bool, true}
-use Rattle.std.proofs.Common.{false, [], ◌∷◌, ◌++◌, length, slice_get, slice_index, List, Option}
+use Rattle.std.proofs.Common.{false, [], ◌∷◌, ◌++◌, length, slice_index, Option}
 use Rattle.std.proofs.Common.{Some, None, is_some, refl, sym, ◌∙◌, ap, subst, arith}
 use Rattle.std.proofs.lemmas.Bool.{cases_lt}
 use denote.Bor.{Bor}
@@ -358,13 +358,3 @@ stand_same s at at' table passed stand = record {
 -- a slot of a table that is held is one of the table's
 pub held_within : (w : Tables) (t i : ℕ) (table : TableWords) → table_of w.tables t ≡ Some table → i < length table.slots → i < slots_in (table_of w.tables t)
 held_within w t i table there within = subst (λ o. i < slots_in o) (sym there) within
-
--- and its word is the one that stands there
-pub slot_read : (w : Tables) (t i word : ℕ) (table : TableWords) → table_of w.tables t ≡ Some table → slice_get table.slots i ≡ Some word
-    → word ≡ word_at w (Slot t i)
-slot_read w t i word table there read = index_got table.slots i word read ∙ sym (ap (word_in (λ v. slice_index v.slots i)) there)
-  where
-    index_got : (slots : List ℕ) (i word : ℕ) → slice_get slots i ≡ Some word → word ≡ slice_index slots i
-    index_got [] i word e = absurd cc
-    index_got (x ∷ xs) zero word e = cc
-    index_got (x ∷ xs) (suc i) word e = index_got xs i word e

@@ -1,5 +1,6 @@
 -- The search of one table: where its turns lead the machine of a call, that nothing runs.
-use Rattle.std.specs.Prelude.{◌≡◌, ℕ, zero, suc, ◌+◌, ◌*◌, ◌-◌, ◌≤◌, Bool, true, List}
+use Rattle.std.specs.Prelude.{◌≡◌, ℕ, zero, suc, ◌+◌, ◌*◌, ◌-◌, ◌≤◌, Bool, true, List, Some, length}
+use Rattle.papaya_words.specs.Table.{TableWords}
 use Rattle.papaya_words.specs.Word.{kind_of, pair_of as number_of}
 use Rattle.papaya_words.specs.declared.word.Kind.TheVariants.{Empty as Is_empty}
 use Rattle.papaya_ask.specs.declared.ask.Answer.{Answer}
@@ -15,7 +16,7 @@ use Rattle.papaya_call.specs.declared.machine.State.{State}
 use Rattle.papaya_call.specs.declared.machine.State.TheVariants.{AtRoot, Searching}
 use Rattle.papaya_call.specs.Machine.{goes}
 use Rattle.papaya_store.specs.Store.{StoreState, pair_of}
-use Rattle.papaya_store.specs.Tables.{hint_at, word_at}
+use Rattle.papaya_store.specs.Tables.{hint_at, table_of, word_at}
 use Rattle.papaya_seq.specs.Looks.{Comes, matches_in}
 use Rattle.papaya_seq.specs.declared.search.Turn.{Turn}
 use Rattle.papaya_seq.specs.declared.search.Turn.TheVariants as turns
@@ -55,6 +56,21 @@ StandsBy words (Here at word) = words (Slot at.table at.probe.i) ≡ word
 StandsBy words (On (Comparing at word)) = words (Slot at.table at.probe.i) ≡ word
 StandsBy words _ = Unit {0}
 
+-- a table of this number is there, and has so many slots
+abbrev pub IsThere : {K V S : Type 0} → StoreState K V S → (number slots : ℕ) → Type 0
+IsThere store number slots =
+    (t : TableWords) × (table_of store.words.tables number ≡ Some t) × (length t.slots ≡ slots)
+
+-- a search that goes on stands in a table of which this is so
+abbrev pub GoesOnIn : ((number slots : ℕ) → Type 0) → Probed → Type 0
+GoesOnIn so (On (Sizing t)) = Unit {0}
+GoesOnIn so (On (Looking at)) = so at.table at.len
+GoesOnIn so (On (Reading at)) = so at.table at.len
+GoesOnIn so (On (Comparing at word)) = so at.table at.len
+GoesOnIn so (Empty at) = Unit {0}
+GoesOnIn so (Here at word) = Unit {0}
+GoesOnIn so (Over t) = Unit {0}
+
 module _ {K V S : Type 0} (matches : K → Bool) (store : StoreState K V S) (hash : ℕ) where
   -- a pair that was found has a key that matches
   abbrev pub IsMatchedBy : Probed → Type 0
@@ -76,6 +92,7 @@ module _ {K V S : Type 0} (matches : K → Bool) (store : StoreState K V S) (has
   pub record IsTurnFrom (state : State) (turn : Turn) : Type 0 where
     pub sees : SeesFrom state (seen_by turn)
     pub within : IsProbed (seen_by turn)
+    pub there : GoesOnIn (IsThere store) (seen_by turn)
     pub stands : StandsBy (λ at. word_at store.words at) (seen_by turn)
     pub matched : IsMatchedBy (seen_by turn)
 
@@ -119,4 +136,5 @@ module _ {K V S : Type 0} (store : StoreState K V S) (hash : ℕ) where
   pub record IsPassed (at : Place) (seen : Probed) : Type 0 where
     pub hints : (n : ℕ) × (seen ≡ passed_by n at)
     pub within : IsProbed seen
+    pub there : GoesOnIn (IsThere store) seen
     pub led : IsPassedTo at seen

@@ -15,6 +15,7 @@ ghost use Rattle.papaya_keys.specs.Hashes.{hash_of};
 ghost use Rattle.papaya_store.specs.Tables.{word_at};
 ghost use Rattle.papaya_words.specs.declared.probe.ResizeMode as modes;
 ghost use Rattle.papaya_seq.specs.Copies.{CopiesCall, CopiesResizer, IsSized, Settles, Steps, settled_as};
+ghost use Rattle.papaya_seq.specs.Searches.{IsThere};
 
 use crate::search::pass_by;
 use papaya_ask::ask::{Answer, At};
@@ -37,7 +38,8 @@ fn find_place<K: Hash + Eq, V, S: BuildHasher>(
     hash: u64,
     place: Place,
 ) -> Carry
-    requires { IsWithin place }
+    requires within { IsWithin place }
+    requires there { IsThere store.now place.table place.len }
     ensures finds { (mode : modes.ResizeMode) (slot : slots.Slot) (marked : ℕ) → Settles K.eq
         (hash_of K.hash_input S.build_hasher S.Hasher.write S.Hasher.finish) mode slot store.now
         (On (settles.Carrying marked (carries.Looking hash place))) store.now

@@ -6,7 +6,7 @@ ghost use Rattle.papaya_store.specs.Store.{pair_of};
 ghost use Rattle.papaya_keys.specs.Hashes.{hash_of};
 ghost use Rattle.papaya_seq.specs.Looks.{LooksUp, matches_in};
 
-use crate::search::{Turn, search};
+use crate::search::{Turn, search, search_root};
 use crate::seq::HashMap;
 use papaya_ask::ask::At;
 use papaya_ask::search::Place;
@@ -32,9 +32,28 @@ pub(crate) fn matches<K: Hash + Eq, V, S: BuildHasher, Q: Equivalent<K>>(
 }
 
 impl<K: Hash + Eq, V, S: BuildHasher> HashMap<K, V, S> {
-    /// The number of a key's pair.
+    /// The number of a key's pair. Most lookups end in the root.
     #[inline(always)]
     pub(crate) fn look_up<Q: Equivalent<K>>(&self, key: &Q) -> Option<u64>
+        ensures { (found : _) × LooksUp K.eq (Q.matches key.now) self.now.store
+            (started Get (hash_of Q.hash_input S.build_hasher S.Hasher.write S.Hasher.finish
+            self.now.store.hasher key.now) self.now.mode.resize self.now.initial
+            self.now.mode.limit) found
+            × (result ≡ option_map (λ p. p.number) found) }
+    {
+        let hash = self.store.hash(key);
+        match search_root(&self.store, key, hash) {
+            Some(Turn::Here(_, word)) => Some(Word(word).pair()),
+            Some(Turn::Empty(_)) => None,
+            _ => self.look_up_far(key),
+        }
+    }
+
+    /// The number of a key's pair, in whichever table that stands. As a call of its own it leaves
+    /// the registers to the search of the root.
+    #[cold]
+    #[inline(never)]
+    fn look_up_far<Q: Equivalent<K>>(&self, key: &Q) -> Option<u64>
         ensures { (found : _) × LooksUp K.eq (Q.matches key.now) self.now.store
             (started Get (hash_of Q.hash_input S.build_hasher S.Hasher.write S.Hasher.finish
             self.now.store.hasher key.now) self.now.mode.resize self.now.initial

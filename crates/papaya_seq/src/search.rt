@@ -2,7 +2,7 @@
 ghost use Rattle.std.specs.Prelude.{◌≡◌, ◌+◌, ◌<◌, ℕ, Some, length};
 ghost use Rattle.papaya_ask.specs.Search.{IsSize, IsWithin};
 ghost use Rattle.papaya_store.specs.Tables.{table_of};
-ghost use Rattle.papaya_seq.specs.Searches.{IsPassed, IsReadTurn, IsRootTurn, IsTurn, IsTurned};
+ghost use Rattle.papaya_seq.specs.Searches.{IsPassed, IsReadTurn, IsRootTurn, IsThere, IsTurn, IsTurned};
 ghost use Rattle.papaya_seq.specs.Searches.{left_at, left_to, seen_by};
 ghost use Rattle.papaya_seq.specs.declared.search.Turn.TheVariants.{Next};
 
@@ -49,11 +49,15 @@ fn read_at<K: Hash + Eq, V, S: BuildHasher, Q: Equivalent<K>>(
     key: &Q,
     at: Place,
 ) -> Turn
-    requires { IsWithin at }
+    requires within { IsWithin at }
+    requires there { IsThere store.now at.table at.len }
     ensures turn { (hash : ℕ) → IsReadTurn (Q.matches key.now) store.now hash at result }
     ensures fewer { left_to result + 1 < left_at at }
 {
-    let word = store.word(At::Slot(at.table, at.probe.i));
+    let Some(table) = store.table(at.table) else {
+        unreachable!()
+    };
+    let word = table.slot(at.probe.i);
     let seen = at.look(word);
     match seen {
         Probed::On(Search::Comparing(place, named)) => {
@@ -72,12 +76,16 @@ pub(crate) fn pass_by<K: Hash + Eq, V, S: BuildHasher>(
     hash: u64,
     at: Place,
 ) -> Probed
-    requires { IsWithin at }
+    requires within { IsWithin at }
+    requires there { IsThere store.now at.table at.len }
     ensures { IsPassed store.now hash at result }
 {
+    let Some(table) = store.table(at.table) else {
+        unreachable!()
+    };
     let mut place = at;
     loop {
-        match place.hinted(hash, store.hint(place.table, place.probe.i)) {
+        match place.hinted(hash, table.hint(place.probe.i) as u64) {
             Probed::On(Search::Looking(next)) => place = next,
             seen => return seen,
         }
@@ -92,7 +100,8 @@ fn look_at<K: Hash + Eq, V, S: BuildHasher, Q: Equivalent<K>>(
     hash: u64,
     at: Place,
 ) -> Turn
-    requires { IsWithin at }
+    requires within { IsWithin at }
+    requires there { IsThere store.now at.table at.len }
     ensures turn { IsTurn (Q.matches key.now) store.now hash at result }
     ensures fewer { left_to result < left_at at }
 {
@@ -111,7 +120,8 @@ pub(crate) fn search<K: Hash + Eq, V, S: BuildHasher, Q: Equivalent<K>>(
     hash: u64,
     at: Place,
 ) -> Turn
-    requires { IsWithin at }
+    requires within { IsWithin at }
+    requires there { IsThere store.now at.table at.len }
     ensures turn { IsTurn (Q.matches key.now) store.now hash at result }
     ensures over { (place : _) → result ≡ Next place → ⊥ }
 {

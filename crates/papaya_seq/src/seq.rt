@@ -269,8 +269,8 @@ impl<K: Hash + Eq, V, S: BuildHasher> HashMap<K, V, S> {
             self.now.mode.limit) found
             × (option_map (λ v. v.now) result ≡ value_of found) }
     {
-        match self.get_key_value(key) {
-            Some((_, value)) => Some(value),
+        match self.look_up(key) {
+            Some(pair) => Some(self.store.logged_value(pair)),
             None => None,
         }
     }
@@ -290,7 +290,7 @@ impl<K: Hash + Eq, V, S: BuildHasher> HashMap<K, V, S> {
             × (option_map deref_pair result ≡ option_map entry_of found) }
     {
         match self.look_up(key) {
-            Some(pair) => self.store.pair(pair),
+            Some(pair) => Some(self.store.logged(pair)),
             None => None,
         }
     }

@@ -282,6 +282,7 @@ impl<K: Hash + Eq, V, S: BuildHasher> Store<K, V, S> {
     }
 
     /// The key and the value of pair `n`, which does not have both of its own.
+    #[cold]
     #[inline(never)]
     fn named<'a>(&'a self, n: usize, pair: &'a Pair<K, V>) -> Option<(&'a K, &'a V)>
         ensures { MatchOption result (stored_in self.now.pairs n (Some pair.now) ≡ None)

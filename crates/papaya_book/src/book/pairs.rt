@@ -55,6 +55,20 @@ impl<K: Hash + Eq, V, S: BuildHasher> Book<K, V, S> {
         }
     }
 
+    /// The same for the first two kinds alone, so that a loop that asks for them calls nothing.
+    #[inline(always)]
+    pub fn near_entry<'a>(&'a self, pair: &'a Pair<K, V>) -> Option<(&'a K, &'a V)>
+        requires key { IsKeyIn self.now.parts.pairs pair.now.key }
+        ensures key { (entry : _) → result ≡ Some entry → entry.0.now ≡ pair.now.key.value }
+        ensures value { (entry : _) → result ≡ Some entry → entry.1.now ≡ pair.now.value }
+    {
+        match &pair.held {
+            Held::Own(key, value) => Some((key, value)),
+            Held::Keyed(first, value) => Some((self.key_of_first(first), value)),
+            _ => None,
+        }
+    }
+
     /// Its key.
     #[inline(always)]
     pub fn key<'a>(&'a self, pair: &'a Pair<K, V>) -> &'a K

@@ -80,9 +80,7 @@ impl<K, V> Pair<K, V> {
         match &self.held {
             Held::Own(key, _) => key,
             Held::Lent(key, _) => key,
-            Held::Keyed(_, _) => unreachable!(),
-            Held::Both(_, _) => unreachable!(),
-            Held::Blank(_) => unreachable!(),
+            _ => unreachable!(),
         }
     }
 
@@ -94,9 +92,7 @@ impl<K, V> Pair<K, V> {
         match &self.held {
             Held::Own(_, value) => value,
             Held::Keyed(_, value) => value,
-            Held::Lent(_, _) => unreachable!(),
-            Held::Both(_, _) => unreachable!(),
-            Held::Blank(_) => unreachable!(),
+            _ => unreachable!(),
         }
     }
 }

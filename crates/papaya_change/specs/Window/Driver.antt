@@ -1,13 +1,19 @@
 -- What a changing call under way holds and is told, by what it sees of the map.
-use Rattle.std.specs.Prelude.{ℕ}
+use Rattle.std.specs.Prelude.{◌≡◌, ℕ}
 use Rattle.papaya_ask.specs.declared.ask.At.{At}
 use Rattle.papaya_book.specs.declared.keyed.Keyed as keyed
 use Rattle.papaya_book.specs.declared.window.Window.{Window}
+use Rattle.papaya_book.specs.Limits.{tables_of}
 use Rattle.papaya_book.specs.Parts.{begun_of}
+use Rattle.papaya_book.specs.Windows.{Sees}
+use Rattle.papaya_chain.specs.Machine.{IsStanding}
 use Rattle.papaya_chain.specs.declared.ask.Answer.{Answer}
+use Rattle.papaya_chain.specs.declared.machine.Machine.{Machine}
+use Rattle.papaya_chain.specs.declared.machine.Phase.TheVariants.{Calling}
 use Rattle.papaya_change.specs.declared.driver.Driver.{Driver}
 use Rattle.papaya_change.specs.Changing as changing
 use Rattle.papaya_change.specs.Driver as driver
+use Rattle.papaya_change.specs.Helping.{HasHelped}
 use Rattle.papaya_change.specs.Helping as helping
 
 module _ {K V S H : Type 0} {d : keyed.Ghosts S K H} where
@@ -29,6 +35,15 @@ module _ {K V S H : Type 0} {d : keyed.Ghosts S K H} where
   abbrev pub GoesOn : Window K V S H d → Driver K V S H → Window K V S H d → Driver K V S H → Type 0
   GoesOn w c w' c' = changing.GoesOn d.keys.eq d.keys.hash (begun_of w.book.now.parts)
       w.book.now.begun.book w.sight.log c w'.sight.log c'
+
+  -- A call whose machine stood here has copied while it was set aside, and goes on for itself now.
+  pub record Helps (w : Window K V S H d) (machine : Machine) (w' : Window K V S H d)
+      (c' : Driver K V S H) : Type 0 where
+    pub sees : Sees w w'
+    pub own : w'.own ≡ w.own
+    pub standing : IsStanding c'.machine
+    pub calling : c'.machine.phase ≡ Calling
+    pub helped : HasHelped machine c'.machine (tables_of w'.sight.log) c'.given.done
 
   -- a call that was set aside was answered so what it asked for a copy
   abbrev pub Copies : Window K V S H d → Driver K V S H → Window K V S H d → Driver K V S H → Answer

@@ -5,6 +5,8 @@ use Rattle.papaya_book.specs.declared.rule.entry.Event.{Event}
 use Rattle.papaya_book.specs.declared.window.Window.{Window}
 use Rattle.papaya_book.specs.Logs.{Stored}
 use Rattle.papaya_book.specs.Parts.{begun_of}
+use Rattle.papaya_book.specs.Windows.{Sees}
+use Rattle.papaya_chain.specs.Machine.{IsStanding}
 use Rattle.papaya_change.specs.declared.driver.Driver.{Driver}
 use Rattle.papaya_change.specs.Changing.{IsDriven}
 use Rattle.papaya_change.specs.LookingOn.{HasPassed}
@@ -31,3 +33,11 @@ module _ {K V S H : Type 0} {d : keyed.Ghosts S K H} where
   abbrev pub HasLookedOn : Window K V S H d → Driver K V S H → Window K V S H d → Driver K V S H
       → Type 0
   HasLookedOn w c w' c' = ((w' ≡ w) × (c' ≡ c)) ⊎ HasPassed c c'
+
+  -- It has gone over places of its table, or stands where it stood.
+  pub record GoesOver (w : Window K V S H d) (c : Driver K V S H) (w' : Window K V S H d)
+      (c' : Driver K V S H) : Type 0 where
+    pub sees : Sees w w'
+    pub own : w'.own ≡ w.own
+    pub standing : IsStanding c'.machine
+    pub looked : HasLookedOn w c w' c'

@@ -1,4 +1,4 @@
-use Rattle.std.proofs.Common.{◌≡◌, ℕ, ◌==◌, Bool, true, false, None, Some, refl, sym, ap, ◌∙◌, rules, subst}
+use Rattle.std.proofs.Common.{◌≡◌, ℕ, ◌==◌, Bool, true, false, None, Some, refl, sym, ap, ◌∙◌, rules, subst, [], append-nil, inl}
 use Rattle.papaya_words.specs.Word.{live_word}
 use Rattle.papaya_ask.specs.declared.ask.StepKind.TheVariants as steps
 use Rattle.papaya_call.specs.declared.machine.State.{State}
@@ -15,7 +15,7 @@ use Rattle.papaya_lookup.specs.Drivers.{past}
 use Rattle.papaya_lookup.specs.History.{history_of, key_of}
 use Rattle.papaya_change.specs.Changes.{IsChangeOf}
 use Rattle.papaya_change.specs.Seeking.{IsInsertingAt}
-use Rattle.papaya_change.proofs.Doing.{makes}
+use Rattle.papaya_change.proofs.Doing.{idles, makes}
 use Rattle.papaya_change.proofs.Logged.{makes_none}
 use Rattle.papaya_change.proofs.Claiming.{claim_hint, claim_traded, counts, ended, put_can, slot_there}
 use Rattle.papaya_change.proofs.fast_path.claim.Goals as goal
@@ -113,43 +113,64 @@ returns-clause-put g c = λ z e begun state led stands.
           c.in-Ok.ensures.placed mid put.result.0 put.result.1 tried is),
     )
 
-pub returns-clause-does : goal.returns-clause-does
-returns-clause-does g c =
-    let put = c.put_slot-found in
-    let is : (put.result.0 == 0) ≡ true = search rules in
-    subst (λ (z : Bool). Does z c.args.window.now put.new.self) is put.ensures.does
+pub returns-clause-tried : goal.returns-clause-tried
+returns-clause-tried g c = record {
+  sees = c.put_slot-found.ensures.sees;
+  lawful = search rules;
+  does =
+      let put = c.put_slot-found in
+      let is : (put.result.0 == 0) ≡ true = search rules in
+      subst (λ (z : Bool). Does z c.args.window.now put.new.self) is put.ensures.does;
+  made =
+      let w = c.args.window.now.book.now in let b = begun_of w.parts in let log = c.args.window.now.sight.log in let key = c.args.key in
+      let at = c.args.at in let q = c.in-Ok.pair in
+      let key_is : key_of q ≡ key = c.in-Ok.ensures.key in
+      let hash = (hash_of g.K.Hash.hash_input g.S.BuildHasher.build_hasher g.S.Hasher.Hasher.write g.S.Hasher.Hasher.finish) in
+      let word : c.live.result.0 ≡ live_word q.index = c.live.ensures ∙ ap live_word c.index-2.ensures in
+      let st = c.requires.stands in let led : Some (Writing (record { place = at; old = 0 })) ≡ Some st.0 = st.1 in
+      let to : Writing (record { place = at; old = 0 }) ≡ st.0 = cc led in
+      let r = subst (λ (z : State). IsInsertingAt g.K.PartialEq.eq hash b w.begun.book key st.2.0 log z None c.args.table.now) (sym to) st.2.1 in
+      let put = c.put_slot-found in let mid = put.new.self.sight.log in
+      let tried = subst (λ (z : ℕ). IsSlotTried g.K.PartialEq.eq hash b w.begun.book at.table at.probe.i (Some steps.Claim) 0 z (Some q) (names.Pair q)
+      log put.result.0 mid put.result.1) word put.ensures.tried in
+      let is : (put.result.0 == 0) ≡ true = search rules in
+      let does = subst (λ (z : Bool). Does z c.args.window.now put.new.self) is put.ensures.does in
+      makes g.K.PartialEq.eq (Some key) st.2.0 put.result.1 (Some q)
+      (counts g.K.PartialEq.eq g.K.Hash.hash_input g.S.BuildHasher.build_hasher g.S.Hasher.Hasher.write g.S.Hasher.Hasher.finish g.met.K.Eq.laws
+      g.met.K.Hash.respects_eq b w.begun.book key st.2.0 log at c.args.table.now c.requires.limit r q key_is c.in-Ok.ensures.placed mid put.result.0
+      put.result.1 tried is) c.args.window.now put.new.self
+      (ended g.K.PartialEq.eq g.K.Hash.hash_input g.S.BuildHasher.build_hasher g.S.Hasher.Hasher.write g.S.Hasher.Hasher.finish g.met.K.Eq.laws
+      g.met.K.Hash.respects_eq b w.begun.book key st.2.0 log at c.args.table.now c.requires.limit r q key_is c.in-Ok.ensures.placed mid put.result.0
+      put.result.1 tried is).changed does;
+  logged = search rules;
+  refused = tt;
+  crowded = λ e. absurd (cc e);
+}
 
-pub returns-then-found-ne0-clause-does : goal.returns-then-found-ne0-clause-does
-returns-then-found-ne0-clause-does g c =
-    let put = c.put_slot-found in
-    let is : (put.result.0 == 0) ≡ false = search rules in
-    subst (λ (z : Bool). Does z c.args.window.now put.new.self) is put.ensures.does
+pub returns-then-found-ne0-clause-tried : goal.returns-then-found-ne0-clause-tried
+returns-then-found-ne0-clause-tried g c = record {
+  sees = c.put_slot-found.ensures.sees;
+  lawful = search rules;
+  does =
+      let put = c.put_slot-found in
+      let is : (put.result.0 == 0) ≡ false = search rules in
+      subst (λ (z : Bool). Does z c.args.window.now put.new.self) is put.ensures.does;
+  made =
+      let put = c.put_slot-found in
+      let is : (put.result.0 == 0) ≡ false = search rules in
+      makes_none c.args.window.now put.new.self (subst (λ (z : Bool). Does z c.args.window.now put.new.self) is put.ensures.does);
+  logged = search rules;
+  refused = tt;
+  crowded = λ e. absurd (cc e);
+}
 
-pub returns-then-found-ne0-clause-made : goal.returns-then-found-ne0-clause-made
-returns-then-found-ne0-clause-made g c =
-    let put = c.put_slot-found in
-    let is : (put.result.0 == 0) ≡ false = search rules in
-    makes_none c.args.window.now put.new.self (subst (λ (z : Bool). Does z c.args.window.now put.new.self) is put.ensures.does)
-
-pub returns-clause-made : goal.returns-clause-made
-returns-clause-made g c =
-    let w = c.args.window.now.book.now in let b = begun_of w.parts in let log = c.args.window.now.sight.log in let key = c.args.key in
-    let at = c.args.at in let q = c.in-Ok.pair in
-    let key_is : key_of q ≡ key = c.in-Ok.ensures.key in
-    let hash = (hash_of g.K.Hash.hash_input g.S.BuildHasher.build_hasher g.S.Hasher.Hasher.write g.S.Hasher.Hasher.finish) in
-    let word : c.live.result.0 ≡ live_word q.index = c.live.ensures ∙ ap live_word c.index-2.ensures in
-    let st = c.requires.stands in let led : Some (Writing (record { place = at; old = 0 })) ≡ Some st.0 = st.1 in
-    let to : Writing (record { place = at; old = 0 }) ≡ st.0 = cc led in
-    let r = subst (λ (z : State). IsInsertingAt g.K.PartialEq.eq hash b w.begun.book key st.2.0 log z None c.args.table.now) (sym to) st.2.1 in
-    let put = c.put_slot-found in let mid = put.new.self.sight.log in
-    let tried = subst (λ (z : ℕ). IsSlotTried g.K.PartialEq.eq hash b w.begun.book at.table at.probe.i (Some steps.Claim) 0 z (Some q) (names.Pair q)
-    log put.result.0 mid put.result.1) word put.ensures.tried in
-    let is : (put.result.0 == 0) ≡ true = search rules in
-    let does = subst (λ (z : Bool). Does z c.args.window.now put.new.self) is put.ensures.does in
-    makes g.K.PartialEq.eq (Some key) st.2.0 put.result.1 (Some q)
-    (counts g.K.PartialEq.eq g.K.Hash.hash_input g.S.BuildHasher.build_hasher g.S.Hasher.Hasher.write g.S.Hasher.Hasher.finish g.met.K.Eq.laws
-    g.met.K.Hash.respects_eq b w.begun.book key st.2.0 log at c.args.table.now c.requires.limit r q key_is c.in-Ok.ensures.placed mid put.result.0
-    put.result.1 tried is) c.args.window.now put.new.self
-    (ended g.K.PartialEq.eq g.K.Hash.hash_input g.S.BuildHasher.build_hasher g.S.Hasher.Hasher.write g.S.Hasher.Hasher.finish g.met.K.Eq.laws
-    g.met.K.Hash.respects_eq b w.begun.book key st.2.0 log at c.args.table.now c.requires.limit r q key_is c.in-Ok.ensures.placed mid put.result.0
-    put.result.1 tried is).changed does
+pub returns-in_default-clause-tried : goal.returns-in_default-clause-tried
+returns-in_default-clause-tried g c = let w = c.args.window.now in record {
+  sees = record { book = refl; log = ([], append-nil _) };
+  lawful = c.requires.stands.2.1.4.lawful;
+  does = idles w w refl;
+  made = makes_none w w (idles w w refl);
+  logged = tt;
+  refused = inl refl;
+  crowded = λ e. absurd (cc e);
+}

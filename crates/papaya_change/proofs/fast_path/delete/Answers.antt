@@ -85,26 +85,34 @@ returns-then-found-word-clause-does g c =
     let is : (put.result.0 == c.args.met.now.word) ≡ false = search rules in
     subst (λ (z : Bool). Does z c.args.window.now put.new.self) is put.ensures.does
 
-pub returns-then-found-word-clause-made : goal.returns-then-found-word-clause-made
-returns-then-found-word-clause-made g c =
-    let put = c.exchange_slot-found in
-    let is : (put.result.0 == c.args.met.now.word) ≡ false = search rules in
-    makes_none c.args.window.now put.new.self (subst (λ (z : Bool). Does z c.args.window.now put.new.self) is put.ensures.does)
+pub returns-clause-ends : goal.returns-clause-ends
+returns-clause-ends g c = record {
+  sees = c.exchange_slot-found.ensures.sees;
+  lawful = search rules;
+  made =
+      let w = c.args.window.now.book.now in let b = begun_of w.parts in let log = c.args.window.now.sight.log in let met = c.args.met.now in
+      let p = met.stored in let st = c.requires.shows in
+      let word : c.tombstone-grave.result.0 ≡ grave_word met.word = c.tombstone-grave.ensures ∙ ap tombstone_word c.pair.ensures in
+      let hash = (hash_of g.K.Hash.hash_input g.S.BuildHasher.build_hasher g.S.Hasher.Hasher.write g.S.Hasher.Hasher.finish) in
+      let put = c.exchange_slot-found in let log' = put.new.self.sight.log in
+      let tried = subst (λ (n : ℕ). IsSlotTried g.K.PartialEq.eq hash b w.begun.book met.place.table met.place.probe.i (Some steps.Delete) met.word n
+      None names.Nothing log put.result.0 log' put.result.1) word put.ensures.tried in
+      let is : (put.result.0 == met.word) ≡ true = search rules in
+      let does = subst (λ (z : Bool). Does z c.args.window.now put.new.self) is put.ensures.does in
+      makes g.K.PartialEq.eq (Some st.0) st.1 put.result.1 None
+      (ends g.K.PartialEq.eq g.K.Hash.hash_input g.S.BuildHasher.build_hasher g.S.Hasher.Hasher.write g.S.Hasher.Hasher.finish g.met.K.Eq.laws
+      g.met.K.Hash.respects_eq b w.begun.book st.0 st.1 log met.place met.word p c.args.table.now) c.args.window.now put.new.self
+      (delete_changed g.K.PartialEq.eq g.K.Hash.hash_input g.S.BuildHasher.build_hasher g.S.Hasher.Hasher.write g.S.Hasher.Hasher.finish
+      g.met.K.Eq.laws g.met.K.Hash.respects_eq b w.begun.book st.0 st.1 log met.place met.word p c.args.table.now st.2 log' put.result.0 put.result.1
+      tried is) does;
+}
 
-pub returns-clause-made : goal.returns-clause-made
-returns-clause-made g c =
-    let w = c.args.window.now.book.now in let b = begun_of w.parts in let log = c.args.window.now.sight.log in let met = c.args.met.now in
-    let p = met.stored in let st = c.requires.shows in
-    let word : c.tombstone-grave.result.0 ≡ grave_word met.word = c.tombstone-grave.ensures ∙ ap tombstone_word c.pair.ensures in
-    let hash = (hash_of g.K.Hash.hash_input g.S.BuildHasher.build_hasher g.S.Hasher.Hasher.write g.S.Hasher.Hasher.finish) in
-    let put = c.exchange_slot-found in let log' = put.new.self.sight.log in
-    let tried = subst (λ (n : ℕ). IsSlotTried g.K.PartialEq.eq hash b w.begun.book met.place.table met.place.probe.i (Some steps.Delete) met.word n
-    None names.Nothing log put.result.0 log' put.result.1) word put.ensures.tried in
-    let is : (put.result.0 == met.word) ≡ true = search rules in
-    let does = subst (λ (z : Bool). Does z c.args.window.now put.new.self) is put.ensures.does in
-    makes g.K.PartialEq.eq (Some st.0) st.1 put.result.1 None
-    (ends g.K.PartialEq.eq g.K.Hash.hash_input g.S.BuildHasher.build_hasher g.S.Hasher.Hasher.write g.S.Hasher.Hasher.finish g.met.K.Eq.laws
-    g.met.K.Hash.respects_eq b w.begun.book st.0 st.1 log met.place met.word p c.args.table.now) c.args.window.now put.new.self
-    (delete_changed g.K.PartialEq.eq g.K.Hash.hash_input g.S.BuildHasher.build_hasher g.S.Hasher.Hasher.write g.S.Hasher.Hasher.finish
-    g.met.K.Eq.laws g.met.K.Hash.respects_eq b w.begun.book st.0 st.1 log met.place met.word p c.args.table.now st.2 log' put.result.0 put.result.1
-    tried is) does
+pub returns-then-found-word-clause-ends : goal.returns-then-found-word-clause-ends
+returns-then-found-word-clause-ends g c = record {
+  sees = c.exchange_slot-found.ensures.sees;
+  lawful = search rules;
+  made =
+      let put = c.exchange_slot-found in
+      let is : (put.result.0 == c.args.met.now.word) ≡ false = search rules in
+      makes_none c.args.window.now put.new.self (subst (λ (z : Bool). Does z c.args.window.now put.new.self) is put.ensures.does);
+}

@@ -30,7 +30,7 @@ pub returns-in-Here-clause-turns : goal.returns-in-Here-clause-turns
 returns-in-Here-clause-turns g c =
     let w = c.args.window.now.book.now in let s = c.slot_word-word in let p = c.named_pair-stored.result in
     let looks : look c.args.at s.result.0 ≡ On (Comparing c.in-On-Comparing.field-0-0 c.in-On-Comparing.field-0-1) = search rules in
-    let same = c.eq-same.ensures ∙ ap (g.K.PartialEq.eq c.args.key.now) (c.key.ensures ∙ ap (λ z. z.key.value) c.pair-pair.ensures) in
+    let same = c.eq-same.ensures ∙ ap (g.K.PartialEq.eq c.args.key.now) (c.near_entry.ensures.key c.in-Some.entry c.in-Some.is ∙ ap (λ z. z.key.value) c.pair-pair.ensures) in
     let is_same = here_same c.args.at s.result.0 c.eq-same.result c.in-Here.field-0 c.in-Here.field-1 (sym c.at_yes-compared.ensures.value ∙ c.in-Here.is) in
     let live : kind_of s.result.0 ≡ Live = search rules in
     rw s.ensures.sees.book (λ who begun state e r.
@@ -47,7 +47,7 @@ pub returns-in_default-compared-clause-turns : goal.returns-in_default-compared-
 returns-in_default-compared-clause-turns g c =
     let w = c.args.window.now.book.now in let s = c.slot_word-word in
     let looks : look c.args.at s.result.0 ≡ On (Comparing c.in-On-Comparing.field-0-0 c.in-On-Comparing.field-0-1) = search rules in
-    let same = c.eq-same.ensures ∙ ap (g.K.PartialEq.eq c.args.key.now) (c.key.ensures ∙ ap (λ z. z.key.value) c.pair-pair.ensures) in
+    let same = c.eq-same.ensures ∙ ap (g.K.PartialEq.eq c.args.key.now) (c.near_entry.ensures.key c.in-Some.entry c.in-Some.is ∙ ap (λ z. z.key.value) c.pair-pair.ensures) in
     let to : c.without.result ≡ turn_of (at_yes (Comparing c.args.at s.result.0) c.eq-same.result) = c.without.ensures
     ∙ ap (λ z. turn_of z) c.at_yes-compared.ensures.value in
     rw (s.ensures.sees.book, to) (λ who begun state e r.

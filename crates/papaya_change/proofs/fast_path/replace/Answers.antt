@@ -1,4 +1,4 @@
-use Rattle.std.proofs.Common.{◌≡◌, ℕ, ◌==◌, Bool, true, false, Option, Some, refl, sym, ap, ◌∙◌, rules, subst}
+use Rattle.std.proofs.Common.{◌≡◌, ℕ, ◌==◌, Bool, true, false, Option, Some, refl, sym, ap, ◌∙◌, rules, subst, [], append-nil, inl}
 use Rattle.papaya_words.specs.Word.{live_word}
 use Rattle.papaya_ask.specs.declared.ask.StepKind.TheVariants as steps
 use Rattle.papaya_call.specs.declared.machine.State.{State}
@@ -15,7 +15,7 @@ use Rattle.papaya_lookup.specs.Drivers.{past}
 use Rattle.papaya_lookup.specs.History.{history_of, key_of}
 use Rattle.papaya_change.specs.Changes.{IsChangeOf}
 use Rattle.papaya_change.specs.Seeking.{IsInsertingAt}
-use Rattle.papaya_change.proofs.Doing.{makes}
+use Rattle.papaya_change.proofs.Doing.{idles, makes}
 use Rattle.papaya_change.proofs.Logged.{makes_none}
 use Rattle.papaya_change.proofs.Replacing.{ended, ends, live_full, met_placed, put_can, replace_traded, slot_there, taken_number, taken_there}
 use Rattle.papaya_change.proofs.fast_path.replace.Goals as goal
@@ -100,44 +100,65 @@ returns-clause-put g c = λ z e key begun state led stands.
           key_is c.in-Ok.ensures.placed mid put.result.0 put.result.1 tried is c.in-Some.taken c.in-Some.is),
     )
 
-pub returns-clause-does : goal.returns-clause-does
-returns-clause-does g c =
-    let put = c.put_slot-found in
-    let is : (put.result.0 == c.args.met.now.word) ≡ true = search rules in
-    subst (λ (z : Bool). Does z c.args.window.now put.new.self) is put.ensures.does
+pub returns-clause-tried : goal.returns-clause-tried
+returns-clause-tried g c = record {
+  sees = c.put_slot-found.ensures.sees;
+  lawful = search rules;
+  does =
+      let put = c.put_slot-found in
+      let is : (put.result.0 == c.args.met.now.word) ≡ true = search rules in
+      subst (λ (z : Bool). Does z c.args.window.now put.new.self) is put.ensures.does;
+  made =
+      let w = c.args.window.now.book.now in let b = begun_of w.parts in let log = c.args.window.now.sight.log in let key = c.requires.stands.0 in
+      let met = c.args.met.now in let p = met.stored in let q = c.in-Ok.pair in
+      let key_is : key_of q ≡ key_of p = c.in-Ok.ensures.key ∙ ap (λ (z : Stored _ _). key_of z) c.again.ensures in
+      let hash = (hash_of g.K.Hash.hash_input g.S.BuildHasher.build_hasher g.S.Hasher.Hasher.write g.S.Hasher.Hasher.finish) in
+      let full = live_full met.word c.requires.live in
+      let word : c.live.result.0 ≡ live_word q.index = c.live.ensures ∙ ap live_word c.index-2.ensures in
+      let st = c.requires.stands.1 in let led : Some (Writing (record { place = met.place; old = met.word })) ≡ Some st.0 = st.1 in
+      let to : Writing (record { place = met.place; old = met.word }) ≡ st.0 = cc led in
+      let r = subst (λ (z : State). IsInsertingAt g.K.PartialEq.eq hash b w.begun.book key st.2.0 log z (Some p) c.args.table.now) (sym to) st.2.1 in
+      let put = c.put_slot-found in let mid = put.new.self.sight.log in
+      let tried = subst (λ (z : ℕ). IsSlotTried g.K.PartialEq.eq hash b w.begun.book met.place.table met.place.probe.i (Some steps.Replace) met.word z
+      (Some q) (names.Pair q) log put.result.0 mid put.result.1) word put.ensures.tried in
+      let is : (put.result.0 == met.word) ≡ true = search rules in
+      let does = subst (λ (z : Bool). Does z c.args.window.now put.new.self) is put.ensures.does in
+      makes g.K.PartialEq.eq (Some key) st.2.0 put.result.1 (Some q)
+      (ends g.K.PartialEq.eq g.K.Hash.hash_input g.S.BuildHasher.build_hasher g.S.Hasher.Hasher.write g.S.Hasher.Hasher.finish g.met.K.Eq.laws
+      g.met.K.Hash.respects_eq b w.begun.book key st.2.0 log met.place met.word full p c.args.table.now r c.requires.limit q key_is
+      c.in-Ok.ensures.placed mid put.result.0 put.result.1 tried is) c.args.window.now put.new.self
+      (ended g.K.PartialEq.eq g.K.Hash.hash_input g.S.BuildHasher.build_hasher g.S.Hasher.Hasher.write g.S.Hasher.Hasher.finish g.met.K.Eq.laws
+      g.met.K.Hash.respects_eq b w.begun.book key st.2.0 log met.place met.word full p c.args.table.now r c.requires.limit q key_is
+      c.in-Ok.ensures.placed mid put.result.0 put.result.1 tried is).changed does;
+  logged = search rules;
+  refused = tt;
+  crowded = λ e. absurd (cc e);
+}
 
-pub returns-then-found-word-clause-does : goal.returns-then-found-word-clause-does
-returns-then-found-word-clause-does g c =
-    let put = c.put_slot-found in
-    let is : (put.result.0 == c.args.met.now.word) ≡ false = search rules in
-    subst (λ (z : Bool). Does z c.args.window.now put.new.self) is put.ensures.does
+pub returns-then-found-word-clause-tried : goal.returns-then-found-word-clause-tried
+returns-then-found-word-clause-tried g c = record {
+  sees = c.put_slot-found.ensures.sees;
+  lawful = search rules;
+  does =
+      let put = c.put_slot-found in
+      let is : (put.result.0 == c.args.met.now.word) ≡ false = search rules in
+      subst (λ (z : Bool). Does z c.args.window.now put.new.self) is put.ensures.does;
+  made =
+      let put = c.put_slot-found in
+      let is : (put.result.0 == c.args.met.now.word) ≡ false = search rules in
+      makes_none c.args.window.now put.new.self (subst (λ (z : Bool). Does z c.args.window.now put.new.self) is put.ensures.does);
+  logged = search rules;
+  refused = tt;
+  crowded = λ e. absurd (cc e);
+}
 
-pub returns-then-found-word-clause-made : goal.returns-then-found-word-clause-made
-returns-then-found-word-clause-made g c =
-    let put = c.put_slot-found in
-    let is : (put.result.0 == c.args.met.now.word) ≡ false = search rules in
-    makes_none c.args.window.now put.new.self (subst (λ (z : Bool). Does z c.args.window.now put.new.self) is put.ensures.does)
-
-pub returns-clause-made : goal.returns-clause-made
-returns-clause-made g c =
-    let w = c.args.window.now.book.now in let b = begun_of w.parts in let log = c.args.window.now.sight.log in let key = c.requires.stands.0 in
-    let met = c.args.met.now in let p = met.stored in let q = c.in-Ok.pair in
-    let key_is : key_of q ≡ key_of p = c.in-Ok.ensures.key ∙ ap (λ (z : Stored _ _). key_of z) c.again.ensures in
-    let hash = (hash_of g.K.Hash.hash_input g.S.BuildHasher.build_hasher g.S.Hasher.Hasher.write g.S.Hasher.Hasher.finish) in
-    let full = live_full met.word c.requires.live in
-    let word : c.live.result.0 ≡ live_word q.index = c.live.ensures ∙ ap live_word c.index-2.ensures in
-    let st = c.requires.stands.1 in let led : Some (Writing (record { place = met.place; old = met.word })) ≡ Some st.0 = st.1 in
-    let to : Writing (record { place = met.place; old = met.word }) ≡ st.0 = cc led in
-    let r = subst (λ (z : State). IsInsertingAt g.K.PartialEq.eq hash b w.begun.book key st.2.0 log z (Some p) c.args.table.now) (sym to) st.2.1 in
-    let put = c.put_slot-found in let mid = put.new.self.sight.log in
-    let tried = subst (λ (z : ℕ). IsSlotTried g.K.PartialEq.eq hash b w.begun.book met.place.table met.place.probe.i (Some steps.Replace) met.word z
-    (Some q) (names.Pair q) log put.result.0 mid put.result.1) word put.ensures.tried in
-    let is : (put.result.0 == met.word) ≡ true = search rules in
-    let does = subst (λ (z : Bool). Does z c.args.window.now put.new.self) is put.ensures.does in
-    makes g.K.PartialEq.eq (Some key) st.2.0 put.result.1 (Some q)
-    (ends g.K.PartialEq.eq g.K.Hash.hash_input g.S.BuildHasher.build_hasher g.S.Hasher.Hasher.write g.S.Hasher.Hasher.finish g.met.K.Eq.laws
-    g.met.K.Hash.respects_eq b w.begun.book key st.2.0 log met.place met.word full p c.args.table.now r c.requires.limit q key_is
-    c.in-Ok.ensures.placed mid put.result.0 put.result.1 tried is) c.args.window.now put.new.self
-    (ended g.K.PartialEq.eq g.K.Hash.hash_input g.S.BuildHasher.build_hasher g.S.Hasher.Hasher.write g.S.Hasher.Hasher.finish g.met.K.Eq.laws
-    g.met.K.Hash.respects_eq b w.begun.book key st.2.0 log met.place met.word full p c.args.table.now r c.requires.limit q key_is
-    c.in-Ok.ensures.placed mid put.result.0 put.result.1 tried is).changed does
+pub returns-in_default-clause-tried : goal.returns-in_default-clause-tried
+returns-in_default-clause-tried g c = let w = c.args.window.now in record {
+  sees = record { book = refl; log = ([], append-nil _) };
+  lawful = c.requires.stands.1.2.1.4.lawful;
+  does = idles w w refl;
+  made = makes_none w w (idles w w refl);
+  logged = tt;
+  refused = inl refl;
+  crowded = λ e. absurd (cc e);
+}

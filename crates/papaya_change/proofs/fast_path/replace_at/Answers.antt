@@ -1,4 +1,4 @@
-use Rattle.std.proofs.Common.{◌≡◌, Result, Ok, Err, IfOk, Some, sym, ap, ◌∙◌, subst}
+use Rattle.std.proofs.Common.{◌≡◌, Result, Ok, Err, IfOk, Some, sym, ap, ◌∙◌, subst, rules}
 use Rattle.papaya_words.specs.declared.probe.Refused.TheVariants.{Capacity}
 use Rattle.papaya_call.specs.declared.machine.State.{State}
 use Rattle.papaya_call.specs.declared.machine.State.TheVariants.{Writing}
@@ -39,10 +39,10 @@ insert_met-requires-clause-met g c =
     let mid = c.replace.new.window.sight.log in
     let at = c.in-Ok-Lost in let is = at.is ∙ ap (λ z. Ok z) at.field-0-is in
     let l = subst (λ (z : Result (Tried _ _) _). IfOk z (λ t. IsLoggedAs c.replace.new.window (key_of c.args.met.stored) c.args.value (pair_in t))) is
-    c.replace.ensures.logged in
+    c.replace.ensures.tried.logged in
     subst (HasKeyAt mid met.place.table met.place.probe.i) (sym l.key_is)
     (key_at_stays g.K.PartialEq.eq g.K.Hash.hash_input g.S.BuildHasher.build_hasher g.S.Hasher.Hasher.write g.S.Hasher.Hasher.finish g.met.K.Eq.laws
-    g.met.K.Hash.respects_eq b log mid (rw (sym c.replace.ensures.sees.book) c.replace.ensures.lawful) c.replace.ensures.sees.log met.place.table
+    g.met.K.Hash.respects_eq b log mid (rw (sym c.replace.ensures.tried.sees.book) c.replace.ensures.tried.lawful) c.replace.ensures.tried.sees.log met.place.table
     met.place.probe.i (key_of p) there)
 
 pub insert_met-requires-clause-same : goal.insert_met-requires-clause-same
@@ -56,7 +56,7 @@ insert_met-requires-clause-same g c =
     let r = subst (λ (z : State). IsInsertingAt g.K.PartialEq.eq hash b w.begun.book key st.2.0 log z (Some p) c.args.table.now) (sym to) st.2.1 in
     let at = c.in-Ok-Lost in let is = at.is ∙ ap (λ z. Ok z) at.field-0-is in
     let l = subst (λ (z : Result (Tried _ _) _). IfOk z (λ t. IsLoggedAs c.replace.new.window (key_of c.args.met.stored) c.args.value (pair_in t))) is
-    c.replace.ensures.logged in
+    c.replace.ensures.tried.logged in
     ap (g.K.PartialEq.eq key) l.key_is ∙ met_same g.K.PartialEq.eq g.K.Hash.hash_input g.S.BuildHasher.build_hasher g.S.Hasher.Hasher.write
     g.S.Hasher.Hasher.finish g.met.K.Eq.laws g.met.K.Hash.respects_eq b w.begun.book key st.2.0 log met.place met.word full p c.args.table.now r
 
@@ -64,21 +64,24 @@ pub returns-in-Ok-Put-clause-put : goal.returns-in-Ok-Put-clause-put
 returns-in-Ok-Put-clause-put g c = λ begun state led r.
     let at = c.in-Ok-Put in let is = at.is ∙ ap (λ z. Ok z) at.field-0-is in
     let l = subst (λ (z : Result (Tried _ _) _). IfOk z (λ t. IsLoggedAs c.replace.new.window (key_of c.args.met.stored) c.args.value (pair_in t))) is
-    c.replace.ensures.logged in
+    c.replace.ensures.tried.logged in
     let t = c.replace.ensures.put at.field-0-0 is c.args.key begun state led r in
-    traded_some g.K.PartialEq.eq g.met.K.Eq.laws c.args.key c.args.value _ _ at.field-0-0 l.value_is c.args.met.stored c.entry.result.1
-    c.entry.ensures.1 t.0 t.1 t.2
+    traded_some g.K.PartialEq.eq g.met.K.Eq.laws c.args.key c.args.value _ _ at.field-0-0 l.value_is c.args.met.stored c.value_of.result
+    c.value_of.ensures t.0 t.1 t.2
 
 pub returns-in-Ok-Lost-clause-put : goal.returns-in-Ok-Lost-clause-put
 returns-in-Ok-Lost-clause-put g c =
     let at = c.in-Ok-Lost in let is = at.is ∙ ap (λ z. Ok z) at.field-0-is in
     let l = subst (λ (z : Result (Tried _ _) _). IfOk z (λ t. IsLoggedAs c.replace.new.window (key_of c.args.met.stored) c.args.value (pair_in t))) is
-    c.replace.ensures.logged in
+    c.replace.ensures.tried.logged in
     let log = c.args.window.now.sight.log in let mid = c.replace.new.window.sight.log in
     if_ok _ _ c.insert_met.result c.insert_met.ensures.put (λ a h begun state led r.
     put_since g.K.PartialEq.eq c.args.key c.args.value begun mid c.insert_met.new.window.sight.log a
-    (prefix_trans begun log mid r.4.seen c.replace.ensures.sees.log)
+    (prefix_trans begun log mid r.4.seen c.replace.ensures.tried.sees.log)
     (subst (λ z. IsPut g.K.PartialEq.eq c.args.key z (past c.replace.new.window) (past c.insert_met.new.window) a) l.value_is h))
 
-pub returns-clause-crowded : goal.returns-clause-crowded
-returns-clause-crowded g c = λ e. let same : c.in-Err.refused ≡ Capacity = cc e in c.replace.ensures.crowded (c.in-Err.is ∙ ap (λ z. Err z) same)
+pub returns-clause-tells : goal.returns-clause-tells
+returns-clause-tells g c = record {
+  crowded = λ e. let same : c.in-Err.refused ≡ Capacity = cc e in c.replace.ensures.tried.crowded (c.in-Err.is ∙ ap (λ z. Err z) same);
+  spent = search rules;
+}

@@ -18,6 +18,7 @@ use Rattle.papaya_change.proofs.Doing.{makes}
 use Rattle.papaya_change.proofs.RemovingHits.{ended, hit_can, hit_changed, hit_held, hit_was, hit_went, one_shown, stays}
 use Rattle.papaya_change.proofs.RemovingReplies.{removal_since}
 use Rattle.papaya_change.proofs.Showings.{held_wider}
+use Rattle.papaya_book.proofs.Windows.{sees_trans}
 use Rattle.papaya_change.proofs.fast_removal.remove_fast.Goals as goal
 
 pub returns-then-not-agrees-clause-removed : goal.returns-then-not-agrees-clause-removed
@@ -104,38 +105,6 @@ returns-then-found-word-clause-removed g c =
     one_shown g.K.PartialEq.eq (g.Q.Equivalent.matches c.args.key.now) _ _ _ (Judges g.F.FnMut) c.args.agrees.now c.agrees.new.self met.stored true
     judged was (history_since c.args.window.now.sight.log h.0 h.1)
 
-pub returns-clause-made : goal.returns-clause-made
-returns-clause-made g c =
-    let lawful : IsQuery g.K.PartialEq.eq g.K.Hash.hash_input (g.Q.Equivalent.matches c.args.key.now)
-    (g.Q.Hash.hash_input c.args.key.now) = record {
-      feeds = g.met.Q.Equivalent.hashes_as_key c.args.key.now;
-      class = λ k l.
-          g.met.Q.Equivalent.matches_equal_keys c.args.key.now k l;
-    } in
-    let w = c.find.new.window.book.now in let b = begun_of w.parts in let log = c.find.new.window.sight.log in let hit = c.in-Some.hit in let met = hit.met in
-    let h = c.find.ensures.hits hit c.in-Some.is in
-    let live : kind_of met.word ≡ Live = search rules in
-    let said : c.agrees.result ≡ true = search rules in
-    let judged : Judges g.F.FnMut c.args.agrees.now met.stored true
-    c.agrees.new.self = subst (λ (z : Bool). Judges g.F.FnMut c.args.agrees.now met.stored z c.agrees.new.self) said
-    (hit.key, hit.value, (h.2.1, h.2.2), c.agrees.ensures) in
-    let word : c.tombstone-grave.result.0 ≡ grave_word met.word = c.tombstone-grave.ensures ∙ ap tombstone_word c.pair.ensures in
-    let put = c.exchange_slot-found in let log' = put.new.self.sight.log in
-    let hash = hash_of g.K.Hash.hash_input g.S.BuildHasher.build_hasher g.S.Hasher.Hasher.write g.S.Hasher.Hasher.finish in
-    let tried = subst (λ (n : ℕ). IsSlotTried g.K.PartialEq.eq hash b w.begun.book met.place.table met.place.probe.i (Some steps.Delete) met.word n
-    None names.Nothing log put.result.0 log' put.result.1) word put.ensures.tried in
-    let is : (put.result.0 == met.word) ≡ true = search rules in
-    let does = subst (λ (z : Bool). Does z c.find.new.window put.new.self) is put.ensures.does in
-    rw (sym c.find.ensures.own) (makes g.K.PartialEq.eq None h.0 put.result.1 None
-    (ended g.K.PartialEq.eq g.K.Hash.hash_input g.S.BuildHasher.build_hasher g.S.Hasher.Hasher.write g.S.Hasher.Hasher.finish g.met.K.Eq.laws
-    g.met.K.Hash.respects_eq b w.begun.book (g.Q.Equivalent.matches c.args.key.now) (g.Q.Hash.hash_input c.args.key.now) lawful (Judges g.F.FnMut)
-    c.args.agrees.now h.0 log h.2.0 w.chunked c.fits.ensures hit.table met h.2.3 live c.agrees.new.self judged put.new.self.sight.log
-    put.ensures.sees.log put.result.0 put.result.1 tried is).call.machine c.find.new.window put.new.self
-    (hit_changed g.K.PartialEq.eq g.K.Hash.hash_input g.S.BuildHasher.build_hasher g.S.Hasher.Hasher.write g.S.Hasher.Hasher.finish g.met.K.Eq.laws
-    g.met.K.Hash.respects_eq b w.begun.book (g.Q.Equivalent.matches c.args.key.now) (g.Q.Hash.hash_input c.args.key.now) lawful (Judges g.F.FnMut)
-    c.args.agrees.now h.0 log h.2.0 w.chunked c.fits.ensures hit.table met h.2.3 live c.agrees.new.self judged put.new.self.sight.log
-    put.ensures.sees.log put.result.0 put.result.1 tried is) does)
-
 pub returns-clause-removed : goal.returns-clause-removed
 returns-clause-removed g c =
     let lawful : IsQuery g.K.PartialEq.eq g.K.Hash.hash_input (g.Q.Equivalent.matches c.args.key.now)
@@ -176,3 +145,39 @@ returns-in_default-clause-removed g c =
       held = tt;
       answered = record { seen = none.seen; since = none.since; until = none.until; is = none.is };
     }
+
+pub returns-clause-ends : goal.returns-clause-ends
+returns-clause-ends g c = record {
+  sees = sees_trans _ _ _ c.find.ensures.sees c.exchange_slot-found.ensures.sees;
+  lawful = search rules;
+  made =
+      let lawful : IsQuery g.K.PartialEq.eq g.K.Hash.hash_input (g.Q.Equivalent.matches c.args.key.now)
+      (g.Q.Hash.hash_input c.args.key.now) = record {
+        feeds = g.met.Q.Equivalent.hashes_as_key c.args.key.now;
+        class = λ k l.
+            g.met.Q.Equivalent.matches_equal_keys c.args.key.now k l;
+      } in
+      let w = c.find.new.window.book.now in let b = begun_of w.parts in let log = c.find.new.window.sight.log in let hit = c.in-Some.hit in let met = hit.met in
+      let h = c.find.ensures.hits hit c.in-Some.is in
+      let live : kind_of met.word ≡ Live = search rules in
+      let said : c.agrees.result ≡ true = search rules in
+      let judged : Judges g.F.FnMut c.args.agrees.now met.stored true
+      c.agrees.new.self = subst (λ (z : Bool). Judges g.F.FnMut c.args.agrees.now met.stored z c.agrees.new.self) said
+      (hit.key, hit.value, (h.2.1, h.2.2), c.agrees.ensures) in
+      let word : c.tombstone-grave.result.0 ≡ grave_word met.word = c.tombstone-grave.ensures ∙ ap tombstone_word c.pair.ensures in
+      let put = c.exchange_slot-found in let log' = put.new.self.sight.log in
+      let hash = hash_of g.K.Hash.hash_input g.S.BuildHasher.build_hasher g.S.Hasher.Hasher.write g.S.Hasher.Hasher.finish in
+      let tried = subst (λ (n : ℕ). IsSlotTried g.K.PartialEq.eq hash b w.begun.book met.place.table met.place.probe.i (Some steps.Delete) met.word n
+      None names.Nothing log put.result.0 log' put.result.1) word put.ensures.tried in
+      let is : (put.result.0 == met.word) ≡ true = search rules in
+      let does = subst (λ (z : Bool). Does z c.find.new.window put.new.self) is put.ensures.does in
+      rw (sym c.find.ensures.own) (makes g.K.PartialEq.eq None h.0 put.result.1 None
+      (ended g.K.PartialEq.eq g.K.Hash.hash_input g.S.BuildHasher.build_hasher g.S.Hasher.Hasher.write g.S.Hasher.Hasher.finish g.met.K.Eq.laws
+      g.met.K.Hash.respects_eq b w.begun.book (g.Q.Equivalent.matches c.args.key.now) (g.Q.Hash.hash_input c.args.key.now) lawful (Judges g.F.FnMut)
+      c.args.agrees.now h.0 log h.2.0 w.chunked c.fits.ensures hit.table met h.2.3 live c.agrees.new.self judged put.new.self.sight.log
+      put.ensures.sees.log put.result.0 put.result.1 tried is).call.machine c.find.new.window put.new.self
+      (hit_changed g.K.PartialEq.eq g.K.Hash.hash_input g.S.BuildHasher.build_hasher g.S.Hasher.Hasher.write g.S.Hasher.Hasher.finish g.met.K.Eq.laws
+      g.met.K.Hash.respects_eq b w.begun.book (g.Q.Equivalent.matches c.args.key.now) (g.Q.Hash.hash_input c.args.key.now) lawful (Judges g.F.FnMut)
+      c.args.agrees.now h.0 log h.2.0 w.chunked c.fits.ensures hit.table met h.2.3 live c.agrees.new.self judged put.new.self.sight.log
+      put.ensures.sees.log put.result.0 put.result.1 tried is) does);
+}

@@ -124,10 +124,10 @@ look_on-requires-clause-can g c =
     on.writing.calling in
     let went = inserting_helped g.K.PartialEq.eq g.K.Hash.hash_input g.S.BuildHasher.build_hasher g.S.Hasher.Hasher.write
     g.S.Hasher.Hasher.finish g.met.K.Eq.laws g.met.K.Hash.respects_eq b w.begun.book key value begun c.answer.new.window.sight.log log
-    c.help.ensures.sees.log x on then driven c.help.ensures.rest.1 c.help.ensures.calling
-    (λ e. let s = c.help.ensures.still e in (s.0, ap (λ (z : Window _ _ _ _ _). z.sight.log) s.1)) c.help.ensures.helped in
+    c.help.ensures.helps.sees.log x on then driven c.help.ensures.rest.1 c.help.ensures.helps.calling
+    (λ e. let s = c.help.ensures.still e in (s.0, ap (λ (z : Window _ _ _ _ _). z.sight.log) s.1)) c.help.ensures.helps.helped in
     let writes = subst (λ (z : Bor (BookOf _ _ _ _)). IsWriting g.K.PartialEq.eq hash (begun_of z.now.parts) z.now.begun.book key went.made begun
-    log helped.writer) (sym c.help.ensures.sees.book) went.writing in
+    log helped.writer) (sym c.help.ensures.helps.sees.book) went.writing in
     (key, went.made, begun, writes)
 
 pub loop-preserved : goal.loop-preserved
@@ -142,12 +142,12 @@ loop-preserved g c =
     ∙ ap (λ (z : Machine). after z (answers.Call answer)) c.answer.ensures.machine in
     let does = does_on m c.loop.invariant.2 answer c.args.window.now c.loop.window c.answer.new.window c.loop.invariant.5 c.in-Some-answer.ensures.answers in
     let does_call = subst (λ (z : Machine). Does (has_changed z) c.args.window.now c.answer.new.window) (sym same) does in
-    let does_help = helped_does call.machine then.machine (tables_of log) then.given.done c.help.ensures.calling c.help.ensures.helped c.args.window.now
-    c.answer.new.window c.help.new.window (λ e. (c.help.ensures.still e).1) c.help.ensures.own does_call in (
+    let does_help = helped_does call.machine then.machine (tables_of log) then.given.done c.help.ensures.helps.calling c.help.ensures.helps.helped c.args.window.now
+    c.answer.new.window c.help.new.window (λ e. (c.help.ensures.still e).1) c.help.ensures.helps.own does_call in (
       (λ key value begun r.
           let u = c.loop.invariant.0 key value begun
           (subst (λ (z : Bor (BookOf _ _ _ _)). IsInserting g.K.PartialEq.eq hash (begun_of z.now.parts) z.now.begun.book key value begun
-          c.args.window.now.sight.log c.args.begun) (c.look_on.ensures.sees.book ∙ (c.help.ensures.sees.book ∙ c.answer.ensures.sees.book)) r) in
+          c.args.window.now.sight.log c.args.begun) (c.look_on.ensures.over.sees.book ∙ (c.help.ensures.helps.sees.book ∙ c.answer.ensures.sees.book)) r) in
           let on = subst (λ (z : Driver _ _ _ _). IsInserting g.K.PartialEq.eq hash b w.begun.book key value begun c.answer.new.window.sight.log
           (record c.answer.new.self { writer = record c.answer.new.self.writer { call = z } })) (sym c.answer-in-Some-answer.ensures.after)
           (subst (λ (z : Bor (BookOf _ _ _ _)). IsInserting g.K.PartialEq.eq hash (begun_of z.now.parts) z.now.begun.book key value begun
@@ -165,26 +165,26 @@ loop-preserved g c =
           on.writing.calling in
           let went = inserting_helped g.K.PartialEq.eq g.K.Hash.hash_input g.S.BuildHasher.build_hasher g.S.Hasher.Hasher.write
           g.S.Hasher.Hasher.finish g.met.K.Eq.laws g.met.K.Hash.respects_eq b w.begun.book key value begun c.answer.new.window.sight.log log
-          c.help.ensures.sees.log x on then driven c.help.ensures.rest.1 c.help.ensures.calling
-          (λ e. let s = c.help.ensures.still e in (s.0, ap (λ (z : Window _ _ _ _ _). z.sight.log) s.1)) c.help.ensures.helped in
+          c.help.ensures.helps.sees.log x on then driven c.help.ensures.rest.1 c.help.ensures.helps.calling
+          (λ e. let s = c.help.ensures.still e in (s.0, ap (λ (z : Window _ _ _ _ _). z.sight.log) s.1)) c.help.ensures.helps.helped in
           let writes = subst (λ (z : Bor (BookOf _ _ _ _)). IsWriting g.K.PartialEq.eq hash (begun_of z.now.parts) z.now.begun.book key went.made begun
-          log helped.writer) (sym c.help.ensures.sees.book) went.writing in
+          log helped.writer) (sym c.help.ensures.helps.sees.book) went.writing in
           let wrote = subst (λ (z : Bor (BookOf _ _ _ _)). IsWriting g.K.PartialEq.eq hash (begun_of z.now.parts) z.now.begun.book key went.made begun
-          seen.sight.log writer) c.help.ensures.sees.book (c.look_on.ensures.looks key went.made begun writes) in
+          seen.sight.log writer) c.help.ensures.helps.sees.book (c.look_on.ensures.looks key went.made begun writes) in
           let looked = inserting_looked g.K.PartialEq.eq g.K.Hash.hash_input g.S.BuildHasher.build_hasher g.S.Hasher.Hasher.write
           g.S.Hasher.Hasher.finish g.met.K.Eq.laws g.met.K.Hash.respects_eq b w.begun.book key begun value log seen.sight.log
-          c.look_on.ensures.sees.log helped went c.help.new.window seen writer.call c.look_on.ensures.looked refl refl wrote.calling in
+          c.look_on.ensures.over.sees.log helped went c.help.new.window seen writer.call c.look_on.ensures.over.looked refl refl wrote.calling in
           let there = subst (λ (z : Writer _ _ _ _). IsInserting g.K.PartialEq.eq hash b w.begun.book key value begun seen.sight.log
           (record helped { writer = z })) (sym c.look_on.ensures.rest) looked in
           subst (λ (z : Bor (BookOf _ _ _ _)). IsInserting g.K.PartialEq.eq hash (begun_of z.now.parts) z.now.begun.book key value begun
-          seen.sight.log (record helped { writer = writer })) (sym (c.look_on.ensures.sees.book ∙ c.help.ensures.sees.book)) there),
-      c.look_on.ensures.standing,
-      looked_calling c.help.new.window seen then writer.call c.look_on.ensures.looked c.help.ensures.calling,
-      looked_initial c.help.new.window seen then writer.call c.look_on.ensures.looked
-          ∙ ((helped_keeps call.machine then.machine (tables_of log) then.given.done c.help.ensures.helped).initial
+          seen.sight.log (record helped { writer = writer })) (sym (c.look_on.ensures.over.sees.book ∙ c.help.ensures.helps.sees.book)) there),
+      c.look_on.ensures.over.standing,
+      looked_calling c.help.new.window seen then writer.call c.look_on.ensures.over.looked c.help.ensures.helps.calling,
+      looked_initial c.help.new.window seen then writer.call c.look_on.ensures.over.looked
+          ∙ ((helped_keeps call.machine then.machine (tables_of log) then.given.done c.help.ensures.helps.helped).initial
           ∙ (ap (λ (z : Machine). z.call.initial) same ∙ ((own_settings m c.loop.invariant.2 answer).0 ∙ c.loop.invariant.3))),
-      sees_trans _ _ _ (sees_trans _ _ _ (sees_trans _ _ _ c.loop.invariant.4 c.answer.ensures.sees) c.help.ensures.sees) c.look_on.ensures.sees,
-      looked_does c.help.new.window seen then writer.call c.look_on.ensures.looked c.args.window.now c.look_on.ensures.own does_help,
+      sees_trans _ _ _ (sees_trans _ _ _ (sees_trans _ _ _ c.loop.invariant.4 c.answer.ensures.sees) c.help.ensures.helps.sees) c.look_on.ensures.over.sees,
+      looked_does c.help.new.window seen then writer.call c.look_on.ensures.over.looked c.args.window.now c.look_on.ensures.over.own does_help,
     )
 
 pub replied-requires-clause-can : goal.replied-requires-clause-can
@@ -205,15 +205,6 @@ replied-requires-clause-done g c =
     z.now.begun.book key value begun c.args.window.now.sight.log c.args.begun) (sym c.loop.invariant.4.book) begin.3) in
     (c.in-None-answer.ensures.inserts key value begun u).1
 
-pub returns-in-None-answer-clause-lawful : goal.returns-in-None-answer-clause-lawful
-returns-in-None-answer-clause-lawful g c =
-    let begin = c.requires.can in let key = begin.0 in let value = begin.1 in let begun = begin.2 in
-    let u = c.loop.invariant.0 key value begun
-    (subst (λ (z : Bor (BookOf _ _ _ _)). IsInserting g.K.PartialEq.eq
-    (hash_of g.K.Hash.hash_input g.S.BuildHasher.build_hasher g.S.Hasher.Hasher.write g.S.Hasher.Hasher.finish) (begun_of z.now.parts)
-    z.now.begun.book key value begun c.args.window.now.sight.log c.args.begun) (sym c.loop.invariant.4.book) begin.3) in
-    rw c.answer.ensures.sees.book (c.in-None-answer.ensures.inserts key value begun u).0.writing.calling.lawful
-
 pub returns-in-None-answer-clause-put : goal.returns-in-None-answer-clause-put
 returns-in-None-answer-clause-put g c =
     if_ok _ _ c.replied.result c.replied.ensures.put (λ a h key value begun r.
@@ -223,41 +214,51 @@ returns-in-None-answer-clause-put g c =
     z.now.begun.book key value begun c.args.window.now.sight.log c.args.begun) (sym c.loop.invariant.4.book) r) in
     h key value begun (rw c.answer.ensures.sees.book (c.in-None-answer.ensures.inserts key value begun u).0))
 
-pub returns-in-None-answer-clause-made : goal.returns-in-None-answer-clause-made
-returns-in-None-answer-clause-made g c =
-    let begin = c.requires.can in let key = begin.0 in let value = begin.1 in let begun = begin.2 in
-    let u = c.loop.invariant.0 key value begun
-    (subst (λ (z : Bor (BookOf _ _ _ _)). IsInserting g.K.PartialEq.eq
-    (hash_of g.K.Hash.hash_input g.S.BuildHasher.build_hasher g.S.Hasher.Hasher.write g.S.Hasher.Hasher.finish) (begun_of z.now.parts)
-    z.now.begun.book key value begun c.args.window.now.sight.log c.args.begun) (sym c.loop.invariant.4.book) begin.3) in
-    let r = (c.in-None-answer.ensures.inserts key value begun u).0 in let call = c.answer.new.self.writer.call in
-    let does = does_still c.loop.insertion.writer.call.machine c.args.window.now c.loop.window c.answer.new.window c.loop.invariant.5
-    c.in-None-answer.ensures.answers in
-    rw c.replied.ensures.changed (makes g.K.PartialEq.eq (Some key) begun call.taken call.put call.machine c.args.window.now c.answer.new.window
-    r.writing.calling.changed (rw c.answer.ensures.machine does))
+pub returns-in-None-answer-clause-ends : goal.returns-in-None-answer-clause-ends
+returns-in-None-answer-clause-ends g c = record {
+  sees = sees_trans _ _ _ c.loop.invariant.4 c.answer.ensures.sees;
+  lawful =
+      let begin = c.requires.can in let key = begin.0 in let value = begin.1 in let begun = begin.2 in
+      let u = c.loop.invariant.0 key value begun
+      (subst (λ (z : Bor (BookOf _ _ _ _)). IsInserting g.K.PartialEq.eq
+      (hash_of g.K.Hash.hash_input g.S.BuildHasher.build_hasher g.S.Hasher.Hasher.write g.S.Hasher.Hasher.finish) (begun_of z.now.parts)
+      z.now.begun.book key value begun c.args.window.now.sight.log c.args.begun) (sym c.loop.invariant.4.book) begin.3) in
+      rw c.answer.ensures.sees.book (c.in-None-answer.ensures.inserts key value begun u).0.writing.calling.lawful;
+  made =
+      let begin = c.requires.can in let key = begin.0 in let value = begin.1 in let begun = begin.2 in
+      let u = c.loop.invariant.0 key value begun
+      (subst (λ (z : Bor (BookOf _ _ _ _)). IsInserting g.K.PartialEq.eq
+      (hash_of g.K.Hash.hash_input g.S.BuildHasher.build_hasher g.S.Hasher.Hasher.write g.S.Hasher.Hasher.finish) (begun_of z.now.parts)
+      z.now.begun.book key value begun c.args.window.now.sight.log c.args.begun) (sym c.loop.invariant.4.book) begin.3) in
+      let r = (c.in-None-answer.ensures.inserts key value begun u).0 in let call = c.answer.new.self.writer.call in
+      let does = does_still c.loop.insertion.writer.call.machine c.args.window.now c.loop.window c.answer.new.window c.loop.invariant.5
+      c.in-None-answer.ensures.answers in
+      rw c.replied.ensures.changed (makes g.K.PartialEq.eq (Some key) begun call.taken call.put call.machine c.args.window.now c.answer.new.window
+      r.writing.calling.changed (rw c.answer.ensures.machine does));
+}
 
-pub returns-in-None-answer-clause-crowded : goal.returns-in-None-answer-clause-crowded
-returns-in-None-answer-clause-crowded g c = λ e.
-    let begin = c.requires.can in let key = begin.0 in let value = begin.1 in let begun = begin.2 in
-    let u = c.loop.invariant.0 key value begun
-    (subst (λ (z : Bor (BookOf _ _ _ _)). IsInserting g.K.PartialEq.eq
-    (hash_of g.K.Hash.hash_input g.S.BuildHasher.build_hasher g.S.Hasher.Hasher.write g.S.Hasher.Hasher.finish) (begun_of z.now.parts)
-    z.now.begun.book key value begun c.args.window.now.sight.log c.args.begun) (sym c.loop.invariant.4.book) begin.3) in
-    let r = (c.in-None-answer.ensures.inserts key value begun u).0 in
-    let refused = subst (λ (z : _). IfErr z (λ cause. ask_of c.answer.new.self.writer.call.machine ≡ Call (Done (Refused cause)))) e
-    c.replied.ensures.refusal in
-    let initial : c.answer.new.self.writer.call.machine.call.initial ≡ c.args.begun.writer.call.machine.call.initial = ap
-    (λ (z : Machine). z.call.initial) c.answer.ensures.machine ∙ c.loop.invariant.3 in
-    rw c.again.ensures (subst (λ n. HasNoRoom n (tables_of c.answer.new.window.sight.log) c.answer.new.self.writer.call.given.done) initial (r.crowded refused))
-
-pub returns-in-None-answer-clause-spent : goal.returns-in-None-answer-clause-spent
-returns-in-None-answer-clause-spent g c = λ e.
-    let begin = c.requires.can in let key = begin.0 in let value = begin.1 in let begun = begin.2 in
-    let u = c.loop.invariant.0 key value begun
-    (subst (λ (z : Bor (BookOf _ _ _ _)). IsInserting g.K.PartialEq.eq
-    (hash_of g.K.Hash.hash_input g.S.BuildHasher.build_hasher g.S.Hasher.Hasher.write g.S.Hasher.Hasher.finish) (begun_of z.now.parts)
-    z.now.begun.book key value begun c.args.window.now.sight.log c.args.begun) (sym c.loop.invariant.4.book) begin.3) in
-    let r = (c.in-None-answer.ensures.inserts key value begun u).0 in
-    let refused = subst (λ (z : _). IfErr z (λ cause. ask_of c.answer.new.self.writer.call.machine ≡ Call (Done (Refused cause)))) e
-    c.replied.ensures.refusal in
-    rw c.answer.ensures.sees.book (r.spent refused)
+pub returns-in-None-answer-clause-tells : goal.returns-in-None-answer-clause-tells
+returns-in-None-answer-clause-tells g c = record {
+  crowded = λ e.
+      let begin = c.requires.can in let key = begin.0 in let value = begin.1 in let begun = begin.2 in
+      let u = c.loop.invariant.0 key value begun
+      (subst (λ (z : Bor (BookOf _ _ _ _)). IsInserting g.K.PartialEq.eq
+      (hash_of g.K.Hash.hash_input g.S.BuildHasher.build_hasher g.S.Hasher.Hasher.write g.S.Hasher.Hasher.finish) (begun_of z.now.parts)
+      z.now.begun.book key value begun c.args.window.now.sight.log c.args.begun) (sym c.loop.invariant.4.book) begin.3) in
+      let r = (c.in-None-answer.ensures.inserts key value begun u).0 in
+      let refused = subst (λ (z : _). IfErr z (λ cause. ask_of c.answer.new.self.writer.call.machine ≡ Call (Done (Refused cause)))) e
+      c.replied.ensures.refusal in
+      let initial : c.answer.new.self.writer.call.machine.call.initial ≡ c.args.begun.writer.call.machine.call.initial = ap
+      (λ (z : Machine). z.call.initial) c.answer.ensures.machine ∙ c.loop.invariant.3 in
+      rw c.again.ensures (subst (λ n. HasNoRoom n (tables_of c.answer.new.window.sight.log) c.answer.new.self.writer.call.given.done) initial (r.crowded refused));
+  spent = λ e.
+      let begin = c.requires.can in let key = begin.0 in let value = begin.1 in let begun = begin.2 in
+      let u = c.loop.invariant.0 key value begun
+      (subst (λ (z : Bor (BookOf _ _ _ _)). IsInserting g.K.PartialEq.eq
+      (hash_of g.K.Hash.hash_input g.S.BuildHasher.build_hasher g.S.Hasher.Hasher.write g.S.Hasher.Hasher.finish) (begun_of z.now.parts)
+      z.now.begun.book key value begun c.args.window.now.sight.log c.args.begun) (sym c.loop.invariant.4.book) begin.3) in
+      let r = (c.in-None-answer.ensures.inserts key value begun u).0 in
+      let refused = subst (λ (z : _). IfErr z (λ cause. ask_of c.answer.new.self.writer.call.machine ≡ Call (Done (Refused cause)))) e
+      c.replied.ensures.refusal in
+      rw c.answer.ensures.sees.book (r.spent refused);
+}

@@ -40,7 +40,7 @@ drive-requires-clause-can g c =
       q.value.value,
       log,
       begins_logged g.K.PartialEq.eq hash (begun_of w.parts) w.begun.book (key_of q) q placed
-          (g.met.K.Eq.laws.refl (key_of q)) log _ c.learn.ensures.lawful c.args.means.now.initial c.new-call.ensures.table c.new-call.ensures.pairs
+          (g.met.K.Eq.laws.refl (key_of q)) log _ c.learn.ensures.lawful c.args.means.now.initial c.new-call.ensures.empty.table c.new-call.ensures.empty.pairs
           (subst (λ (z : Stored _ _). HasKey (begun_of w.parts) w.begun.book (key_of q) (Some (keys.Of z))) (sym c.again.ensures) (refl, placed))
           (subst (λ (z : Stored _ _). HasValue (begun_of w.parts) w.begun.book (Some (values.Of z))) (sym c.again-2.ensures) placed)
           (ap (λ (z : Stored _ _). held_value (Some (values.Of z))) c.again-2.ensures) refl there refl refl,
@@ -66,7 +66,7 @@ returns-clause-put g c =
     (λ a h. put_since g.K.PartialEq.eq (key_of q) q.value.value c.args.window.now.sight.log log c.drive.new.window.sight.log a
     c.learn.ensures.sees.log (h (key_of q) q.value.value log
     (begins_logged g.K.PartialEq.eq hash (begun_of w.parts) w.begun.book (key_of q) q placed (g.met.K.Eq.laws.refl (key_of q)) log _
-    c.learn.ensures.lawful c.args.means.now.initial c.new-call.ensures.table c.new-call.ensures.pairs
+    c.learn.ensures.lawful c.args.means.now.initial c.new-call.ensures.empty.table c.new-call.ensures.empty.pairs
     (subst (λ (z : Stored _ _). HasKey (begun_of w.parts) w.begun.book (key_of q) (Some (keys.Of z))) (sym c.again.ensures) (refl, placed))
     (subst (λ (z : Stored _ _). HasValue (begun_of w.parts) w.begun.book (Some (values.Of z))) (sym c.again-2.ensures) placed)
     (ap (λ (z : Stored _ _). held_value (Some (values.Of z))) c.again-2.ensures) refl there refl refl)))

@@ -50,7 +50,7 @@ drive-requires-clause-can g c =
       q.value.value,
       log,
       begins_met g.K.PartialEq.eq hash (begun_of w.parts) w.begun.book c.args.key q placed c.requires.same log _
-          c.learn.ensures.lawful c.args.means.now.initial c.new-call.ensures.table c.new-call.ensures.pairs (refl, tt)
+          c.learn.ensures.lawful c.args.means.now.initial c.new-call.ensures.empty.table c.new-call.ensures.empty.pairs (refl, tt)
           (subst (λ (z : Stored _ _). HasValue (begun_of w.parts) w.begun.book (Some (values.Of z))) (sym c.again.ensures) placed)
           (ap (λ (z : Stored _ _). held_value (Some (values.Of z))) c.again.ensures) c.args.write.place.table c.args.write.place.probe.i met there refl refl,
     )
@@ -84,6 +84,6 @@ returns-clause-put g c =
     (λ a h. put_since g.K.PartialEq.eq c.args.key q.value.value c.args.window.now.sight.log log c.drive.new.window.sight.log a
     c.learn.ensures.sees.log (h c.args.key q.value.value log
     (begins_met g.K.PartialEq.eq hash (begun_of w.parts) w.begun.book c.args.key q placed c.requires.same log _ c.learn.ensures.lawful
-    c.args.means.now.initial c.new-call.ensures.table c.new-call.ensures.pairs (refl, tt)
+    c.args.means.now.initial c.new-call.ensures.empty.table c.new-call.ensures.empty.pairs (refl, tt)
     (subst (λ (z : Stored _ _). HasValue (begun_of w.parts) w.begun.book (Some (values.Of z))) (sym c.again.ensures) placed)
     (ap (λ (z : Stored _ _). held_value (Some (values.Of z))) c.again.ensures) c.args.write.place.table c.args.write.place.probe.i met there refl refl)))

@@ -19,8 +19,8 @@ drive-requires-clause-can g c =
       c.args.value,
       log,
       begins g.K.PartialEq.eq (hash_of g.K.Hash.hash_input g.S.BuildHasher.build_hasher g.S.Hasher.Hasher.write g.S.Hasher.Hasher.finish)
-          (begun_of w.parts) w.begun.book c.args.key c.args.value log _ c.learn.ensures.lawful c.args.means.now.initial machine c.new.ensures.table
-          c.new.ensures.pairs refl refl refl refl,
+          (begun_of w.parts) w.begun.book c.args.key c.args.value log _ c.learn.ensures.lawful c.args.means.now.initial machine c.new.ensures.empty.table
+          c.new.ensures.empty.pairs refl refl refl refl,
     )
 
 pub returns-clause-put : goal.returns-clause-put
@@ -31,4 +31,4 @@ returns-clause-put g c =
     put_since g.K.PartialEq.eq c.args.key c.args.value c.args.window.now.sight.log log c.drive.new.window.sight.log a c.learn.ensures.sees.log
     (h c.args.key c.args.value log (begins g.K.PartialEq.eq
     (hash_of g.K.Hash.hash_input g.S.BuildHasher.build_hasher g.S.Hasher.Hasher.write g.S.Hasher.Hasher.finish) (begun_of w.parts) w.begun.book
-    c.args.key c.args.value log _ c.learn.ensures.lawful c.args.means.now.initial machine c.new.ensures.table c.new.ensures.pairs refl refl refl refl)))
+    c.args.key c.args.value log _ c.learn.ensures.lawful c.args.means.now.initial machine c.new.ensures.empty.table c.new.ensures.empty.pairs refl refl refl refl)))

@@ -41,7 +41,7 @@ loop-init g c =
         c.learn.ensures.sees.log,
         begins g.K.PartialEq.eq (hash_of g.K.Hash.hash_input g.S.BuildHasher.build_hasher g.S.Hasher.Hasher.write g.S.Hasher.Hasher.finish)
             (begun_of w.parts) w.begun.book (g.Q.Equivalent.matches c.args.key.now) fed (Judges g.F.FnMut) c.args.agrees log _ c.learn.ensures.lawful
-            c.args.means.now.initial machine c.new.ensures.table c.new.ensures.pairs refl,
+            c.args.means.now.initial machine c.new.ensures.empty.table c.new.ensures.empty.pairs refl,
       ),
       c.new.ensures.standing,
       ap (λ (m : Machine). m.phase) machine,
@@ -120,8 +120,8 @@ loop-preserved g c =
     [] on.calling in
     let went = removing_helped g.K.PartialEq.eq
     (hash_of g.K.Hash.hash_input g.S.BuildHasher.build_hasher g.S.Hasher.Hasher.write g.S.Hasher.Hasher.finish) b w.begun.book matches fed
-    (Judges g.F.FnMut) c.args.agrees u.0 old log x c.answer.new.agrees on then c.help.ensures.sees.log driven c.help.ensures.calling
-    (λ e. (c.help.ensures.still e).0) c.help.ensures.helped in
+    (Judges g.F.FnMut) c.args.agrees u.0 old log x c.answer.new.agrees on then c.help.ensures.helps.sees.log driven c.help.ensures.helps.calling
+    (λ e. (c.help.ensures.still e).0) c.help.ensures.helps.helped in
     let same : call.machine ≡ after m (answers.Call answer) = ap (λ (z : Driver _ _ _ _). z.machine) c.answer-in-Some-answer.ensures.after
     ∙ ap (λ (z : Machine). after z (answers.Call answer)) c.answer.ensures.machine in
     let does = does_on m c.loop.invariant.2 answer c.args.window.now c.loop.window c.answer.new.window c.loop.invariant.6 c.in-Some-answer.ensures.answers in
@@ -133,16 +133,16 @@ loop-preserved g c =
             IsRemoving g.K.PartialEq.eq (hash_of g.K.Hash.hash_input g.S.BuildHasher.build_hasher g.S.Hasher.Hasher.write g.S.Hasher.Hasher.finish)
             (begun_of z.now.parts) z.now.begun.book matches
             (hash_of g.Q.Hash.hash_input g.S.BuildHasher.build_hasher g.S.Hasher.Hasher.write g.S.Hasher.Hasher.finish z.now.parts.hasher c.args.key.now)
-            (Judges g.F.FnMut) c.args.agrees u.0 log (record x { call = then }) c.answer.new.agrees) (sym c.help.ensures.sees.book) went,
+            (Judges g.F.FnMut) c.args.agrees u.0 log (record x { call = then }) c.answer.new.agrees) (sym c.help.ensures.helps.sees.book) went,
       ),
-      c.help.ensures.standing,
-      c.help.ensures.calling,
-      (helped_keeps call.machine then.machine (tables_of log) then.given.done c.help.ensures.helped).initial
+      c.help.ensures.helps.standing,
+      c.help.ensures.helps.calling,
+      (helped_keeps call.machine then.machine (tables_of log) then.given.done c.help.ensures.helps.helped).initial
           ∙ (ap (λ (z : Machine). z.call.initial) same ∙ ((own_settings m c.loop.invariant.2 answer).0 ∙ c.loop.invariant.3)),
-      sees_trans _ _ _ (sees_trans _ _ _ c.loop.invariant.4 c.answer.ensures.sees) c.help.ensures.sees,
+      sees_trans _ _ _ (sees_trans _ _ _ c.loop.invariant.4 c.answer.ensures.sees) c.help.ensures.helps.sees,
       c.answer.ensures.callable,
-      helped_does call.machine then.machine (tables_of log) then.given.done c.help.ensures.calling c.help.ensures.helped c.args.window.now
-          c.answer.new.window c.help.new.window (λ e. (c.help.ensures.still e).1) c.help.ensures.own does_call,
+      helped_does call.machine then.machine (tables_of log) then.given.done c.help.ensures.helps.calling c.help.ensures.helps.helped c.args.window.now
+          c.answer.new.window c.help.new.window (λ e. (c.help.ensures.still e).1) c.help.ensures.helps.own does_call,
     )
 
 pub replied-requires-clause-can : goal.replied-requires-clause-can
@@ -162,10 +162,6 @@ replied-requires-clause-can g c = let u = c.loop.invariant.0 in
 pub replied-requires-clause-done : goal.replied-requires-clause-done
 replied-requires-clause-done g c = let u = c.loop.invariant.0 in (c.in-None-answer.ensures.removes c.args.agrees u.0 u.2).1
 
-pub returns-in-None-answer-clause-lawful : goal.returns-in-None-answer-clause-lawful
-returns-in-None-answer-clause-lawful g c = let u = c.loop.invariant.0 in
-    rw c.answer.ensures.sees.book (c.in-None-answer.ensures.removes c.args.agrees u.0 u.2).0.calling.lawful
-
 pub returns-in-None-answer-clause-removed : goal.returns-in-None-answer-clause-removed
 returns-in-None-answer-clause-removed g c =
     let u = c.loop.invariant.0 in let r = (c.in-None-answer.ensures.removes c.args.agrees u.0 u.2).0 in
@@ -182,15 +178,6 @@ returns-in-None-answer-clause-removed g c =
     g.met.K.Hash.respects_eq (begun_of w.parts) w.begun.book (g.Q.Equivalent.matches c.args.key.now) (g.Q.Hash.hash_input c.args.key.now) lawful
     (Judges g.F.FnMut) c.args.agrees u.0 c.answer.new.window.sight.log c.answer.new.self c.answer.new.agrees r t.0 t.1 c.replied.result t.2)
 
-pub returns-in-None-answer-clause-made : goal.returns-in-None-answer-clause-made
-returns-in-None-answer-clause-made g c =
-    let u = c.loop.invariant.0 in let r = (c.in-None-answer.ensures.removes c.args.agrees u.0 u.2).0 in let call = c.answer.new.self.call in
-    let does = does_still c.loop.removal.call.machine c.args.window.now c.loop.window c.answer.new.window c.loop.invariant.6 c.in-None-answer.ensures.answers in
-    let t = c.replied.ensures.tells in
-    let changed = told_went c.answer.new.self t.0 c.replied.result t.2 ∙ sym (replied call.machine t.0 t.1) in
-    rw changed (makes g.K.PartialEq.eq None u.0 call.taken call.put call.machine c.args.window.now c.answer.new.window r.calling.changed
-    (rw c.answer.ensures.machine does))
-
 pub returns-in-None-answer-clause-crowded : goal.returns-in-None-answer-clause-crowded
 returns-in-None-answer-clause-crowded g c = λ e.
     let u = c.loop.invariant.0 in let r = (c.in-None-answer.ensures.removes c.args.agrees u.0 u.2).0 in
@@ -199,3 +186,17 @@ returns-in-None-answer-clause-crowded g c = λ e.
     let initial : c.answer.new.self.call.machine.call.initial ≡ c.args.means.now.initial = ap (λ (z : Machine). z.call.initial)
     c.answer.ensures.machine ∙ c.loop.invariant.3 in
     rw c.again.ensures (subst (λ n. HasNoRoom n (tables_of c.answer.new.window.sight.log) c.answer.new.self.call.given.done) initial (r.crowded refused))
+
+pub returns-in-None-answer-clause-ends : goal.returns-in-None-answer-clause-ends
+returns-in-None-answer-clause-ends g c = record {
+  sees = sees_trans _ _ _ c.loop.invariant.4 c.answer.ensures.sees;
+  lawful = let u = c.loop.invariant.0 in
+      rw c.answer.ensures.sees.book (c.in-None-answer.ensures.removes c.args.agrees u.0 u.2).0.calling.lawful;
+  made =
+      let u = c.loop.invariant.0 in let r = (c.in-None-answer.ensures.removes c.args.agrees u.0 u.2).0 in let call = c.answer.new.self.call in
+      let does = does_still c.loop.removal.call.machine c.args.window.now c.loop.window c.answer.new.window c.loop.invariant.6 c.in-None-answer.ensures.answers in
+      let t = c.replied.ensures.tells in
+      let changed = told_went c.answer.new.self t.0 c.replied.result t.2 ∙ sym (replied call.machine t.0 t.1) in
+      rw changed (makes g.K.PartialEq.eq None u.0 call.taken call.put call.machine c.args.window.now c.answer.new.window r.calling.changed
+      (rw c.answer.ensures.machine does));
+}

@@ -15,8 +15,7 @@ use Rattle.papaya_change.specs.Window.Seeking.{IsSeekingAt}
 use Rattle.papaya_change.specs.declared.fast_path.Turn.TheVariants.{Empty, Met as MetPair}
 use Rattle.papaya_change.proofs.Doing.{idles}
 use Rattle.papaya_compute.specs.FastPath.{GoesOnce, IfOn, IfOver, IsFoundAt, IsOnItsWay, RepliesOnce}
-use Rattle.papaya_compute.specs.Computing.{value_in}
-use Rattle.papaya_compute.specs.Deciding.{IsDecided, Wishes, puts}
+use Rattle.papaya_compute.specs.Deciding.{IsDecided, Wishes, WishesOf, puts}
 use Rattle.papaya_compute.specs.declared.fast_path.First.{First}
 use Rattle.papaya_compute.proofs.FastPath.{decided_once, does_since, if_on, if_over, made_still, on_still, over_any, refused_still, said_once, unremoved}
 use Rattle.papaya_compute.proofs.Found.{pair_placed}
@@ -135,11 +134,11 @@ settle-requires-in-Met g c =
     subst (λ (z : Turn _ _). leads who z ≡ Some state → IsSeekingAt who mid key log state (met_by z) spot.table.now) c.in-Met.is
     (c.look.ensures.found spot c.in-Some.is who state) in
     let tried = c.renew-renewed in let then = tried.new.window in let done = c.wish-again.result in
-    let wished = subst (λ (z : Stored _ _). Wishes g.D.Rule.decides c.args.rule.now (Some z) c.wish-again.result c.wish-again.new.rule)
-    (c.again.ensures ∙ ap (λ (z : Met _ _). z.stored) c.in-Met.met-is) c.wish-again.ensures.wishes in
+    let wished = subst (λ v. WishesOf g.D.Rule.decides c.args.rule.now (Some v) c.wish-again.result c.wish-again.new.rule)
+    (c.entry-old.ensures.1 ∙ ap (λ (z : Met _ _). z.stored.value.value) c.in-Met.met-is) c.wish-again.ensures.wishes in
     let replies = if_over _ _ tried.result (λ a h. h log found)
     (subst (λ (z : Met _ _). RepliesOnce mid then key spot.table.now (MetPair z) done tried.result) c.in-Met.met-is tried.ensures.replies) in
-    unremoved c.value_in.result g.K.PartialEq.eq key (past w) (past then) g.D.Rule.decides c.args.rule.now c.wish-again.new.rule
+    unremoved (Some c.entry-old.result.1) g.K.PartialEq.eq key (past w) (past then) g.D.Rule.decides c.args.rule.now c.wish-again.new.rule
     (Some c.in-Met.met.stored) done wished tried.result replies
 
 pub returns-in-Met-clause-decided : goal.returns-in-Met-clause-decided
@@ -149,15 +148,15 @@ returns-in-Met-clause-decided g c =
     subst (λ (z : Turn _ _). leads who z ≡ Some state → IsSeekingAt who mid key log state (met_by z) spot.table.now) c.in-Met.is
     (c.look.ensures.found spot c.in-Some.is who state) in
     let tried = c.renew-renewed in let then = tried.new.window in let done = c.wish-again.result in
-    let wished = subst (λ (z : Stored _ _). Wishes g.D.Rule.decides c.args.rule.now (Some z) c.wish-again.result c.wish-again.new.rule)
-    (c.again.ensures ∙ ap (λ (z : Met _ _). z.stored) c.in-Met.met-is) c.wish-again.ensures.wishes in
+    let wished = subst (λ v. WishesOf g.D.Rule.decides c.args.rule.now (Some v) c.wish-again.result c.wish-again.new.rule)
+    (c.entry-old.ensures.1 ∙ ap (λ (z : Met _ _). z.stored.value.value) c.in-Met.met-is) c.wish-again.ensures.wishes in
     let replies = if_over _ _ tried.result (λ a h. h log found)
     (subst (λ (z : Met _ _). RepliesOnce mid then key spot.table.now (MetPair z) done tried.result) c.in-Met.met-is tried.ensures.replies) in
     subst (λ (z : First _ _). IfOver z (λ answer.
     IsDecided g.K.PartialEq.eq key (past w) (past then) g.D.Rule.decides c.args.rule.now c.wish-again.new.rule answer)) (sym c.settle-in-Met.ensures)
-    (decided_once c.value_in.result g.K.PartialEq.eq key (past w) (past then) g.D.Rule.decides c.args.rule.now c.wish-again.new.rule
-    (Some c.in-Met.met.stored) done wished (c.value_in.ensures
-    ∙ ap (λ (z : Stored _ _). value_in (Some z)) (c.again.ensures ∙ ap (λ (z : Met _ _). z.stored) c.in-Met.met-is)) tried.result replies)
+    (decided_once (Some c.entry-old.result.1) g.K.PartialEq.eq key (past w) (past then) g.D.Rule.decides c.args.rule.now c.wish-again.new.rule
+    (Some c.in-Met.met.stored) done wished (ap (λ v. Some v)
+    (c.entry-old.ensures.1 ∙ ap (λ (z : Met _ _). z.stored.value.value) c.in-Met.met-is)) tried.result replies)
 
 pub returns-in-Met-clause-lawful : goal.returns-in-Met-clause-lawful
 returns-in-Met-clause-lawful g c = over_any _ c.settle-in-Met.result c.renew-renewed.ensures.lawful
@@ -169,23 +168,23 @@ returns-in-Met-clause-made g c =
     subst (λ (z : Turn _ _). leads who z ≡ Some state → IsSeekingAt who mid key log state (met_by z) spot.table.now) c.in-Met.is
     (c.look.ensures.found spot c.in-Some.is who state) in
     let tried = c.renew-renewed in let then = tried.new.window in let done = c.wish-again.result in
-    let wished = subst (λ (z : Stored _ _). Wishes g.D.Rule.decides c.args.rule.now (Some z) c.wish-again.result c.wish-again.new.rule)
-    (c.again.ensures ∙ ap (λ (z : Met _ _). z.stored) c.in-Met.met-is) c.wish-again.ensures.wishes in
+    let wished = subst (λ v. WishesOf g.D.Rule.decides c.args.rule.now (Some v) c.wish-again.result c.wish-again.new.rule)
+    (c.entry-old.ensures.1 ∙ ap (λ (z : Met _ _). z.stored.value.value) c.in-Met.met-is) c.wish-again.ensures.wishes in
     let replies = if_over _ _ tried.result (λ a h. h log found)
     (subst (λ (z : Met _ _). RepliesOnce mid then key spot.table.now (MetPair z) done tried.result) c.in-Met.met-is tried.ensures.replies) in
     subst (λ (z : First _ _). IfOver z (λ answer. Makes (puts answer) (own w) (own then) (past then))) (sym c.settle-in-Met.ensures)
-    (made_still c.value_in.result (λ changed. Makes changed (own w) (own then) (past then)) tried.result
-    (unremoved c.value_in.result g.K.PartialEq.eq key (past w) (past then) g.D.Rule.decides c.args.rule.now c.wish-again.new.rule
+    (made_still (Some c.entry-old.result.1) (λ changed. Makes changed (own w) (own then) (past then)) tried.result
+    (unremoved (Some c.entry-old.result.1) g.K.PartialEq.eq key (past w) (past then) g.D.Rule.decides c.args.rule.now c.wish-again.new.rule
     (Some c.in-Met.met.stored) done wished tried.result replies)
     (rw (sym c.look.ensures.own) tried.ensures.made))
 
 pub returns-in-Met-clause-crowded : goal.returns-in-Met-clause-crowded
 returns-in-Met-clause-crowded g c = λ e.
-    c.renew-renewed.ensures.crowded (refused_still c.value_in.result c.renew-renewed.result Capacity (sym c.settle-in-Met.ensures ∙ e))
+    c.renew-renewed.ensures.crowded (refused_still (Some c.entry-old.result.1) c.renew-renewed.result Capacity (sym c.settle-in-Met.ensures ∙ e))
 
 pub returns-in-Met-clause-spent : goal.returns-in-Met-clause-spent
 returns-in-Met-clause-spent g c = λ e. c.renew-renewed.ensures.spent
-    (refused_still c.value_in.result c.renew-renewed.result Limit (sym c.settle-in-Met.ensures ∙ e))
+    (refused_still (Some c.entry-old.result.1) c.renew-renewed.result Limit (sym c.settle-in-Met.ensures ∙ e))
 
 pub returns-in-Met-clause-idle : goal.returns-in-Met-clause-idle
 returns-in-Met-clause-idle g c =
@@ -195,7 +194,7 @@ returns-in-Met-clause-idle g c =
     (c.look.ensures.found spot c.in-Some.is who state) in
     let tried = c.renew-renewed in let then = tried.new.window in
     subst (λ (z : First _ _). IfOn z (λ x. Does false w then)) (sym c.settle-in-Met.ensures)
-    (on_still c.value_in.result _ tried.result (if_on _ _ tried.result (λ x h. does_since w mid then c.look.ensures.own h) tried.ensures.idle))
+    (on_still (Some c.entry-old.result.1) _ tried.result (if_on _ _ tried.result (λ x h. does_since w mid then c.look.ensures.own h) tried.ensures.idle))
 
 pub returns-in-Met-clause-goes : goal.returns-in-Met-clause-goes
 returns-in-Met-clause-goes g c =
@@ -204,22 +203,22 @@ returns-in-Met-clause-goes g c =
     subst (λ (z : Turn _ _). leads who z ≡ Some state → IsSeekingAt who mid key log state (met_by z) spot.table.now) c.in-Met.is
     (c.look.ensures.found spot c.in-Some.is who state) in
     let tried = c.renew-renewed in let then = tried.new.window in let done = c.wish-again.result in
-    let wished = subst (λ (z : Stored _ _). Wishes g.D.Rule.decides c.args.rule.now (Some z) c.wish-again.result c.wish-again.new.rule)
-    (c.again.ensures ∙ ap (λ (z : Met _ _). z.stored) c.in-Met.met-is) c.wish-again.ensures.wishes in
+    let wished = subst (λ v. WishesOf g.D.Rule.decides c.args.rule.now (Some v) c.wish-again.result c.wish-again.new.rule)
+    (c.entry-old.ensures.1 ∙ ap (λ (z : Met _ _). z.stored.value.value) c.in-Met.met-is) c.wish-again.ensures.wishes in
     let replies = if_over _ _ tried.result (λ a h. h log found)
     (subst (λ (z : Met _ _). RepliesOnce mid then key spot.table.now (MetPair z) done tried.result) c.in-Met.met-is tried.ensures.replies) in
     subst (λ (z : First _ _). IfOn z (IsOnItsWay w then key (Wishes g.D.Rule.decides) c.args.rule.now c.wish-again.new.rule)) (sym c.settle-in-Met.ensures)
-    (on_still c.value_in.result _ tried.result
+    (on_still (Some c.entry-old.result.1) _ tried.result
     (if_on _ _ tried.result (λ x h. (
       ((Some c.in-Met.met.stored), done) ∷ [],
       h log found,
-      said_once c.value_in.result
+      said_once (Some c.entry-old.result.1)
           g.K.PartialEq.eq key (past w) (past then) g.D.Rule.decides c.args.rule.now c.wish-again.new.rule (Some c.in-Met.met.stored) done wished,
     ))
     (subst (λ (z : Met _ _). GoesOnce mid then key spot.table.now (MetPair z) done tried.result) c.in-Met.met-is tried.ensures.goes)))
 
-pub wish-again-requires-clause-placed : goal.wish-again-requires-clause-placed
-wish-again-requires-clause-placed g c =
+pub entry-old-requires : goal.entry-old-requires
+entry-old-requires g c =
     let w = c.args.window.now in let log = w.sight.log in let key = c.args.key in let mid = c.look.new.window in let spot = c.in-Some.spot in
     let found : IsFoundAt mid key log spot.table.now (MetPair c.in-Met.met) = λ who state.
     subst (λ (z : Turn _ _). leads who z ≡ Some state → IsSeekingAt who mid key log state (met_by z) spot.table.now) c.in-Met.is
@@ -229,21 +228,7 @@ wish-again-requires-clause-placed g c =
     g.met.K.Eq.laws g.met.K.Hash.respects_eq (begun_of mid.book.now.parts) mid.book.now.begun.book key log mid.sight.log spot.table.now met.place
     met.word p (found Computes (Showing (record { place = met.place; word = met.word })) refl) in
     subst (λ (z : Stored _ _). IsPlaced (begun_of w.book.now.parts) (Some w.book.now.begun.book) (names.Pair z))
-    (sym (c.again.ensures ∙ ap (λ (z : Met _ _). z.stored) c.in-Met.met-is))
-    (subst (λ (k : _). IsPlaced (begun_of k.now.parts) (Some k.now.begun.book) (names.Pair p)) c.look.ensures.sees.book there)
-
-pub value_in-requires : goal.value_in-requires
-value_in-requires g c =
-    let w = c.args.window.now in let log = w.sight.log in let key = c.args.key in let mid = c.look.new.window in let spot = c.in-Some.spot in
-    let found : IsFoundAt mid key log spot.table.now (MetPair c.in-Met.met) = λ who state.
-    subst (λ (z : Turn _ _). leads who z ≡ Some state → IsSeekingAt who mid key log state (met_by z) spot.table.now) c.in-Met.is
-    (c.look.ensures.found spot c.in-Some.is who state) in
-    let met = c.in-Met.met in let p = met.stored in
-    let there = pair_placed g.K.PartialEq.eq g.K.Hash.hash_input g.S.BuildHasher.build_hasher g.S.Hasher.Hasher.write g.S.Hasher.Hasher.finish
-    g.met.K.Eq.laws g.met.K.Hash.respects_eq (begun_of mid.book.now.parts) mid.book.now.begun.book key log mid.sight.log spot.table.now met.place
-    met.word p (found Computes (Showing (record { place = met.place; word = met.word })) refl) in
-    subst (λ (z : Stored _ _). IsPlaced (begun_of w.book.now.parts) (Some w.book.now.begun.book) (names.Pair z))
-    (sym (c.again.ensures ∙ ap (λ (z : Met _ _). z.stored) c.in-Met.met-is))
+    (sym (ap (λ (z : Met _ _). z.stored) c.in-Met.met-is))
     (subst (λ (k : _). IsPlaced (begun_of k.now.parts) (Some k.now.begun.book) (names.Pair p)) c.look.ensures.sees.book there)
 
 pub renew-renewed-requires-clause-live : goal.renew-renewed-requires-clause-live

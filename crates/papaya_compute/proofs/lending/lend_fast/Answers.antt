@@ -1,4 +1,4 @@
-use Rattle.std.proofs.Common.{◌≡◌, None, Some, [], ◌∷◌, append-nil, refl, sym, ap, ◌∙◌, subst}
+use Rattle.std.proofs.Common.{◌≡◌, None, Some, [], ◌∷◌, append-nil, refl, sym, ap, subst}
 use Rattle.papaya_call.specs.declared.machine.State.TheVariants.{Showing}
 use Rattle.papaya_book.specs.declared.rule.entry.Named.TheVariants as names
 use Rattle.papaya_book.specs.Rule.{IsPlaced}
@@ -9,7 +9,7 @@ use Rattle.papaya_lookup.specs.declared.lookup.Met.{Met}
 use Rattle.papaya_change.specs.declared.fast_path.Turn.{Turn}
 use Rattle.papaya_change.specs.Seeking.{Computes, leads, met_by}
 use Rattle.papaya_change.specs.Window.Seeking.{IsSeekingAt}
-use Rattle.papaya_change.specs.Showings.{Operates}
+use Rattle.papaya_change.specs.Showings.{AreOf, Operates}
 use Rattle.papaya_change.specs.declared.fast_path.Turn.TheVariants.{Empty, Met as MetPair}
 use Rattle.papaya_change.proofs.Doing.{idles}
 use Rattle.papaya_compute.specs.FastPath.{GoesOnce, IsFoundAt, RepliesOnce}
@@ -102,13 +102,12 @@ returns-in-Met-clause-computed g c =
     let found : IsFoundAt mid key log spot.table.now (MetPair c.in-Met.met) = λ who state.
     subst (λ (z : Turn _ _). leads who z ≡ Some state → IsSeekingAt who mid key log state (met_by z) spot.table.now) c.in-Met.is
     (c.look.ensures.found spot c.in-Some.is who state) in
-    let tried = c.renew in let then = tried.new.window in let done = c.operate-again.result in
+    let tried = c.renew in let then = tried.new.window in let done = c.f-again.result in
     if_over _ _ tried.result (λ a h. computed_by g.K.PartialEq.eq key _ _ _ ([], append-nil (past w)) (Operates g.F.FnMut) c.args.f.now
-    c.operate-again.new.f (((Some c.in-Met.met.stored), done) ∷ []) (
+    c.f-again.new.self (((Some c.in-Met.met.stored), done) ∷ []) (
       c.args.f.now,
       refl,
-      (subst (λ (z : Stored _ _). Operates g.F.FnMut c.args.f.now (Some z) c.operate-again.result c.operate-again.new.f)
-          (c.again.ensures ∙ ap (λ (z : Met _ _). z.stored) c.in-Met.met-is) c.operate-again.ensures.operates),
+      (Some c.entry-old.result, subst (λ (z : Met _ _). AreOf c.entry-old.result z.stored) c.in-Met.met-is c.entry-old.ensures, c.f-again.ensures),
     ) a (h log found))
     (subst (λ (z : Met _ _). RepliesOnce mid then key spot.table.now (MetPair z) done tried.result) c.in-Met.met-is tried.ensures.replies)
 
@@ -121,7 +120,7 @@ returns-in-Met-clause-made g c =
     let found : IsFoundAt mid key log spot.table.now (MetPair c.in-Met.met) = λ who state.
     subst (λ (z : Turn _ _). leads who z ≡ Some state → IsSeekingAt who mid key log state (met_by z) spot.table.now) c.in-Met.is
     (c.look.ensures.found spot c.in-Some.is who state) in
-    let tried = c.renew in let then = tried.new.window in let done = c.operate-again.result in
+    let tried = c.renew in let then = tried.new.window in let done = c.f-again.result in
     rw (sym c.look.ensures.own) tried.ensures.made
 
 pub returns-in-Met-clause-idle : goal.returns-in-Met-clause-idle
@@ -130,7 +129,7 @@ returns-in-Met-clause-idle g c =
     let found : IsFoundAt mid key log spot.table.now (MetPair c.in-Met.met) = λ who state.
     subst (λ (z : Turn _ _). leads who z ≡ Some state → IsSeekingAt who mid key log state (met_by z) spot.table.now) c.in-Met.is
     (c.look.ensures.found spot c.in-Some.is who state) in
-    let tried = c.renew in let then = tried.new.window in let done = c.operate-again.result in
+    let tried = c.renew in let then = tried.new.window in let done = c.f-again.result in
     if_on _ _ tried.result (λ x h. does_since w mid then c.look.ensures.own h) tried.ensures.idle
 
 pub returns-in-Met-clause-goes : goal.returns-in-Met-clause-goes
@@ -139,21 +138,20 @@ returns-in-Met-clause-goes g c =
     let found : IsFoundAt mid key log spot.table.now (MetPair c.in-Met.met) = λ who state.
     subst (λ (z : Turn _ _). leads who z ≡ Some state → IsSeekingAt who mid key log state (met_by z) spot.table.now) c.in-Met.is
     (c.look.ensures.found spot c.in-Some.is who state) in
-    let tried = c.renew in let then = tried.new.window in let done = c.operate-again.result in
+    let tried = c.renew in let then = tried.new.window in let done = c.f-again.result in
     if_on _ _ tried.result (λ x h. (
       ((Some c.in-Met.met.stored), done) ∷ [],
       h log found,
       (
         c.args.f.now,
         refl,
-        (subst (λ (z : Stored _ _). Operates g.F.FnMut c.args.f.now (Some z) c.operate-again.result c.operate-again.new.f)
-            (c.again.ensures ∙ ap (λ (z : Met _ _). z.stored) c.in-Met.met-is) c.operate-again.ensures.operates),
+        (Some c.entry-old.result, subst (λ (z : Met _ _). AreOf c.entry-old.result z.stored) c.in-Met.met-is c.entry-old.ensures, c.f-again.ensures),
       ),
     ))
     (subst (λ (z : Met _ _). GoesOnce mid then key spot.table.now (MetPair z) done tried.result) c.in-Met.met-is tried.ensures.goes)
 
-pub operate-again-requires-clause-placed : goal.operate-again-requires-clause-placed
-operate-again-requires-clause-placed g c =
+pub entry-old-requires : goal.entry-old-requires
+entry-old-requires g c =
     let w = c.args.window.now in let log = w.sight.log in let key = c.args.key in let mid = c.look.new.window in let spot = c.in-Some.spot in
     let found : IsFoundAt mid key log spot.table.now (MetPair c.in-Met.met) = λ who state.
     subst (λ (z : Turn _ _). leads who z ≡ Some state → IsSeekingAt who mid key log state (met_by z) spot.table.now) c.in-Met.is
@@ -163,7 +161,7 @@ operate-again-requires-clause-placed g c =
     g.met.K.Eq.laws g.met.K.Hash.respects_eq (begun_of mid.book.now.parts) mid.book.now.begun.book key log mid.sight.log spot.table.now met.place
     met.word p (found Computes (Showing (record { place = met.place; word = met.word })) refl) in
     subst (λ (z : Stored _ _). IsPlaced (begun_of w.book.now.parts) (Some w.book.now.begun.book) (names.Pair z))
-    (sym (c.again.ensures ∙ ap (λ (z : Met _ _). z.stored) c.in-Met.met-is))
+    (sym (ap (λ (z : Met _ _). z.stored) c.in-Met.met-is))
     (subst (λ (k : _). IsPlaced (begun_of k.now.parts) (Some k.now.begun.book) (names.Pair p)) c.look.ensures.sees.book there)
 
 pub renew-requires-clause-live : goal.renew-requires-clause-live

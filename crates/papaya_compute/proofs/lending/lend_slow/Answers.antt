@@ -47,20 +47,20 @@ loop-preserved-in-Answered g c =
     let does_call = subst (λ (z : Machine). Does (has_changed z) c.args.window.now c.turn.new.window) (sym same) does in (
       (λ since key first way. let u = c.loop.invariant.0 since key first way in
           let on = c.in-Answered.ensures.turns.0 key u.1.0 u.0 u.1.2 in
-          (u.0, (u.1.0, u.1.1, rw c.tell.ensures.sees.book (c.tell.ensures.takes key u.1.0 u.0 (rw c.turn.ensures.sees.book on))), u.2)),
-      c.tell.ensures.standing,
-      c.tell.ensures.calling,
+          (u.0, (u.1.0, u.1.1, rw c.tell.ensures.helps.sees.book (c.tell.ensures.takes key u.1.0 u.0 (rw c.turn.ensures.sees.book on))), u.2)),
+      c.tell.ensures.helps.standing,
+      c.tell.ensures.helps.calling,
       (helped_keeps (after c.turn.new.self.writer.call.machine (answers.Call answer)) then.machine (tables_of c.tell.new.window.sight.log)
-          then.given.done c.tell.ensures.helped).initial
+          then.given.done c.tell.ensures.helps.helped).initial
           ∙ (ap (λ (z : Machine). z.call.initial) same ∙ ((own_settings m c.loop.invariant.2 answer).0 ∙ c.loop.invariant.3)),
-      sees_trans _ _ _ (sees_trans _ _ _ c.loop.invariant.4 c.turn.ensures.sees) c.tell.ensures.sees,
+      sees_trans _ _ _ (sees_trans _ _ _ c.loop.invariant.4 c.turn.ensures.sees) c.tell.ensures.helps.sees,
       c.loop.invariant.5,
       helped_does (after c.turn.new.self.writer.call.machine (answers.Call answer)) then.machine (tables_of c.tell.new.window.sight.log)
-          then.given.done c.tell.ensures.calling c.tell.ensures.helped c.args.window.now c.turn.new.window c.tell.new.window c.tell.ensures.still
-          c.tell.ensures.own does_call,
+          then.given.done c.tell.ensures.helps.calling c.tell.ensures.helps.helped c.args.window.now c.turn.new.window c.tell.new.window c.tell.ensures.still
+          c.tell.ensures.helps.own does_call,
       (let way = c.requires.can in let u = c.loop.invariant.0 way.0 way.1 way.2 way.3 in
           let on = c.in-Answered.ensures.turns.0 way.1 u.1.0 u.0 u.1.2 in
-          (way.1, u.1.0, u.0, rw c.tell.ensures.sees.book (c.tell.ensures.takes way.1 u.1.0 u.0 (rw c.turn.ensures.sees.book on)))),
+          (way.1, u.1.0, u.0, rw c.tell.ensures.helps.sees.book (c.tell.ensures.takes way.1 u.1.0 u.0 (rw c.turn.ensures.sees.book on)))),
     )
 
 pub tell-requires-in-Shows-clause-can : goal.tell-requires-in-Shows-clause-can
@@ -87,23 +87,23 @@ loop-preserved g c =
           let heard = (c.in-Shows.shown, c.operate-operation.result) ∷ u.0 in
           let on = (c.hear-answer.ensures.hears c.turn.new.window).1 key u.1.0 u.0 (rw (same.1, same.2) u.1.2) in (
             heard,
-            (u.1.0, u.1.1, rw c.tell-in-Shows.ensures.sees.book (c.tell-in-Shows.ensures.takes key u.1.0 heard on)),
+            (u.1.0, u.1.1, rw c.tell-in-Shows.ensures.helps.sees.book (c.tell-in-Shows.ensures.takes key u.1.0 heard on)),
             (c.loop.f, u.2, c.operate-operation.ensures.operates),
           )),
-      c.tell-in-Shows.ensures.standing,
-      c.tell-in-Shows.ensures.calling,
+      c.tell-in-Shows.ensures.helps.standing,
+      c.tell-in-Shows.ensures.helps.calling,
       (helped_keeps (after c.hear-answer.new.self.writer.call.machine (answers.Call answer)) then.machine
-          (tables_of c.tell-in-Shows.new.window.sight.log) then.given.done c.tell-in-Shows.ensures.helped).initial
+          (tables_of c.tell-in-Shows.new.window.sight.log) then.given.done c.tell-in-Shows.ensures.helps.helped).initial
           ∙ (ap (λ (z : Machine). z.call.initial) led ∙ ((own_settings m c.loop.invariant.2 answer).0 ∙ c.loop.invariant.3)),
-      sees_trans _ _ _ (sees_trans _ _ _ c.loop.invariant.4 c.turn.ensures.sees) c.tell-in-Shows.ensures.sees,
+      sees_trans _ _ _ (sees_trans _ _ _ c.loop.invariant.4 c.turn.ensures.sees) c.tell-in-Shows.ensures.helps.sees,
       c.operate-operation.ensures.callable,
       helped_does (after c.hear-answer.new.self.writer.call.machine (answers.Call answer)) then.machine
-          (tables_of c.tell-in-Shows.new.window.sight.log) then.given.done c.tell-in-Shows.ensures.calling c.tell-in-Shows.ensures.helped
-          c.args.window.now c.turn.new.window c.tell-in-Shows.new.window c.tell-in-Shows.ensures.still c.tell-in-Shows.ensures.own does_call,
+          (tables_of c.tell-in-Shows.new.window.sight.log) then.given.done c.tell-in-Shows.ensures.helps.calling c.tell-in-Shows.ensures.helps.helped
+          c.args.window.now c.turn.new.window c.tell-in-Shows.new.window c.tell-in-Shows.ensures.still c.tell-in-Shows.ensures.helps.own does_call,
       (let way = c.requires.can in let u = c.loop.invariant.0 way.0 way.1 way.2 way.3 in
           let heard = (c.in-Shows.shown, c.operate-operation.result) ∷ u.0 in
           let on = (c.hear-answer.ensures.hears c.turn.new.window).1 way.1 u.1.0 u.0 (rw (same.1, same.2) u.1.2) in
-          (way.1, u.1.0, heard, rw c.tell-in-Shows.ensures.sees.book (c.tell-in-Shows.ensures.takes way.1 u.1.0 heard on))),
+          (way.1, u.1.0, heard, rw c.tell-in-Shows.ensures.helps.sees.book (c.tell-in-Shows.ensures.takes way.1 u.1.0 heard on))),
     )
 
 pub replied-requires-clause-can : goal.replied-requires-clause-can
@@ -114,37 +114,38 @@ pub replied-requires-clause-done : goal.replied-requires-clause-done
 replied-requires-clause-done g c = let way = c.requires.can in let u = c.loop.invariant.0 way.0 way.1 way.2 way.3 in
     (c.in-Replied.ensures.turns.0 way.1 u.1.0 u.0 u.1.2).1
 
-pub returns-in-Replied-clause-lawful : goal.returns-in-Replied-clause-lawful
-returns-in-Replied-clause-lawful g c = let way = c.requires.can in let u = c.loop.invariant.0 way.0 way.1 way.2 way.3 in
-    rw c.turn.ensures.sees.book (c.in-Replied.ensures.turns.0 way.1 u.1.0 u.0 u.1.2).0.writing.calling.lawful
-
 pub returns-in-Replied-clause-computed : goal.returns-in-Replied-clause-computed
 returns-in-Replied-clause-computed g c = λ since key first way.
     let u = c.loop.invariant.0 since key first way in let r = (c.in-Replied.ensures.turns.0 key u.1.0 u.0 u.1.2).0 in
     computed_by g.K.PartialEq.eq key _ _ _ (history_since since.sight.log u.1.0 u.1.1) (Operates g.F.FnMut) first c.loop.f u.0
     u.2 c.replied.result (c.replied.ensures.replies key u.1.0 u.0 (rw c.turn.ensures.sees.book r))
 
-pub returns-in-Replied-clause-made : goal.returns-in-Replied-clause-made
-returns-in-Replied-clause-made g c =
-    let way = c.requires.can in let u = c.loop.invariant.0 way.0 way.1 way.2 way.3 in
-    let r = (c.in-Replied.ensures.turns.0 way.1 u.1.0 u.0 u.1.2).0 in let call = c.turn.new.self.writer.call in
-    let does = does_still c.loop.computing.writer.call.machine c.args.window.now c.loop.window c.turn.new.window c.loop.invariant.6
-    c.in-Replied.ensures.turns.1 in
-    rw c.replied.ensures.changed (makes g.K.PartialEq.eq (Some way.1) u.1.0 call.taken call.put call.machine c.args.window.now c.turn.new.window
-    r.writing.calling.changed (rw c.turn.ensures.machine does))
+pub returns-in-Replied-clause-ends : goal.returns-in-Replied-clause-ends
+returns-in-Replied-clause-ends g c = record {
+  sees = sees_trans _ _ _ c.loop.invariant.4 c.turn.ensures.sees;
+  lawful = let way = c.requires.can in let u = c.loop.invariant.0 way.0 way.1 way.2 way.3 in
+      rw c.turn.ensures.sees.book (c.in-Replied.ensures.turns.0 way.1 u.1.0 u.0 u.1.2).0.writing.calling.lawful;
+  made =
+      let way = c.requires.can in let u = c.loop.invariant.0 way.0 way.1 way.2 way.3 in
+      let r = (c.in-Replied.ensures.turns.0 way.1 u.1.0 u.0 u.1.2).0 in let call = c.turn.new.self.writer.call in
+      let does = does_still c.loop.computing.writer.call.machine c.args.window.now c.loop.window c.turn.new.window c.loop.invariant.6
+      c.in-Replied.ensures.turns.1 in
+      rw c.replied.ensures.changed (makes g.K.PartialEq.eq (Some way.1) u.1.0 call.taken call.put call.machine c.args.window.now c.turn.new.window
+      r.writing.calling.changed (rw c.turn.ensures.machine does));
+}
 
-pub returns-in-Replied-clause-spent : goal.returns-in-Replied-clause-spent
-returns-in-Replied-clause-spent g c = λ e.
-    let way = c.requires.can in let u = c.loop.invariant.0 way.0 way.1 way.2 way.3 in
-    let r = (c.in-Replied.ensures.turns.0 way.1 u.1.0 u.0 u.1.2).0 in
-    let refused = subst (λ (z : _). IfErr z (λ cause. ask_of c.turn.new.self.writer.call.machine ≡ Call (Done (Refused cause)))) e c.replied.ensures.refusal in
-    rw c.turn.ensures.sees.book (r.spent refused)
-
-pub returns-in-Replied-clause-crowded : goal.returns-in-Replied-clause-crowded
-returns-in-Replied-clause-crowded g c = λ e.
-    let way = c.requires.can in let u = c.loop.invariant.0 way.0 way.1 way.2 way.3 in
-    let r = (c.in-Replied.ensures.turns.0 way.1 u.1.0 u.0 u.1.2).0 in
-    let refused = subst (λ (z : _). IfErr z (λ cause. ask_of c.turn.new.self.writer.call.machine ≡ Call (Done (Refused cause)))) e c.replied.ensures.refusal in
-    let initial : c.turn.new.self.writer.call.machine.call.initial ≡ c.args.means.now.initial = ap (λ (z : Machine). z.call.initial) c.turn.ensures.machine
-    ∙ c.loop.invariant.3 in
-    rw c.again.ensures (subst (λ n. HasNoRoom n (tables_of c.turn.new.window.sight.log) c.turn.new.self.writer.call.given.done) initial (r.crowded refused))
+pub returns-in-Replied-clause-tells : goal.returns-in-Replied-clause-tells
+returns-in-Replied-clause-tells g c = record {
+  crowded = λ e.
+      let way = c.requires.can in let u = c.loop.invariant.0 way.0 way.1 way.2 way.3 in
+      let r = (c.in-Replied.ensures.turns.0 way.1 u.1.0 u.0 u.1.2).0 in
+      let refused = subst (λ (z : _). IfErr z (λ cause. ask_of c.turn.new.self.writer.call.machine ≡ Call (Done (Refused cause)))) e c.replied.ensures.refusal in
+      let initial : c.turn.new.self.writer.call.machine.call.initial ≡ c.args.means.now.initial = ap (λ (z : Machine). z.call.initial) c.turn.ensures.machine
+      ∙ c.loop.invariant.3 in
+      rw c.again.ensures (subst (λ n. HasNoRoom n (tables_of c.turn.new.window.sight.log) c.turn.new.self.writer.call.given.done) initial (r.crowded refused));
+  spent = λ e.
+      let way = c.requires.can in let u = c.loop.invariant.0 way.0 way.1 way.2 way.3 in
+      let r = (c.in-Replied.ensures.turns.0 way.1 u.1.0 u.0 u.1.2).0 in
+      let refused = subst (λ (z : _). IfErr z (λ cause. ask_of c.turn.new.self.writer.call.machine ≡ Call (Done (Refused cause)))) e c.replied.ensures.refusal in
+      rw c.turn.ensures.sees.book (r.spent refused);
+}

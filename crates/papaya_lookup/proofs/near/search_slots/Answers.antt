@@ -1,7 +1,11 @@
-use Rattle.std.proofs.Common.{◌≡◌, ℕ, ◌<◌, List, length, refl, sym, ap, ◌∙◌, subst, arith, slice_index_or}
+use Rattle.std.proofs.Common.{◌≡◌, ℕ, ◌+◌, ◌-◌, ◌%◌, ◌<◌, nat_lt, true, List, length, refl, sym, ap, ◌∙◌, subst, arith, rules, slice_index_or}
 use Rattle.logbook.specs.Pages.{Named}
+use Rattle.std.specs.Int.{IsPowerOfTwo}
+use Rattle.papaya_ask.specs.Search.{next_place}
 use Rattle.papaya_book.specs.Logs.{exchanges_of}
 use Rattle.papaya_book.specs.Parts.{begun_of}
+use Rattle.papaya_book.proofs.Logs.{prefix_trans}
+use Rattle.papaya_lookup.proofs.Nearing.{went_on}
 use Rattle.papaya_lookup.proofs.Readings.{IsQuery}
 use Rattle.papaya_lookup.proofs.Slots.{named_at, named_len}
 use Rattle.papaya_lookup.proofs.Turning.{hint_there}
@@ -41,3 +45,26 @@ look_at_slot-requires-clause-slot g c =
     c.slots_of-slots.ensures c.index-slots-place.is in
     let at = named_at c.args.table.now.book c.args.table.now.slots c.loop-turned.place.probe.i c.index-slots-place.result there.1 is in
     (c.args.table.now, there.0, at.0, at.1, at.2)
+
+pub overflow_sub-place : goal.overflow_sub-place
+overflow_sub-place g c = let i = (c.loop-turned.invariant.0.within c.loop-turned.place refl).i in omega (arith, i)
+
+pub next-requires-clause-mask : goal.next-requires-clause-mask
+next-requires-clause-mask g c =
+    let most = (c.loop-turned.invariant.0.within c.loop-turned.place refl).size.most in omega (arith, most)
+
+pub loop-turned-preserved : goal.loop-turned-preserved
+loop-turned-preserved g c =
+    let t = c.loop-turned.invariant.0 in let seen = c.loop-turned.invariant.2 in let looked = c.look_at_slot.ensures in
+    let at = c.loop-turned.place in let within = t.within at refl in let i = within.i in
+    let more : nat_lt at.probe.len at.limit ≡ true = search rules in
+    let slots : at.len - 1 + 1 ≡ at.len = omega (arith, i) in
+    let next : c.next.new.self.i ≡ (at.probe.i + at.probe.len + 1) % at.len = subst
+    (λ (n : ℕ). IsPowerOfTwo n → c.next.new.self.i ≡ (at.probe.i + at.probe.len + 1) % n) slots c.next.ensures.place within.size.power in
+    let is : record at { probe = c.next.new.self } ≡ next_place at = search (rules, next) in
+    let near = looked.near c.args.began.now.log c.args.table.now (t.lent, t.lent_is, t.pair, t.reading) in (
+      went_on _ at _ c.look_at_slot.result c.in-On.is more is near,
+      c.loop-turned.invariant.1,
+      record { book = looked.sees.book ∙ seen.book; log = prefix_trans _ _ _ seen.log looked.sees.log },
+      looked.own ∙ c.loop-turned.invariant.3,
+    )

@@ -47,20 +47,20 @@ loop-preserved-in-Answered g c =
     let does_call = subst (λ (z : Machine). Does (has_changed z) c.args.window.now c.turn.new.window) (sym same) does in (
       (λ since key first way. let u = c.loop.invariant.0 since key first way in
           let on = c.in-Answered.ensures.turns.0 key u.1.0 u.0 u.1.2 in
-          (u.0, (u.1.0, u.1.1, rw c.tell.ensures.sees.book (c.tell.ensures.takes key u.1.0 u.0 (rw c.turn.ensures.sees.book on))), u.2)),
-      c.tell.ensures.standing,
-      c.tell.ensures.calling,
+          (u.0, (u.1.0, u.1.1, rw c.tell.ensures.helps.sees.book (c.tell.ensures.takes key u.1.0 u.0 (rw c.turn.ensures.sees.book on))), u.2)),
+      c.tell.ensures.helps.standing,
+      c.tell.ensures.helps.calling,
       (helped_keeps (after c.turn.new.self.writer.call.machine (answers.Call answer)) then.machine (tables_of c.tell.new.window.sight.log)
-          then.given.done c.tell.ensures.helped).initial
+          then.given.done c.tell.ensures.helps.helped).initial
           ∙ (ap (λ (z : Machine). z.call.initial) same ∙ ((own_settings m c.loop.invariant.2 answer).0 ∙ c.loop.invariant.3)),
-      sees_trans _ _ _ (sees_trans _ _ _ c.loop.invariant.4 c.turn.ensures.sees) c.tell.ensures.sees,
+      sees_trans _ _ _ (sees_trans _ _ _ c.loop.invariant.4 c.turn.ensures.sees) c.tell.ensures.helps.sees,
       c.loop.invariant.5,
       helped_does (after c.turn.new.self.writer.call.machine (answers.Call answer)) then.machine (tables_of c.tell.new.window.sight.log)
-          then.given.done c.tell.ensures.calling c.tell.ensures.helped c.args.window.now c.turn.new.window c.tell.new.window c.tell.ensures.still
-          c.tell.ensures.own does_call,
+          then.given.done c.tell.ensures.helps.calling c.tell.ensures.helps.helped c.args.window.now c.turn.new.window c.tell.new.window c.tell.ensures.still
+          c.tell.ensures.helps.own does_call,
       (let way = c.requires.can in let u = c.loop.invariant.0 way.0 way.1 way.2 way.3 in
           let on = c.in-Answered.ensures.turns.0 way.1 u.1.0 u.0 u.1.2 in
-          (way.1, u.1.0, u.0, rw c.tell.ensures.sees.book (c.tell.ensures.takes way.1 u.1.0 u.0 (rw c.turn.ensures.sees.book on)))),
+          (way.1, u.1.0, u.0, rw c.tell.ensures.helps.sees.book (c.tell.ensures.takes way.1 u.1.0 u.0 (rw c.turn.ensures.sees.book on)))),
     )
 
 pub tell-requires-in-Shows-clause-can : goal.tell-requires-in-Shows-clause-can
@@ -87,23 +87,23 @@ loop-preserved g c =
           let heard = (c.in-Shows.shown, c.operate-operation.result) ∷ u.0 in
           let on = (c.hear-answer.ensures.hears c.turn.new.window).1 key u.1.0 u.0 (rw (same.1, same.2) u.1.2) in (
             heard,
-            (u.1.0, u.1.1, rw c.tell-in-Shows.ensures.sees.book (c.tell-in-Shows.ensures.takes key u.1.0 heard on)),
+            (u.1.0, u.1.1, rw c.tell-in-Shows.ensures.helps.sees.book (c.tell-in-Shows.ensures.takes key u.1.0 heard on)),
             (c.loop.f, u.2, c.operate-operation.ensures.operates),
           )),
-      c.tell-in-Shows.ensures.standing,
-      c.tell-in-Shows.ensures.calling,
+      c.tell-in-Shows.ensures.helps.standing,
+      c.tell-in-Shows.ensures.helps.calling,
       (helped_keeps (after c.hear-answer.new.self.writer.call.machine (answers.Call answer)) then.machine
-          (tables_of c.tell-in-Shows.new.window.sight.log) then.given.done c.tell-in-Shows.ensures.helped).initial
+          (tables_of c.tell-in-Shows.new.window.sight.log) then.given.done c.tell-in-Shows.ensures.helps.helped).initial
           ∙ (ap (λ (z : Machine). z.call.initial) led ∙ ((own_settings m c.loop.invariant.2 answer).0 ∙ c.loop.invariant.3)),
-      sees_trans _ _ _ (sees_trans _ _ _ c.loop.invariant.4 c.turn.ensures.sees) c.tell-in-Shows.ensures.sees,
+      sees_trans _ _ _ (sees_trans _ _ _ c.loop.invariant.4 c.turn.ensures.sees) c.tell-in-Shows.ensures.helps.sees,
       c.operate-operation.ensures.callable,
       helped_does (after c.hear-answer.new.self.writer.call.machine (answers.Call answer)) then.machine
-          (tables_of c.tell-in-Shows.new.window.sight.log) then.given.done c.tell-in-Shows.ensures.calling c.tell-in-Shows.ensures.helped
-          c.args.window.now c.turn.new.window c.tell-in-Shows.new.window c.tell-in-Shows.ensures.still c.tell-in-Shows.ensures.own does_call,
+          (tables_of c.tell-in-Shows.new.window.sight.log) then.given.done c.tell-in-Shows.ensures.helps.calling c.tell-in-Shows.ensures.helps.helped
+          c.args.window.now c.turn.new.window c.tell-in-Shows.new.window c.tell-in-Shows.ensures.still c.tell-in-Shows.ensures.helps.own does_call,
       (let way = c.requires.can in let u = c.loop.invariant.0 way.0 way.1 way.2 way.3 in
           let heard = (c.in-Shows.shown, c.operate-operation.result) ∷ u.0 in
           let on = (c.hear-answer.ensures.hears c.turn.new.window).1 way.1 u.1.0 u.0 (rw (same.1, same.2) u.1.2) in
-          (way.1, u.1.0, heard, rw c.tell-in-Shows.ensures.sees.book (c.tell-in-Shows.ensures.takes way.1 u.1.0 heard on))),
+          (way.1, u.1.0, heard, rw c.tell-in-Shows.ensures.helps.sees.book (c.tell-in-Shows.ensures.takes way.1 u.1.0 heard on))),
     )
 
 pub replied-requires-clause-can : goal.replied-requires-clause-can

@@ -49,7 +49,7 @@ pub scan_table-requires-clause-taken : goal.scan_table-requires-clause-taken
 scan_table-requires-clause-taken g c =
     let b = begun_of c.take_root.new.window.book.now.parts in let log = c.take_root.new.window.sight.log in
     let taken : IsTaken b c.loop.window.sight.log log c.in-Some-2.number = search rules in
-    rw c.again-began.ensures (taken_earlier b c.args.window.now.sight.log c.loop.window.sight.log log c.in-Some-2.number c.loop.invariant.sees.log taken)
+    (c.loop.window.sight.log, taken)
 
 pub returns-then-not-scan_table-clause-kept : goal.returns-then-not-scan_table-clause-kept
 returns-then-not-scan_table-clause-kept g c =
@@ -68,8 +68,9 @@ returns-then-not-scan_table-clause-kept g c =
     let before = shown_on c.args.window.now.sight.log (Judges g.F.FnMut) c.loop.window c.take_root.new.window c.take_root.ensures.sees
     (ap (λ o. o.done) c.take_root.ensures.own) (own c.args.window.now) c.args.stays c.loop.stays c.loop.invariant.shown.0 c.loop.invariant.shown.1 in
     let scans : Scans c.args.window.now.sight.log (Judges g.F.FnMut) c.take_root.new.window c.loop.stays c.scan_table.new.window
-    c.scan_table.new.stays c.in-Some-2.number 0 (length c.in-Some-2.table.now.slots) (c.scan_table.result ≡ false) = rw (sym c.again-began.ensures)
-    c.scan_table.ensures.scans in
+    c.scan_table.new.stays c.in-Some-2.number 0 (length c.in-Some-2.table.now.slots) (c.scan_table.result ≡ false) = c.scan_table.ensures.scans
+    c.args.window.now.sight.log (taken_earlier (begun_of c.take_root.new.window.book.now.parts) c.args.window.now.sight.log c.loop.window.sight.log
+    c.take_root.new.window.sight.log c.in-Some-2.number c.loop.invariant.sees.log taken) in
     let one = scans c.args.stays (own c.args.window.now) c.loop.invariant.shown.0 before in
     let at : IsTakenAt b old w.sight.log t taken.at = record { since = since; until = taken.until; root = taken.root; some = taken.some; last = taken.last } in
     let then' : IsTaken b old log t = record {
@@ -95,11 +96,14 @@ returns-then-not-scan_table-clause-kept g c =
 
 pub returns-in_err-resize-clause-kept : goal.returns-in_err-resize-clause-kept
 returns-in_err-resize-clause-kept g c =
+    let taken : IsTaken (begun_of c.take_root.new.window.book.now.parts) c.loop.window.sight.log c.take_root.new.window.sight.log c.in-Some-2.number =
+    search rules in
     let before = shown_on c.args.window.now.sight.log (Judges g.F.FnMut) c.loop.window c.take_root.new.window c.take_root.ensures.sees
     (ap (λ o. o.done) c.take_root.ensures.own) (own c.args.window.now) c.args.stays c.loop.stays c.loop.invariant.shown.0 c.loop.invariant.shown.1 in
     let scans : Scans c.args.window.now.sight.log (Judges g.F.FnMut) c.take_root.new.window c.loop.stays c.scan_table.new.window
-    c.scan_table.new.stays c.in-Some-2.number 0 (length c.in-Some-2.table.now.slots) (c.scan_table.result ≡ false) = rw (sym c.again-began.ensures)
-    c.scan_table.ensures.scans in
+    c.scan_table.new.stays c.in-Some-2.number 0 (length c.in-Some-2.table.now.slots) (c.scan_table.result ≡ false) = c.scan_table.ensures.scans
+    c.args.window.now.sight.log (taken_earlier (begun_of c.take_root.new.window.book.now.parts) c.args.window.now.sight.log c.loop.window.sight.log
+    c.take_root.new.window.sight.log c.in-Some-2.number c.loop.invariant.sees.log taken) in
     let one = scans c.args.stays (own c.args.window.now) c.loop.invariant.shown.0 before in
     record {
       left = c.scan_table.new.stays;
@@ -111,11 +115,14 @@ returns-in_err-resize-clause-kept g c =
 
 pub loop-preserved : goal.loop-preserved
 loop-preserved g c =
+    let taken : IsTaken (begun_of c.take_root.new.window.book.now.parts) c.loop.window.sight.log c.take_root.new.window.sight.log c.in-Some-2.number =
+    search rules in
     let before = shown_on c.args.window.now.sight.log (Judges g.F.FnMut) c.loop.window c.take_root.new.window c.take_root.ensures.sees
     (ap (λ o. o.done) c.take_root.ensures.own) (own c.args.window.now) c.args.stays c.loop.stays c.loop.invariant.shown.0 c.loop.invariant.shown.1 in
     let scans : Scans c.args.window.now.sight.log (Judges g.F.FnMut) c.take_root.new.window c.loop.stays c.scan_table.new.window
-    c.scan_table.new.stays c.in-Some-2.number 0 (length c.in-Some-2.table.now.slots) (c.scan_table.result ≡ false) = rw (sym c.again-began.ensures)
-    c.scan_table.ensures.scans in
+    c.scan_table.new.stays c.in-Some-2.number 0 (length c.in-Some-2.table.now.slots) (c.scan_table.result ≡ false) = c.scan_table.ensures.scans
+    c.args.window.now.sight.log (taken_earlier (begun_of c.take_root.new.window.book.now.parts) c.args.window.now.sight.log c.loop.window.sight.log
+    c.take_root.new.window.sight.log c.in-Some-2.number c.loop.invariant.sees.log taken) in
     let one = scans c.args.stays (own c.args.window.now) c.loop.invariant.shown.0 before in
     let met = sees_trans c.args.window.now c.take_root.new.window c.scan_table.new.window
     (sees_trans c.args.window.now c.loop.window c.take_root.new.window c.loop.invariant.sees c.take_root.ensures.sees) c.scan_table.ensures.sees in record {

@@ -25,77 +25,74 @@ loop-init g c = record {
   callable = c.requires.callable;
   stands = c.load-word.ensures.slot;
   met = c.load-word.ensures.met;
-  scans = scans_on c.args.began.now.log (Judges g.F.FnMut) c.args.number c.args.window.now c.args.window.now c.load-word.new.window c.args.stays.now
+  scans = λ began taken. scans_on began (Judges g.F.FnMut) c.args.number c.args.window.now c.args.window.now c.load-word.new.window c.args.stays.now
       c.args.stays.now c.args.place c.args.place (Unit {0})
-      (scans_none c.args.began.now.log (Judges g.F.FnMut) c.args.number c.args.window.now c.args.stays.now c.args.place) c.load-word.ensures.sees
+      (scans_none began (Judges g.F.FnMut) c.args.number c.args.window.now c.args.stays.now c.args.place) c.load-word.ensures.sees
       (ap (λ o. o.done) c.load-word.ensures.own);
 }
 
 pub returns-in-Marked-clause-scans : goal.returns-in-Marked-clause-scans
-returns-in-Marked-clause-scans g c = scans_stopped c.args.began.now.log (Judges g.F.FnMut) c.args.number c.args.window.now c.loop.window
-    c.args.stays.now c.loop.stays c.args.place c.args.place (suc c.args.place) (Unit {0}) (true ≡ false) (λ e. cc e) c.loop.invariant.scans
+returns-in-Marked-clause-scans g c = λ began taken. scans_stopped began (Judges g.F.FnMut) c.args.number c.args.window.now c.loop.window
+    c.args.stays.now c.loop.stays c.args.place c.args.place (suc c.args.place) (Unit {0}) (true ≡ false) (λ e. cc e) (c.loop.invariant.scans began taken)
 
 pub returns-in-Empty-clause-scans : goal.returns-in-Empty-clause-scans
-returns-in-Empty-clause-scans g c =
+returns-in-Empty-clause-scans g c = λ began taken.
     let past : has_pair c.kind.result ≡ false = ⊎_elim (λ e. ap has_pair e) (⊎_elim (λ e. ap has_pair e) (λ e. ap has_pair e)) c.in-Empty.is in
     so_past g.K.PartialEq.eq g.K.Hash.hash_input g.S.BuildHasher.build_hasher g.S.Hasher.Hasher.write g.S.Hasher.Hasher.finish g.met.K.Eq.laws
-    g.met.K.Hash.respects_eq (begun_of c.args.window.now.book.now.parts) (Judges g.F.FnMut) c.args.began.now.log c.args.window.now.sight.log
+    g.met.K.Hash.respects_eq (begun_of c.args.window.now.book.now.parts) (Judges g.F.FnMut) began c.args.window.now.sight.log
     (own c.args.window.now) c.args.stays.now c.args.number c.args.window.now.book.now.begun.book c.loop.window.sight.log c.loop.invariant.sees.log
-    (own c.loop.window) c.loop.stays c.args.place c.loop.word c.loop.pair c.loop.invariant.stands c.loop.invariant.scans (false ≡ false)
+    (own c.loop.window) c.loop.stays c.args.place c.loop.word c.loop.pair c.loop.invariant.stands (c.loop.invariant.scans began taken) (false ≡ false)
     (ap has_pair (sym c.kind.ensures) ∙ past)
 
 pub returns-then-show-clause-scans : goal.returns-then-show-clause-scans
-returns-then-show-clause-scans g c =
-    let shown = c.show.ensures.shown in
+returns-then-show-clause-scans g c = λ began taken.
     let live : kind_of c.loop.word ≡ kinds.Live = sym c.kind.ensures ∙ c.in-Live.is in
-    let met = c.loop.invariant.met.had (ap has_pair live) in
-    let same = some_same met.0 shown.0 (sym met.1 ∙ shown.1) in
-    let had = subst (λ (p : Stored _ _). HadPair g.K.PartialEq.eq (history_of c.args.began.now.log) (history_of c.loop.window.sight.log) p) same met.2 in
+    let met = (c.loop.invariant.met began taken).had (ap has_pair live) in
+    let same = some_same met.0 c.in-Some-pair.stored (sym met.1 ∙ c.in-Some-pair.is) in
+    let had = subst (λ (p : Stored _ _). HadPair g.K.PartialEq.eq (history_of began) (history_of c.loop.window.sight.log) p) same met.2 in
     so_kept g.K.PartialEq.eq g.K.Hash.hash_input g.S.BuildHasher.build_hasher g.S.Hasher.Hasher.write g.S.Hasher.Hasher.finish g.met.K.Eq.laws
-    g.met.K.Hash.respects_eq (begun_of c.args.window.now.book.now.parts) (Judges g.F.FnMut) c.args.began.now.log c.args.window.now.sight.log
+    g.met.K.Hash.respects_eq (begun_of c.args.window.now.book.now.parts) (Judges g.F.FnMut) began c.args.window.now.sight.log
     (own c.args.window.now) c.args.stays.now c.args.number c.args.window.now.book.now.begun.book c.loop.window.sight.log c.loop.invariant.sees.log
-    (own c.loop.window) c.loop.stays c.args.place c.loop.word c.loop.pair c.loop.invariant.stands c.loop.invariant.scans live shown.0 shown.1 had
-    c.show.new.stays (false ≡ false) (subst (λ (b : Bool). Judges g.F.FnMut c.loop.stays shown.0 b c.show.new.stays) c.if-show.true shown.2)
+    (own c.loop.window) c.loop.stays c.args.place c.loop.word c.loop.pair c.loop.invariant.stands (c.loop.invariant.scans began taken) live c.in-Some-pair.stored
+    c.in-Some-pair.is had c.show.new.stays (false ≡ false) (subst (λ (b : Bool). Judges g.F.FnMut c.loop.stays c.in-Some-pair.stored b c.show.new.stays) c.if-show.true c.show.ensures.shown)
 
 pub delete-found-requires-clause-table : goal.delete-found-requires-clause-table
 delete-found-requires-clause-table g c = table_on c.args.window.now c.loop.window c.args.number c.args.table.now c.loop.invariant.sees c.requires.table
 
 pub delete-found-requires-clause-taken : goal.delete-found-requires-clause-taken
-delete-found-requires-clause-taken g c = taken_on c.args.began.now.log c.args.window.now c.loop.window c.args.number c.loop.invariant.sees c.requires.taken
+delete-found-requires-clause-taken g c = (
+  c.requires.taken.0,
+  taken_on c.requires.taken.0 c.args.window.now c.loop.window c.args.number c.loop.invariant.sees c.requires.taken.1,
+)
 
 pub returns-then-found-word-clause-scans : goal.returns-then-found-word-clause-scans
-returns-then-found-word-clause-scans g c =
+returns-then-found-word-clause-scans g c = λ began taken.
     let hash = hash_of g.K.Hash.hash_input g.S.BuildHasher.build_hasher g.S.Hasher.Hasher.write g.S.Hasher.Hasher.finish in
     let then' = c.delete-found.new.window in
-    let shown = c.show.ensures.shown in
     let live : kind_of c.loop.word ≡ kinds.Live = sym c.kind.ensures ∙ c.in-Live.is in
-    let met = c.loop.invariant.met.had (ap has_pair live) in
-    let same = some_same met.0 shown.0 (sym met.1 ∙ shown.1) in
-    let had = subst (λ (p : Stored _ _). HadPair g.K.PartialEq.eq (history_of c.args.began.now.log) (history_of c.loop.window.sight.log) p) same met.2 in
+    let met = (c.loop.invariant.met began taken).had (ap has_pair live) in
+    let same = some_same met.0 c.in-Some-pair.stored (sym met.1 ∙ c.in-Some-pair.is) in
+    let had = subst (λ (p : Stored _ _). HadPair g.K.PartialEq.eq (history_of began) (history_of c.loop.window.sight.log) p) same met.2 in
     let stood = same_word c.delete-found.result.0 c.loop.word c.if-found-word.true in
     let tombstone = c.delete-found.ensures.tombstone stood in
-    let one = some_same tombstone.0 shown.0 (sym tombstone.1 ∙ shown.1) in
+    let one = some_same tombstone.0 c.in-Some-pair.stored (sym tombstone.1 ∙ c.in-Some-pair.is) in
     let lawful = subst (λ (z : Bor (Book _ _ _ _)). IsLawfulLog g.K.PartialEq.eq hash (begun_of z.now.parts) then'.sight.log)
     (c.delete-found.ensures.sees.book ∙ c.loop.invariant.sees.book) c.delete-found.ensures.lawful in
     let does = subst (λ (b : Bool). then'.own.done ≡ c.loop.window.own.done ++ last_if b (steps_of then'.sight.log)) stood c.delete-found.ensures.does in
     so_tombstone g.K.PartialEq.eq g.K.Hash.hash_input g.S.BuildHasher.build_hasher g.S.Hasher.Hasher.write g.S.Hasher.Hasher.finish g.met.K.Eq.laws
-    g.met.K.Hash.respects_eq (begun_of c.args.window.now.book.now.parts) (Judges g.F.FnMut) c.args.began.now.log c.args.window.now.sight.log
+    g.met.K.Hash.respects_eq (begun_of c.args.window.now.book.now.parts) (Judges g.F.FnMut) began c.args.window.now.sight.log
     (own c.args.window.now) c.args.stays.now c.args.number c.args.window.now.book.now.begun.book c.loop.window.sight.log c.loop.invariant.sees.log
-    (own c.loop.window) c.loop.stays c.args.place c.loop.word c.loop.pair c.loop.invariant.stands c.loop.invariant.scans live shown.0 shown.1 had
-    c.show.new.stays (false ≡ false) (subst (λ (b : Bool). Judges g.F.FnMut c.loop.stays shown.0 b c.show.new.stays) c.if-show.false shown.2)
+    (own c.loop.window) c.loop.stays c.args.place c.loop.word c.loop.pair c.loop.invariant.stands (c.loop.invariant.scans began taken) live c.in-Some-pair.stored
+    c.in-Some-pair.is had c.show.new.stays (false ≡ false) (subst (λ (b : Bool). Judges g.F.FnMut c.loop.stays c.in-Some-pair.stored b c.show.new.stays) c.if-show.false c.show.ensures.shown)
     then'.sight.log c.delete-found.ensures.sees.log lawful
     (subst (λ (p : Stored _ _). IsDeleted then'.sight.log c.args.number c.args.place p) one tombstone.2) (own then')
-    (λ r. deletion_done then'.sight.log c.args.number c.args.place shown.0 r c.loop.window.own.done then'.own.done does)
+    (λ r. deletion_done then'.sight.log c.args.number c.args.place c.in-Some-pair.stored r c.loop.window.own.done then'.own.done does)
 
 pub loop-preserved : goal.loop-preserved
 loop-preserved g c =
     let hash = hash_of g.K.Hash.hash_input g.S.BuildHasher.build_hasher g.S.Hasher.Hasher.write g.S.Hasher.Hasher.finish in
     let then' = c.delete-found.new.window in
-    let shown = c.show.ensures.shown in
     let live : kind_of c.loop.word ≡ kinds.Live = sym c.kind.ensures ∙ c.in-Live.is in
-    let met = c.loop.invariant.met.had (ap has_pair live) in
-    let same = some_same met.0 shown.0 (sym met.1 ∙ shown.1) in
-    let had = subst (λ (p : Stored _ _). HadPair g.K.PartialEq.eq (history_of c.args.began.now.log) (history_of c.loop.window.sight.log) p) same met.2 in
     let lost = other_word c.delete-found.result.0 c.loop.word c.if-found-word.false in
     let does = subst (λ (b : Bool). then'.own.done ≡ c.loop.window.own.done ++ last_if b (steps_of then'.sight.log)) lost c.delete-found.ensures.does
     in record {
@@ -104,14 +101,18 @@ loop-preserved g c =
       stands = subst (λ (z : Bor (Book _ _ _ _)).
           IsSlot g.K.PartialEq.eq hash (begun_of z.now.parts) z.now.begun.book c.args.number c.args.place c.delete-found.result.0 then'.sight.log
           c.delete-found.result.1) c.loop.invariant.sees.book (c.delete-found.ensures.found lost);
-      met = c.delete-found.ensures.met;
-      scans = scans_on c.args.began.now.log (Judges g.F.FnMut) c.args.number c.args.window.now c.loop.window then' c.args.stays.now c.show.new.stays
+      met = λ began taken. c.delete-found.ensures.met began (taken_on began c.args.window.now c.loop.window c.args.number c.loop.invariant.sees taken);
+      scans = λ began taken.
+          let met = (c.loop.invariant.met began taken).had (ap has_pair live) in
+          let same = some_same met.0 c.in-Some-pair.stored (sym met.1 ∙ c.in-Some-pair.is) in
+          let had = subst (λ (p : Stored _ _). HadPair g.K.PartialEq.eq (history_of began) (history_of c.loop.window.sight.log) p) same met.2 in
+          scans_on began (Judges g.F.FnMut) c.args.number c.args.window.now c.loop.window then' c.args.stays.now c.show.new.stays
           c.args.place c.args.place (Unit {0})
           (so_shown g.K.PartialEq.eq g.K.Hash.hash_input g.S.BuildHasher.build_hasher g.S.Hasher.Hasher.write g.S.Hasher.Hasher.finish g.met.K.Eq.laws
-          g.met.K.Hash.respects_eq (begun_of c.args.window.now.book.now.parts) (Judges g.F.FnMut) c.args.began.now.log c.args.window.now.sight.log
+          g.met.K.Hash.respects_eq (begun_of c.args.window.now.book.now.parts) (Judges g.F.FnMut) began c.args.window.now.sight.log
           (own c.args.window.now) c.args.stays.now c.args.number c.args.window.now.book.now.begun.book c.loop.window.sight.log
           c.loop.invariant.sees.log (own c.loop.window) c.loop.stays c.args.place c.loop.word c.loop.pair c.loop.invariant.stands
-          c.loop.invariant.scans live shown.0 shown.1 had c.show.new.stays
-          (subst (λ (b : Bool). Judges g.F.FnMut c.loop.stays shown.0 b c.show.new.stays) c.if-show.false shown.2))
+          (c.loop.invariant.scans began taken) live c.in-Some-pair.stored c.in-Some-pair.is had c.show.new.stays
+          (subst (λ (b : Bool). Judges g.F.FnMut c.loop.stays c.in-Some-pair.stored b c.show.new.stays) c.if-show.false c.show.ensures.shown))
           c.delete-found.ensures.sees (does ∙ append-nil c.loop.window.own.done);
     }

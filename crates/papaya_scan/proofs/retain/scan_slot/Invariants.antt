@@ -1,6 +1,6 @@
 use Rattle.papaya_book.specs.Windows.{IsSlot, Sees}
 use Rattle.papaya_change.specs.Showings.{Judges}
-use Rattle.papaya_scan.specs.TableScans.{IsMet, Scans}
+use Rattle.papaya_scan.specs.TableScans.{IsMet, IsTaken, Scans}
 use Rattle.papaya_scan.proofs.retain.scan_slot.Given as goal
 
 -- the word that was found last stands in the slot, and names a pair that the map had
@@ -9,6 +9,7 @@ invariant-loop g l = record {
   sees : Sees l.fn.window l.window;
   callable : goal.F-IsAlwaysCallable g l.stays;
   stands : IsSlot l.fn.window l.window l.number l.place l.word l.pair;
-  met : IsMet l.began.log l.window l.word l.pair;
-  scans : Scans l.began.log (Judges g.F.FnMut) l.fn.window l.fn.stays l.window l.stays l.number l.place l.place (Unit {0});
+  met : (began : _) → IsTaken began l.fn.window l.number → IsMet began l.window l.word l.pair;
+  scans : (began : _) → IsTaken began l.fn.window l.number
+      → Scans began (Judges g.F.FnMut) l.fn.window l.fn.stays l.window l.stays l.number l.place l.place (Unit {0});
 }

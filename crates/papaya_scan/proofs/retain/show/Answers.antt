@@ -1,4 +1,4 @@
 use Rattle.papaya_scan.proofs.retain.show.Goals as goal
 
 pub returns-clause-shown : goal.returns-clause-shown
-returns-clause-shown g c = (c.in-Some.stored, c.in-Some.is, (c.entry.result.0, c.entry.result.1, c.entry.ensures, c.stays.ensures))
+returns-clause-shown g c = (c.entry.result.0, c.entry.result.1, c.entry.ensures, c.stays.ensures)

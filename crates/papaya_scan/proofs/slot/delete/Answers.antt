@@ -11,8 +11,8 @@ pub exchange_slot-found-requires-clause-can : goal.exchange_slot-found-requires-
 exchange_slot-found-requires-clause-can g c =
     rw (c.tombstone-tombstone.ensures, c.pair.ensures)
     (can_delete g.K.PartialEq.eq g.K.Hash.hash_input g.S.BuildHasher.build_hasher g.S.Hasher.Hasher.write g.S.Hasher.Hasher.finish g.met.K.Eq.laws
-    g.met.K.Hash.respects_eq (begun_of c.args.window.now.book.now.parts) c.args.began.now.log c.args.window.now.sight.log c.args.number
-    c.requires.taken c.args.place c.args.word c.requires.live)
+    g.met.K.Hash.respects_eq (begun_of c.args.window.now.book.now.parts) c.requires.taken.0 c.args.window.now.sight.log c.args.number
+    c.requires.taken.1 c.args.place c.args.word c.requires.live)
 
 pub returns-clause-tombstone : goal.returns-clause-tombstone
 returns-clause-tombstone g c = λ is. elim c.if-found-word.branch [
@@ -30,11 +30,11 @@ returns-clause-tombstone g c = λ is. elim c.if-found-word.branch [
 ]
 
 pub returns-clause-met : goal.returns-clause-met
-returns-clause-met g c =
+returns-clause-met g c = λ began taken.
     let found = c.exchange_slot-found in
-    subst (λ (z : Bor (Book _ _ _ _)). IsMet g.K.PartialEq.eq (begun_of z.now.parts) z.now.begun.book c.args.began.now.log found.new.self.sight.log
+    subst (λ (z : Bor (Book _ _ _ _)). IsMet g.K.PartialEq.eq (begun_of z.now.parts) z.now.begun.book began found.new.self.sight.log
     found.result.0 found.result.1) (sym found.ensures.sees.book)
     (met_found g.K.PartialEq.eq g.K.Hash.hash_input g.S.BuildHasher.build_hasher g.S.Hasher.Hasher.write g.S.Hasher.Hasher.finish g.met.K.Eq.laws
-    g.met.K.Hash.respects_eq (begun_of c.args.window.now.book.now.parts) c.args.window.now.book.now.begun.book c.args.began.now.log
-    c.args.window.now.sight.log found.new.self.sight.log c.args.number c.requires.taken c.args.place c.args.word _ found.result.0 found.result.1
+    g.met.K.Hash.respects_eq (begun_of c.args.window.now.book.now.parts) c.args.window.now.book.now.begun.book began
+    c.args.window.now.sight.log found.new.self.sight.log c.args.number taken c.args.place c.args.word _ found.result.0 found.result.1
     found.ensures.tried)

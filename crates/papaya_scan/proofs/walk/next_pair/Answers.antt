@@ -1,23 +1,43 @@
-use Rattle.std.proofs.Common.{◌≡◌, Some, sym, ap, ◌∙◌, subst}
-use Rattle.papaya_book.specs.Logs.{Stored}
-use Rattle.papaya_lookup.specs.History.{history_of}
-use Rattle.papaya_scan.specs.Meeting.{HadPair, has_pair}
-use Rattle.papaya_scan.proofs.TableScans.{table_on, taken_on}
+use Rattle.std.proofs.Common.{ℕ, ◌-◌, List, length, rules, sym, ap, subst, arith}
+use Rattle.std.specs.List.{IsFirstAndRest}
+use Rattle.logbook.specs.Pages.{Named as Word}
+use Rattle.papaya_book.proofs.Windows.{sees_trans}
+use Rattle.papaya_lookup.specs.Lookups.{IsSlotAt}
+use Rattle.papaya_scan.specs.Walked.{AreLast}
+use Rattle.papaya_scan.proofs.TableScans.{last_later, last_most, taken_on}
 use Rattle.papaya_scan.proofs.walk.next_pair.Goals as goal
 
-pub load-word-requires-clause-table : goal.load-word-requires-clause-table
-load-word-requires-clause-table g c = table_on c.args.window.now c.loop-place.window c.args.number c.args.table.now c.loop-place.invariant.sees c.requires.table
+pub overflow_sub-len : goal.overflow_sub-len
+overflow_sub-len g c = last_most c.loop-slot.window.sight.log c.args.number c.args.len c.loop-slot.rest.now c.loop-slot.invariant.last
 
-pub load-word-requires-clause-taken : goal.load-word-requires-clause-taken
-load-word-requires-clause-taken g c = taken_on c.args.began.now.log c.args.window.now c.loop-place.window c.args.number c.loop-place.invariant.sees
-    c.requires.taken
+pub entry_at-found-requires : goal.entry_at-found-requires
+entry_at-found-requires g c =
+    let first : IsFirstAndRest c.loop-slot.rest.now c.in-Some.slot.now c.in-Some.later.now = search rules in
+    let last = subst (λ (ws : List Word). AreLast c.loop-slot.window.sight.log c.args.number c.args.len ws) first.0 c.loop-slot.invariant.last in
+    let slot = subst (λ (n : ℕ). IsSlotAt c.loop-slot.window.sight.log c.args.number (c.args.len - n) c.in-Some.slot.now) (sym (ap length first.0)) last.1
+    in record { slot = slot }
 
-pub returns-then-names_pair-clause-had : goal.returns-then-names_pair-clause-had
-returns-then-names_pair-clause-had g c =
-    let one = c.load-word.ensures.met.had (ap has_pair (sym c.kind.ensures) ∙ (sym c.names_pair.ensures ∙ c.if-names_pair.true)) in
-    let both : Some one.0 ≡ Some c.in-Some.stored = sym one.1 ∙ c.in-Some.is in
-    let same : one.0 ≡ c.in-Some.stored = cc both in (
-      c.in-Some.stored,
-      (c.entry.ensures.key ∙ ap (λ z. z.key.value) c.pair.ensures, c.entry.ensures.value ∙ ap (λ z. z.value) c.pair.ensures),
-      subst (λ (p : Stored _ _). HadPair g.K.PartialEq.eq (history_of c.args.began.now.log) (history_of c.load-word.new.window.sight.log) p) same one.2,
-    )
+pub returns-then-is_some-clause-last : goal.returns-then-is_some-clause-last
+returns-then-is_some-clause-last g c =
+    let first : IsFirstAndRest c.loop-slot.rest.now c.in-Some.slot.now c.in-Some.later.now = search rules in
+    let last = subst (λ (ws : List Word). AreLast c.loop-slot.window.sight.log c.args.number c.args.len ws) first.0 c.loop-slot.invariant.last in
+    last_later c.loop-slot.window.sight.log c.entry_at-found.new.window.sight.log c.args.number c.args.len c.in-Some.later.now
+    c.entry_at-found.ensures.sees.log last.2
+
+pub returns-then-is_some-clause-had : goal.returns-then-is_some-clause-had
+returns-then-is_some-clause-had g c = λ began taken.
+    let first : IsFirstAndRest c.loop-slot.rest.now c.in-Some.slot.now c.in-Some.later.now = search rules in
+    let one = first.1 in let fewer = c.loop-slot.invariant.fewer in
+    c.entry_at-found.ensures.had began
+    (taken_on began c.args.window.now c.loop-slot.window c.args.number c.loop-slot.invariant.sees (taken (omega (arith, one, fewer))))
+
+pub loop-slot-preserved : goal.loop-slot-preserved
+loop-slot-preserved g c =
+    let first : IsFirstAndRest c.loop-slot.rest.now c.in-Some.slot.now c.in-Some.later.now = search rules in
+    let last = subst (λ (ws : List Word). AreLast c.loop-slot.window.sight.log c.args.number c.args.len ws) first.0 c.loop-slot.invariant.last in
+    let one = first.1 in let fewer = c.loop-slot.invariant.fewer in record {
+      sees = sees_trans c.args.window.now c.loop-slot.window c.entry_at-found.new.window c.loop-slot.invariant.sees c.entry_at-found.ensures.sees;
+      last = last_later c.loop-slot.window.sight.log c.entry_at-found.new.window.sight.log c.args.number c.args.len c.in-Some.later.now
+          c.entry_at-found.ensures.sees.log last.2;
+      fewer = omega (arith, one, fewer);
+    }

@@ -6,8 +6,11 @@ use Rattle.papaya_copy.specs.declared.carry.Carry.TheVariants.{Hashing, Sizing, 
 use Rattle.papaya_copy.specs.declared.settle.Slot.{Slot}
 use Rattle.papaya_keys.specs.Hashes.{hash_of}
 use Rattle.papaya_store.specs.Store.{pair_of}
+use Rattle.papaya_store.specs.Tables.{table_of}
 use Rattle.papaya_seq.specs.Copies.{Settles}
+use Rattle.papaya_seq.specs.Searches.{IsThere}
 use Rattle.papaya_seq.proofs.CopyTurns.{carried, carry_then, hashes, sizes}
+use Rattle.papaya_seq.proofs.WalkSteps.{sized_table}
 use Rattle.papaya_seq.proofs.chunk.carry.Goals as goal
 use Rattle.papaya_seq.proofs.chunk.carry.Goals.{After-size_of}
 use Rattle.papaya_seq.proofs.chunk.carry.Given.{Over}
@@ -47,3 +50,10 @@ returns-in_default-size_of g c = record {
   carries = λ mode slot. hashed g (goal.at.returns-in_default-size_of g c).After-size_of mode slot;
   empty = λ other at e. absurd (cc e);
 }
+
+pub find_place-requires-clause-there : goal.find_place-requires-clause-there
+find_place-requires-clause-there g c =
+    let s = c.args.store.now in
+    let (t, there, long, far, fit) = sized_table s (table_of s.words.tables c.args.table) c.in-Size.len c.in-Size.limit (λ t e. c.requires c.args.table t e)
+    (sym c.in-Size.is ∙ c.size_of.ensures) in
+    subst (λ at. IsThere s at.table at.len) (sym c.first-first.ensures.value) (t, there, long)

@@ -18,6 +18,7 @@ returns-in-On-Reading-clause-turn g c =
       sees = sees_on matches store c.args.hash c.args.at (Reading c.in-On-Reading.place) (seen_by c.read_at.result)
           (subst (Sees matches store c.args.hash c.args.at) (sym hints.1 ∙ reads) (sees_passed matches store c.args.hash hints.0 c.args.at)) turn.sees;
       within = turn.within;
+      there = turn.there;
       stands = turn.stands;
       matched = turn.matched;
     }
@@ -30,5 +31,5 @@ returns-in_default-clause-turn g c =
     let hints = c.pass_by-seen.ensures.hints in
     turn_seen matches store c.args.hash c.args.at (Searching (Looking c.args.at)) c.turn_of.result seen c.turn_of.ensures
     (subst (Sees matches store c.args.hash c.args.at) (sym hints.1) (sees_passed matches store c.args.hash hints.0 c.args.at))
-    c.pass_by-seen.ensures.within (passed_stands (λ w. word_at store.words w) c.args.at seen c.pass_by-seen.ensures.led)
+    c.pass_by-seen.ensures.within c.pass_by-seen.ensures.there (passed_stands (λ w. word_at store.words w) c.args.at seen c.pass_by-seen.ensures.led)
     (passed_matched store matches c.args.hash c.args.at seen c.pass_by-seen.ensures.led)

@@ -1,7 +1,16 @@
 use Rattle.std.proofs.Common.{rules, subst}
 use Rattle.papaya_seq.specs.Searches.{IsTurn}
-use Rattle.papaya_seq.proofs.Searching.{turns_on}
+use Rattle.papaya_seq.proofs.Searching.{sees_begun, turns_on}
 use Rattle.papaya_seq.proofs.search.search.Goals as goal
+
+pub loop-next-init : goal.loop-next-init
+loop-next-init g c = record {
+  sees = sees_begun (g.Q.Equivalent.matches c.args.key.now) c.args.store.now c.args.hash c.args.at;
+  within = c.requires.within;
+  there = c.requires.there;
+  stands = tt;
+  matched = tt;
+}
 
 pub loop-next-preserved : goal.loop-next-preserved
 loop-next-preserved g c =

@@ -3,7 +3,7 @@ use Rattle.papaya_ask.specs.declared.ask.Answer.TheVariants.{Size}
 use Rattle.papaya_ask.specs.Search.{first_place}
 use Rattle.papaya_store.specs.Performs.{size_of}
 use Rattle.papaya_store.specs.Tables.{table_of}
-use Rattle.papaya_seq.specs.Searches.{IsRootTurn, IsTurn, seen_by}
+use Rattle.papaya_seq.specs.Searches.{IsRootTurn, IsThere, IsTurn, seen_by}
 use Rattle.papaya_seq.specs.declared.search.Turn.{Turn}
 use Rattle.papaya_seq.proofs.Searching.{sees_root}
 use Rattle.papaya_seq.proofs.search.search_root.Goals as goal
@@ -29,3 +29,8 @@ returns g c turn e =
       stands = by.stands;
       matched = by.matched;
     })
+
+pub search-requires-clause-there : goal.search-requires-clause-there
+search-requires-clause-there g c =
+    let held : table_of c.args.store.now.words.tables c.word-number.result ≡ Some c.in_ok-table.table.now = search rules in
+    subst (λ at. IsThere c.args.store.now at.table at.len) (sym c.first-first.ensures.value) (c.in_ok-table.table.now, held, sym c.len.ensures)

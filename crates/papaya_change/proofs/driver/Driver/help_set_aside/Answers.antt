@@ -31,10 +31,6 @@ loop-init g c =
       rest = (ap (λ (z : Driver _ _ _ _). z.taken) is, ap (λ (z : Driver _ _ _ _). z.put) is);
     }
 
-pub returns-in_default-clause-helped : goal.returns-in_default-clause-helped
-returns-in_default-clause-helped g c = helped c.args.self.now.machine c.loop.self.machine (tables_of c.loop.window.sight.log) c.loop.self.given.done
-    c.loop.invariant.reached (calls c.loop.self.machine (λ ask asked. c.in_default.not-Copy ask (c.ask.ensures.value ∙ asked)))
-
 pub copy_on-answer-requires-clause-can : goal.copy_on-answer-requires-clause-can
 copy_on-answer-requires-clause-can g c =
     subst (λ (z : _). CanGoOn g.K.PartialEq.eq
@@ -109,3 +105,13 @@ loop-preserved g c =
         ap (λ (z : Driver _ _ _ _). z.put) is ∙ (ap (λ (z : Driver _ _ _ _). z.put) rest ∙ c.loop.invariant.rest.1),
       );
     }
+
+pub returns-in_default-clause-helps : goal.returns-in_default-clause-helps
+returns-in_default-clause-helps g c = record {
+  sees = c.loop.invariant.sees;
+  own = c.loop.invariant.own;
+  standing = c.loop.invariant.standing;
+  calling = calls c.loop.self.machine (λ ask asked. c.in_default.not-Copy ask (c.ask.ensures.value ∙ asked));
+  helped = helped c.args.self.now.machine c.loop.self.machine (tables_of c.loop.window.sight.log) c.loop.self.given.done
+      c.loop.invariant.reached (calls c.loop.self.machine (λ ask asked. c.in_default.not-Copy ask (c.ask.ensures.value ∙ asked)));
+}

@@ -58,12 +58,12 @@ unreachable-requires-in-ShowNone g c =
 
 pub returns-in-Load-clause-inserts : goal.returns-in-Load-clause-inserts
 returns-in-Load-clause-inserts g c = λ key value begun r.
-    let asks : ask_of c.args.self.now.writer.call.machine ≡ Call (Load c.in-Load.at) = search rules in let on = c.load.ensures in
+    let asks : ask_of c.args.self.now.writer.call.machine ≡ Call (Load c.in-Load.at) = search rules in let on = c.load.ensures.steps in
     goes_on g.K.PartialEq.eq g.K.Hash.hash_input g.S.BuildHasher.build_hasher g.S.Hasher.Hasher.write g.S.Hasher.Hasher.finish g.met.K.Eq.laws
     g.met.K.Hash.respects_eq (begun_of c.args.window.now.book.now.parts) c.args.window.now.book.now.begun.book key value begun
-    c.args.window.now.sight.log c.args.self.now r c.load.new.window.sight.log c.load.ensures.sees.log c.load.new.self c.load.result on.machine
+    c.args.window.now.sight.log c.args.self.now r c.load.new.window.sight.log c.load.ensures.steps.sees.log c.load.new.self c.load.result on.machine
     on.value on.put c.requires.standing c.requires.calling (λ reply h. let f = sym asks ∙ h in cc f)
-    (λ n e makes. subst (λ (a : Ask). MakesPair a) (call_asks c.args.self.now.writer.call.machine _ asks).1 makes) on.tells on.unsaid
+    (λ n e makes. subst (λ (a : Ask). MakesPair a) (call_asks c.args.self.now.writer.call.machine _ asks).1 makes) c.load.ensures.tells on.unsaid
     (on.writes key r.made begun r.writing)
 
 pub returns-in-LoadHint-clause-inserts : goal.returns-in-LoadHint-clause-inserts
@@ -71,11 +71,11 @@ returns-in-LoadHint-clause-inserts g c = λ key value begun r.
     let asks : ask_of c.args.self.now.writer.call.machine ≡ Call (LoadHint c.in-LoadHint.number c.in-LoadHint.place) = search rules in
     goes_on g.K.PartialEq.eq g.K.Hash.hash_input g.S.BuildHasher.build_hasher g.S.Hasher.Hasher.write g.S.Hasher.Hasher.finish g.met.K.Eq.laws
     g.met.K.Hash.respects_eq (begun_of c.args.window.now.book.now.parts) c.args.window.now.book.now.begun.book key value begun
-    c.args.window.now.sight.log c.args.self.now r c.hint.new.window.sight.log c.hint.ensures.sees.log c.args.self.now.writer c.hint.result refl refl
+    c.args.window.now.sight.log c.args.self.now r c.hint.new.window.sight.log c.hint.ensures.steps.sees.log c.args.self.now.writer c.hint.result refl refl
     refl c.requires.standing c.requires.calling (λ reply h. let f = sym asks ∙ h in cc f)
     (λ n e makes. subst (λ (a : Ask). MakesPair a) (call_asks c.args.self.now.writer.call.machine _ asks).1 makes)
-    (λ number. absurd (subst (λ (a : Ask). IsNumberAsk a) (call_asks c.args.self.now.writer.call.machine _ asks).1 number)) c.hint.ensures.unsaid
-    (c.hint.ensures.writes key r.made begun r.writing)
+    (λ number. absurd (subst (λ (a : Ask). IsNumberAsk a) (call_asks c.args.self.now.writer.call.machine _ asks).1 number)) c.hint.ensures.steps.unsaid
+    (c.hint.ensures.steps.writes key r.made begun r.writing)
 
 pub returns-in-WriteHint-clause-inserts : goal.returns-in-WriteHint-clause-inserts
 returns-in-WriteHint-clause-inserts g c = λ key value begun r.
@@ -86,8 +86,8 @@ returns-in-WriteHint-clause-inserts g c = λ key value begun r.
     c.args.window.now.sight.log c.args.self.now r c.args.window.now.sight.log ([], append-nil _) c.args.self.now.writer c.note.result refl refl refl
     c.requires.standing c.requires.calling (λ reply h. let f = sym asks ∙ h in cc f)
     (λ n e makes. subst (λ (a : Ask). MakesPair a) (call_asks c.args.self.now.writer.call.machine _ asks).1 makes)
-    (λ number. absurd (subst (λ (a : Ask). IsNumberAsk a) (call_asks c.args.self.now.writer.call.machine _ asks).1 number)) c.note.ensures.unsaid
-    (c.note.ensures.writes key r.made begun r.writing)
+    (λ number. absurd (subst (λ (a : Ask). IsNumberAsk a) (call_asks c.args.self.now.writer.call.machine _ asks).1 number)) c.note.ensures.steps.unsaid
+    (c.note.ensures.steps.writes key r.made begun r.writing)
 
 pub returns-in-SizeOf-clause-inserts : goal.returns-in-SizeOf-clause-inserts
 returns-in-SizeOf-clause-inserts g c = λ key value begun r. let some : (n : ℕ)
@@ -97,8 +97,8 @@ returns-in-SizeOf-clause-inserts g c = λ key value begun r. let some : (n : ℕ
     c.args.window.now.sight.log c.args.self.now r c.args.window.now.sight.log ([], append-nil _) c.args.self.now.writer c.size.result refl refl refl
     c.requires.standing c.requires.calling (λ reply h. let f = sym asks ∙ h in cc f)
     (λ n e makes. subst (λ (a : Ask). MakesPair a) (call_asks c.args.self.now.writer.call.machine _ asks).1 makes)
-    (λ number. absurd (subst (λ (a : Ask). IsNumberAsk a) (call_asks c.args.self.now.writer.call.machine _ asks).1 number)) c.size.ensures.unsaid
-    (c.size.ensures.writes key r.made begun r.writing)
+    (λ number. absurd (subst (λ (a : Ask). IsNumberAsk a) (call_asks c.args.self.now.writer.call.machine _ asks).1 number)) c.size.ensures.steps.unsaid
+    (c.size.ensures.steps.writes key r.made begun r.writing)
 
 pub returns-in-SameKey-clause-inserts : goal.returns-in-SameKey-clause-inserts
 returns-in-SameKey-clause-inserts g c = λ key value begun r. let some : (n : ℕ)
@@ -108,8 +108,8 @@ returns-in-SameKey-clause-inserts g c = λ key value begun r. let some : (n : �
     c.args.window.now.sight.log c.args.self.now r c.args.window.now.sight.log ([], append-nil _) c.args.self.now.writer c.same.result refl refl refl
     c.requires.standing c.requires.calling (λ reply h. let f = sym asks ∙ h in cc f)
     (λ n e makes. subst (λ (a : Ask). MakesPair a) (call_asks c.args.self.now.writer.call.machine _ asks).1 makes)
-    (λ number. absurd (subst (λ (a : Ask). IsNumberAsk a) (call_asks c.args.self.now.writer.call.machine _ asks).1 number)) c.same.ensures.unsaid
-    (c.same.ensures.writes key r.made begun r.writing)
+    (λ number. absurd (subst (λ (a : Ask). IsNumberAsk a) (call_asks c.args.self.now.writer.call.machine _ asks).1 number)) c.same.ensures.steps.unsaid
+    (c.same.ensures.steps.writes key r.made begun r.writing)
 
 pub returns-in-MakeKey-clause-inserts : goal.returns-in-MakeKey-clause-inserts
 returns-in-MakeKey-clause-inserts g c = λ key value begun r.
@@ -135,10 +135,10 @@ returns-in-MakeKey-clause-inserts g c = λ key value begun r.
 pub returns-in-MakeTable-clause-inserts : goal.returns-in-MakeTable-clause-inserts
 returns-in-MakeTable-clause-inserts g c = λ key value begun r.
     let asks : ask_of c.args.self.now.writer.call.machine ≡ Call
-    (MakeTable c.in-MakeTable.len c.in-MakeTable.limit c.in-MakeTable.chunks) = search rules in let on = c.make_table.ensures in
+    (MakeTable c.in-MakeTable.len c.in-MakeTable.limit c.in-MakeTable.chunks) = search rules in let on = c.make_table.ensures.steps in
     goes_on g.K.PartialEq.eq g.K.Hash.hash_input g.S.BuildHasher.build_hasher g.S.Hasher.Hasher.write g.S.Hasher.Hasher.finish g.met.K.Eq.laws
     g.met.K.Hash.respects_eq (begun_of c.args.window.now.book.now.parts) c.args.window.now.book.now.begun.book key value begun
-    c.args.window.now.sight.log c.args.self.now r c.make_table.new.window.sight.log c.make_table.ensures.sees.log c.make_table.new.self
+    c.args.window.now.sight.log c.args.self.now r c.make_table.new.window.sight.log c.make_table.ensures.steps.sees.log c.make_table.new.self
     c.make_table.result on.machine on.value on.put c.requires.standing c.requires.calling (λ reply h. let f = sym asks ∙ h in cc f)
     (λ n e makes. subst (λ (a : Ask). MakesPair a) (call_asks c.args.self.now.writer.call.machine _ asks).1 makes)
     (λ number. absurd (subst (λ (a : Ask). IsNumberAsk a) (call_asks c.args.self.now.writer.call.machine _ asks).1 number)) on.unsaid
@@ -147,10 +147,10 @@ returns-in-MakeTable-clause-inserts g c = λ key value begun r.
 pub returns-in-Exchange-Root-default-default-clause-inserts : goal.returns-in-Exchange-Root-default-default-clause-inserts
 returns-in-Exchange-Root-default-default-clause-inserts g c = λ key value begun r.
     let asks : ask_of c.args.self.now.writer.call.machine ≡ Call
-    (Exchange Root c.in-Exchange-Root-default-default.field-1 c.in-Exchange-Root-default-default.field-2) = search rules in let on = c.open.ensures in
+    (Exchange Root c.in-Exchange-Root-default-default.field-1 c.in-Exchange-Root-default-default.field-2) = search rules in let on = c.open.ensures.steps in
     goes_on g.K.PartialEq.eq g.K.Hash.hash_input g.S.BuildHasher.build_hasher g.S.Hasher.Hasher.write g.S.Hasher.Hasher.finish g.met.K.Eq.laws
     g.met.K.Hash.respects_eq (begun_of c.args.window.now.book.now.parts) c.args.window.now.book.now.begun.book key value begun
-    c.args.window.now.sight.log c.args.self.now r c.open.new.window.sight.log c.open.ensures.sees.log c.open.new.self c.open.result on.machine
+    c.args.window.now.sight.log c.args.self.now r c.open.new.window.sight.log c.open.ensures.steps.sees.log c.open.new.self c.open.result on.machine
     on.value on.put c.requires.standing c.requires.calling (λ reply h. let f = sym asks ∙ h in cc f)
     (λ n e makes. subst (λ (a : Ask). MakesPair a) (call_asks c.args.self.now.writer.call.machine _ asks).1 makes)
     (λ number. absurd (subst (λ (a : Ask). IsNumberAsk a) (call_asks c.args.self.now.writer.call.machine _ asks).1 number)) on.unsaid
@@ -172,10 +172,10 @@ returns-in-AddToShard-clause-inserts g c = λ key value begun r.
 pub returns-in-Exchange-Made-default-default-clause-inserts : goal.returns-in-Exchange-Made-default-default-clause-inserts
 returns-in-Exchange-Made-default-default-clause-inserts g c = λ key value begun r.
     let asks : ask_of c.args.self.now.writer.call.machine ≡ Call
-    (Exchange Made_word c.in-Exchange-Made-default-default.old c.in-Exchange-Made-default-default.new) = search rules in let on = c.take.ensures in
+    (Exchange Made_word c.in-Exchange-Made-default-default.old c.in-Exchange-Made-default-default.new) = search rules in let on = c.take.ensures.steps in
     goes_on g.K.PartialEq.eq g.K.Hash.hash_input g.S.BuildHasher.build_hasher g.S.Hasher.Hasher.write g.S.Hasher.Hasher.finish g.met.K.Eq.laws
     g.met.K.Hash.respects_eq (begun_of c.args.window.now.book.now.parts) c.args.window.now.book.now.begun.book key value begun
     c.args.window.now.sight.log c.args.self.now r c.take.new.window.sight.log on.sees.log c.args.self.now.writer c.take.result refl refl refl
     c.requires.standing c.requires.calling (λ reply h. let f = sym asks ∙ h in cc f)
-    (λ n e makes. subst (λ (a : Ask). MakesPair a) (call_asks c.args.self.now.writer.call.machine _ asks).1 makes) on.tells on.unsaid
+    (λ n e makes. subst (λ (a : Ask). MakesPair a) (call_asks c.args.self.now.writer.call.machine _ asks).1 makes) c.take.ensures.tells on.unsaid
     (on.writes key r.made begun r.writing)

@@ -63,13 +63,13 @@ returns-then-words-eq0-clause-inserts g c = λ key value begun r.
     (begun_of c.args.window.now.book.now.parts) c.args.window.now.book.now.begun.book key value begun c.args.window.now.sight.log c.args.self.now r
     c.requires.standing c.args.number c.args.place c.args.words.0 c.args.words.1 c.requires.asks) one p.2 in
     let own = call_asks c.args.self.now.writer.call.machine _ c.requires.asks in
-    let on = c.put.ensures in
+    let on = c.put.ensures.tries in
     pair_tried g.K.PartialEq.eq g.K.Hash.hash_input g.S.BuildHasher.build_hasher g.S.Hasher.Hasher.write g.S.Hasher.Hasher.finish g.met.K.Eq.laws
     g.met.K.Hash.respects_eq (begun_of c.args.window.now.book.now.parts) c.args.window.now.book.now.begun.book key value begun
     c.args.window.now.sight.log c.args.self.now r c.put.new.window.sight.log on.sees.log c.put.new.self c.put.result c.in-Some.own h.value_is
     on.machine on.value on.put c.requires.standing own.0 (λ reply h'. let f = sym c.requires.asks ∙ h' in cc f)
     (λ n e makes. subst (λ (a : Ask). MakesPair a) own.1 makes) (λ number. absurd (subst (λ (a : Ask). IsNumberAsk a) own.1 number)) on.unsaid
-    (on.writes key r.made begun r.writing h.one h.stands)
+    (c.put.ensures.writes key r.made begun r.writing h.one h.stands)
 
 pub returns-clause-inserts : goal.returns-clause-inserts
 returns-clause-inserts g c = λ key value begun r.
@@ -82,10 +82,10 @@ returns-clause-inserts g c = λ key value begun r.
     (begun_of c.args.window.now.book.now.parts) c.args.window.now.book.now.begun.book key value begun c.args.window.now.sight.log c.args.self.now r
     c.requires.standing c.args.number c.args.place c.args.words.0 c.args.words.1 c.requires.asks) one p.2 in
     let own = call_asks c.args.self.now.writer.call.machine _ c.requires.asks in
-    let on = c.put-2.ensures in
+    let on = c.put-2.ensures.tries in
     pair_tried g.K.PartialEq.eq g.K.Hash.hash_input g.S.BuildHasher.build_hasher g.S.Hasher.Hasher.write g.S.Hasher.Hasher.finish g.met.K.Eq.laws
     g.met.K.Hash.respects_eq (begun_of c.args.window.now.book.now.parts) c.args.window.now.book.now.begun.book key value begun
     c.args.window.now.sight.log c.args.self.now r c.put-2.new.window.sight.log on.sees.log c.put-2.new.self c.put-2.result c.in-Some-of.of
     h.value_is on.machine on.value on.put c.requires.standing own.0 (λ reply h'. let f = sym c.requires.asks ∙ h' in cc f)
     (λ n e makes. subst (λ (a : Ask). MakesPair a) own.1 makes) (λ number. absurd (subst (λ (a : Ask). IsNumberAsk a) own.1 number)) on.unsaid
-    (on.writes key r.made begun r.writing h.one h.stands)
+    (c.put-2.ensures.writes key r.made begun r.writing h.one h.stands)

@@ -20,49 +20,68 @@ if_err : {A E : Type 0} (P Q : E → Type 0) (r : Result A E) → IfErr r P → 
 if_err P Q (Ok a) p f = tt
 if_err P Q (Err e) p f = f e p
 
-pub returns-in-Ok-clause-pairs : goal.returns-in-Ok-clause-pairs
-returns-in-Ok-clause-pairs g c = if_ok _ _ c.hold.result c.hold.ensures.ok (λ q' h key made begun r.
-    let w = c.args.window.now.book.now in let b = begun_of w.parts in let log = c.args.window.now.sight.log in let x = c.args.self.now in
-    let q = c.in-Ok.pair in
-    let placed = c.in-Ok.ensures.placed in let low = subst (λ z. z.index < 2 ^ 48) h.0 h.1 in
-    let has_part : x.key ≡ Some c.in-Some-take.key = search rules in
-    let key_is : key_of q ≡ key = c.in-Ok.ensures.key ∙ (subst (HasKey b w.begun.book key) has_part r.keyed).0 in
-    let going = with_given g.K.PartialEq.eq (hash_of g.K.Hash.hash_input g.S.BuildHasher.build_hasher g.S.Hasher.Hasher.write
-    g.S.Hasher.Hasher.finish) b w.begun.book key (q ∷ made) begun log (record x { value = Some (values.Of q); key = Some (keys.Of c.again.result) })
-    c.hold.new.self.call.given (Made q.index)
-    (pair_made g.K.PartialEq.eq g.K.Hash.hash_input g.S.BuildHasher.build_hasher g.S.Hasher.Hasher.write g.S.Hasher.Hasher.finish g.met.K.Eq.laws
-    g.met.K.Hash.respects_eq b w.begun.book key made begun log x r (Some (keys.Of c.again.result)) (Some (values.Of q))
-    (subst (λ z. (key_of z ≡ key) × IsPlaced b (Some w.begun.book) (names.Pair z)) (sym c.again.ensures) (key_is, placed)) placed q low placed
-    key_is c.requires.asks) in
-    subst (λ z. IsWritingOn g.K.PartialEq.eq
-    (hash_of g.K.Hash.hash_input g.S.BuildHasher.build_hasher g.S.Hasher.Hasher.write g.S.Hasher.Hasher.finish) b w.begun.book key (z ∷ made) begun
-    log c.hold.new.self (Made z.index)) (sym h.0) (rw c.hold.ensures.rest going))
+pub returns-in-Ok-clause-logs : goal.returns-in-Ok-clause-logs
+returns-in-Ok-clause-logs g c = record {
+  machine = search rules;
+  put = search rules;
+  left = search rules;
+  number = search rules;
+  placed = search rules;
+  value = search rules;
+  pairs = if_ok _ _ c.hold.result c.hold.ensures.ok (λ q' h key made begun r.
+      let w = c.args.window.now.book.now in let b = begun_of w.parts in let log = c.args.window.now.sight.log in let x = c.args.self.now in
+      let q = c.in-Ok.pair in
+      let placed = c.in-Ok.ensures.placed in let low = subst (λ z. z.index < 2 ^ 48) h.0 h.1 in
+      let has_part : x.key ≡ Some c.in-Some-take.key = search rules in
+      let key_is : key_of q ≡ key = c.in-Ok.ensures.key ∙ (subst (HasKey b w.begun.book key) has_part r.keyed).0 in
+      let going = with_given g.K.PartialEq.eq (hash_of g.K.Hash.hash_input g.S.BuildHasher.build_hasher g.S.Hasher.Hasher.write
+      g.S.Hasher.Hasher.finish) b w.begun.book key (q ∷ made) begun log (record x { value = Some (values.Of q); key = Some (keys.Of c.again.result) })
+      c.hold.new.self.call.given (Made q.index)
+      (pair_made g.K.PartialEq.eq g.K.Hash.hash_input g.S.BuildHasher.build_hasher g.S.Hasher.Hasher.write g.S.Hasher.Hasher.finish g.met.K.Eq.laws
+      g.met.K.Hash.respects_eq b w.begun.book key made begun log x r (Some (keys.Of c.again.result)) (Some (values.Of q))
+      (subst (λ z. (key_of z ≡ key) × IsPlaced b (Some w.begun.book) (names.Pair z)) (sym c.again.ensures) (key_is, placed)) placed q low placed
+      key_is c.requires.waits.asks) in
+      subst (λ z. IsWritingOn g.K.PartialEq.eq
+      (hash_of g.K.Hash.hash_input g.S.BuildHasher.build_hasher g.S.Hasher.Hasher.write g.S.Hasher.Hasher.finish) b w.begun.book key (z ∷ made) begun
+      log c.hold.new.self (Made z.index)) (sym h.0) (rw c.hold.ensures.rest going));
+  unlogged = search rules;
+  unsaid = search rules;
+  writes = if_err _ _ c.hold.result c.hold.ensures.err (λ answer h key made begun r.
+      let w = c.args.window.now.book.now in let b = begun_of w.parts in let log = c.args.window.now.sight.log in let x = c.args.self.now in
+      let q = c.in-Ok.pair in
+      let placed = c.in-Ok.ensures.placed in
+      let has_part : x.key ≡ Some c.in-Some-take.key = search rules in
+      let key_is : key_of q ≡ key = c.in-Ok.ensures.key ∙ (subst (HasKey b w.begun.book key) has_part r.keyed).0 in
+      let going = with_given g.K.PartialEq.eq (hash_of g.K.Hash.hash_input g.S.BuildHasher.build_hasher g.S.Hasher.Hasher.write
+      g.S.Hasher.Hasher.finish) b w.begun.book key made begun log (record x { value = Some (values.Of q); key = Some (keys.Of c.again.result) })
+      c.hold.new.self.call.given (Refused Capacity)
+      (pair_unmade g.K.PartialEq.eq g.K.Hash.hash_input g.S.BuildHasher.build_hasher g.S.Hasher.Hasher.write g.S.Hasher.Hasher.finish g.met.K.Eq.laws
+      g.met.K.Hash.respects_eq b w.begun.book key made begun log x r (Some (keys.Of c.again.result)) (Some (values.Of q))
+      (subst (λ z. (key_of z ≡ key) × IsPlaced b (Some w.begun.book) (names.Pair z)) (sym c.again.ensures) (key_is, placed)) placed (Refused Capacity)
+      c.requires.waits.asks (inl (Capacity, refl)) tt) in
+      subst (λ z. IsWritingOn g.K.PartialEq.eq
+      (hash_of g.K.Hash.hash_input g.S.BuildHasher.build_hasher g.S.Hasher.Hasher.write g.S.Hasher.Hasher.finish) b w.begun.book key made begun log
+      c.hold.new.self z) (sym h.0) (rw c.hold.ensures.rest going));
+}
 
-pub returns-in-Ok-clause-writes : goal.returns-in-Ok-clause-writes
-returns-in-Ok-clause-writes g c = if_err _ _ c.hold.result c.hold.ensures.err (λ answer h key made begun r.
-    let w = c.args.window.now.book.now in let b = begun_of w.parts in let log = c.args.window.now.sight.log in let x = c.args.self.now in
-    let q = c.in-Ok.pair in
-    let placed = c.in-Ok.ensures.placed in
-    let has_part : x.key ≡ Some c.in-Some-take.key = search rules in
-    let key_is : key_of q ≡ key = c.in-Ok.ensures.key ∙ (subst (HasKey b w.begun.book key) has_part r.keyed).0 in
-    let going = with_given g.K.PartialEq.eq (hash_of g.K.Hash.hash_input g.S.BuildHasher.build_hasher g.S.Hasher.Hasher.write
-    g.S.Hasher.Hasher.finish) b w.begun.book key made begun log (record x { value = Some (values.Of q); key = Some (keys.Of c.again.result) })
-    c.hold.new.self.call.given (Refused Capacity)
-    (pair_unmade g.K.PartialEq.eq g.K.Hash.hash_input g.S.BuildHasher.build_hasher g.S.Hasher.Hasher.write g.S.Hasher.Hasher.finish g.met.K.Eq.laws
-    g.met.K.Hash.respects_eq b w.begun.book key made begun log x r (Some (keys.Of c.again.result)) (Some (values.Of q))
-    (subst (λ z. (key_of z ≡ key) × IsPlaced b (Some w.begun.book) (names.Pair z)) (sym c.again.ensures) (key_is, placed)) placed (Refused Capacity)
-    c.requires.asks (inl (Capacity, refl)) tt) in
-    subst (λ z. IsWritingOn g.K.PartialEq.eq
-    (hash_of g.K.Hash.hash_input g.S.BuildHasher.build_hasher g.S.Hasher.Hasher.write g.S.Hasher.Hasher.finish) b w.begun.book key made begun log
-    c.hold.new.self z) (sym h.0) (rw c.hold.ensures.rest going))
-
-pub returns-in-Err-clause-writes : goal.returns-in-Err-clause-writes
-returns-in-Err-clause-writes g c = λ key made begun r.
-    let w = c.args.window.now.book.now in let b = begun_of w.parts in let log = c.args.window.now.sight.log in let x = c.args.self.now in
-    let has_value : x.value ≡ Some c.in-Err.value = search rules in
-    let valued = subst (HasValue b w.begun.book) has_value r.valued in
-    let has_key : x.key ≡ Some c.in-Err.key = search rules in
-    let back_keyed = subst (HasKey b w.begun.book key) has_key r.keyed in
-    pair_unmade g.K.PartialEq.eq g.K.Hash.hash_input g.S.BuildHasher.build_hasher g.S.Hasher.Hasher.write g.S.Hasher.Hasher.finish g.met.K.Eq.laws
-    g.met.K.Hash.respects_eq b w.begun.book key made begun log x r (Some c.in-Err.key) (Some c.in-Err.value) back_keyed valued (Refused Memory)
-    c.requires.asks (inl (Memory, refl)) tt
+pub returns-in-Err-clause-logs : goal.returns-in-Err-clause-logs
+returns-in-Err-clause-logs g c = record {
+  machine = search rules;
+  put = search rules;
+  left = search rules;
+  number = search rules;
+  placed = search rules;
+  value = search rules;
+  pairs = tt;
+  unlogged = search rules;
+  unsaid = search rules;
+  writes = λ key made begun r.
+      let w = c.args.window.now.book.now in let b = begun_of w.parts in let log = c.args.window.now.sight.log in let x = c.args.self.now in
+      let has_value : x.value ≡ Some c.in-Err.value = search rules in
+      let valued = subst (HasValue b w.begun.book) has_value r.valued in
+      let has_key : x.key ≡ Some c.in-Err.key = search rules in
+      let back_keyed = subst (HasKey b w.begun.book key) has_key r.keyed in
+      pair_unmade g.K.PartialEq.eq g.K.Hash.hash_input g.S.BuildHasher.build_hasher g.S.Hasher.Hasher.write g.S.Hasher.Hasher.finish g.met.K.Eq.laws
+      g.met.K.Hash.respects_eq b w.begun.book key made begun log x r (Some c.in-Err.key) (Some c.in-Err.value) back_keyed valued (Refused Memory)
+      c.requires.waits.asks (inl (Memory, refl)) tt;
+}

@@ -1,4 +1,4 @@
-use Rattle.std.proofs.Common.{◌==◌, ◌≡◌, ◌<◌, MatchOption, Option, Some, length, sym, ap, ◌∙◌, subst}
+use Rattle.std.proofs.Common.{◌==◌, ◌≡◌, ◌<◌, MatchOption, Option, Some, length, sym, ap, ◌∙◌, subst, rules}
 use denote.Bor.{Bor}
 use Rattle.papaya_ask.specs.declared.ask.At.TheVariants.{Slot}
 use Rattle.papaya_ask.specs.declared.ask.StepKind.{StepKind}
@@ -68,6 +68,13 @@ returns-clause-writes g c = λ key made begun r one stands.
     c.args.window.now.sight.log c.args.self.now r c.args.number c.args.place c.args.words.0 c.args.words.1 c.requires.asks c.requires.kind q stands
     claim) log found before tried c.tried.new.self c.tried.result (rw (← c.again-put.ensures) c.tried.ensures)
 
-pub returns-clause-does : goal.returns-clause-does
-returns-clause-does g c = tried (c.put_slot-found.result.0 == c.args.words.0) c.tried.result _ _ c.put_slot-found.result.0 c.tried.ensures
-    c.args.window.now c.put_slot-found.new.self c.put_slot-found.ensures.does
+pub returns-clause-tries : goal.returns-clause-tries
+returns-clause-tries g c = record {
+  sees = search rules;
+  machine = search rules;
+  value = search rules;
+  put = search rules;
+  unsaid = search rules;
+  does = tried (c.put_slot-found.result.0 == c.args.words.0) c.tried.result _ _ c.put_slot-found.result.0 c.tried.ensures
+      c.args.window.now c.put_slot-found.new.self c.put_slot-found.ensures.does;
+}

@@ -9,12 +9,12 @@ use Rattle.papaya_compute.proofs.computing.Computing.exchange.Goals as goal
 
 pub returns-in-Some-Delete-clause-computes : goal.returns-in-Some-Delete-clause-computes
 returns-in-Some-Delete-clause-computes g c = λ key begun heard r.
-    let e = c.delete.ensures in
+    let e = c.delete.ensures.tries in
     goes_untold g.K.PartialEq.eq g.K.Hash.hash_input g.S.BuildHasher.build_hasher g.S.Hasher.Hasher.write g.S.Hasher.Hasher.finish g.met.K.Eq.laws
     g.met.K.Hash.respects_eq (begun_of c.args.window.now.book.now.parts) c.args.window.now.book.now.begun.book key begun c.args.window.now.sight.log
     c.args.self.now heard r c.requires.standing (Exchange (Slot c.args.number c.args.place) c.args.words.0 c.args.words.1) c.requires.asks tt
     c.delete.result (λ number. number) c.delete.new.window.sight.log e.sees.log c.delete.new.self e.machine e.value e.unsaid
-    (e.writes key r.made begun r.writing)
+    (c.delete.ensures.writes key r.made begun r.writing)
 
 pub put-requires-clause-kind : goal.put-requires-clause-kind
 put-requires-clause-kind g c = puts g.K.PartialEq.eq g.K.Hash.hash_input g.S.BuildHasher.build_hasher g.S.Hasher.Hasher.write g.S.Hasher.Hasher.finish

@@ -17,15 +17,6 @@ use Rattle.papaya_compute.proofs.computing.Computing.filled.Goals as goal
 pub resume-requires-clause-remembered : goal.resume-requires-clause-remembered
 resume-requires-clause-remembered g c = record { fill = rw c.index.ensures c.requires.number; choice = tt }
 
-pub returns-clause-calling : goal.returns-clause-calling
-returns-clause-calling g c = ap (λ (m : Machine). m.phase) c.resume.ensures.machine
-
-pub returns-clause-initial : goal.returns-clause-initial
-returns-clause-initial g c = ap (λ (m : Machine). m.call.initial) c.resume.ensures.machine
-
-pub returns-clause-unchanged : goal.returns-clause-unchanged
-returns-clause-unchanged g c = ap has_changed c.resume.ensures.machine
-
 pub returns-clause-resumes : goal.returns-clause-resumes
 returns-clause-resumes g c = λ begun seen was.
     let hash = (hash_of g.K.Hash.hash_input g.S.BuildHasher.build_hasher g.S.Hasher.Hasher.write g.S.Hasher.Hasher.finish) in
@@ -40,3 +31,11 @@ returns-clause-resumes g c = λ begun seen was.
     c.resume.ensures.table c.resume.ensures.pairs
     (subst (λ (z : Stored _ _). HasKey (begun_of w.parts) w.begun.book (key_of q) (Some (keys.Of z))) (sym c.again.ensures) (refl, placed)) tt
     q placed (g.met.K.Eq.laws.refl (key_of q)) refl was refl refl refl machine
+
+pub returns-clause-ahead : goal.returns-clause-ahead
+returns-clause-ahead g c = record {
+  standing = c.resume.ensures.standing;
+  calling = ap (λ (m : Machine). m.phase) c.resume.ensures.machine;
+  initial_is = ap (λ (m : Machine). m.call.initial) c.resume.ensures.machine;
+  unchanged = ap has_changed c.resume.ensures.machine;
+}

@@ -34,25 +34,25 @@ agrees-requires g c =
           c.args.window.now.sight.log c.args.self.now c.requires.can.2 r c.requires.standing c.requires.asks.0 c.requires.asks.1 at.shown at.last at.is-0 at.is-1,
     )
 
-pub log_pair_of-requires-clause-can : goal.log_pair_of-requires-clause-can
-log_pair_of-requires-clause-can g c = let r = c.requires.can.3 in (c.requires.can.0, r.made, c.requires.can.1, r.writing)
+pub log_pair_of-requires-clause-waits : goal.log_pair_of-requires-clause-waits
+log_pair_of-requires-clause-waits g c = let r = c.requires.can.3 in (c.requires.asks.0, record { can = (c.requires.can.0, r.made, c.requires.can.1, r.writing); asks = c.requires.asks.1 })
 
 pub returns-in-Err-clause-computes : goal.returns-in-Err-clause-computes
 returns-in-Err-clause-computes g c = λ key begun heard r.
-    let e = c.log_pair_of.ensures in
+    let e = c.log_pair_of.ensures.logs in
     unmade g.K.PartialEq.eq (hash_of g.K.Hash.hash_input g.S.BuildHasher.build_hasher g.S.Hasher.Hasher.write g.S.Hasher.Hasher.finish)
     (begun_of c.args.window.now.book.now.parts) c.args.window.now.book.now.begun.book key begun c.args.window.now.sight.log c.args.self.now heard r
     c.requires.standing (MakePairOf c.requires.asks.0) c.requires.asks.1 tt c.log_pair_of.new.self c.in-Err.answer e.machine
-    c.in-Err.ensures.unlogged c.in-Err.ensures.unsaid e.left (c.in-Err.ensures.writes key r.made begun r.writing)
+    c.in-Err.ensures.logs.unlogged c.in-Err.ensures.logs.unsaid e.left (c.in-Err.ensures.logs.writes key r.made begun r.writing)
 
 pub returns-in-Ok-clause-computes : goal.returns-in-Ok-clause-computes
 returns-in-Ok-clause-computes g c = λ key begun heard r.
-    let e = c.log_pair_of.ensures in let q = c.in-Ok.pair in let on = c.in-Ok.ensures.pairs key r.made begun r.writing in let at = c.in-Some-Some in
+    let e = c.log_pair_of.ensures.logs in let q = c.in-Ok.pair in let on = c.in-Ok.ensures.logs.pairs key r.made begun r.writing in let at = c.in-Some-Some in
     rw c.again-chosen.ensures (subst (λ n. IsComputingOn g.K.PartialEq.eq
     (hash_of g.K.Hash.hash_input g.S.BuildHasher.build_hasher g.S.Hasher.Hasher.write g.S.Hasher.Hasher.finish)
     (begun_of c.args.window.now.book.now.parts) c.args.window.now.book.now.begun.book key begun c.args.window.now.sight.log
     (record c.args.self.now { writer = c.log_pair_of.new.self; chosen = Some at.shown; made = Some q }) heard (Some (Made n))) (sym c.index-number.ensures)
     (replaced g.K.PartialEq.eq (hash_of g.K.Hash.hash_input g.S.BuildHasher.build_hasher g.S.Hasher.Hasher.write g.S.Hasher.Hasher.finish)
     (begun_of c.args.window.now.book.now.parts) c.args.window.now.book.now.begun.book key begun c.args.window.now.sight.log c.args.self.now heard r
-    c.requires.standing c.requires.asks.0 c.requires.asks.1 c.log_pair_of.new.self e.machine q c.in-Ok.ensures.value e.left on at.shown at.last
+    c.requires.standing c.requires.asks.0 c.requires.asks.1 c.log_pair_of.new.self e.machine q c.in-Ok.ensures.logs.value e.left on at.shown at.last
     at.is-0 at.is-1 c.agrees.ensures (c.in-Ok.ensures.key at.last at.is-1)))

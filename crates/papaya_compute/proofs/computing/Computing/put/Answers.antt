@@ -53,9 +53,9 @@ returns-clause-computes g c = λ key begun heard r.
     c.in-Some.pair = rw (sym c.kind-kind.ensures) (sym c.pair_for.ensures ∙ c.in-Some.is) in
     let one : h.0 ≡ c.in-Some.pair = cc (h.1, some) in
     let own = subst (λ (q : _). IsOneOf r.made q × MayStand c.args.window.now.sight.log key c.args.number c.args.place c.args.words.0 q) one (h.3, h.4) in
-    let e = c.put.ensures in
+    let e = c.put.ensures.tries in
     goes_untold g.K.PartialEq.eq g.K.Hash.hash_input g.S.BuildHasher.build_hasher g.S.Hasher.Hasher.write g.S.Hasher.Hasher.finish g.met.K.Eq.laws
     g.met.K.Hash.respects_eq (begun_of c.args.window.now.book.now.parts) c.args.window.now.book.now.begun.book key begun c.args.window.now.sight.log
     c.args.self.now heard r c.requires.standing (Exchange (Slot c.args.number c.args.place) c.args.words.0 c.args.words.1) c.requires.asks tt
     c.put.result (λ number. number) c.put.new.window.sight.log e.sees.log c.put.new.self e.machine e.value e.unsaid
-    (e.writes key r.made begun r.writing own.0 own.1)
+    (c.put.ensures.writes key r.made begun r.writing own.0 own.1)

@@ -12,15 +12,6 @@ use Rattle.papaya_compute.proofs.computing.Computing.removing.Goals as goal
 pub resume-requires-clause-remembered : goal.resume-requires-clause-remembered
 resume-requires-clause-remembered g c = record { fill = tt; choice = tt }
 
-pub returns-clause-calling : goal.returns-clause-calling
-returns-clause-calling g c = ap (λ (m : Machine). m.phase) c.resume.ensures.machine
-
-pub returns-clause-initial : goal.returns-clause-initial
-returns-clause-initial g c = ap (λ (m : Machine). m.call.initial) c.resume.ensures.machine
-
-pub returns-clause-unchanged : goal.returns-clause-unchanged
-returns-clause-unchanged g c = ap has_changed c.resume.ensures.machine
-
 pub returns-clause-resumes : goal.returns-clause-resumes
 returns-clause-resumes g c = λ begun seen was.
     let hash = (hash_of g.K.Hash.hash_input g.S.BuildHasher.build_hasher g.S.Hasher.Hasher.write g.S.Hasher.Hasher.finish) in
@@ -34,3 +25,11 @@ returns-clause-resumes g c = λ begun seen was.
     resumes_removing g.K.PartialEq.eq hash (begun_of w.parts) w.begun.book c.args.key begun log seen c.requires.lawful _ c.args.initial
     c.resume.ensures.table c.resume.ensures.pairs
     (refl, tt) tt p c.requires.shown was (ap (λ z. Some z) c.again.ensures) refl refl machine
+
+pub returns-clause-ahead : goal.returns-clause-ahead
+returns-clause-ahead g c = record {
+  standing = c.resume.ensures.standing;
+  calling = ap (λ (m : Machine). m.phase) c.resume.ensures.machine;
+  initial_is = ap (λ (m : Machine). m.call.initial) c.resume.ensures.machine;
+  unchanged = ap has_changed c.resume.ensures.machine;
+}

@@ -23,15 +23,6 @@ resume-requires-clause-remembered g c =
     ∙ ap (made_of (record { place = met.place; old = met.word })) c.index-2.ensures in
     record { fill = tt; choice = subst (λ (o : Of). o.pair < 2 ^ 48) (sym of_is) c.requires.number }
 
-pub returns-clause-calling : goal.returns-clause-calling
-returns-clause-calling g c = ap (λ (m : Machine). m.phase) c.resume.ensures.machine
-
-pub returns-clause-initial : goal.returns-clause-initial
-returns-clause-initial g c = ap (λ (m : Machine). m.call.initial) c.resume.ensures.machine
-
-pub returns-clause-unchanged : goal.returns-clause-unchanged
-returns-clause-unchanged g c = ap has_changed c.resume.ensures.machine
-
 pub returns-clause-resumes : goal.returns-clause-resumes
 returns-clause-resumes g c = λ begun seen was.
     let hash = (hash_of g.K.Hash.hash_input g.S.BuildHasher.build_hasher g.S.Hasher.Hasher.write g.S.Hasher.Hasher.finish) in
@@ -50,3 +41,11 @@ returns-clause-resumes g c = λ begun seen was.
     (refl, tt) (subst (λ (z : Stored _ _). HasValue (begun_of w.parts) w.begun.book (Some (values.Of z))) (sym c.again.ensures) placed)
     q placed c.requires.same p c.requires.kept c.requires.shown was (ap (λ z. Some z) c.again-2.ensures) refl refl refl
     (ap (λ (z : Stored _ _). held_value (Some (values.Of z))) c.again.ensures) met.place.table met.place.probe.i c.requires.there machine
+
+pub returns-clause-ahead : goal.returns-clause-ahead
+returns-clause-ahead g c = record {
+  standing = c.resume.ensures.standing;
+  calling = ap (λ (m : Machine). m.phase) c.resume.ensures.machine;
+  initial_is = ap (λ (m : Machine). m.call.initial) c.resume.ensures.machine;
+  unchanged = ap has_changed c.resume.ensures.machine;
+}

@@ -35,11 +35,6 @@ help-requires-clause-can g c =
       on,
     )
 
-pub returns-clause-helped : goal.returns-clause-helped
-returns-clause-helped g c = subst (λ (z : Machine).
-    HasHelped z c.help.new.self.machine (tables_of c.help.new.window.sight.log) c.help.new.self.given.done)
-    (ap (λ (d : Driver _ _ _ _). d.machine) c.answer.ensures.after) c.help.ensures.helped
-
 pub returns-clause-still : goal.returns-clause-still
 returns-clause-still g c = λ calling. (c.help.ensures.still (ap (λ (d : Driver _ _ _ _). d.machine.phase) c.answer.ensures.after ∙ calling)).1
 
@@ -58,6 +53,17 @@ returns-clause-takes g c = λ key begun heard r.
     g.met.K.Hash.respects_eq b (g.K.PartialEq.eq key) (g.K.Hash.hash_input key) query (Some key) w.begun.book begun) (Some key) begun on.made
     on.writing.calling in
     computing_helped g.K.PartialEq.eq g.K.Hash.hash_input g.S.BuildHasher.build_hasher g.S.Hasher.Hasher.write g.S.Hasher.Hasher.finish
-    g.met.K.Eq.laws g.met.K.Hash.respects_eq b w.begun.book key begun c.args.window.now.sight.log log c.help.ensures.sees.log x heard on then driven
-    c.help.ensures.rest.1 c.help.ensures.calling (λ e. let same = c.help.ensures.still e in (same.0, ap (λ (z : _). z.sight.log) same.1))
-    c.help.ensures.helped
+    g.met.K.Eq.laws g.met.K.Hash.respects_eq b w.begun.book key begun c.args.window.now.sight.log log c.help.ensures.helps.sees.log x heard on then driven
+    c.help.ensures.rest.1 c.help.ensures.helps.calling (λ e. let same = c.help.ensures.still e in (same.0, ap (λ (z : _). z.sight.log) same.1))
+    c.help.ensures.helps.helped
+
+pub returns-clause-helps : goal.returns-clause-helps
+returns-clause-helps g c = record {
+  sees = c.help.ensures.helps.sees;
+  own = c.help.ensures.helps.own;
+  standing = c.help.ensures.helps.standing;
+  calling = c.help.ensures.helps.calling;
+  helped = subst (λ (z : Machine).
+      HasHelped z c.help.new.self.machine (tables_of c.help.new.window.sight.log) c.help.new.self.given.done)
+      (ap (λ (d : Driver _ _ _ _). d.machine) c.answer.ensures.after) c.help.ensures.helps.helped;
+}

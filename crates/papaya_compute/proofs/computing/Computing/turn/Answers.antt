@@ -28,7 +28,7 @@ returns-in-AddToShard-clause-turns g c =
 pub returns-in-WriteHint-clause-turns : goal.returns-in-WriteHint-clause-turns
 returns-in-WriteHint-clause-turns g c =
     let asks : ask_of c.args.self.now.writer.call.machine ≡ Call
-    (WriteHint c.in-WriteHint.number c.in-WriteHint.place c.in-WriteHint.hint) = search rules in let e = c.note.ensures in (
+    (WriteHint c.in-WriteHint.number c.in-WriteHint.place c.in-WriteHint.hint) = search rules in let e = c.note.ensures.steps in (
       λ key begun heard r.
           goes_untold g.K.PartialEq.eq g.K.Hash.hash_input g.S.BuildHasher.build_hasher g.S.Hasher.Hasher.write g.S.Hasher.Hasher.finish
           g.met.K.Eq.laws g.met.K.Hash.respects_eq (begun_of c.args.window.now.book.now.parts) c.args.window.now.book.now.begun.book key begun

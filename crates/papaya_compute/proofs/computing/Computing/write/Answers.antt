@@ -8,15 +8,15 @@ use Rattle.papaya_compute.proofs.computing.Computing.write.Goals as goal
 
 pub returns-in-Load-clause-computes : goal.returns-in-Load-clause-computes
 returns-in-Load-clause-computes g c = λ key begun heard r.
-    let e = c.load.ensures in
+    let e = c.load.ensures.steps in
     goes_on g.K.PartialEq.eq g.K.Hash.hash_input g.S.BuildHasher.build_hasher g.S.Hasher.Hasher.write g.S.Hasher.Hasher.finish g.met.K.Eq.laws
     g.met.K.Hash.respects_eq (begun_of c.args.window.now.book.now.parts) c.args.window.now.book.now.begun.book key begun c.args.window.now.sight.log
     c.args.self.now heard r c.requires.standing c.args.ask c.requires.asks.0 (writers_silent c.args.ask c.requires.asks.1) c.load.result
-    c.load.new.window.sight.log e.sees.log c.load.new.self e.machine e.value e.unsaid e.tells (e.writes key r.made begun r.writing)
+    c.load.new.window.sight.log e.sees.log c.load.new.self e.machine e.value e.unsaid c.load.ensures.tells (e.writes key r.made begun r.writing)
 
 pub returns-in-LoadHint-clause-computes : goal.returns-in-LoadHint-clause-computes
 returns-in-LoadHint-clause-computes g c = λ key begun heard r.
-    let e = c.hint.ensures in
+    let e = c.hint.ensures.steps in
     goes_untold g.K.PartialEq.eq g.K.Hash.hash_input g.S.BuildHasher.build_hasher g.S.Hasher.Hasher.write g.S.Hasher.Hasher.finish g.met.K.Eq.laws
     g.met.K.Hash.respects_eq (begun_of c.args.window.now.book.now.parts) c.args.window.now.book.now.begun.book key begun c.args.window.now.sight.log
     c.args.self.now heard r c.requires.standing c.args.ask c.requires.asks.0 (writers_silent c.args.ask c.requires.asks.1) c.hint.result
@@ -25,7 +25,7 @@ returns-in-LoadHint-clause-computes g c = λ key begun heard r.
 
 pub returns-in-SizeOf-clause-computes : goal.returns-in-SizeOf-clause-computes
 returns-in-SizeOf-clause-computes g c = λ key begun heard r.
-    let e = c.size.ensures in
+    let e = c.size.ensures.steps in
     goes_untold g.K.PartialEq.eq g.K.Hash.hash_input g.S.BuildHasher.build_hasher g.S.Hasher.Hasher.write g.S.Hasher.Hasher.finish g.met.K.Eq.laws
     g.met.K.Hash.respects_eq (begun_of c.args.window.now.book.now.parts) c.args.window.now.book.now.begun.book key begun c.args.window.now.sight.log
     c.args.self.now heard r c.requires.standing c.args.ask c.requires.asks.0 (writers_silent c.args.ask c.requires.asks.1) c.size.result
@@ -34,7 +34,7 @@ returns-in-SizeOf-clause-computes g c = λ key begun heard r.
 
 pub returns-in-SameKey-clause-computes : goal.returns-in-SameKey-clause-computes
 returns-in-SameKey-clause-computes g c = λ key begun heard r.
-    let e = c.same.ensures in
+    let e = c.same.ensures.steps in
     goes_untold g.K.PartialEq.eq g.K.Hash.hash_input g.S.BuildHasher.build_hasher g.S.Hasher.Hasher.write g.S.Hasher.Hasher.finish g.met.K.Eq.laws
     g.met.K.Hash.respects_eq (begun_of c.args.window.now.book.now.parts) c.args.window.now.book.now.begun.book key begun c.args.window.now.sight.log
     c.args.self.now heard r c.requires.standing c.args.ask c.requires.asks.0 (writers_silent c.args.ask c.requires.asks.1) c.same.result
@@ -52,7 +52,7 @@ returns-in-MakeKey-clause-computes g c = λ key begun heard r.
 
 pub returns-in-MakeTable-clause-computes : goal.returns-in-MakeTable-clause-computes
 returns-in-MakeTable-clause-computes g c = λ key begun heard r.
-    let e = c.make_table.ensures in
+    let e = c.make_table.ensures.steps in
     goes_untold g.K.PartialEq.eq g.K.Hash.hash_input g.S.BuildHasher.build_hasher g.S.Hasher.Hasher.write g.S.Hasher.Hasher.finish g.met.K.Eq.laws
     g.met.K.Hash.respects_eq (begun_of c.args.window.now.book.now.parts) c.args.window.now.book.now.begun.book key begun c.args.window.now.sight.log
     c.args.self.now heard r c.requires.standing c.args.ask c.requires.asks.0 (writers_silent c.args.ask c.requires.asks.1) c.make_table.result
@@ -61,7 +61,7 @@ returns-in-MakeTable-clause-computes g c = λ key begun heard r.
 
 pub returns-in-Exchange-Root-default-default-clause-computes : goal.returns-in-Exchange-Root-default-default-clause-computes
 returns-in-Exchange-Root-default-default-clause-computes g c = λ key begun heard r.
-    let e = c.open.ensures in
+    let e = c.open.ensures.steps in
     let root : c.args.ask ≡ Exchange Root c.in-Exchange-Root-default-default.field-1 c.in-Exchange-Root-default-default.field-2 = search rules in
     goes_untold g.K.PartialEq.eq g.K.Hash.hash_input g.S.BuildHasher.build_hasher g.S.Hasher.Hasher.write g.S.Hasher.Hasher.finish g.met.K.Eq.laws
     g.met.K.Hash.respects_eq (begun_of c.args.window.now.book.now.parts) c.args.window.now.book.now.begun.book key begun c.args.window.now.sight.log
@@ -71,8 +71,8 @@ returns-in-Exchange-Root-default-default-clause-computes g c = λ key begun hear
 
 pub returns-in-Exchange-Made-default-default-clause-computes : goal.returns-in-Exchange-Made-default-default-clause-computes
 returns-in-Exchange-Made-default-default-clause-computes g c = λ key begun heard r.
-    let e = c.take.ensures in
+    let e = c.take.ensures.steps in
     goes_on g.K.PartialEq.eq g.K.Hash.hash_input g.S.BuildHasher.build_hasher g.S.Hasher.Hasher.write g.S.Hasher.Hasher.finish g.met.K.Eq.laws
     g.met.K.Hash.respects_eq (begun_of c.args.window.now.book.now.parts) c.args.window.now.book.now.begun.book key begun c.args.window.now.sight.log
     c.args.self.now heard r c.requires.standing c.args.ask c.requires.asks.0 (writers_silent c.args.ask c.requires.asks.1) c.take.result
-    c.take.new.window.sight.log e.sees.log c.args.self.now.writer refl refl e.unsaid e.tells (e.writes key r.made begun r.writing)
+    c.take.new.window.sight.log e.sees.log c.args.self.now.writer refl refl e.unsaid c.take.ensures.tells (e.writes key r.made begun r.writing)

@@ -1,19 +1,19 @@
-use Rattle.std.proofs.Common.{◌≡◌, Some, None, MatchOption, false, is_some, sym, ◌∙◌, ap, subst}
+use Rattle.std.proofs.Common.{◌≡◌, Some, None, IsSome, false, is_some, refl, sym, ◌∙◌, ap, subst}
 use Rattle.papaya_store.specs.Store.{pair_of}
 use Rattle.papaya_keys.specs.Hashes.{hash_of}
 use Rattle.papaya_timeline.proofs.CountedCore.{lawful_apart}
 use Rattle.papaya_seq.specs.Map.{IsLawfulMap, MapState, core_of}
-use Rattle.papaya_seq.proofs.LookResults.{contains_found, refers_found, refers_map}
+use Rattle.papaya_seq.proofs.LookResults.{contains_found, number_logged, refers_found, refers_map}
 use Rattle.papaya_seq.proofs.seq.HashMap.get_key_value.Goals as goal
 
 pub returns-in-Some-clause-answer : goal.returns-in-Some-clause-answer
 returns-in-Some-clause-answer g c =
     let found = c.look_up.ensures in
     let n = c.in-Some.pair in
-    refers_found g.K.PartialEq.eq (g.Q.Equivalent.matches c.args.key.now) c.args.self.now.store found.0 n c.pair.result found.1.0 (sym c.in-Some.is ∙ found.2)
+    refers_found g.K.PartialEq.eq (g.Q.Equivalent.matches c.args.key.now) c.args.self.now.store found.0 n (Some c.logged.result) found.1.0 (sym c.in-Some.is ∙ found.2)
     (subst (λ (s : MapState g.row.K.Denot g.row.V.Denot g.row.S.Denot).
-    MatchOption c.pair.result (pair_of s.store n ≡ None) (λ e. pair_of s.store n ≡ Some (record { number = n; key = e.0.now; value = e.1.now })))
-    c.self.view_is c.pair.ensures)
+    pair_of s.store n ≡ Some (record { number = n; key = c.logged.result.0.now; value = c.logged.result.1.now }))
+    c.self.view_is c.logged.ensures)
 
 pub returns-in-Some-clause-map : goal.returns-in-Some-clause-map
 returns-in-Some-clause-map g c k matched =
@@ -25,11 +25,11 @@ returns-in-Some-clause-map g c k matched =
     refers_map g.K.PartialEq.eq g.met.K.Eq.laws (g.Q.Equivalent.matches c.args.key.now) c.args.self.now.store
     (lawful_apart g.K.PartialEq.eq g.K.Hash.hash_input g.S.BuildHasher.build_hasher g.S.Hasher.Hasher.write g.S.Hasher.Hasher.finish g.met.K.Eq.laws
     g.met.K.Hash.respects_eq (core_of c.args.self.now) lawful.lawful)
-    k (λ l. g.met.Q.Equivalent.matches_equal_keys c.args.key.now k l matched) c.pair.result
-    (refers_found g.K.PartialEq.eq (g.Q.Equivalent.matches c.args.key.now) c.args.self.now.store found.0 n c.pair.result found.1.0 (sym c.in-Some.is ∙ found.2)
+    k (λ l. g.met.Q.Equivalent.matches_equal_keys c.args.key.now k l matched) (Some c.logged.result)
+    (refers_found g.K.PartialEq.eq (g.Q.Equivalent.matches c.args.key.now) c.args.self.now.store found.0 n (Some c.logged.result) found.1.0 (sym c.in-Some.is ∙ found.2)
     (subst (λ (s : MapState g.row.K.Denot g.row.V.Denot g.row.S.Denot).
-    MatchOption c.pair.result (pair_of s.store n ≡ None) (λ e. pair_of s.store n ≡ Some (record { number = n; key = e.0.now; value = e.1.now })))
-    c.self.view_is c.pair.ensures))
+    pair_of s.store n ≡ Some (record { number = n; key = c.logged.result.0.now; value = c.logged.result.1.now }))
+    c.self.view_is c.logged.ensures))
 
 pub returns-in-None-clause-map : goal.returns-in-None-clause-map
 returns-in-None-clause-map g c k matched =
@@ -43,3 +43,10 @@ returns-in-None-clause-map g c k matched =
     k (λ l. g.met.Q.Equivalent.matches_equal_keys c.args.key.now k l matched) None
     (contains_found g.K.PartialEq.eq (g.Q.Equivalent.matches c.args.key.now) c.args.self.now.store found.0 false found.1.0
     (ap is_some (sym c.in-None.is ∙ found.2)))
+
+pub logged-requires : goal.logged-requires
+logged-requires g c = subst (λ (s : MapState g.row.K.Denot g.row.V.Denot g.row.S.Denot). IsSome (pair_of s.store c.in-Some.pair)) (sym c.self.view_is)
+    (let found = c.look_up.ensures in
+    let (p, is, holds, logged) = number_logged g.K.PartialEq.eq (g.Q.Equivalent.matches c.args.key.now) c.args.self.now.store found.0 c.in-Some.pair
+    found.1.0 (sym c.in-Some.is ∙ found.2) in
+    subst (λ o. IsSome o) (sym logged) refl)

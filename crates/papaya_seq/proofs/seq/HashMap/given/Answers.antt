@@ -9,7 +9,8 @@ use Rattle.papaya_timeline.proofs.KeptCore.{keys_lawful}
 use Rattle.papaya_timeline.proofs.KeptSettings.{IsLawfulKeys}
 use Rattle.papaya_seq.specs.Map.{IsLawfulMap, MapState}
 use Rattle.papaya_seq.specs.Walks.{has_in}
-use Rattle.papaya_seq.proofs.WalkSteps.{held_within, slot_read, word_bare, word_before, word_given}
+use Rattle.papaya_seq.proofs.Searching.{slot_read}
+use Rattle.papaya_seq.proofs.WalkSteps.{held_within, word_bare, word_before, word_given}
 use Rattle.papaya_seq.proofs.seq.HashMap.given.Goals as goal
 use Rattle.papaya_seq.proofs.seq.HashMap.given.Goals.{After-kind, then-at-eq0, else-at-eq0}
 use Rattle.papaya_seq.proofs.seq.HashMap.given.Given.{Over}

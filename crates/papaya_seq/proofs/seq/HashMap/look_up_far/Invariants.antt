@@ -3,7 +3,7 @@ use Rattle.papaya_ask.specs.declared.call.Task.TheVariants.{Get}
 use Rattle.papaya_call.specs.Machine.{started}
 use Rattle.papaya_seq.proofs.LookSteps.{IsLookUp, lookup_left}
 use Rattle.papaya_seq.proofs.LookTurns.{numbered}
-use Rattle.papaya_seq.proofs.seq.HashMap.look_up.Given as goal
+use Rattle.papaya_seq.proofs.seq.HashMap.look_up_far.Given as goal
 
 -- the machine of the lookup, that nothing runs, was told the number of this table
 abbrev pub invariant-loop-table : goal.invariant-loop-table
