@@ -1,5 +1,5 @@
 -- A call under way, each of whose asks is answered by the store: what its driver does at once.
-use Rattle.std.specs.Prelude.{◌≡◌, ℕ, Bool, false, Option, Some, None, option_map, List, [], ◌∷◌}
+use Rattle.std.specs.Prelude.{◌≡◌, ◌==◌, ℕ, Bool, false, if◌then◌else◌, Option, Some, None, option_map, List, [], ◌∷◌}
 use Rattle.papaya_words.specs.declared.probe.ResizeMode.{ResizeMode}
 use Rattle.papaya_ask.specs.declared.ask.Answer.{Answer as Call_answer}
 use Rattle.papaya_ask.specs.declared.ask.Ask.TheVariants.{Done, ShowNone, ShowPair}
@@ -7,6 +7,8 @@ use Rattle.papaya_ask.specs.declared.call.Reply.{Reply}
 use Rattle.papaya_ask.specs.declared.call.Task.TheVariants.{Insert}
 use Rattle.papaya_call.specs.declared.machine.Machine.{Machine as Call_machine}
 use Rattle.papaya_call.specs.declared.machine.State.{State}
+use Rattle.papaya_call.specs.declared.machine.State.TheVariants.{AtRoot, Growing}
+use Rattle.papaya_call.specs.declared.need.Need.TheVariants.{Room}
 use Rattle.papaya_call.specs.Machine.{started}
 use Rattle.papaya_chain.specs.declared.ask.Answer.{Answer}
 use Rattle.papaya_chain.specs.declared.ask.Ask.{Ask}
@@ -42,6 +44,10 @@ abbrev pub value_left : {V : Type 0} → Option (Part V) → Option V
 value_left (Some (Own value)) = Some value
 value_left (Some (Logged n)) = None
 value_left None = None
+
+-- where a call goes on: where it makes room for the table of this number, or at the root
+abbrev pub led_state : (full : ℕ) → State
+led_state full = if full == 0 then AtRoot else Growing (Room full)
 
 -- An insertion by a key that these match comes to this state, whatever the map's settings are, when
 -- each of its asks is answered by what stands in the tables.

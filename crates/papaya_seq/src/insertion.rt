@@ -4,7 +4,7 @@ ghost use Rattle.papaya_words.specs.declared.probe.Refused.{Refused};
 ghost use Rattle.papaya_keys.specs.Hashes.{hash_of};
 ghost use Rattle.papaya_timeline.specs.Content.{map_in};
 ghost use Rattle.papaya_timeline.specs.Solo.{IsAnswered, IsNewIn};
-ghost use Rattle.papaya_seq.specs.Drives.{IsLedTo, value_left};
+ghost use Rattle.papaya_seq.specs.Drives.{IsLedTo, led_state, value_left};
 ghost use Rattle.papaya_seq.specs.MadeAlone.{IsMadeAlone};
 ghost use Rattle.papaya_seq.specs.Map.{IsTryCause, IsWriteCauseAt, KeepsAndGrows, LogsOne, insertion};
 
@@ -16,6 +16,7 @@ use papaya_ask::ask::Ask as CallAsk;
 use papaya_ask::call::{Reply, Task};
 use papaya_call::answers::Listed;
 use papaya_call::machine::State;
+use papaya_call::need::Need;
 use papaya_chain::ask::Ask;
 use papaya_chain::machine::Machine;
 use papaya_store::pairs::{Part, Running};
@@ -31,6 +32,17 @@ pub(crate) fn value_left<K: Drop, V, A: Drop>(running: Running<K, V, A>) -> Opti
         Some(Part::Own(value)) => Some(value),
         _ => None,
     }
+}
+
+/// Where an insertion goes on: where it makes room for the table of this number, or at the root,
+/// where no table has it.
+fn led(full: u64) -> State
+    ensures { result ≡ led_state full }
+{
+    if full == 0 {
+        return State::AtRoot;
+    }
+    State::Growing(Need::Room(full))
 }
 
 impl<K: Hash + Eq + Drop, V: Drop, S: BuildHasher> HashMap<K, V, S> {
@@ -54,21 +66,21 @@ impl<K: Hash + Eq + Drop, V: Drop, S: BuildHasher> HashMap<K, V, S> {
     {
         // A call that takes a number for its pair goes by the machine.
         if self.mode.limit.is_some() {
-            return self.insert_slow(key, value, replace, State::AtRoot);
+            return self.insert_slow(key, value, replace, 0);
         }
         let hash = self.store.hash(&key);
         match insert_fast(&mut self.store, self.alloc, key, value, hash, replace) {
             Ok(done) => done,
-            Err((key, value, state)) => self.insert_slow(key, value, replace, state),
+            Err((key, value, full)) => self.insert_slow(key, value, replace, full),
         }
     }
 
-    /// The same by the machine, step by step, from this state on.
+    /// The same by the machine, step by step, from where the search of a full root has led it.
     #[inline(never)]
-    fn insert_slow(&mut self, key: K, value: V, replace: bool, state: State) -> (Reply, Option<V>)
+    fn insert_slow(&mut self, key: K, value: V, replace: bool, full: u64) -> (Reply, Option<V>)
         requires { IsLedTo (K.eq key) self.old.store
             (hash_of K.hash_input S.build_hasher S.Hasher.write S.Hasher.finish
-            self.old.store.hasher key) replace state }
+            self.old.store.hasher key) replace (led_state full) }
         ensures answers { IsAnswered K.eq (insertion replace key value) (map_in K.eq self.old.store)
             result.0 (map_in K.eq self.new.store) }
         ensures fresh { IsNewIn self.old.store result.0 }
@@ -93,7 +105,7 @@ impl<K: Hash + Eq + Drop, V: Drop, S: BuildHasher> HashMap<K, V, S> {
             number,
             self.mode.limit,
         );
-        machine.call.state = state;
+        machine.call.state = led(full);
         let mut running: Running<K, V, Listed<V>> = Running {
             machine,
             key: Part::Own(key),

@@ -2,7 +2,7 @@
 ghost use Rattle.std.specs.Prelude.{◌≡◌, ◌≢◌, ◌⊎◌, ℕ, ◌<◌, ◌≤◌, true, false, Some, None};
 ghost use Rattle.std.specs.Prelude.{[], ◌∷◌, ◌++◌};
 ghost use Rattle.std.specs.Prelude.{IfOk, IfErr, IsOk, IsSome, MatchOption, MatchResult, MatchBool, is_some};
-ghost use Rattle.std.specs.Prelude.{length, option_map, vec_len, vec_capacity};
+ghost use Rattle.std.specs.Prelude.{length, option_map};
 ghost use Rattle.std.specs.Borrow.{sem};
 ghost use Rattle.papaya_words.specs.declared.limits.TheConstants.{DEFAULT_CHUNK};
 ghost use Rattle.papaya_call.specs.Machine.{started};
@@ -39,15 +39,6 @@ use papaya_words::probe::{Refused, ResizeMode};
 use std::alloc::Global;
 use std::hash::{BuildHasher, BuildHasherDefault, FoldHasher, Hash};
 use std::marker::Model;
-
-/// Adds an outcome, for which there is room.
-fn push_within(outcomes: &mut Vec<Outcome>, outcome: Outcome)
-    requires { vec_len outcomes.old < vec_capacity outcomes.old }
-    ensures items { outcomes.new.items ≡ outcomes.old.items ++ outcome ∷ [] }
-    ensures capacity { vec_capacity outcomes.old ≤ vec_capacity outcomes.new }
-{
-    let _ = outcomes.push(outcome);
-}
 
 /// What a compute did, as a reply.
 fn replied(computed: Result<Computed<u64, u64>, Refused>) -> Reply
@@ -596,7 +587,7 @@ impl<K: Hash + Eq + Drop, V: Drop, S: BuildHasher> HashMap<K, V, S> {
         )?;
         for call in calls {
             let outcome = self.call(call);
-            push_within(&mut outcomes, outcome);
+            outcomes.push_reserved(outcome);
         }
         Ok(outcomes)
     }

@@ -7,7 +7,7 @@ ghost use Rattle.papaya_keys.specs.Hashes.{hash_of};
 ghost use Rattle.papaya_call_law.specs.Alone.{IsBare};
 ghost use Rattle.papaya_store.specs.Store.{pair_of};
 ghost use Rattle.papaya_store.specs.Tables.{table_of, word_at};
-ghost use Rattle.papaya_seq.specs.Drives.{IsInsertedFast, IsLedTo};
+ghost use Rattle.papaya_seq.specs.Drives.{IsInsertedFast, IsLedTo, led_state};
 ghost use Rattle.papaya_seq.specs.Writes.{IsWritten, slot_of};
 
 use crate::insertion::value_left;
@@ -15,8 +15,6 @@ use crate::search::{Turn, search_root};
 use papaya_ask::ask::{Answer, Ask, At};
 use papaya_ask::call::{Reply, Task};
 use papaya_call::answers::Listed;
-use papaya_call::machine::State;
-use papaya_call::need::Need;
 use papaya_call::write::Write;
 use papaya_chain::machine::Machine;
 use papaya_store::pairs::{Part, Running};
@@ -69,8 +67,9 @@ pub(crate) fn write<K: Hash + Eq + Drop, V: Drop, S: BuildHasher>(
     (Reply::Replaced { old, new: pair }, None)
 }
 
-/// Inserts a pair at once, or gives it back, with where its machine goes on: where there is no
-/// root, where the root has no place for its key, and where its key's pair is being moved.
+/// Inserts a pair at once, or gives it back: where there is no root, where the root has no place
+/// for its key, and where its key's pair is being moved. With it comes the number of a full root,
+/// or else 0.
 #[inline(always)]
 pub(crate) fn insert_fast<K: Hash + Eq + Drop, V: Drop, S: BuildHasher>(
     store: &mut Store<K, V, S>,
@@ -79,7 +78,7 @@ pub(crate) fn insert_fast<K: Hash + Eq + Drop, V: Drop, S: BuildHasher>(
     value: V,
     hash: u64,
     replace: bool,
-) -> Result<(Reply, Option<V>), (K, V, State)>
+) -> Result<(Reply, Option<V>), (K, V, u64)>
     requires sized { (n : ℕ) (t : _) → table_of store.old.words.tables n ≡ Some t
         → IsSize (length t.slots) t.limit }
     requires bare { IsBare (λ at. word_at store.old.words at) }
@@ -87,7 +86,7 @@ pub(crate) fn insert_fast<K: Hash + Eq + Drop, V: Drop, S: BuildHasher>(
         (hash_of K.hash_input S.build_hasher S.Hasher.write S.Hasher.finish) hash replace key value
         store.old done store.new) }
     ensures err { IfErr result (λ back. (back.0 ≡ key) × (back.1 ≡ value) × (store.new ≡ store.old)
-        × IsLedTo (K.eq key) store.old hash replace back.2) }
+        × IsLedTo (K.eq key) store.old hash replace (led_state back.2)) }
 {
     match search_root(store, &key, hash) {
         Some(Turn::Empty(place)) => {
@@ -100,7 +99,7 @@ pub(crate) fn insert_fast<K: Hash + Eq + Drop, V: Drop, S: BuildHasher>(
             }
             Ok(write(store, alloc, key, value, hash, Write { place, old: word }))
         }
-        Some(Turn::Over(table)) => Err((key, value, State::Growing(Need::Room(table)))),
-        _ => Err((key, value, State::AtRoot)),
+        Some(Turn::Over(table)) => Err((key, value, table)),
+        _ => Err((key, value, 0)),
     }
 }

@@ -89,18 +89,24 @@ fn note_slot(table: &mut Table, i: usize, hint: u8)
     }
 }
 
-/// Adds an item, for which there is room.
-#[inline(always)]
-fn push_within<T: Drop>(items: &mut Vec<T>, item: T)
-    requires { vec_len items.old < vec_capacity items.old }
-    ensures { items.new.items ≡ items.old.items ++ item ∷ [] }
+/// Makes room for one more item of a log that has none. It stands apart, so that a push is straight
+/// code.
+#[cold]
+#[inline(never)]
+fn reserve_one<T>(items: &mut Vec<T>) -> Result<(), Refused>
+    ensures same { items.new.items ≡ items.old.items }
+    ensures room { OnOk result (vec_len items.new < vec_capacity items.new) }
+    ensures err { IfErr result (λ e. e ≡ Refused.Memory) }
 {
-    let _ = items.push(item);
+    match items.reserve(1) {
+        Ok(()) => Ok(()),
+        Err(_) => Err(Refused::Memory),
+    }
 }
 
 /// The number of the next item of a log, for which there is room then.
 #[inline(always)]
-fn next_in<T: Drop>(items: &mut Vec<T>) -> Result<usize, Refused>
+fn next_in<T>(items: &mut Vec<T>) -> Result<usize, Refused>
     ensures same { items.new.items ≡ items.old.items }
     ensures ok { IfOk result (λ n. (n ≡ length items.old.items) × (n < MAX_LOG_LEN)) }
     ensures room { OnOk result (vec_len items.new < vec_capacity items.new) }
@@ -111,10 +117,10 @@ fn next_in<T: Drop>(items: &mut Vec<T>) -> Result<usize, Refused>
     if n >= MAX_LOG_LEN {
         return Err(Refused::Capacity);
     }
-    match items.reserve(1) {
-        Ok(()) => Ok(n),
-        Err(_) => Err(Refused::Memory),
+    if n >= items.capacity() {
+        reserve_one(items)?;
     }
+    Ok(n)
 }
 
 /// Logs a pair of this key and this value, for which there is room, at its number: what the call
@@ -131,7 +137,7 @@ fn log_pair<K: Drop, V: Drop>(
     ensures left { result ≡ Part.Logged (brought_by n value) }
 {
     let (value, left) = value.lend(n);
-    push_within(pairs, Pair::of(key, value));
+    pairs.push_reserved(Pair::of(key, value));
     left
 }
 

@@ -1,9 +1,12 @@
-use Rattle.std.proofs.Common.{rules, ◌≡◌, true, false, [], refl, subst}
+use Rattle.std.proofs.Common.{rules, ◌≡◌, ◌==◌, Bool, true, false, if◌then◌else◌, [], refl, subst}
 use Rattle.papaya_words.specs.Word.{kind_of, pair_of as number_of}
 use Rattle.papaya_words.specs.declared.word.Kind.TheVariants.{Live}
 use Rattle.papaya_ask.specs.declared.call.Task.TheVariants.{Insert}
 use Rattle.papaya_call.specs.Machine.{started}
+use Rattle.papaya_call.specs.declared.machine.State.TheVariants.{AtRoot, Growing}
+use Rattle.papaya_call.specs.declared.need.Need.TheVariants.{Room}
 use Rattle.papaya_keys.specs.Hashes.{hash_of}
+use Rattle.papaya_seq.specs.Drives.{IsLedTo}
 use Rattle.papaya_seq.specs.Searches.{IsRootTurn}
 use Rattle.papaya_seq.specs.Writes.{slot_of}
 use Rattle.papaya_seq.specs.declared.search.Turn.{Turn}
@@ -70,7 +73,14 @@ returns-in-Some-Over-clause-err g c =
     let over : IsRootTurn (g.K.PartialEq.eq c.args.key) c.args.store.now c.args.hash
     (turns.Over c.in-Some-Over.table) = subst (λ (t : Turn). IsRootTurn (g.K.PartialEq.eq c.args.key) c.args.store.now c.args.hash t) (search rules)
     (c.search_root.ensures c.in-Some-Over.field-0 c.in-Some-Over.is) in
-    (refl, refl, refl, λ mode initial limit. over.sees (started (Insert c.args.replace) c.args.hash mode initial limit))
+    (refl, refl, refl, leads (c.in-Some-Over.table == 0) (λ mode initial limit. over.sees (started (Insert c.args.replace) c.args.hash mode initial limit)))
+  where
+    -- to the state where it makes room, or to the root
+    leads : (b : Bool) → IsLedTo (g.K.PartialEq.eq c.args.key) c.args.store.now c.args.hash c.args.replace (Growing (Room c.in-Some-Over.table))
+        → IsLedTo (g.K.PartialEq.eq c.args.key) c.args.store.now c.args.hash c.args.replace
+        (if b then AtRoot else Growing (Room c.in-Some-Over.table))
+    leads true led = λ mode initial limit. ([], refl)
+    leads false led = led
 
 pub returns-in_default-clause-err : goal.returns-in_default-clause-err
 returns-in_default-clause-err g c = (refl, refl, refl, λ mode initial limit. ([], refl))

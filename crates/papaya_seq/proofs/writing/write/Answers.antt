@@ -5,7 +5,7 @@ use Rattle.papaya_call.specs.declared.answers.Listed.{Listed}
 use Rattle.papaya_store.specs.declared.pairs.Part.TheVariants.{Own}
 use Rattle.papaya_store.specs.declared.pairs.Running.{Running}
 use Rattle.papaya_store.specs.Performs.{Performs}
-use Rattle.papaya_seq.proofs.PairWritten.{PairLogged, pair_was_logged, pair_was_refused, wants, was_inserted, was_replaced}
+use Rattle.papaya_seq.proofs.PairWritten.{pair_was_logged, pair_was_refused, wants, was_inserted, was_replaced}
 use Rattle.papaya_seq.proofs.writing.write.Goals as goal
 use Rattle.papaya_seq.proofs.writing.write.Goals.{After-perform}
 use Rattle.papaya_seq.proofs.writing.write.Given.{Over}

@@ -4,8 +4,7 @@ use Rattle.papaya_call.specs.Machine.{started}
 use Rattle.papaya_chain_law.proofs.Standing.{started_stands}
 use Rattle.papaya_keys.specs.Hashes.{hash_of}
 use Rattle.papaya_timeline.proofs.KeptCore.{keys_lawful}
-use Rattle.papaya_call.specs.declared.machine.State.{State}
-use Rattle.papaya_seq.specs.Drives.{IsLedTo, IsReplied, at_hand}
+use Rattle.papaya_seq.specs.Drives.{IsLedTo, IsReplied, at_hand, led_state}
 use Rattle.papaya_seq.specs.Map.{MapState}
 use Rattle.papaya_seq.proofs.InsertingDone.{InsertionDone, insertion_done}
 use Rattle.papaya_seq.proofs.Lawful.{core_bare}
@@ -82,13 +81,13 @@ pub insert_slow-requires : goal.insert_slow-requires
 insert_slow-requires g c = λ mode initial limit. ([], refl)
 
 -- What was given back is what was handed in, with where the search has led, and the store is as it was.
-abbrev IsGivenBack : (g : Over) → In-Err g → (g.row.K.Denot × g.row.V.Denot × State) → Type 0
+abbrev IsGivenBack : (g : Over) → In-Err g → (g.row.K.Denot × g.row.V.Denot × ℕ) → Type 0
 IsGivenBack g c back = (back.0 ≡ c.args.key) × (back.1 ≡ c.args.value) × (c.insert_fast.new.store ≡ c.self.inside.store)
-    × IsLedTo (g.K.PartialEq.eq c.args.key) c.self.inside.store c.hash-hash.result c.args.replace back.2
+    × IsLedTo (g.K.PartialEq.eq c.args.key) c.self.inside.store c.hash-hash.result c.args.replace (led_state back.2)
 
-given_back : (g : Over) (c : In-Err g) → IsGivenBack g c (c.in-Err.key, c.in-Err.value, c.in-Err.state)
+given_back : (g : Over) (c : In-Err g) → IsGivenBack g c (c.in-Err.key, c.in-Err.value, c.in-Err.full)
 given_back g c =
-    let is : c.insert_fast.result ≡ Err (c.in-Err.key, c.in-Err.value, c.in-Err.state) = search rules in
+    let is : c.insert_fast.result ≡ Err (c.in-Err.key, c.in-Err.value, c.in-Err.full) = search rules in
     subst (λ r. IfErr r (IsGivenBack g c)) is c.insert_fast.ensures.err
 
 pub invariant_of-self-in-Err : goal.invariant_of-self-in-Err
@@ -97,4 +96,5 @@ invariant_of-self-in-Err g c = rw (given_back g (goal.at.invariant_of-self-in-Er
 pub insert_slow-requires-in-Err : goal.insert_slow-requires-in-Err
 insert_slow-requires-in-Err g c =
     let (key, value, store, led) = given_back g (goal.at.insert_slow-requires-in-Err g c).In-Err in
-    rw (store, key) (subst (λ n. IsLedTo (g.K.PartialEq.eq c.args.key) c.self.inside.store n c.args.replace c.in-Err.state) c.hash-hash.ensures.value led)
+    rw (store, key) (subst (λ n. IsLedTo (g.K.PartialEq.eq c.args.key) c.self.inside.store n c.args.replace (led_state c.in-Err.full))
+    c.hash-hash.ensures.value led)

@@ -67,20 +67,22 @@ pub loop-reply-init : goal.loop-reply-init
 loop-reply-init g c =
     let view : MapState _ _ _ = record { store = c.self.inside.store; mode = c.self.inside.mode; initial = c.self.inside.initial } in
     let led : IsLedTo (g.K.PartialEq.eq c.args.key) view.store (hash g view.store.hasher c.args.key) c.args.replace
-    c.args.state = subst (λ (m : MapState _ _ _).
-    IsLedTo (g.K.PartialEq.eq c.args.key) m.store (hash g m.store.hasher c.args.key) c.args.replace c.args.state) (sym c.self.view_is) c.requires in
+    c.led-machine.result = subst (λ (m : MapState _ _ _).
+    IsLedTo (g.K.PartialEq.eq c.args.key) m.store (hash g m.store.hasher c.args.key) c.args.replace c.led-machine.result) (sym c.self.view_is)
+    (subst (IsLedTo (g.K.PartialEq.eq c.args.key) c.args.self.now.store (hash g c.args.self.now.store.hasher c.args.key) c.args.replace)
+    (sym c.led-machine.ensures) c.requires) in
     let fit : hash g view.store.hasher c.args.key < 2 ^ 64 = subst (λ (n : ℕ). n < 2 ^ 64) c.hash-hash.ensures.value c.hash-hash.ensures.fits in
     let begun = c.new-machine.result in
     subst (λ (m : MapState _ _ _). IsInserting g.K.PartialEq.eq (hash g) m c.args.replace c.args.key c.args.value c.self.inside.store
     (record {
-      machine = record begun { call = record begun.call { state = c.args.state } };
+      machine = record begun { call = record begun.call { state = c.led-machine.result } };
       key = Own c.args.key;
       value = Some (Own c.args.value);
       answers = None;
     }) × (c.self.inside.mode ≡ m.mode) × (c.self.inside.initial ≡ m.initial)) c.self.view_is (
       inserting_led g.K.PartialEq.eq (hash g) view c.args.replace c.args.key c.args.value (keys g view.store.hasher) c.self.invariant fit begun
-          c.hash-hash.result c.copies_from-number.result c.args.state c.new-machine.ensures.value c.hash-hash.ensures.value c.new-machine.ensures.standing
-          led,
+          c.hash-hash.result c.copies_from-number.result c.led-machine.result c.new-machine.ensures.value c.hash-hash.ensures.value
+          c.new-machine.ensures.standing led,
       refl,
       refl,
     )

@@ -18,8 +18,8 @@ pub loop-call-preserved : goal.loop-call-preserved
 loop-call-preserved g c =
     let m = length_push c.loop-call.outcomes.items c.call-outcome.result in
     let n = length_push c.loop-call.yielded c.in-Some.call in
-    let items = c.push_within.ensures.items in
-    let capacity = c.push_within.ensures.capacity in
+    let items = c.push_reserved.ensures.items in
+    let capacity = c.push_reserved.ensures.capacity in
     let room = c.loop-call.invariant.2 in (
       subst (λ items. AreCalled g.K.PartialEq.eq (record { op = g.A.Answers.op_gives; yes = g.A.Answers.yes_gives }) c.args.self.now
           (c.loop-call.yielded ++ c.in-Some.call ∷ []) items c.call-outcome.new.self) (sym items)
