@@ -61,6 +61,18 @@ module _ {K V S H : Type 0} {d : keyed.Ghosts S K H} where
         (begun_of w.book.now.parts) w.book.now.begun.book query.matches
         (query.hash w.book.now.parts.hasher) (exchanges_of began) w.sight.log hit.table.now hit.met
 
+  module _ (query : Query K S) where
+    -- some lookup would stand here, with this table
+    abbrev pub Reads : Window K V S H d → ℕ → Stage → Sheet → Type 0
+    Reads w hash stage table = (began : List (Event K V S))
+        × IsReadingAt query began w hash stage table
+
+    -- each one that stood here is led on by a turn, as is seen by now
+    abbrev pub Leads : (w w' : Window K V S H d) → ℕ → Stage → Sheet
+        → Turn (Met K V) (Bor K × Bor V) → Type 0
+    Leads w w' hash stage table turn = (began : List (Event K V S))
+        → IsReadingAt query began w hash stage table → IsTurned query began w' hash table turn
+
   -- one that began after all that was seen by then has met it
   abbrev pub Hits : Query K S → (w w' : Window K V S H d) → Hit K V S H → Type 0
   Hits query w w' hit = (began : List (Event K V S)) × IsPrefix w.sight.log began

@@ -10,7 +10,7 @@ ghost use Rattle.papaya_book.specs.Windows.{IsLawful, Sees};
 ghost use Rattle.papaya_lookup.specs.Answers.{IsAnsweredBetween, IsHitAnsweredBetween};
 ghost use Rattle.papaya_lookup.specs.Answers.{IsPairAnsweredBetween};
 ghost use Rattle.papaya_lookup.specs.History.{history_of};
-ghost use Rattle.papaya_lookup.specs.Drivers.{Hits, IsReadingAt, IsTurned, left_after, past};
+ghost use Rattle.papaya_lookup.specs.Drivers.{Hits, Leads, Reads, left_after, past};
 ghost use Rattle.papaya_lookup.specs.Lookups.{left_of, turn_of};
 ghost use Rattle.papaya_lookup.specs.declared.lookup.Turn.TheVariants.{Next};
 
@@ -79,22 +79,18 @@ fn without<M, E>(seen: Probed) -> Turn<M, E>
 fn read_at<'a, K: Hash + Eq, V, S: BuildHasher, Q: Equivalent<K>>(
     window: &mut Window<'a, K, V, S>,
     key: &Q,
-    hash: u64,
-    began: &Seen<K, V, S>,
     table: &Table<K, V, S>,
     at: Place,
 ) -> Turn<Met<K, V>, (&'a K, &'a V)>
     requires within { IsWithin at }
-    requires reading { IsReadingAt (⟦<S as Asked<K, Q>>⟧.query key.now) began.now.log window.old
-        hash (Searching (Reading at)) table.now }
+    requires reads { (hash : _) × Reads (⟦<S as Asked<K, Q>>⟧.query key.now) window.old hash
+        (Searching (Reading at)) table.now }
     ensures sees { Sees window.old window.new }
     ensures own { window.new.own ≡ window.old.own }
-    ensures turned { IsTurned (⟦<S as Asked<K, Q>>⟧.query key.now) began.now.log window.new hash
-        table.now result }
+    ensures leads { (hash : _) → Leads (⟦<S as Asked<K, Q>>⟧.query key.now) window.old window.new
+        hash (Searching (Reading at)) table.now result }
     ensures fewer { left_after window.old result < left_of (Searching (Reading at)) }
 {
-    let _ = began;
-    let _ = hash;
     let (word, offer) = window.slot_word(table, at.table, at.probe.i);
     let seen = at.look(word);
     match seen {
@@ -129,17 +125,16 @@ fn look_at<'a, K: Hash + Eq, V, S: BuildHasher, Q: Equivalent<K>>(
     window: &mut Window<'a, K, V, S>,
     key: &Q,
     hash: u64,
-    began: &Seen<K, V, S>,
     table: &Table<K, V, S>,
     at: Place,
 ) -> Turn<Met<K, V>, (&'a K, &'a V)>
     requires within { IsWithin at }
-    requires reading { IsReadingAt (⟦<S as Asked<K, Q>>⟧.query key.now) began.now.log window.old
-        hash (Searching (Looking at)) table.now }
+    requires reads { Reads (⟦<S as Asked<K, Q>>⟧.query key.now) window.old hash
+        (Searching (Looking at)) table.now }
     ensures sees { Sees window.old window.new }
     ensures own { window.new.own ≡ window.old.own }
-    ensures turned { IsTurned (⟦<S as Asked<K, Q>>⟧.query key.now) began.now.log window.new hash
-        table.now result }
+    ensures leads { Leads (⟦<S as Asked<K, Q>>⟧.query key.now) window.old window.new hash
+        (Searching (Looking at)) table.now result }
     ensures fewer { left_after window.old result < left_of (Searching (Looking at)) }
 {
     let hint = window.hint(table, at.table, at.probe.i);
@@ -147,7 +142,7 @@ fn look_at<'a, K: Hash + Eq, V, S: BuildHasher, Q: Equivalent<K>>(
     let Probed::On(Search::Reading(_)) = seen else {
         return without(seen);
     };
-    read_at(window, key, hash, began, table, at)
+    read_at(window, key, table, at)
 }
 
 /// Searches one table from this place on.
@@ -156,23 +151,22 @@ fn search<'a, K: Hash + Eq, V, S: BuildHasher, Q: Equivalent<K>>(
     window: &mut Window<'a, K, V, S>,
     key: &Q,
     hash: u64,
-    began: &Seen<K, V, S>,
     table: &Table<K, V, S>,
     at: Place,
 ) -> Turn<Met<K, V>, (&'a K, &'a V)>
     requires within { IsWithin at }
-    requires reading { IsReadingAt (⟦<S as Asked<K, Q>>⟧.query key.now) began.now.log window.old
-        hash (Searching (Looking at)) table.now }
+    requires reads { Reads (⟦<S as Asked<K, Q>>⟧.query key.now) window.old hash
+        (Searching (Looking at)) table.now }
     ensures sees { Sees window.old window.new }
     ensures own { window.new.own ≡ window.old.own }
-    ensures turned { IsTurned (⟦<S as Asked<K, Q>>⟧.query key.now) began.now.log window.new hash
-        table.now result }
+    ensures leads { Leads (⟦<S as Asked<K, Q>>⟧.query key.now) window.old window.new hash
+        (Searching (Looking at)) table.now result }
     ensures over { (at : _) → result ≡ Next at → ⊥ }
     ensures fewer { left_after window.old result ≤ left_of (Searching (Looking at)) }
 {
     let mut place = at;
     loop {
-        match look_at(window, key, hash, began, table, place) {
+        match look_at(window, key, hash, table, place) {
             Turn::Next(next) => place = next,
             turned => return turned,
         }
@@ -203,14 +197,13 @@ pub fn find<'a, K: Hash + Eq, V, S: BuildHasher, Q: Equivalent<K>>(
     // slot where none ever stood, or at the probe limit. With `Blocking` nobody reads a next table
     // before it is the root. The answer is the map's at one of these loads.
     window.learn();
-    let began = window.sight.again();
     let hash = hash(&window.book.parts.hasher, key);
     let (root, first) = window.root();
     let (mut number, mut held) = (root, first);
     while let Some(table) = held {
         let (len, limit) = table.size();
         let first = Place::first(hash, number, len, limit);
-        match search(window, key, hash, &began, table, first) {
+        match search(window, key, hash, table, first) {
             Turn::Found(met, entry) => {
                 return Some(Hit {
                     table,

@@ -9,7 +9,7 @@ ghost use Rattle.papaya_ask.specs.declared.search.Search.TheVariants.{Looking, R
 ghost use Rattle.papaya_book.specs.Sheets.{word_named};
 ghost use Rattle.papaya_book.specs.Windows.{IsHint, IsLawful, IsSlotWord, Sees};
 ghost use Rattle.papaya_lookup.specs.Answers.{IsAnsweredBetween};
-ghost use Rattle.papaya_lookup.specs.Drivers.{IsNear, IsReadingAt, IsSlotAt, past};
+ghost use Rattle.papaya_lookup.specs.Drivers.{IsNear, IsReadingAt, IsSlotAt, Reads, past};
 ghost use Rattle.papaya_lookup.specs.declared.near.Near.TheVariants.{On};
 
 use crate::lookup::{Met, hash};
@@ -17,7 +17,7 @@ use papaya_ask::ask::At;
 use papaya_ask::search::Place;
 use papaya_book::book::gains::named_pair;
 use papaya_book::keyed::Asked;
-use papaya_book::rule::offer::{Offer, Seen};
+use papaya_book::rule::offer::Offer;
 use papaya_book::rule::steps::Sought;
 use papaya_book::slot::Slot;
 use papaya_book::table::Table;
@@ -169,21 +169,21 @@ fn search_slots<'a, K: Hash + Eq, V, S: BuildHasher, Q: Equivalent<K>>(
     window: &mut Window<'a, K, V, S>,
     key: &Q,
     hash: u64,
-    began: &Seen<K, V, S>,
     table: &Table<K, V, S>,
     at: Place,
 ) -> Near<Met<K, V>, (&'a K, &'a V)>
     requires within { IsWithin at }
     requires limit { at.limit ≡ table.now.limit }
-    requires reading { IsReadingAt (⟦<S as Asked<K, Q>>⟧.query key.now) began.now.log window.old
-        hash (Searching (Looking at)) table.now }
+    requires reads { Reads (⟦<S as Asked<K, Q>>⟧.query key.now) window.old hash
+        (Searching (Looking at)) table.now }
     ensures sees { Sees window.old window.new }
     ensures own { window.new.own ≡ window.old.own }
     ensures ends { result ≡ On → ⊥ }
-    ensures near { (last : _) × IsNear (⟦<S as Asked<K, Q>>⟧.query key.now) began.now.log
-        window.new hash table.now last result }
+    ensures near { (began : _) → IsReadingAt (⟦<S as Asked<K, Q>>⟧.query key.now) began window.old
+        hash (Searching (Looking at)) table.now
+        → (last : _) × IsNear (⟦<S as Asked<K, Q>>⟧.query key.now) began window.new hash table.now
+        last result }
 {
-    let _ = began;
     let slots = slots_of(table);
     let mut place = at;
     loop {
@@ -212,7 +212,6 @@ pub(crate) fn search_near<'a, K: Hash + Eq, V, S: BuildHasher, Q: Equivalent<K>>
         (past window.old) (past window.new)) }
 {
     window.learn();
-    let began = window.sight.again();
     let hash = hash(&window.book.parts.hasher, key);
     let (number, held) = window.root();
     let Some(table) = held else {
@@ -220,7 +219,7 @@ pub(crate) fn search_near<'a, K: Hash + Eq, V, S: BuildHasher, Q: Equivalent<K>>
     };
     let (len, limit) = table.size();
     let first = Place::first(hash, number, len, limit);
-    match search_slots(window, key, hash, &began, table, first) {
+    match search_slots(window, key, hash, table, first) {
         Near::Found(_met, entry) => Some(Some(entry.1)),
         Near::Absent => Some(None),
         _ => {

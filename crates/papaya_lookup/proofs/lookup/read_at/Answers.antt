@@ -14,25 +14,27 @@ pub slot_word-word-requires-clause-place : goal.slot_word-word-requires-clause-p
 slot_word-word-requires-clause-place g c =
     let lawful : IsQuery g.K.PartialEq.eq g.K.Hash.hash_input (g.Q.Equivalent.matches c.args.key.now) (g.Q.Hash.hash_input c.args.key.now) =
     record { feeds = g.met.Q.Equivalent.hashes_as_key c.args.key.now; class = λ k l. g.met.Q.Equivalent.matches_equal_keys c.args.key.now k l } in
+    let r = c.requires.reads in
     let w = c.args.window.now.book.now in
     (place_there g.K.PartialEq.eq g.K.Hash.hash_input g.S.BuildHasher.build_hasher g.S.Hasher.Hasher.write g.S.Hasher.Hasher.finish g.met.K.Eq.laws
     g.met.K.Hash.respects_eq (begun_of w.parts) (g.Q.Equivalent.matches c.args.key.now) (g.Q.Hash.hash_input c.args.key.now) lawful
-    (exchanges_of c.args.began.now.log) c.args.hash w.begun.book c.args.window.now.sight.log c.args.at c.requires.within c.args.table.now
-    c.requires.reading).1
+    (exchanges_of r.1.0) r.0 w.begun.book c.args.window.now.sight.log c.args.at c.requires.within c.args.table.now
+    r.1.1).1
 
 pub named_pair-stored-requires : goal.named_pair-stored-requires
 named_pair-stored-requires g c =
     let lawful : IsQuery g.K.PartialEq.eq g.K.Hash.hash_input (g.Q.Equivalent.matches c.args.key.now) (g.Q.Hash.hash_input c.args.key.now) =
     record { feeds = g.met.Q.Equivalent.hashes_as_key c.args.key.now; class = λ k l. g.met.Q.Equivalent.matches_equal_keys c.args.key.now k l } in
+    let r = c.requires.reads in
     let w = c.args.window.now.book.now in let s = c.slot_word-word in
     let looks : look c.args.at s.result.0 ≡ On (Comparing c.in-On-Comparing.field-0-0 c.in-On-Comparing.field-0-1) = search rules in
     pair_told g.K.PartialEq.eq g.K.Hash.hash_input g.S.BuildHasher.build_hasher g.S.Hasher.Hasher.write g.S.Hasher.Hasher.finish g.met.K.Eq.laws
     g.met.K.Hash.respects_eq (begun_of w.parts) (g.Q.Equivalent.matches c.args.key.now) (g.Q.Hash.hash_input c.args.key.now) lawful
-    (exchanges_of c.args.began.now.log) c.args.hash w.begun.book c.args.window.now.sight.log c.args.at c.requires.within c.args.table.now c.requires.reading
+    (exchanges_of r.1.0) r.0 w.begun.book c.args.window.now.sight.log c.args.at c.requires.within c.args.table.now r.1.1
     s.new.self.sight.log s.ensures.sees.log s.result.0 s.result.1.state s.ensures.slot c.in-On-Comparing.field-0-0 c.in-On-Comparing.field-0-1 looks
 
-pub returns-in-Here-clause-turned : goal.returns-in-Here-clause-turned
-returns-in-Here-clause-turned g c =
+pub returns-in-Here-clause-leads : goal.returns-in-Here-clause-leads
+returns-in-Here-clause-leads g c = λ hash began reading.
     let lawful : IsQuery g.K.PartialEq.eq g.K.Hash.hash_input (g.Q.Equivalent.matches c.args.key.now) (g.Q.Hash.hash_input c.args.key.now) =
     record { feeds = g.met.Q.Equivalent.hashes_as_key c.args.key.now; class = λ k l. g.met.Q.Equivalent.matches_equal_keys c.args.key.now k l } in
     let w = c.args.window.now.book.now in let s = c.slot_word-word in
@@ -43,8 +45,8 @@ returns-in-Here-clause-turned g c =
     let value = c.entry.ensures.value ∙ ap (λ z. z.value) c.pair-pair.ensures in
     rw s.ensures.sees.book (pair_found g.K.PartialEq.eq g.K.Hash.hash_input g.S.BuildHasher.build_hasher g.S.Hasher.Hasher.write
     g.S.Hasher.Hasher.finish g.met.K.Eq.laws g.met.K.Hash.respects_eq (begun_of w.parts) (g.Q.Equivalent.matches c.args.key.now)
-    (g.Q.Hash.hash_input c.args.key.now) lawful (exchanges_of c.args.began.now.log) c.args.hash w.begun.book c.args.window.now.sight.log c.args.at
-    c.requires.within c.args.table.now c.requires.reading
+    (g.Q.Hash.hash_input c.args.key.now) lawful (exchanges_of began) hash w.begun.book c.args.window.now.sight.log c.args.at
+    c.requires.within c.args.table.now reading
     s.new.self.sight.log s.ensures.sees.log s.result.0 s.result.1.state s.ensures.slot c.in-On-Comparing.field-0-0 c.in-On-Comparing.field-0-1 looks
     c.named_pair-stored.result c.named_pair-stored.ensures c.equivalent-same.result same c.in-Here.field-0 c.in-Here.field-1 here _ key value)
 
@@ -59,20 +61,24 @@ returns-in-On-Comparing g c =
     → ⊥ = λ a n e. c.in_default-compared.not-Here a n (c.at_yes-compared.ensures.value ∙ e) in
     let seen : IsProbed (at_yes (Comparing c.args.at s.result.0) c.equivalent-same.result) = subst IsProbed c.at_yes-compared.ensures.value
     c.at_yes-compared.ensures.seen in
-    let all = other_pair g.K.PartialEq.eq g.K.Hash.hash_input g.S.BuildHasher.build_hasher g.S.Hasher.Hasher.write g.S.Hasher.Hasher.finish
-    g.met.K.Eq.laws g.met.K.Hash.respects_eq (begun_of w.parts) (g.Q.Equivalent.matches c.args.key.now) (g.Q.Hash.hash_input c.args.key.now) lawful
-    (exchanges_of c.args.began.now.log) c.args.hash w.begun.book c.args.window.now.sight.log c.args.at c.requires.within c.args.table.now c.requires.reading
-    s.new.self.sight.log s.ensures.sees.log s.result.0 s.result.1.state s.ensures.slot c.in-On-Comparing.field-0-0 c.in-On-Comparing.field-0-1 looks
-    c.named_pair-stored.result c.named_pair-stored.ensures c.equivalent-same.result same seen none in
+    let r = c.requires.reads in
     record {
       sees = s.ensures.sees;
       own = s.ensures.own;
-      turned = rw (s.ensures.sees.book, c.without.ensures, c.at_yes-compared.ensures.value) all.0;
-      fewer = rw (c.without.ensures, c.at_yes-compared.ensures.value) all.1;
+      leads = λ hash began reading. rw (s.ensures.sees.book, c.without.ensures, c.at_yes-compared.ensures.value) (other_pair g.K.PartialEq.eq g.K.Hash.hash_input g.S.BuildHasher.build_hasher g.S.Hasher.Hasher.write g.S.Hasher.Hasher.finish
+          g.met.K.Eq.laws g.met.K.Hash.respects_eq (begun_of w.parts) (g.Q.Equivalent.matches c.args.key.now) (g.Q.Hash.hash_input c.args.key.now) lawful
+          (exchanges_of began) hash w.begun.book c.args.window.now.sight.log c.args.at c.requires.within c.args.table.now reading
+          s.new.self.sight.log s.ensures.sees.log s.result.0 s.result.1.state s.ensures.slot c.in-On-Comparing.field-0-0 c.in-On-Comparing.field-0-1 looks
+          c.named_pair-stored.result c.named_pair-stored.ensures c.equivalent-same.result same seen none).0;
+      fewer = rw (c.without.ensures, c.at_yes-compared.ensures.value) (other_pair g.K.PartialEq.eq g.K.Hash.hash_input g.S.BuildHasher.build_hasher g.S.Hasher.Hasher.write g.S.Hasher.Hasher.finish
+          g.met.K.Eq.laws g.met.K.Hash.respects_eq (begun_of w.parts) (g.Q.Equivalent.matches c.args.key.now) (g.Q.Hash.hash_input c.args.key.now) lawful
+          (exchanges_of r.1.0) r.0 w.begun.book c.args.window.now.sight.log c.args.at c.requires.within c.args.table.now r.1.1
+          s.new.self.sight.log s.ensures.sees.log s.result.0 s.result.1.state s.ensures.slot c.in-On-Comparing.field-0-0 c.in-On-Comparing.field-0-1 looks
+          c.named_pair-stored.result c.named_pair-stored.ensures c.equivalent-same.result same seen none).1;
     }
 
-pub returns-clause-turned : goal.returns-clause-turned
-returns-clause-turned g c =
+pub returns-clause-leads : goal.returns-clause-leads
+returns-clause-leads g c = λ hash began reading.
     let lawful : IsQuery g.K.PartialEq.eq g.K.Hash.hash_input (g.Q.Equivalent.matches c.args.key.now) (g.Q.Hash.hash_input c.args.key.now) =
     record { feeds = g.met.Q.Equivalent.hashes_as_key c.args.key.now; class = λ k l. g.met.Q.Equivalent.matches_equal_keys c.args.key.now k l } in
     let w = c.args.window.now.book.now in let s = c.slot_word-word in
@@ -81,6 +87,6 @@ returns-clause-turned g c =
     let seen : IsProbed (look c.args.at s.result.0) = subst IsProbed c.look-seen.ensures.value c.look-seen.ensures.seen in
     let all = passed g.K.PartialEq.eq g.K.Hash.hash_input g.S.BuildHasher.build_hasher g.S.Hasher.Hasher.write g.S.Hasher.Hasher.finish
     g.met.K.Eq.laws g.met.K.Hash.respects_eq (begun_of w.parts) (g.Q.Equivalent.matches c.args.key.now) (g.Q.Hash.hash_input c.args.key.now) lawful
-    (exchanges_of c.args.began.now.log) c.args.hash w.begun.book c.args.window.now.sight.log c.args.at c.requires.within c.args.table.now c.requires.reading
+    (exchanges_of began) hash w.begun.book c.args.window.now.sight.log c.args.at c.requires.within c.args.table.now reading
     s.new.self.sight.log s.ensures.sees.log s.result.0 s.result.1.state s.ensures.slot seen none in
     rw (s.ensures.sees.book, c.without-in_default.ensures, c.look-seen.ensures.value) all.0

@@ -1,19 +1,27 @@
-use Rattle.std.proofs.Common.{◌≡◌, ◌-◌}
+use Rattle.std.proofs.Common.{◌≡◌, ◌-◌, List}
+use Rattle.papaya_call.specs.declared.machine.State.TheVariants.{Searching}
+use Rattle.papaya_ask.specs.declared.search.Search.TheVariants.{Looking}
+use Rattle.papaya_book.specs.declared.rule.entry.Event.{Event}
 use Rattle.papaya_book.specs.Hashes.{hash_of}
 use Rattle.papaya_book.specs.Logs.{exchanges_of}
 use Rattle.papaya_book.specs.Parts.{begun_of}
 use Rattle.papaya_book.specs.Windows.{Sees}
-use Rattle.papaya_lookup.specs.Lookups.{IsTurned}
+use Rattle.papaya_lookup.specs.Lookups.{IsReadingAt, IsTurned}
 use Rattle.papaya_lookup.specs.declared.lookup.Turn.TheVariants.{Next}
 use Rattle.papaya_lookup.proofs.near.search_slots.Given as goal
 
--- the places so far led the lookup's machine on to this one
+-- the places so far led each lookup on to this one that stood where the search began
 abbrev pub invariant-loop-turned : goal.invariant-loop-turned
 invariant-loop-turned g l =
-    IsTurned g.K.PartialEq.eq (hash_of g.K.Hash.hash_input g.S.BuildHasher.build_hasher g.S.Hasher.Hasher.write g.S.Hasher.Hasher.finish)
+    ((began : List (Event g.row.K.Denot g.row.V.Denot g.row.S.Denot))
+    → IsReadingAt g.K.PartialEq.eq (hash_of g.K.Hash.hash_input g.S.BuildHasher.build_hasher g.S.Hasher.Hasher.write g.S.Hasher.Hasher.finish)
+    (begun_of l.fn.window.book.now.parts) (g.Q.Equivalent.matches l.key)
+    (hash_of g.Q.Hash.hash_input g.S.BuildHasher.build_hasher g.S.Hasher.Hasher.write g.S.Hasher.Hasher.finish l.fn.window.book.now.parts.hasher l.key)
+    (exchanges_of began) l.hash l.fn.window.sight.log (Searching (Looking l.fn.at)) l.table
+    → IsTurned g.K.PartialEq.eq (hash_of g.K.Hash.hash_input g.S.BuildHasher.build_hasher g.S.Hasher.Hasher.write g.S.Hasher.Hasher.finish)
     (begun_of l.window.book.now.parts) l.window.book.now.begun.book (g.Q.Equivalent.matches l.key)
     (hash_of g.Q.Hash.hash_input g.S.BuildHasher.build_hasher g.S.Hasher.Hasher.write g.S.Hasher.Hasher.finish l.window.book.now.parts.hasher l.key)
-    (exchanges_of l.began.log) l.hash l.window.sight.log l.table (Next l.place)
+    (exchanges_of began) l.hash l.window.sight.log l.table (Next l.place))
     × (l.place.limit ≡ l.table.limit)
     × Sees l.fn.window l.window
     × (l.window.own ≡ l.fn.window.own)
