@@ -1,23 +1,22 @@
--- Numbers that the logs of a book gave past their limits, sums of its count that make a table too
+-- Numbers that the log of tables gave past its limit, sums of its count that make a table too
 -- long, and a limit on pairs that is spent.
 use Rattle.std.specs.Prelude.{◌≡◌, ◌⊎◌, ℕ, ◌<◌, ◌≤◌, ◌^◌, Bool, MatchOption, Option, List, [], ◌∷◌, ◌++◌, length}
 use Rattle.papaya_words.specs.Table.{length_after}
-use Rattle.papaya_words.specs.declared.limits.TheConstants.{MAX_LOG_LEN, MAX_TABLES}
+use Rattle.papaya_words.specs.declared.limits.TheConstants.{MAX_TABLES}
 use Rattle.papaya_book.specs.Logs.{Member, comes, state_of, steps_of}
 use Rattle.papaya_book.specs.declared.rule.entry.Event.{Event}
 use Rattle.papaya_book.specs.declared.rule.entry.Named.{Named}
 use Rattle.papaya_book.specs.declared.rule.entry.Named.TheVariants as names
 use Rattle.papaya_book.specs.declared.rule.entry.Step.{Step}
 use Rattle.papaya_book.specs.declared.rule.own.CapacityCause.{CapacityCause}
-use Rattle.papaya_book.specs.declared.rule.own.CapacityCause.TheVariants.{Pair, Sum, Table}
+use Rattle.papaya_book.specs.declared.rule.own.CapacityCause.TheVariants.{Sum, Table}
 
 -- no word can name it
 abbrev pub IsPastLimit : CapacityCause → Type 0
-IsPastLimit (Pair n) = MAX_LOG_LEN ≤ n
 IsPastLimit (Table n) = MAX_TABLES ≤ n
 IsPastLimit (Sum n) = ⊥
 
--- A log is full: it gave this number, which is past its limit.
+-- The log of tables is full: it gave this number, which is past its limit.
 abbrev pub IsFull : List CapacityCause → Type 0
 IsFull given = (number : CapacityCause) × (given ≡ number ∷ []) × IsPastLimit number
 
@@ -48,7 +47,8 @@ pub record IsTooLong (initial : ℕ) (tables : List ℕ) (given : List CapacityC
   pub unfit : Bool
   pub long : 2 ^ 32 < length_after len count initial unfit
 
--- there is no room for what a call would make: a log is full, or a table would be too long
+-- there is no room for what a call would make: the log of tables is full, or a table would be
+-- too long
 abbrev pub HasNoRoom : (initial : ℕ) → (tables : List ℕ) → List CapacityCause → Type 0
 HasNoRoom initial tables given = IsFull given ⊎ IsTooLong initial tables given
 

@@ -27,7 +27,9 @@ use Rattle.papaya_book.specs.Logs.{Stored}
 use Rattle.papaya_book.specs.Sheets.{Sheet}
 use Rattle.papaya_change.specs.Changing.{IsCalling}
 use Rattle.papaya_change.specs.declared.fast_path.Turn.{Turn}
-use Rattle.papaya_change.specs.declared.fast_path.Turn.TheVariants.{Next, Empty, Met, Over, Else}
+use Rattle.papaya_change.specs.declared.fast_path.Turn.TheVariants.{Next, Empty, Over, Else}
+use Rattle.papaya_change.specs.declared.fast_path.Turn.TheVariants.{Met as Met_pair}
+use Rattle.papaya_lookup.specs.declared.lookup.Met.{Met}
 
 -- the calls that such a search serves
 pub data Seeker : Type 0 where
@@ -51,7 +53,7 @@ abbrev pub insertion_at : (hash : ℕ) → ResizeMode → (initial : ℕ) → Ma
 insertion_at hash mode initial made state = seeker_at Inserts hash mode initial made state
 
 -- where a search goes on that has met no pair of the key
-abbrev pub turn_of : {K V : Type 0} → Probed → Turn K V
+abbrev pub turn_of : {M : Type 0} → Probed → Turn M
 turn_of (On (Looking at)) = Next at
 turn_of (Seen_empty at) = Empty at
 turn_of (Seen_over table) = Over table
@@ -72,26 +74,26 @@ at_over Inserts table = Some (Growing (Room table))
 at_over Computes table = None
 
 -- where a turn leads a call's machine, where it leads to a place or asks for a table
-abbrev pub leads : {K V : Type 0} → Seeker → Turn K V → Option State
+abbrev pub leads : {K V : Type 0} → Seeker → Turn (Met K V) → Option State
 leads who (Next at) = Some (Searching (Looking at))
 leads who (Empty at) = Some (at_empty who at)
-leads who (Met met) = Some (at_live who met.place met.word)
+leads who (Met_pair met) = Some (at_live who met.place met.word)
 leads who (Over table) = at_over who table
 leads who Else = None
 
-abbrev pub led_to : {K V : Type 0} → Turn K V → Option State
+abbrev pub led_to : {K V : Type 0} → Turn (Met K V) → Option State
 led_to turn = leads Inserts turn
 
 -- the pair that it met
-abbrev pub met_by : {K V : Type 0} → Turn K V → Option (Stored K V)
-met_by (Met met) = Some met.stored
+abbrev pub met_by : {K V : Type 0} → Turn (Met K V) → Option (Stored K V)
+met_by (Met_pair met) = Some met.stored
 met_by _ = None
 
 -- how many places a search has left
 abbrev pub left_at : Place → ℕ
 left_at at = at.limit + 1 - at.probe.len
 
-abbrev pub left_to : {K V : Type 0} → Turn K V → ℕ
+abbrev pub left_to : {M : Type 0} → Turn M → ℕ
 left_to (Next at) = left_at at
 left_to _ = 0
 

@@ -1,7 +1,5 @@
 -- What came of a pair that was logged for a place that a search had found.
 use Rattle.std.specs.Prelude.{◌≡◌, ◌<◌, ◌^◌, Bool, true, false, Option, None, Some, List}
-use Rattle.std.specs.Prelude.{Result, Ok, Err}
-use Rattle.papaya_words.specs.declared.probe.Refused.{Refused}
 use Rattle.papaya_call.specs.declared.machine.State.{State}
 use Rattle.papaya_book.specs.declared.keyed.Keyed as keyed
 use Rattle.papaya_book.specs.declared.rule.entry.Event.{Event}
@@ -18,18 +16,20 @@ use Rattle.papaya_change.specs.Seeking.{Computes, at_live, led_to, met_by}
 use Rattle.papaya_change.specs.Window.Seeking.{IsInsertingAt, IsSeekingAt}
 use Rattle.papaya_change.specs.Showings.{IsSamePair}
 use Rattle.papaya_change.specs.declared.fast_path.Tried.{Tried}
-use Rattle.papaya_change.specs.declared.fast_path.Tried.TheVariants.{Put, Lost}
+use Rattle.papaya_change.specs.declared.fast_path.Tried.TheVariants.{Put, Lost, Back}
 use Rattle.papaya_change.specs.declared.fast_path.Turn.{Turn}
 
-abbrev pub pair_in : {K V : Type 0} → Tried K V → Stored K V
-pair_in (Put q) = q
-pair_in (Lost q) = q
+-- the pair that was logged
+abbrev pub pair_in : {K V B : Type 0} → Tried K V B → Option (Stored K V)
+pair_in (Put q) = Some q
+pair_in (Lost q) = Some q
+pair_in (Back b) = None
 
 -- it was put in
-abbrev pub is_put : {K V : Type 0} → Result (Tried K V) Refused → Bool
-is_put (Ok (Put q)) = true
-is_put (Ok (Lost q)) = false
-is_put (Err refused) = false
+abbrev pub is_put : {K V B : Type 0} → Tried K V B → Bool
+is_put (Put q) = true
+is_put (Lost q) = false
+is_put (Back b) = false
 
 -- the very pair that a search met, or none where it met none
 abbrev pub AreSame : {K V : Type 0} → (met taken : Option (Stored K V)) → Type 0
@@ -45,7 +45,7 @@ module _ {K V S H : Type 0} {d : keyed.Ghosts S K H} where
     pub number : q.index < 2 ^ 48
 
   -- each call that a turn had led there has put the pair in the place of the one that it met
-  abbrev pub Offers : (w w' : Window K V S H d) → K → Sheet → Turn K V → Stored K V → Type 0
+  abbrev pub Offers : (w w' : Window K V S H d) → K → Sheet → Turn (Met K V) → Stored K V → Type 0
   Offers w w' key table turn q = (begun : List (Event K V S)) (state : State)
       → led_to turn ≡ Some state → IsInsertingAt w key begun state (met_by turn) table
       → (taken : Option (Stored K V)) × AreSame (met_by turn) taken

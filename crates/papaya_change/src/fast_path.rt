@@ -8,6 +8,7 @@ ghost use Rattle.papaya_ask.specs.declared.search.Search.TheVariants.{Looking, R
 ghost use Rattle.papaya_call.specs.declared.machine.State.TheVariants.{Searching};
 ghost use Rattle.papaya_words.specs.Word.{kind_of};
 ghost use Rattle.papaya_words.specs.declared.word.Kind.TheVariants.{Live};
+ghost use Rattle.papaya_book.specs.Pairs.{IsKeyIn};
 ghost use Rattle.papaya_book.specs.Windows.{Does, IsLawful, Sees};
 ghost use Rattle.papaya_lookup.specs.Drivers.{own, past};
 ghost use Rattle.papaya_lookup.specs.History.{key_of};
@@ -16,42 +17,89 @@ ghost use Rattle.papaya_change.specs.Seeking.{left_at, left_to, turn_of};
 ghost use Rattle.papaya_change.specs.Window.Seeking.{HasWritten, IsFoundFor, LooksAt, ReadsAt, StandsBy};
 ghost use Rattle.papaya_change.specs.Window.Seeking.{Turns};
 ghost use Rattle.papaya_change.specs.Tries.{Offers, ShowsMet, TakesOut};
-ghost use Rattle.papaya_change.specs.declared.fast_path.Tried.TheVariants.{Put};
+ghost use Rattle.papaya_change.specs.declared.fast_path.Tried.TheVariants.{Back, Put};
 ghost use Rattle.papaya_change.specs.declared.fast_path.Turn.TheVariants.{Empty, Next};
 ghost use Rattle.papaya_change.specs.declared.fast_path.Turn.TheVariants.{Met as MetPair};
 ghost use Rattle.papaya_change.specs.Writing.{IsMemoryCapacityOrLimit};
 
 use crate::insertion::{insert_logged, insert_met, insert_onward, insert_slow};
 use crate::means::Means;
-use crate::removal::value_of;
 use papaya_ask::ask::StepKind;
 use papaya_ask::search::{Place, Probed, Search};
+use papaya_book::book::Book;
 use papaya_book::book::gains::named_pair;
-use papaya_book::book::pairs::{KeyPart, ValuePart};
 use papaya_book::count::Shard;
 use papaya_book::keyed::Hashed;
 use papaya_book::rule::entry::Stored;
 use papaya_book::rule::own::{CapacityCause, OwnSteps};
+use papaya_book::rule::pair::Pair;
 use papaya_book::table::Table;
 use papaya_book::window::Window;
 use papaya_call::write::Write;
 use papaya_lookup::lookup::{Met, hash};
-use papaya_words::limits::MAX_LOG_LEN;
 use papaya_words::probe::Refused;
 use papaya_words::word::{Kind, Word, hint};
 use std::alloc::Global;
 use std::hash::{BuildHasher, Hash};
+use std::marker::Model;
 use std::sync::Wait;
+
+/// A live pair of the key that a search has met, and where it lies in the arena of pairs.
+#[derive(Drop)]
+pub struct Live<'a, K, V> {
+    pub(crate) met: Met<K, V>,
+    pub(crate) pair: &'a Pair<K, V>,
+}
+
+impl<'a, K, V> Model for Live<'a, K, V> {
+    ghost use Rattle.std.specs.Prelude.{◌≡◌};
+    ghost use Rattle.papaya_words.specs.Word.{kind_of};
+    ghost use Rattle.papaya_words.specs.declared.word.Kind.TheVariants as kinds;
+    ghost use Rattle.papaya_lookup.specs.declared.lookup.Met.{Met};
+
+    ghost Value = { Met K V };
+
+    ghost view = { λ live. live.met };
+
+    ghost invariant = { λ live. (kind_of live.met.word ≡ kinds.Live)
+        × (live.pair.now ≡ live.met.stored.value) };
+}
+
+impl<'a, K, V> Live<'a, K, V> {
+    /// The pair.
+    #[inline(always)]
+    pub fn pair(&self) -> &'a Pair<K, V>
+        ensures { result.now ≡ self.now.stored.value }
+    {
+        self.pair
+    }
+
+    /// Where it was met.
+    #[inline(always)]
+    pub fn met(&self) -> &Met<K, V>
+        ensures { result.now ≡ self.now }
+    {
+        &self.met
+    }
+
+    /// Where it was met, alone.
+    pub fn into_met(self) -> Met<K, V>
+        ensures { result ≡ self.entry }
+    {
+        let Self { met, pair: _ } = self;
+        met
+    }
+}
 
 /// Where a turn of a search leads a call.
 #[derive(Drop)]
-pub enum Turn<K, V> {
+pub enum Turn<M> {
     /// This place is looked at next.
     Next(Place),
     /// This place is empty, and no pair has the key.
     Empty(Place),
     /// A live pair has the key.
-    Met(Met<K, V>),
+    Met(M),
     /// The table of this number has no place for the key.
     Over(u64),
     /// The pair of the key is being moved, or a pair's value is another pair's.
@@ -60,7 +108,7 @@ pub enum Turn<K, V> {
 
 /// Where a search goes on that has met no pair of the key.
 #[inline(always)]
-fn without<K, V>(seen: Probed) -> Turn<K, V>
+fn without<M>(seen: Probed) -> Turn<M>
     ensures { result ≡ turn_of seen }
 {
     match seen {
@@ -71,15 +119,29 @@ fn without<K, V>(seen: Probed) -> Turn<K, V>
     }
 }
 
+/// Has the pair a key that equals this one? None where its value is another pair's.
+#[inline(always)]
+fn has_key<K: Hash + Eq, V, S: BuildHasher>(
+    book: &Book<K, V, S>,
+    pair: &Pair<K, V>,
+    key: &K,
+) -> Option<bool>
+    requires { IsKeyIn book.now.parts.pairs pair.now.key }
+    ensures { (same : _) → result ≡ Some same → same ≡ K.eq key.now pair.now.key.value }
+{
+    let (stored, _) = book.near_entry(pair)?;
+    Some(*key == *stored)
+}
+
 /// Loads the word at one place of a table, and compares the key of the pair that it names, if it
 /// names one.
 #[inline(always)]
-fn read_at<K: Hash + Eq, V, S: BuildHasher>(
-    window: &mut Window<'_, K, V, S>,
+fn read_at<'a, K: Hash + Eq, V, S: BuildHasher>(
+    window: &mut Window<'a, K, V, S>,
     key: &K,
     table: &Table<K, V, S>,
     at: Place,
-) -> Turn<K, V>
+) -> Turn<Live<'a, K, V>>
     requires within { IsWithin at }
     requires stands { ReadsAt window.old key.now table.now at }
     ensures sees { Sees window.old window.new }
@@ -87,7 +149,6 @@ fn read_at<K: Hash + Eq, V, S: BuildHasher>(
     ensures turns { Turns window.old window.new key.now table.now (Searching (Reading at)) result }
     ensures next { (next : _) → result ≡ Next next → IsWithin next }
     ensures stays { (next : _) → result ≡ Next next → next ≡ record at { probe = next.probe } }
-    ensures live { (met : _) → result ≡ MetPair met → kind_of met.word ≡ Live }
     ensures fewer { left_to result < left_at at }
 {
     let (word, offer) = window.slot_word(table, at.table, at.probe.i);
@@ -96,19 +157,19 @@ fn read_at<K: Hash + Eq, V, S: BuildHasher>(
         Probed::On(Search::Comparing(..)) => {
             let book = window.book;
             let stored = named_pair(word, offer);
+            let passed = without(Search::Comparing(at, word).at_yes(false));
             let pair = book.pair(&stored);
-            let Some(entry) = book.near_entry(pair) else {
-                return Turn::Else;
-            };
-            let same = *key == *entry.0;
-            let compared = Search::Comparing(at, word).at_yes(same);
-            match compared {
-                Probed::Here(..) if Word(word).kind() == Kind::Live => Turn::Met(Met {
-                    place: at,
-                    word,
-                    stored,
-                }),
-                _ => without(compared),
+            match has_key(book, pair, key) {
+                Some(true) if Word(word).kind() == Kind::Live => {
+                    let met = Met {
+                        place: at,
+                        word,
+                        stored,
+                    };
+                    Turn::Met(Live { met, pair })
+                }
+                Some(false) => passed,
+                _ => Turn::Else,
             }
         }
         _ => without(seen),
@@ -118,13 +179,13 @@ fn read_at<K: Hash + Eq, V, S: BuildHasher>(
 /// Looks at one place of a table: loads its hint, and its word where the hint says nothing or is
 /// the key's.
 #[inline(always)]
-fn look_at<K: Hash + Eq, V, S: BuildHasher>(
-    window: &mut Window<'_, K, V, S>,
+fn look_at<'a, K: Hash + Eq, V, S: BuildHasher>(
+    window: &mut Window<'a, K, V, S>,
     key: &K,
     hash: u64,
     table: &Table<K, V, S>,
     at: Place,
-) -> Turn<K, V>
+) -> Turn<Live<'a, K, V>>
     requires within { IsWithin at }
     requires hashed { hash ≡ ⟦<S as Hashed<K>>⟧.hash window.old.book.now.parts.hasher key.now }
     requires stands { LooksAt window.old key.now table.now at }
@@ -133,7 +194,6 @@ fn look_at<K: Hash + Eq, V, S: BuildHasher>(
     ensures turns { Turns window.old window.new key.now table.now (Searching (Looking at)) result }
     ensures next { (next : _) → result ≡ Next next → IsWithin next }
     ensures stays { (next : _) → result ≡ Next next → next ≡ record at { probe = next.probe } }
-    ensures live { (met : _) → result ≡ MetPair met → kind_of met.word ≡ Live }
     ensures fewer { left_to result < left_at at }
 {
     let hint = window.hint(table, at.table, at.probe.i);
@@ -147,20 +207,19 @@ fn look_at<K: Hash + Eq, V, S: BuildHasher>(
 /// Where a pair of the key may be put in, as one search of a table sees it: at an empty place, or
 /// in place of a live pair of the key.
 #[inline(always)]
-fn seek<K: Hash + Eq, V, S: BuildHasher>(
-    window: &mut Window<'_, K, V, S>,
+fn seek<'a, K: Hash + Eq, V, S: BuildHasher>(
+    window: &mut Window<'a, K, V, S>,
     key: &K,
     hash: u64,
     table: &Table<K, V, S>,
     at: Place,
-) -> Turn<K, V>
+) -> Turn<Live<'a, K, V>>
     requires within { IsWithin at }
     requires hashed { hash ≡ ⟦<S as Hashed<K>>⟧.hash window.old.book.now.parts.hasher key.now }
     requires stands { LooksAt window.old key.now table.now at }
     ensures sees { Sees window.old window.new }
     ensures own { window.new.own ≡ window.old.own }
     ensures turns { Turns window.old window.new key.now table.now (Searching (Looking at)) result }
-    ensures live { (met : _) → result ≡ MetPair met → kind_of met.word ≡ Live }
 {
     let mut place = at;
     loop {
@@ -205,7 +264,7 @@ pub(crate) fn pass_over<K: Hash + Eq, V, S: BuildHasher>(
 #[derive(Drop)]
 pub struct Spot<'a, K: Hash + Eq, V, S: BuildHasher> {
     pub table: &'a Table<K, V, S>,
-    pub turn: Turn<K, V>,
+    pub turn: Turn<Live<'a, K, V>>,
 }
 
 /// Where a pair of the key may be put in, as the search of the root sees it.
@@ -221,8 +280,6 @@ pub fn find_place<'a, K: Hash + Eq, V, S: BuildHasher>(
     ensures own { window.new.own ≡ window.old.own }
     ensures found { (spot : _) → result ≡ Some spot → IsFoundFor window.old window.new key.now
         spot.table.now spot.turn }
-    ensures live { (spot : _) → result ≡ Some spot → (met : _) → spot.turn ≡ MetPair met
-        → kind_of met.word ≡ Live }
 {
     let (number, root) = window.root();
     let Some(table) = root else {
@@ -236,90 +293,81 @@ pub fn find_place<'a, K: Hash + Eq, V, S: BuildHasher>(
 
 /// What came of a pair that was logged for a place that a search had found.
 #[derive(Drop)]
-pub enum Tried<K, V> {
+pub enum Tried<K, V, B> {
     /// It was put in.
     Put(Stored<K, V>),
     /// Another word stands there by now.
     Lost(Stored<K, V>),
+    /// It was not logged, since the arena of pairs has no slot at hand: what was handed in.
+    Back(B),
 }
 
 /// Logs a pair and tries to claim for it the empty place that a search has found.
 #[inline(always)]
-pub fn claim<R: Wait, K: Hash + Eq + Drop, V: Drop, S: BuildHasher>(
-    means: &Means<'_, '_, R>,
+pub fn claim<K: Hash + Eq + Drop, V: Drop, S: BuildHasher>(
+    shard: &Shard<'_>,
     window: &mut Window<'_, K, V, S>,
-    given: &mut OwnSteps<CapacityCause>,
     key: K,
     value: V,
     hash: u64,
     table: &Table<K, V, S>,
     at: Place,
-) -> Result<Tried<K, V>, Refused>
+) -> Tried<K, V, (K, V)>
     requires hashed { hash ≡ ⟦<S as Hashed<K>>⟧.hash window.old.book.now.parts.hasher key }
     requires limit { window.old.book.now.parts.limit ≡ None }
     requires stands { StandsBy window.old key table.now (Empty at) }
-    ensures tried { HasTried means.now.initial key value window.old window.new given.new.done
-        result }
-    ensures put { (q : _) → result ≡ Ok (Put q) → Offers window.old window.new key table.now
+    ensures tried { HasTried key value window.old window.new result }
+    ensures put { (q : _) → result ≡ Put q → Offers window.old window.new key table.now
         (Empty at) q }
+    ensures back { (back : _) → result ≡ Back back → back ≡ (key, value) }
 {
-    let book = window.book;
-    let Ok(pair) = book.log_pair(means.rt, KeyPart::Own(key), ValuePart::Own(value)) else {
-        return Err(Refused::Memory);
+    let pair = match window.book.log_fresh(key, value) {
+        Ok(pair) => pair,
+        Err(back) => return Tried::Back(back),
     };
-    if pair.index() >= MAX_LOG_LEN {
-        *given = book.gave_pair(&pair);
-        return Err(Refused::Capacity);
-    }
     let words = (0, Word::live(pair.index() as u64).0);
     let (slot, kind) = (at.probe.i, Some(StepKind::Claim));
     let (found, _) = window.put_slot(table, at.table, slot, kind, &pair, words);
     if found != 0 {
-        return Ok(Tried::Lost(pair));
+        return Tried::Lost(pair);
     }
-    means.shard.add(hash, 1);
+    shard.add(hash, 1);
     window.write_hint(table, at.table, slot, hint(hash));
-    Ok(Tried::Put(pair))
+    Tried::Put(pair)
 }
 
 /// Logs a pair with the key that a search has met, and tries to put it in the place of the pair
 /// that has that.
 #[inline(always)]
-pub fn replace<R: Wait, K: Hash + Eq + Drop, V: Drop, S: BuildHasher>(
-    means: &Means<'_, '_, R>,
+pub fn replace<K: Hash + Eq + Drop, V: Drop, S: BuildHasher>(
     window: &mut Window<'_, K, V, S>,
-    given: &mut OwnSteps<CapacityCause>,
     value: V,
     table: &Table<K, V, S>,
-    met: &Met<K, V>,
-) -> Result<Tried<K, V>, Refused>
+    live: &Live<'_, K, V>,
+) -> Tried<K, V, V>
     requires limit { window.old.book.now.parts.limit ≡ None }
-    requires stands { (key : K) × StandsBy window.old key table.now (MetPair met.now) }
-    requires live { kind_of met.now.word ≡ Live }
-    ensures tried { HasTried means.now.initial (key_of met.now.stored) value window.old window.new
-        given.new.done result }
-    ensures put { (q : _) → result ≡ Ok (Put q) → (key : K) → Offers window.old window.new key
-        table.now (MetPair met.now) q }
+    requires stands { (key : K) × StandsBy window.old key table.now (MetPair live.now) }
+    ensures tried { HasTried (key_of live.now.stored) value window.old window.new result }
+    ensures put { (q : _) → result ≡ Put q → (key : K) → Offers window.old window.new key
+        table.now (MetPair live.now) q }
+    ensures back { (back : _) → result ≡ Back back → back ≡ value }
 {
     let book = window.book;
+    let met = &live.met;
     let (place, word) = (met.place, met.word);
-    let of = KeyPart::Of(met.stored.again());
-    let Ok(pair) = book.log_pair(means.rt, of, ValuePart::Own(value)) else {
-        return Err(Refused::Memory);
+    let pair = match book.log_renewed(&met.stored, live.pair, value) {
+        Ok(pair) => pair,
+        Err(back) => return Tried::Back(back),
     };
-    if pair.index() >= MAX_LOG_LEN {
-        *given = book.gave_pair(&pair);
-        return Err(Refused::Capacity);
-    }
     let words = (word, Word::live(pair.index() as u64).0);
     let (slot, kind) = (place.probe.i, Some(StepKind::Replace));
     let (found, before) = window.put_slot(table, place.table, slot, kind, &pair, words);
     if found != word {
-        return Ok(Tried::Lost(pair));
+        return Tried::Lost(pair);
     }
     let Some(taken) = before else { unreachable!() };
     book.parts.pairs.agrees(&met.stored, &taken);
-    Ok(Tried::Put(pair))
+    Tried::Put(pair)
 }
 
 /// Tries to delete the live pair that a search has met: whether its word stood there still.
@@ -373,10 +421,10 @@ fn claim_at<'a, R: Wait, K: Hash + Eq + Drop, V: Drop, S: BuildHasher>(
     ensures tells { TellsWhy means.now.initial window.new given.new.done
         (λ cause. result ≡ Err cause) }
 {
-    match claim(means, window, given, key, value, hash, table, at) {
-        Ok(Tried::Put(_)) => Ok(None),
-        Ok(Tried::Lost(pair)) => insert_logged(means, window, given, hash, pair),
-        Err(refused) => Err(refused),
+    match claim(means.shard, window, key, value, hash, table, at) {
+        Tried::Put(_) => Ok(None),
+        Tried::Lost(pair) => insert_logged(means, window, given, hash, pair),
+        Tried::Back((key, value)) => insert_slow(means, window, given, key, value),
     }
 }
 
@@ -392,31 +440,30 @@ fn replace_at<'a, R: Wait, K: Hash + Eq + Drop, V: Drop, S: BuildHasher>(
     value: V,
     hash: u64,
     table: &Table<K, V, S>,
-    met: Met<K, V>,
+    live: Live<'a, K, V>,
 ) -> Result<Option<&'a V>, Refused>
     requires initial { IsPowerOfTwo means.now.initial }
     requires hashed { hash ≡ ⟦<S as Hashed<K>>⟧.hash window.old.book.now.parts.hasher key }
     requires limit { window.old.book.now.parts.limit ≡ None }
-    requires stands { StandsBy window.old key table.now (MetPair met) }
-    requires live { kind_of met.word ≡ Live }
+    requires stands { StandsBy window.old key table.now (MetPair live) }
     ensures ends { Ends (is_ok result) window.old window.new }
     ensures put { IfOk result (λ answer. HasWritten window.old window.new key value
-        table.now (MetPair met) answer) }
+        table.now (MetPair live.entry) answer) }
     ensures refused { IfErr result (λ refused. IsMemoryCapacityOrLimit refused) }
     ensures tells { TellsWhy means.now.initial window.new given.new.done
         (λ cause. result ≡ Err cause) }
 {
     let book = window.book;
-    match replace(means, window, given, value, table, &met) {
-        Ok(Tried::Put(_)) => Ok(Some(value_of(book, &met.stored))),
-        Ok(Tried::Lost(pair)) => {
+    match replace(window, value, table, &live) {
+        Tried::Put(_) => Ok(Some(book.value(live.pair))),
+        Tried::Lost(pair) => {
             let write = Write {
-                place: met.place,
-                old: met.word,
+                place: live.met.place,
+                old: live.met.word,
             };
             insert_met(means, window, given, key, hash, write, pair)
         }
-        Err(refused) => Err(refused),
+        Tried::Back(value) => insert_slow(means, window, given, key, value),
     }
 }
 
@@ -460,7 +507,7 @@ pub fn insert<'a, R: Wait, K: Hash + Eq + Drop, V: Drop, S: BuildHasher>(
     let table = spot.table;
     match spot.turn {
         Turn::Empty(at) => claim_at(&means, window, given, key, value, hash, table, at),
-        Turn::Met(met) => replace_at(&means, window, given, key, value, hash, table, met),
+        Turn::Met(live) => replace_at(&means, window, given, key, value, hash, table, live),
         Turn::Over(number) => insert_onward(&means, window, given, key, value, hash, table, number),
         _ => insert_slow(&means, window, given, key, value),
     }

@@ -27,7 +27,6 @@ use papaya_book::book::pairs::{KeyPart, ValuePart};
 use papaya_book::keyed::Keyed;
 use papaya_book::rule::entry::Stored;
 use papaya_book::window::Window;
-use papaya_words::limits::MAX_LOG_LEN;
 use papaya_words::probe::Refused;
 use std::alloc::Global;
 use std::hash::{BuildHasher, Hash};
@@ -161,7 +160,7 @@ impl<'a, K: Hash + Eq + Drop, V: Drop, S: BuildHasher> Writer<'a, K, V, S> {
         match window.book.log_pair(rt, key, value) {
             Ok(pair) => {
                 self.key = Some(KeyPart::Of(pair.again()));
-                self.hold(pair, window)
+                Ok(self.hold(pair))
             }
             Err((key, value)) => {
                 self.key = Some(key);
@@ -191,7 +190,7 @@ impl<'a, K: Hash + Eq + Drop, V: Drop, S: BuildHasher> Writer<'a, K, V, S> {
             unreachable!()
         };
         match window.book.log_pair(rt, KeyPart::Of(last.again()), value) {
-            Ok(pair) => self.hold(pair, window),
+            Ok(pair) => Ok(self.hold(pair)),
             Err((_, value)) => {
                 self.value = Some(value);
                 Err(Answer::Refused(Refused::Memory))
@@ -199,28 +198,13 @@ impl<'a, K: Hash + Eq + Drop, V: Drop, S: BuildHasher> Writer<'a, K, V, S> {
         }
     }
 
-    /// The pair was logged that has the value, and is handed out where a word can name it.
-    fn hold(
-        &mut self,
-        pair: Stored<K, V>,
-        window: &Window<'a, K, V, S>,
-    ) -> Result<Stored<K, V>, Answer>
-        requires placed { IsIn window.now (PairNamed pair) }
-        ensures ok { IfOk result (λ q. (q ≡ pair) × (q.index < 2 ^ 48)
-            × (self.new.call.given ≡ self.old.call.given)) }
-        ensures err { IfErr result (λ answer. (answer ≡ Answer.Refused Refused.Capacity)
-            × IsFull self.new.call.given.done) }
-        ensures rest { self.new ≡ record self.old {
-          value = Some (ValuePart.Of pair);
-          call = record self.old.call { given = self.new.call.given };
-        } }
+    /// The pair was logged that has the value, and is handed out.
+    fn hold(&mut self, pair: Stored<K, V>) -> Stored<K, V>
+        ensures pair { result ≡ pair }
+        ensures value { self.new ≡ record self.old { value = Some (ValuePart.Of pair) } }
     {
         self.value = Some(ValuePart::Of(pair.again()));
-        if pair.index() >= MAX_LOG_LEN {
-            self.call.given = window.book.gave_pair(&pair);
-            return Err(Answer::Refused(Refused::Capacity));
-        }
-        Ok(pair)
+        pair
     }
 
     /// Makes a table, and keeps it with its seal until it is tried to be opened.

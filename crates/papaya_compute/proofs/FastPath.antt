@@ -3,7 +3,7 @@ use Rattle.std.proofs.Common.{◌≡◌, inl, inr, ⊎_elim, Bool, false, Option
 use Rattle.std.proofs.Common.{Err, List, [], ◌∷◌, ◌++◌, option_map, refl, sym, ap, ◌∙◌, subst}
 use denote.Bor.{Bor}
 use Rattle.papaya_words.specs.declared.probe.Refused.{Refused as Cause}
-use Rattle.papaya_words.specs.declared.probe.Refused.TheVariants.{RemoveNothing}
+use Rattle.papaya_words.specs.declared.probe.Refused.TheVariants.{Capacity, Limit, RemoveNothing}
 use Rattle.papaya_call.specs.declared.answers.Operation.{Operation}
 use Rattle.papaya_call.specs.declared.answers.Operation.TheVariants as operation
 use Rattle.papaya_keys.specs.declared.compute.Compute.{Compute as Computed}
@@ -12,12 +12,15 @@ use Rattle.papaya_book.specs.declared.keyed.Keyed as keyed
 use Rattle.papaya_book.specs.declared.window.Window.{Window}
 use Rattle.papaya_book.specs.Logs.{Stored, steps_of}
 use Rattle.papaya_book.specs.Own.{last_if}
-use Rattle.papaya_book.specs.Windows.{Does}
-use Rattle.papaya_lookup.specs.History.{Change, key_of}
+use Rattle.papaya_book.specs.Windows.{Does, IsLawful}
+use Rattle.papaya_book.proofs.Windows.{sees_trans}
+use Rattle.papaya_lookup.specs.Drivers.{own, past}
+use Rattle.papaya_lookup.specs.History.{Change, Makes, changes_by, key_of}
 use Rattle.papaya_change.specs.Changes.{IsChangeOf}
 use Rattle.papaya_change.specs.Showings.{AreOf, HasSaid, IsNoneOnce, IsSamePair, WasHeld}
 use Rattle.papaya_change.specs.Writing.{IsMemoryOrCapacity}
-use Rattle.papaya_compute.specs.FastPath.{IfOn, IfOver}
+use Rattle.papaya_change.proofs.Doing.{idles}
+use Rattle.papaya_compute.specs.FastPath.{ComesTo, HasLooked, IfOn, IfOver, IsAtOnce}
 use Rattle.papaya_compute.specs.ComputeAnswers.{IsOperated, changes}
 use Rattle.papaya_compute.specs.Computing.{IsReplied, value_in}
 use Rattle.papaya_compute.specs.Deciding.{HasNoRemoval, IsDecided, IsDoneBy, Wishes, outcomes, puts}
@@ -34,6 +37,13 @@ does_since a w w' same does = subst (λ (o : _). w'.own.done ≡ o.done ++ last_
 once : {P A : Type 0} (held : Option P) (answer : A) → IsNoneOnce ((held, answer) ∷ [])
 once None answer = tt
 once (Some p) answer = tt
+
+-- a first look is refused for no want of room, and for no limit
+pub no_room : {P : Type 0} → IsAtOnce Capacity → P
+no_room at = ⊎_elim (λ e. absurd (cc e)) (λ e. absurd (cc e)) at
+
+pub no_limit : {P : Type 0} → IsAtOnce Limit → P
+no_limit at = ⊎_elim (λ e. absurd (cc e)) (λ e. absurd (cc e)) at
 
 -- what holds of what it has come to, where one follows from the other
 module _ {C A : Type 0} where
@@ -109,6 +119,14 @@ module _ {K V : Type 0} (current : Option (Bor V)) where
   on_still P (Over (Err cause)) h = tt
   on_still P (On x) h = h
 
+  pub over_still : {C : Type 0} (P : Type 0) (x : Tried C K V) → IfOver x (λ a. P) → IfOver (outcomes x current) (λ a. P)
+  over_still P (Over (Ok (Inserted k v))) h = h
+  over_still P (Over (Ok (Updated before after))) h = h
+  over_still P (Over (Ok (Removed k v))) h = h
+  over_still P (Over (Ok (Aborted t))) h = h
+  over_still P (Over (Err cause)) h = h
+  over_still P (On x) h = tt
+
   pub made_still : {C : Type 0} (M : Bool → Type 0) (x : Tried C K V) → Unremoved x → IfOver x (λ a. M (changes a))
       → IfOver (outcomes x current) (λ a. M (puts a))
   made_still M (Over (Ok (Inserted k v))) none h = h
@@ -171,3 +189,54 @@ module _ {K V : Type 0} (current : Option (Bor V)) where
         })
     decided_once is (Over (Err cause)) r = decided_by (Err cause) (done_refused eq key old new heard removes (Err cause) r cause refl)
     decided_once is (On x) r = tt
+
+-- a call of which nothing was asked yet
+module _ {K V S H A C : Type 0} {d : keyed.Ghosts S K H} (changed : Result A Cause → Bool) (w : Window K V S H d) where
+  pub comes_asked_nothing : (is_right : Result A Cause → Type 0) (may_start : C → Type 0) (w' : Window K V S H d) (x : C) → HasLooked w w' → may_start x
+      → ComesTo changed is_right may_start w w' (On x)
+  comes_asked_nothing is_right may_start w' x looked h = record {
+    sees = looked.sees;
+    lawful = tt;
+    made = tt;
+    refused = λ cause e. absurd (cc e);
+    right = tt;
+    idle = idles w w' looked.own;
+    starts = h;
+  }
+
+  -- and one that has looked before
+  pub comes_since : (is_right is_right' : Result A Cause → Type 0) (may_start may_start' : C → Type 0) (mid w' : Window K V S H d)
+      (x : First C (Result A Cause)) → HasLooked w mid → ((a : Result A Cause) → is_right a → is_right' a) → ((y : C) → may_start y → may_start' y)
+      → ComesTo changed is_right may_start mid w' x → ComesTo changed is_right' may_start' w w' x
+  comes_since is_right is_right' may_start may_start' mid w' x looked f h c = record {
+    sees = sees_trans w mid w' looked.sees c.sees;
+    lawful = c.lawful;
+    made = subst (λ o. IfOver x (λ a. Makes (changed a) (changes_by o.done) (own w') (past w'))) looked.own c.made;
+    refused = c.refused;
+    right = if_over is_right is_right' x f c.right;
+    idle = if_on _ _ x (λ y i. does_since w mid w' looked.own i) c.idle;
+    starts = if_on may_start may_start' x h c.starts;
+  }
+
+-- a call that stores where its rule says so comes to the same as its compute
+module _ {K V S H C F : Type 0} {d : keyed.Ghosts S K H} (w w' : Window K V S H d) (key : K) (decides : F → Option V → Option V → F → Type 0)
+    (first left : F) (held : Option (Stored K V)) (done : Operation V (Unit {0})) (wished : Wishes decides first held done left)
+    (may_start : C → Type 0) where
+  abbrev Answers_so : Result (Computed K V (Unit {0})) Cause → Type 0
+  Answers_so answer = IsReplied d.keys.eq key (past w) (past w') ((held, done) ∷ []) answer
+
+  pub comes_unremoved : (x : Tried C K V) → ComesTo changes Answers_so may_start w w' x → Unremoved None x
+  comes_unremoved x c = unremoved None d.keys.eq key (past w) (past w') decides first left held done wished x c.right
+
+  pub comes_decided : (current : Option (Bor V)) → option_map (λ v. v.now) current ≡ value_in held → (x : Tried C K V)
+      → ComesTo changes Answers_so may_start w w' x
+      → ComesTo puts (IsDecided d.keys.eq key (past w) (past w') decides first left) may_start w w' (outcomes x current)
+  comes_decided current is x c = record {
+    sees = c.sees;
+    lawful = over_still current (IsLawful w') x c.lawful;
+    made = made_still current (λ changed. Makes changed (own w) (own w') (past w')) x (comes_unremoved x c) c.made;
+    refused = λ cause e. c.refused cause (refused_still current x cause e);
+    right = decided_once current d.keys.eq key (past w) (past w') decides first left held done wished is x c.right;
+    idle = on_still current _ x c.idle;
+    starts = on_still current may_start x c.starts;
+  }

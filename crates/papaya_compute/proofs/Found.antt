@@ -2,7 +2,8 @@
 use Rattle.std.proofs.Common.{◌≡◌, ℕ, Bool, true, Option, None, Some, List, [], refl, sym, ◌∙◌, subst}
 use Rattle.std.specs.Cmp.{IsEquivalence}
 use Rattle.logbook.specs.Pages.{Book}
-use Rattle.papaya_words.specs.Word.{pair_of}
+use Rattle.papaya_words.specs.Word.{kind_of, pair_of}
+use Rattle.papaya_words.specs.declared.word.Kind.TheVariants as kinds
 use Rattle.papaya_ask.specs.declared.search.Place.{Place}
 use Rattle.papaya_call.specs.declared.compute.Gap.TheVariants.{At}
 use Rattle.papaya_call.specs.declared.machine.State.{State}
@@ -56,6 +57,9 @@ module _ {K V S H : Type 0} (eq : K → K → Bool) (input : K → List (List �
   module _ (at : Place) (word : ℕ) (p : Stored K V) (r : At_state (Showing (record { place = at; word = word })) (Some p)) where
     pub pair_placed : IsPlaced b (Some name) (names.Pair p)
     pair_placed = subst (λ (o : Option (Stored K V)). IsPlaced b (Some name) (pair_named o)) (r.3 p refl) r.4.last_placed
+
+    pub pair_live : kind_of word ≡ kinds.Live
+    pair_live = r.4.relies.call.stage.1.live
 
     pub pair_found : WasHeld eq (eq key) (history_of begun) (history_of log) (Some p)
     pair_found =

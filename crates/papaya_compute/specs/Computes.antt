@@ -1,15 +1,24 @@
 -- What a compute on the shared map holds and relies on, by what it sees of the map.
-use Rattle.std.specs.Prelude.{◌≡◌, List, Option, None, Some, Result, []}
+use Rattle.std.specs.Prelude.{◌≡◌, ℕ, List, Option, None, Some, Result, Ok, IfErr, []}
 use Rattle.papaya_words.specs.declared.probe.Refused.{Refused}
 use Rattle.papaya_call.specs.declared.answers.Operation.{Operation}
 use Rattle.papaya_ask.specs.declared.ask.Answer.{Answer}
+use Rattle.papaya_ask.specs.declared.ask.Ask.TheVariants.{Done}
+use Rattle.papaya_ask.specs.declared.call.Reply.TheVariants.{Aborted as ReplyAborted}
+use Rattle.papaya_ask.specs.declared.call.Reply.TheVariants.{Refused as ReplyRefused}
+use Rattle.papaya_chain.specs.Machine.{after, ask_of}
+use Rattle.papaya_chain.specs.declared.ask.Answer.TheVariants.{Call as Told}
+use Rattle.papaya_chain.specs.declared.ask.Ask.TheVariants.{Call}
+use Rattle.papaya_chain.specs.declared.machine.Phase.TheVariants.{Calling}
 use Rattle.papaya_keys.specs.declared.compute.Compute.{Compute as Computed}
+use Rattle.papaya_keys.specs.declared.compute.Compute.TheVariants.{Aborted}
 use Rattle.papaya_book.specs.declared.keyed.Keyed as keyed
 use Rattle.papaya_book.specs.declared.rule.entry.Event.{Event}
 use Rattle.papaya_book.specs.declared.window.Window.{Window}
 use Rattle.papaya_book.specs.Keys.{Keys}
 use Rattle.papaya_book.specs.Logs.{Stored}
 use Rattle.papaya_book.specs.Parts.{begun_of}
+use Rattle.papaya_book.specs.Windows.{Sees}
 use Rattle.papaya_compute.specs.declared.computing.Computing.{Computing}
 use Rattle.papaya_compute.specs.declared.computing.Turn.{Turn}
 use Rattle.papaya_compute.specs.declared.computing.Turn.TheVariants.{Answered, Shows, Replied}
@@ -19,7 +28,9 @@ use Rattle.papaya_call.specs.Machine.{ask_of as call_ask_of}
 use Rattle.papaya_lookup.specs.History.{history_of}
 use Rattle.papaya_compute.specs.declared.deciding.Outcome.{Outcome}
 use Rattle.papaya_compute.specs.Deciding.{HasNoRemoval, IsDoneBy}
-use Rattle.papaya_change.specs.Doing.{Answers}
+use Rattle.papaya_change.specs.Doing.{Answers, has_changed}
+use Rattle.papaya_change.specs.Window.Driver.{Helps}
+use Rattle.papaya_compute.specs.ComputeAnswers.{changes}
 
 module _ {K V S T H : Type 0} {d : keyed.Ghosts S K H} where
   abbrev pub CanCompute : Window K V S H d → Computing K V S T H → Type 0
@@ -45,6 +56,24 @@ module _ {K V S T H : Type 0} {d : keyed.Ghosts S K H} where
   Replies w x answer = computing.Replies d.keys.eq d.keys.hash (begun_of w.book.now.parts)
       w.book.now.begun.book w.sight.log x answer
 
+  -- its machine was told this answer, and the call was set aside where that asks for it
+  pub record IsTold (w : Window K V S H d) (x : Computing K V S T H) (answer : Answer)
+      (w' : Window K V S H d) (x' : Computing K V S T H) : Type 0 where
+    pub helps : Helps w (after x.writer.call.machine (Told answer)) w' x'.writer.call
+    pub still : (after x.writer.call.machine (Told answer)).phase ≡ Calling → w' ≡ w
+    pub takes : Takes w x answer w' x'
+
+  -- It has replied so. Refused it is for the cause that its machine tells, and where it is aborted,
+  -- its machine has told so.
+  pub record HasReplied (w : Window K V S H d) (x : Computing K V S T H)
+      (answer : Result (Computed K V T) Refused) : Type 0 where
+    pub refusal : IfErr answer (λ refused. ask_of x.writer.call.machine
+        ≡ Call (Done (ReplyRefused refused)))
+    pub changed : changes answer ≡ has_changed x.writer.call.machine
+    pub aborted : (with : T) → answer ≡ Ok (Aborted with) → (n : ℕ)
+        × (ask_of x.writer.call.machine ≡ Call (Done (ReplyAborted n)))
+    pub replies : Replies w x answer
+
   -- one that begins
   abbrev pub IsBegun : Window K V S H d → K → Computing K V S T H → Type 0
   IsBegun w key x = computing.IsComputing d.keys.eq d.keys.hash (begun_of w.book.now.parts)
@@ -58,6 +87,13 @@ module _ {K V S T H : Type 0} {d : keyed.Ghosts S K H} where
   Turns w x w' x' (Shows shown) = IsToShow x shown × (w' ≡ w) × (x' ≡ x)
   Turns w x w' x' Replied = Computes w x w' x' None
       × Answers (call_ask_of x.writer.call.machine.call) None w w'
+
+  -- and so it has done that
+  pub record HasTurned (w : Window K V S H d) (x : Computing K V S T H) (w' : Window K V S H d)
+      (x' : Computing K V S T H) (turn : Turn K V) : Type 0 where
+    pub sees : Sees w w'
+    pub machine : x'.writer.call.machine ≡ x.writer.call.machine
+    pub turns : Turns w x w' x' turn
 
 module _ {K V S T H : Type 0} where
   -- some compute is under way, whatever is seen of the map

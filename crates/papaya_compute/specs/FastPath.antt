@@ -1,8 +1,9 @@
 -- The fast path of a compute: what it has come to, and where the machine starts where it gave up.
 use Rattle.std.specs.Prelude.{◌≡◌, ℕ, ◌<◌, ◌^◌, false, true, Option, None, Some, Result, List, []}
-use Rattle.std.specs.Prelude.{◌∷◌}
+use Rattle.std.specs.Prelude.{◌∷◌, ◌⊎◌, Bool, Err}
 use mathlib.Core.List.{IsPrefix}
 use Rattle.papaya_words.specs.declared.probe.Refused.{Refused}
+use Rattle.papaya_words.specs.declared.probe.Refused.TheVariants.{Memory, RemoveNothing}
 use Rattle.papaya_call.specs.declared.answers.Operation.{Operation}
 use Rattle.papaya_call.specs.declared.answers.Operation.TheVariants as operation
 use Rattle.papaya_call.specs.declared.machine.State.{State}
@@ -16,9 +17,9 @@ use Rattle.papaya_book.specs.declared.window.Window.{Window}
 use Rattle.papaya_book.specs.Logs.{Stored}
 use Rattle.papaya_book.specs.Parts.{begun_of}
 use Rattle.papaya_book.specs.Sheets.{Sheet}
-use Rattle.papaya_book.specs.Windows.{IsIn, IsLawful}
-use Rattle.papaya_lookup.specs.Drivers.{past}
-use Rattle.papaya_lookup.specs.History.{history_of, key_of}
+use Rattle.papaya_book.specs.Windows.{Does, IsIn, IsLawful, Sees}
+use Rattle.papaya_lookup.specs.Drivers.{own, past}
+use Rattle.papaya_lookup.specs.History.{Makes, history_of, key_of}
 use Rattle.papaya_lookup.specs.declared.lookup.Met.{Met}
 use Rattle.papaya_change.specs.Doing.{has_changed}
 use Rattle.papaya_change.specs.Seeking.{Seeker, leads, met_by}
@@ -33,6 +34,7 @@ use Rattle.papaya_compute.specs.declared.fast_path.Start.TheVariants.{Anew, Fill
 use Rattle.papaya_compute.specs.declared.fast_path.Start.TheVariants.{Removing}
 use Rattle.papaya_compute.specs.declared.computing.Computing.{Computing}
 use Rattle.papaya_compute.specs.Computing as computing
+use Rattle.papaya_compute.specs.ComputeAnswers.{changes}
 use Rattle.papaya_compute.specs.Computing.{IsReplied}
 
 -- it is over, and this holds of its answer
@@ -52,11 +54,40 @@ pub record IsAhead {K V S T H : Type 0} (initial : ℕ) (x : Computing K V S T H
   pub initial_is : x.writer.call.machine.call.initial ≡ initial
   pub unchanged : has_changed x.writer.call.machine ≡ false
 
+-- what a first look alone may be refused for: no room is wanted there, and no number of a pair
+abbrev pub IsAtOnce : Refused → Type 0
+IsAtOnce cause = (cause ≡ Memory) ⊎ (cause ≡ RemoveNothing)
+
 module _ {K V S H : Type 0} {d : keyed.Ghosts S K H} where
+  -- it has seen more of the same book, and done nothing
+  pub record HasLooked (w w' : Window K V S H d) : Type 0 where
+    pub sees : Sees w w'
+    pub own : w'.own ≡ w.own
+
+  -- How a first look ends. Where the call is over, it has made one change, if its answer tells of
+  -- one, and that answer is right. Else it has made none, and its machine may start so.
+  pub record ComesTo {A C : Type 0} (changed : Result A Refused → Bool)
+      (is_right : Result A Refused → Type 0) (may_start : C → Type 0) (w w' : Window K V S H d)
+      (first : First C (Result A Refused)) : Type 0 where
+    pub sees : Sees w w'
+    pub lawful : IfOver first (λ answer. IsLawful w')
+    pub made : IfOver first (λ answer. Makes (changed answer) (own w) (own w') (past w'))
+    pub refused : (cause : Refused) → first ≡ Over (Err cause) → IsAtOnce cause
+    pub right : IfOver first is_right
+    pub idle : IfOn first (λ start. Does false w w')
+    pub starts : IfOn first may_start
+
   -- each call of this key that began at this log is led so by a turn
-  abbrev pub IsFoundAt : Window K V S H d → K → List (Event K V S) → Sheet → Turn K V → Type 0
+  abbrev pub IsFoundAt : Window K V S H d → K → List (Event K V S) → Sheet → Turn (Met K V) → Type 0
   IsFoundAt w key begun table turn = (who : Seeker) (state : State) → leads who turn ≡ Some state
       → IsSeekingAt who w key begun state (met_by turn) table
+
+  -- They are so in a map that has no limit on pairs, by the hash of the key.
+  pub record IsLed (w : Window K V S H d) (key : K) (hash : ℕ) (begun : List (Event K V S))
+      (table : Sheet) (turn : Turn (Met K V)) : Type 0 where
+    pub hashed : hash ≡ d.keys.hash w.book.now.parts.hasher key
+    pub limit : w.book.now.parts.limit ≡ None
+    pub found : IsFoundAt w key begun table turn
 
   -- A pair of this key is at hand that was made of what the closure answered.
   pub record IsMade (w : Window K V S H d) (key : K) (hash : ℕ) (pair : Stored K V) : Type 0 where
@@ -105,19 +136,31 @@ module _ {K V S T H : Type 0} {d : keyed.Ghosts S K H} where
       → computing.IsUnderWay d.keys.eq d.keys.hash (begun_of w'.book.now.parts)
       w'.book.now.begun.book key begun w'.sight.log x heard
 
-  -- Where its closure was shown once what the search found, and answered so, and it is over, it
-  -- answers so since each log at which the search may have begun.
-  abbrev pub RepliesOnce : (w w' : Window K V S H d) → K → Sheet → Turn K V → Operation V T
-      → First (Start K V) (Result (Computed K V T) Refused) → Type 0
-  RepliesOnce w w' key table turn done first = IfOver first (λ answer. (begun : List (Event K V S))
+  -- the machine that starts so
+  pub record StartsAt (initial : ℕ) (w : Window K V S H d) (start : Start K V)
+      (w' : Window K V S H d) (x : Computing K V S T H) : Type 0 where
+    pub ahead : IsAhead initial x
+    pub goes : GoesFrom w start w' x
+
+  -- Where its closure was shown once what the search found, and answered so, it answers so since
+  -- each log at which the search may have begun.
+  abbrev pub RepliesOnce : (w w' : Window K V S H d) → K → Sheet → Turn (Met K V) → Operation V T
+      → Result (Computed K V T) Refused → Type 0
+  RepliesOnce w w' key table turn done answer = (begun : List (Event K V S))
       → IsFoundAt w key begun table turn
-      → IsReplied d.keys.eq key (history_of begun) (past w') ((met_by turn, done) ∷ []) answer)
+      → IsReplied d.keys.eq key (history_of begun) (past w') ((met_by turn, done) ∷ []) answer
 
   -- and else its machine starts so
-  abbrev pub GoesOnce : (w w' : Window K V S H d) → K → Sheet → Turn K V → Operation V T
+  abbrev pub GoesOnce : (w w' : Window K V S H d) → K → Sheet → Turn (Met K V) → Operation V T
+      → Start K V → Type 0
+  GoesOnce w w' key table turn done start = (begun : List (Event K V S))
+      → IsFoundAt w key begun table turn → HasHeard w' key begun start ((met_by turn, done) ∷ [])
+
+  -- what it has come to whose closure was shown and answered so
+  abbrev pub DoesAtOnce : (w w' : Window K V S H d) → K → Sheet → Turn (Met K V) → Operation V T
       → First (Start K V) (Result (Computed K V T) Refused) → Type 0
-  GoesOnce w w' key table turn done first = IfOn first (λ start. (begun : List (Event K V S))
-      → IsFoundAt w key begun table turn → HasHeard w' key begun start ((met_by turn, done) ∷ []))
+  DoesAtOnce w w' key table turn done first = ComesTo changes
+      (RepliesOnce w w' key table turn done) (GoesOnce w w' key table turn done) w w' first
 
   -- One of this key starts so that began since what was seen first. Its closure was `first` then,
   -- and is `left` now.

@@ -1,21 +1,19 @@
 //! Computes: their machine, answered by steps on the book and by a closure.
-ghost use Rattle.papaya_change.specs.Window.Driver.{Helps};
 ghost use Rattle.papaya_compute.specs.FastPath.{IsAhead};
 ghost use Rattle.papaya_book.specs.declared.rule.entry.Named.TheVariants.{Pair as PairNamed};
 ghost use Rattle.papaya_book.specs.Windows.{Does, IsIn as IsInWindow, IsLawful, Sees};
 ghost use Rattle.papaya_book.specs.Books.{IsIn};
 ghost use Rattle.papaya_book.specs.Logs.{pair_named};
-ghost use Rattle.papaya_compute.specs.Computes.{CanCompute, CanTake, Computes, Hears, IsAnyCompute, IsBegun, Replies, Takes, Turns};
-ghost use Rattle.std.specs.Prelude.{◌≡◌, ◌⊎◌, ℕ, ◌<◌, ◌^◌, true, None, Some, Ok, IfErr, option_map};
+ghost use Rattle.papaya_compute.specs.Computes.{CanCompute, CanTake, Computes, HasReplied, HasTurned, Hears, IsAnyCompute, IsBegun, IsTold, Replies};
+ghost use Rattle.std.specs.Prelude.{◌≡◌, ◌⊎◌, ℕ, ◌<◌, ◌^◌, true, None, Some, Ok, option_map};
 ghost use Rattle.std.specs.Int.{IsPowerOfTwo};
 ghost use Rattle.papaya_call.specs.Compute.{IsRemembered};
 ghost use Rattle.papaya_call.specs.Machine.{IsFitAsk};
-ghost use Rattle.papaya_chain.specs.Machine.{IsStanding, after, ask_of, kind_of_ask};
-ghost use Rattle.papaya_chain.specs.declared.ask.Answer.TheVariants.{Call as Told};
+ghost use Rattle.papaya_chain.specs.Machine.{IsStanding, ask_of, kind_of_ask};
 ghost use Rattle.papaya_chain.specs.declared.ask.Ask.TheVariants.{Call};
 ghost use Rattle.papaya_chain.specs.declared.machine.Phase.TheVariants.{Calling};
 ghost use Rattle.papaya_ask.specs.declared.ask.StepKind.TheVariants.{Claim, Replace};
-ghost use Rattle.papaya_ask.specs.declared.call.Reply.TheVariants.{Aborted, Inserted, Removed, Replaced, Refused as ReplyRefused};
+ghost use Rattle.papaya_ask.specs.declared.call.Reply.TheVariants.{Inserted, Removed, Replaced};
 ghost use Rattle.papaya_ask.specs.declared.ask.Ask.TheVariants.{Done, Exchange, MakePair, MakePairOf, ShowPair};
 ghost use Rattle.papaya_ask.specs.declared.ask.At.TheVariants.{Slot};
 ghost use Rattle.papaya_compute.specs.Computing.{IsKept, IsToShow, IsWriters, chosen_after, pair_for, value_in};
@@ -328,11 +326,7 @@ impl<'a, K: Hash + Eq + Drop, V: Drop, S: BuildHasher, T: Drop> Computing<'a, K,
     )
         requires standing { IsStanding self.old.writer.call.machine }
         requires can { CanTake window.old self.old answer }
-        ensures helps { Helps window.old (after self.old.writer.call.machine (Told answer))
-            window.new self.new.writer.call }
-        ensures still { (after self.old.writer.call.machine (Told answer)).phase ≡ Calling
-            → window.new ≡ window.old }
-        ensures takes { Takes window.old self.old answer window.new self.new }
+        ensures told { IsTold window.old self.old answer window.new self.new }
     {
         self.writer.call.answer(answer);
         self.writer.call.help(rt, alloc, shard, window);
@@ -474,9 +468,7 @@ impl<'a, K: Hash + Eq + Drop, V: Drop, S: BuildHasher, T: Drop> Computing<'a, K,
         requires can { CanCompute window.old self.old }
         requires standing { IsStanding self.old.writer.call.machine }
         requires calling { self.old.writer.call.machine.phase ≡ Calling }
-        ensures sees { Sees window.old window.new }
-        ensures machine { self.new.writer.call.machine ≡ self.old.writer.call.machine }
-        ensures turns { Turns window.old self.old window.new self.new result }
+        ensures turned { HasTurned window.old self.old window.new self.new result }
     {
         let Ask::Call(ask) = self.writer.call.machine.ask() else {
             unreachable!()
@@ -581,12 +573,7 @@ impl<'a, K: Hash + Eq + Drop, V: Drop, S: BuildHasher, T: Drop> Computing<'a, K,
         requires can { CanCompute window.now self.old }
         requires done { (reply : _) × (ask_of self.old.writer.call.machine
             ≡ Call (Done reply)) }
-        ensures refusal { IfErr result (λ refused. ask_of self.old.writer.call.machine ≡ Call (Done
-            (ReplyRefused refused))) }
-        ensures changed { changes result ≡ has_changed self.old.writer.call.machine }
-        ensures aborted { (with : T) → result ≡ Ok (Compute.Aborted with) → (n : ℕ)
-            × (ask_of self.old.writer.call.machine ≡ Call (Done (Aborted n))) }
-        ensures replies { Replies window.now self.old result }
+        ensures replied { HasReplied window.now self.old result }
     {
         match self.writer.call.machine.ask() {
             Ask::Call(CallAsk::Done(Reply::Inserted(_))) => Ok(self.inserted(window)),

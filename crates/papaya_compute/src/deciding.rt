@@ -1,21 +1,19 @@
 //! Calls that store a value where their rule says so. Each is a compute whose rule is a type in the
 //! place of a closure, and no pair is removed by it.
 ghost use Rattle.papaya_change.specs.Window.Ends.{Ends, TellsWhy};
-ghost use Rattle.std.specs.Prelude.{◌≡◌, false, None, Some, Option, Ok, Err, IfErr, option_map};
+ghost use Rattle.std.specs.Prelude.{◌≡◌, None, Some, Option, Ok, Err, IfErr, option_map};
 ghost use Rattle.std.specs.Int.{IsPowerOfTwo};
 ghost use Rattle.papaya_ask.specs.declared.ask.Ask.TheVariants.{Done};
 ghost use Rattle.papaya_ask.specs.declared.call.Reply.TheVariants.{Refused as ReplyRefused};
 ghost use Rattle.papaya_chain.specs.declared.ask.Ask.TheVariants.{Call};
 ghost use Rattle.papaya_chain.specs.Machine.{IsStanding, ask_of};
-ghost use Rattle.papaya_book.specs.Limits.{HasNoRoom, IsSpent, tables_of};
-ghost use Rattle.papaya_book.specs.Windows.{Does, IsLawful, Sees};
-ghost use Rattle.papaya_lookup.specs.Drivers.{own, past};
-ghost use Rattle.papaya_lookup.specs.History.{Makes};
+ghost use Rattle.papaya_book.specs.Windows.{IsLawful};
+ghost use Rattle.papaya_lookup.specs.Drivers.{past};
 ghost use Rattle.papaya_change.specs.Doing.{has_changed};
 ghost use Rattle.papaya_compute.specs.Computes.{CanDecide, Decides};
 ghost use Rattle.papaya_compute.specs.Deciding.{IsDecided, Wishes, WishesOf, answer_of, outcome_of};
 ghost use Rattle.papaya_compute.specs.Deciding.{outcomes, puts};
-ghost use Rattle.papaya_compute.specs.FastPath.{IfOn, IfOver, IsOnItsWay};
+ghost use Rattle.papaya_compute.specs.FastPath.{ComesTo, IsOnItsWay};
 ghost use Rattle.papaya_compute.specs.declared.fast_path.First.TheVariants.{Over};
 
 use crate::computing::{Computing, Turn as Next, value_in};
@@ -26,7 +24,6 @@ use papaya_book::window::Window;
 use papaya_call::answers::Operation;
 use papaya_change::fast_path::Turn;
 use papaya_change::means::Means;
-use papaya_change::removal::entry;
 use papaya_keys::compute::Compute;
 use papaya_lookup::lookup::hash;
 use papaya_words::probe::Refused;
@@ -172,27 +169,15 @@ fn settle<'a, C: Drop, K, V>(
 fn decide_fast<'a, R: Wait, K: Hash + Eq + Drop, V: Drop, S: BuildHasher, D: Rule<V>>(
     means: &Means<'_, '_, R>,
     window: &mut Window<'a, K, V, S>,
-    given: &mut OwnSteps<CapacityCause>,
     key: K,
     rule: &mut D,
 ) -> First<Start<K, V>, Result<Outcome<'a, V>, Refused>>
     requires callable { D.callable rule.old }
-    requires initial { IsPowerOfTwo means.now.initial }
     requires lawful { IsLawful window.old }
     ensures callable { D.callable rule.new }
-    ensures sees { Sees window.old window.new }
-    ensures lawful { IfOver result (λ answer. IsLawful window.new) }
-    ensures made { IfOver result (λ answer. Makes (puts answer) (own window.old) (own window.new)
-        (past window.new)) }
-    ensures crowded { result ≡ Over (Err Refused.Capacity) → HasNoRoom means.now.initial
-        (tables_of window.new.sight.log) given.new.done }
-    ensures spent { result ≡ Over (Err Refused.Limit) → IsSpent window.new.book.now.parts.limit
-        window.new.sight.log }
-    ensures decided { IfOver result (λ answer. IsDecided K.eq key (past window.old)
-        (past window.new) D.decides rule.old rule.new answer) }
-    ensures idle { IfOn result (λ start. Does false window.old window.new) }
-    ensures goes { IfOn result (IsOnItsWay window.old window.new key (Wishes D.decides) rule.old
-        rule.new) }
+    ensures comes { ComesTo puts (IsDecided K.eq key (past window.old) (past window.new)
+        D.decides rule.old rule.new) (IsOnItsWay window.old window.new key (Wishes D.decides)
+        rule.old rule.new) window.old window.new result }
 {
     let book = window.book;
     let hash = hash(&book.parts.hasher, &key);
@@ -203,13 +188,13 @@ fn decide_fast<'a, R: Wait, K: Hash + Eq + Drop, V: Drop, S: BuildHasher, D: Rul
     match spot.turn {
         Turn::Empty(at) => {
             let wished = wish(None, rule);
-            let filled = fill(means, window, given, key, hash, table, at, wished);
+            let filled = fill(means, window, key, hash, table, at, wished);
             settle(filled, None)
         }
-        Turn::Met(met) => {
-            let old = entry(book, &met.stored);
+        Turn::Met(live) => {
+            let old = book.entry(live.pair());
             let again = wish(Some(old.1), rule);
-            let renewed = renew(means, window, given, key, hash, table, met, old, again);
+            let renewed = renew(means, window, key, hash, table, live, old, again);
             settle(renewed, Some(old.1))
         }
         _ => First::On(Start::Anew(key)),
@@ -284,7 +269,7 @@ pub fn decide<'a, R: Wait, K: Hash + Eq + Drop, V: Drop, S: BuildHasher, D: Rule
         initial,
         shard,
     };
-    match decide_fast(&means, window, given, key, rule) {
+    match decide_fast(&means, window, key, rule) {
         First::Over(answer) => answer,
         First::On(start) => decide_slow(&means, window, given, start, rule),
     }

@@ -1,33 +1,29 @@
 //! Computes whose search of the root ends at an empty place or at a live pair: what their closure
 //! answered is done at once. Where another call was first, they tell in a few words where their
 //! machine starts. A machine is large, so that no fast path makes one.
-ghost use Rattle.std.specs.Prelude.{◌≡◌, false, None, Some, Err, List, Option};
+ghost use Rattle.std.specs.Prelude.{◌≡◌, ◌<◌, ◌^◌, Some, IfSome, List, Option};
 ghost use Rattle.std.specs.Int.{IsPowerOfTwo};
 ghost use Rattle.papaya_call.specs.declared.answers.Operation.{Operation};
-ghost use Rattle.papaya_words.specs.Word.{kind_of};
-ghost use Rattle.papaya_words.specs.declared.word.Kind.TheVariants.{Live};
-ghost use Rattle.papaya_book.specs.Limits.{HasNoRoom, IsSpent, tables_of};
+ghost use Rattle.papaya_book.specs.Books.{IsIn};
 ghost use Rattle.papaya_book.specs.Logs.{Stored};
-ghost use Rattle.papaya_book.specs.Windows.{Does, IsLawful, Sees};
-ghost use Rattle.papaya_lookup.specs.Drivers.{own, past};
-ghost use Rattle.papaya_lookup.specs.History.{Makes};
+ghost use Rattle.papaya_book.specs.PairParts.{IsKeyPartIn, key_in};
+ghost use Rattle.papaya_book.specs.Windows.{IsLawful};
+ghost use Rattle.papaya_book.specs.declared.rule.entry.Named.TheVariants.{Pair as PairNamed};
+ghost use Rattle.papaya_lookup.specs.History.{key_of};
 ghost use Rattle.papaya_change.specs.Showings.{AreOf};
-ghost use Rattle.papaya_change.specs.Window.Seeking.{IsFoundFor};
 ghost use Rattle.papaya_change.specs.declared.fast_path.Turn.TheVariants.{Empty, Met as MetPair};
-ghost use Rattle.papaya_compute.specs.ComputeAnswers.{changes};
-ghost use Rattle.papaya_compute.specs.FastPath.{GoesFrom, GoesOnce, HasHeard, IfOn, IfOver};
-ghost use Rattle.papaya_compute.specs.FastPath.{IsAhead, IsFoundAt, RepliesOnce};
-ghost use Rattle.papaya_compute.specs.declared.fast_path.First.TheVariants.{Over};
+ghost use Rattle.papaya_compute.specs.FastPath.{DoesAtOnce, HasHeard, HasLooked, IsLed, StartsAt};
 
 use crate::computing::Computing;
 use papaya_ask::search::Place;
+use papaya_book::book::Book;
+use papaya_book::book::pairs::{KeyPart, ValuePart};
 use papaya_book::keyed::Hashed;
 use papaya_book::rule::entry::Stored;
-use papaya_book::rule::own::{CapacityCause, OwnSteps};
 use papaya_book::table::Table;
 use papaya_book::window::Window;
 use papaya_call::answers::Operation;
-use papaya_change::fast_path::{Spot, Tried, claim, delete, find_place, replace};
+use papaya_change::fast_path::{Live, Spot, Tried, claim, delete, find_place, replace};
 use papaya_change::means::Means;
 use papaya_change::removal::{entry, value_of};
 use papaya_keys::compute::Compute;
@@ -80,13 +76,9 @@ pub fn look<'a, K: Hash + Eq, V, S: BuildHasher>(
 ) -> Option<Spot<'a, K, V, S>>
     requires lawful { IsLawful window.old }
     requires hashed { hash ≡ ⟦<S as Hashed<K>>⟧.hash window.old.book.now.parts.hasher key.now }
-    ensures sees { Sees window.old window.new }
-    ensures own { window.new.own ≡ window.old.own }
-    ensures limit { (spot : _) → result ≡ Some spot → window.new.book.now.parts.limit ≡ None }
-    ensures found { (spot : _) → result ≡ Some spot → IsFoundFor window.old window.new key.now
-        spot.table.now spot.turn }
-    ensures live { (spot : _) → result ≡ Some spot → (met : _) → spot.turn ≡ MetPair met
-        → kind_of met.word ≡ Live }
+    ensures looked { HasLooked window.old window.new }
+    ensures led { (spot : _) → result ≡ Some spot → IsLed window.new key.now hash
+        window.old.sight.log spot.table.now spot.turn }
 {
     if window.book.parts.limit.is_some() {
         return None;
@@ -103,10 +95,8 @@ pub fn machine_of<'a, K: Hash + Eq + Drop, V: Drop, S: BuildHasher, T: Drop>(
     requires initial { IsPowerOfTwo initial }
     requires can { (key : K) × (begun : _) × (heard : List (Option (Stored K V) × Operation V T))
         × HasHeard window.old key begun start heard }
-    ensures sees { Sees window.old window.new }
-    ensures own { window.new.own ≡ window.old.own }
-    ensures ahead { IsAhead initial result }
-    ensures goes { GoesFrom window.old start window.new result }
+    ensures looked { HasLooked window.old window.new }
+    ensures starts { StartsAt initial window.old start window.new result }
 {
     match start {
         Start::Anew(key) => {
@@ -126,44 +116,54 @@ pub fn machine_of<'a, K: Hash + Eq + Drop, V: Drop, S: BuildHasher, T: Drop>(
     }
 }
 
+/// Logs a pair of this key and this value for which the arena had no slot at hand. None where there
+/// is no memory.
+#[cold]
+#[inline(never)]
+fn log_by_waiting<R: Wait, K: Hash + Eq + Drop, V: Drop, S: BuildHasher>(
+    rt: &R,
+    book: &Book<K, V, S>,
+    key: KeyPart<K, V>,
+    value: V,
+) -> Option<Stored<K, V>>
+    requires { IsKeyPartIn book.now key }
+    ensures placed { IfSome result (λ pair. IsIn book.now (PairNamed pair)) }
+    ensures key { IfSome result (λ pair. key_of pair ≡ key_in key) }
+    ensures value { IfSome result (λ pair. pair.value.value ≡ value) }
+    ensures number { IfSome result (λ pair. pair.index < 2 ^ 48) }
+{
+    book.log_pair(rt, key, ValuePart::Own(value)).ok()
+}
+
 /// Does what the closure answered that was shown that there is none, at the empty place that a
 /// search has found.
 #[inline(always)]
 pub fn fill<'a, R: Wait, K: Hash + Eq + Drop, V: Drop, S: BuildHasher, T: Drop>(
     means: &Means<'_, '_, R>,
     window: &mut Window<'a, K, V, S>,
-    given: &mut OwnSteps<CapacityCause>,
     key: K,
     hash: u64,
     table: &Table<K, V, S>,
     at: Place,
     operation: Operation<V, T>,
 ) -> First<Start<K, V>, Result<Compute<'a, K, V, T>, Refused>>
-    requires initial { IsPowerOfTwo means.now.initial }
-    requires hashed { hash ≡ ⟦<S as Hashed<K>>⟧.hash window.old.book.now.parts.hasher key }
-    requires limit { window.old.book.now.parts.limit ≡ None }
-    requires found { (begun : _) × IsFoundAt window.old key begun table.now (Empty at) }
-    ensures sees { Sees window.old window.new }
-    ensures lawful { IsLawful window.new }
-    ensures made { IfOver result (λ answer. Makes (changes answer) (own window.old) (own window.new)
-        (past window.new)) }
-    ensures crowded { result ≡ Over (Err Refused.Capacity) → HasNoRoom means.now.initial
-        (tables_of window.new.sight.log) given.new.done }
-    ensures spent { result ≡ Over (Err Refused.Limit) → IsSpent window.new.book.now.parts.limit
-        window.new.sight.log }
-    ensures replies { RepliesOnce window.old window.new key table.now (Empty at) operation result }
-    ensures idle { IfOn result (λ start. Does false window.old window.new) }
-    ensures goes { GoesOnce window.old window.new key table.now (Empty at) operation result }
+    requires led { (begun : _) × IsLed window.old key hash begun table.now (Empty at) }
+    ensures does { DoesAtOnce window.old window.new key table.now (Empty at) operation result }
 {
     match operation {
         Operation::Insert(value) => {
-            match claim(means, window, given, key, value, hash, table, at) {
-                Ok(Tried::Put(pair)) => {
+            match claim(means.shard, window, key, value, hash, table, at) {
+                Tried::Put(pair) => {
                     let (key, value) = entry(window.book, &pair);
                     First::Over(Ok(Compute::Inserted(key, value)))
                 }
-                Ok(Tried::Lost(pair)) => First::On(Start::Filled { hash, pair }),
-                Err(refused) => First::Over(Err(refused)),
+                Tried::Lost(pair) => First::On(Start::Filled { hash, pair }),
+                Tried::Back((key, value)) => {
+                    match log_by_waiting(means.rt, window.book, KeyPart::Own(key), value) {
+                        Some(pair) => First::On(Start::Filled { hash, pair }),
+                        None => First::Over(Err(Refused::Memory)),
+                    }
+                }
             }
         }
         Operation::Remove => First::Over(Err(Refused::RemoveNothing)),
@@ -177,51 +177,48 @@ pub fn fill<'a, R: Wait, K: Hash + Eq + Drop, V: Drop, S: BuildHasher, T: Drop>(
 pub fn renew<'a, R: Wait, K: Hash + Eq + Drop, V: Drop, S: BuildHasher, T: Drop>(
     means: &Means<'_, '_, R>,
     window: &mut Window<'a, K, V, S>,
-    given: &mut OwnSteps<CapacityCause>,
     key: K,
     hash: u64,
     table: &Table<K, V, S>,
-    met: Met<K, V>,
+    live: Live<'a, K, V>,
     old: (&'a K, &'a V),
     operation: Operation<V, T>,
 ) -> First<Start<K, V>, Result<Compute<'a, K, V, T>, Refused>>
-    requires initial { IsPowerOfTwo means.now.initial }
-    requires hashed { hash ≡ ⟦<S as Hashed<K>>⟧.hash window.old.book.now.parts.hasher key }
-    requires limit { window.old.book.now.parts.limit ≡ None }
-    requires found { (begun : _) × IsFoundAt window.old key begun table.now (MetPair met) }
-    requires live { kind_of met.word ≡ Live }
-    requires shown { AreOf old met.stored }
-    ensures sees { Sees window.old window.new }
-    ensures lawful { IsLawful window.new }
-    ensures made { IfOver result (λ answer. Makes (changes answer) (own window.old) (own window.new)
-        (past window.new)) }
-    ensures crowded { result ≡ Over (Err Refused.Capacity) → HasNoRoom means.now.initial
-        (tables_of window.new.sight.log) given.new.done }
-    ensures spent { result ≡ Over (Err Refused.Limit) → IsSpent window.new.book.now.parts.limit
-        window.new.sight.log }
-    ensures replies { RepliesOnce window.old window.new key table.now (MetPair met) operation
+    requires led { (begun : _) × IsLed window.old key hash begun table.now (MetPair live) }
+    requires shown { AreOf old live.stored }
+    ensures does { DoesAtOnce window.old window.new key table.now (MetPair live.entry) operation
         result }
-    ensures idle { IfOn result (λ start. Does false window.old window.new) }
-    ensures goes { GoesOnce window.old window.new key table.now (MetPair met) operation result }
 {
     match operation {
-        Operation::Insert(value) => match replace(means, window, given, value, table, &met) {
-            Ok(Tried::Put(pair)) => {
-                let book = window.book;
-                let new = (old.0, value_of(book, &pair));
-                First::Over(Ok(Compute::Updated { old, new }))
+        Operation::Insert(value) => {
+            match replace(window, value, table, &live) {
+                Tried::Put(pair) => {
+                    let new = (old.0, value_of(window.book, &pair));
+                    First::Over(Ok(Compute::Updated { old, new }))
+                }
+                Tried::Lost(pair) => First::On(Start::Replaced {
+                    key,
+                    hash,
+                    met: live.into_met(),
+                    pair,
+                }),
+                Tried::Back(value) => {
+                    let of = KeyPart::Of(live.met().stored.again());
+                    match log_by_waiting(means.rt, window.book, of, value) {
+                        Some(pair) => First::On(Start::Replaced {
+                            key,
+                            hash,
+                            met: live.into_met(),
+                            pair,
+                        }),
+                        None => First::Over(Err(Refused::Memory)),
+                    }
+                }
             }
-            Ok(Tried::Lost(pair)) => First::On(Start::Replaced {
-                key,
-                hash,
-                met,
-                pair,
-            }),
-            Err(refused) => First::Over(Err(refused)),
-        },
+        }
         Operation::Remove => {
-            if !delete(means.shard, window, table, &met) {
-                let shown = met.stored;
+            if !delete(means.shard, window, table, live.met()) {
+                let shown = live.into_met().stored;
                 return First::On(Start::Removing { key, hash, shown });
             }
             First::Over(Ok(Compute::Removed(old.0, old.1)))

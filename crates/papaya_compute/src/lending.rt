@@ -2,18 +2,15 @@
 //! the closure's type names no lifetime, and such a call can be made in other crates for keys of
 //! any type.
 ghost use Rattle.papaya_change.specs.Window.Ends.{Ends, TellsWhy};
-ghost use Rattle.std.specs.Prelude.{◌≡◌, false, None, Err};
+ghost use Rattle.std.specs.Prelude.{◌≡◌, None, Err};
 ghost use Rattle.std.specs.Int.{IsPowerOfTwo};
 ghost use Rattle.papaya_book.specs.Books.{IsIn};
-ghost use Rattle.papaya_book.specs.Limits.{HasNoRoom, IsSpent, tables_of};
 ghost use Rattle.papaya_book.specs.Logs.{pair_named};
-ghost use Rattle.papaya_book.specs.Windows.{Does, IsLawful, Sees};
+ghost use Rattle.papaya_book.specs.Windows.{IsLawful};
 ghost use Rattle.papaya_change.specs.Showings.{Operates};
-ghost use Rattle.papaya_compute.specs.FastPath.{IfOn, IfOver, IsOnItsWay};
+ghost use Rattle.papaya_compute.specs.FastPath.{ComesTo, IsOnItsWay};
 ghost use Rattle.papaya_compute.specs.ComputeAnswers.{IsComputeBy, changes};
-ghost use Rattle.papaya_compute.specs.declared.fast_path.First.TheVariants.{Over};
-ghost use Rattle.papaya_lookup.specs.Drivers.{own, past};
-ghost use Rattle.papaya_lookup.specs.History.{Makes};
+ghost use Rattle.papaya_lookup.specs.Drivers.{past};
 
 use crate::computing::Turn as Next;
 use crate::fast_path::{First, Start, fill, look, machine_of, renew};
@@ -72,27 +69,15 @@ fn lend_fast<
 >(
     means: &Means<'_, '_, R>,
     window: &mut Window<'a, K, V, S>,
-    given: &mut OwnSteps<CapacityCause>,
     key: K,
     f: &mut F,
 ) -> First<Start<K, V>, Result<Compute<'a, K, V, T>, Refused>>
     requires callable { F.IsAlwaysCallable f.old }
-    requires initial { IsPowerOfTwo means.now.initial }
     requires lawful { IsLawful window.old }
     ensures callable { F.IsAlwaysCallable f.new }
-    ensures sees { Sees window.old window.new }
-    ensures lawful { IfOver result (λ answer. IsLawful window.new) }
-    ensures made { IfOver result (λ answer. Makes (changes answer) (own window.old) (own window.new)
-        (past window.new)) }
-    ensures crowded { result ≡ Over (Err Refused.Capacity) → HasNoRoom means.now.initial
-        (tables_of window.new.sight.log) given.new.done }
-    ensures spent { result ≡ Over (Err Refused.Limit) → IsSpent window.new.book.now.parts.limit
-        window.new.sight.log }
-    ensures computed { IfOver result (λ answer. IsComputeBy K.eq key (past window.old)
-        (past window.new) (Operates F.FnMut) f.old answer) }
-    ensures idle { IfOn result (λ start. Does false window.old window.new) }
-    ensures goes { IfOn result (IsOnItsWay window.old window.new key (Operates F.FnMut) f.old
-        f.new) }
+    ensures comes { ComesTo changes (IsComputeBy K.eq key (past window.old) (past window.new)
+        (Operates F.FnMut) f.old) (IsOnItsWay window.old window.new key (Operates F.FnMut) f.old
+        f.new) window.old window.new result }
 {
     let book = window.book;
     let hash = hash(&book.parts.hasher, &key);
@@ -103,12 +88,12 @@ fn lend_fast<
     match spot.turn {
         Turn::Empty(at) => {
             let operation = operate(book, &None, f);
-            fill(means, window, given, key, hash, table, at, operation)
+            fill(means, window, key, hash, table, at, operation)
         }
-        Turn::Met(met) => {
-            let old = entry(book, &met.stored);
+        Turn::Met(live) => {
+            let old = book.entry(live.pair());
             let again = f(Some(old));
-            renew(means, window, given, key, hash, table, met, old, again)
+            renew(means, window, key, hash, table, live, old, again)
         }
         _ => First::On(Start::Anew(key)),
     }
@@ -199,7 +184,7 @@ pub fn compute_lent<
         initial,
         shard,
     };
-    match lend_fast(&means, window, given, key, &mut f) {
+    match lend_fast(&means, window, key, &mut f) {
         First::Over(answer) => answer,
         First::On(start) => lend_slow(&means, window, given, start, &mut f),
     }

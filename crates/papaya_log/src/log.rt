@@ -1,13 +1,15 @@
 //! The log: its rows, and the next number to give out.
-ghost use Rattle.std.specs.Prelude.{[], ◌≡◌, ◌≤◌, ◌<◌, ◌^◌, ◌+◌, ◌*◌, IfOk, IfErr};
+ghost use Rattle.std.specs.Prelude.{[], ◌≡◌, ◌≤◌, ◌<◌, ◌^◌, ◌+◌, ◌*◌, IfOk, IfErr, IfSome};
 ghost use Rattle.boxcar.specs.Table.{Shows, id_at};
 ghost use Rattle.papaya_log.specs.Rows.{AreRows, row_len, row_first, row_of, slot_of};
+ghost use Rattle.papaya_log.specs.Places.{IsPlace};
 
 use crate::row::{Blank, Row, RowSlot, new_row, no_row};
 use crate::token::Pushed;
 use boxcar::slot::Written;
 use crossbeam_utils::CachePadded;
 use papaya_slot::counter::Counter;
+use papaya_slot::slot::Right;
 use std::alloc::{AllocError, Global};
 use std::marker::Model;
 use std::mem::forget;
@@ -24,6 +26,15 @@ const LEAST_FIRST: usize = 32;
 
 /// No row is longer than a 1 with so many zeros.
 const LAST_BITS: u32 = 41;
+
+/// A number of a log's counter, and the row and the slot of its value.
+#[derive(Drop)]
+pub(crate) struct Place {
+    push: u64,
+    right: Right,
+    row: usize,
+    slot: usize,
+}
 
 /// Values by number, which threads push and read with no lock. Row `r` has the numbers from
 /// `r * 2^42` on. The first row is as long as the capacity that was asked for, and each further one
@@ -97,7 +108,8 @@ fn place_of(first_bits: u32, index: usize) -> (usize, usize)
 /// The number of a slot of a row.
 fn number_of(row: usize, slot: usize) -> usize
     requires { (row < 38) × (slot < 2 ^ 42) }
-    ensures { (row_of result ≡ row) × (slot_of result ≡ slot) }
+    ensures places { (row_of result ≡ row) × (slot_of result ≡ slot) }
+    ensures fits { result < 2 ^ 48 }
 {
     row * ROW_SPAN + slot
 }
@@ -176,7 +188,6 @@ impl<T: Blank + Drop> Log<T> {
     }
 
     /// What shows that a row is there. It is made where it is not.
-    #[inline(always)]
     fn row<R: Wait>(&self, rt: &R, row: usize, value: &T) -> Result<Written<Row<T>>, AllocError>
         requires { row < 38 }
         ensures { IfOk result (λ written. written.of ≡ id_at self.now.buckets row) }
@@ -187,33 +198,82 @@ impl<T: Blank + Drop> Log<T> {
         }
     }
 
-    /// The value, pushed: what shows its number. It comes back where there is no memory, or no
-    /// number is left; its number then goes to the next push, unless another push came between.
+    /// The next number of the counter, and where its value goes. None where no number is left.
     #[inline(always)]
-    pub fn push_shown<R: Wait>(&self, rt: &R, value: T) -> Result<Pushed<T>, T>
-        ensures ok { IfOk result (λ p. Shows self.now p × (p.value ≡ value)) }
-        ensures err { IfErr result (λ back. back ≡ value) }
+    fn next_place(&self) -> Option<Place>
+        ensures { IfSome result (λ place. IsPlace self.now.buckets place) }
     {
-        let Some((push, right)) = self.next.take() else {
-            return Err(value);
-        };
+        let (push, right) = self.next.take()?;
         let index = push as usize;
         if index >= ROW_SPAN {
             self.next.give_back(right, push);
-            return Err(value);
+            return None;
         }
         let (row, slot) = place_of(self.first_bits, index);
-        let Ok(written) = self.row(rt, row, &value) else {
-            self.next.give_back(right, push);
+        Some(Place {
+            push,
+            right,
+            row,
+            slot,
+        })
+    }
+
+    /// Writes a value into its slot, and shows its number.
+    #[inline(always)]
+    fn write(&self, place: Place, row: Written<Row<T>>, value: T) -> Pushed<T>
+        requires place { IsPlace self.now.buckets place }
+        requires row { row.of ≡ id_at self.now.buckets place.row }
+        ensures shows { Shows self.now result × (result.value ≡ value) }
+        ensures number { result.index < 2 ^ 48 }
+    {
+        let slots = self.rows[place.row].value(&row);
+        let (item, blank) = slots[place.slot].write(place.right, value);
+        forget(blank);
+        Pushed {
+            number: number_of(place.row, place.slot),
+            row,
+            item,
+        }
+    }
+
+    /// The value, pushed: what shows its number. It comes back where there is no memory, or no
+    /// number is left; its number then goes to the next push, unless another push came between.
+    pub fn push_shown<R: Wait>(&self, rt: &R, value: T) -> Result<Pushed<T>, T>
+        ensures ok { IfOk result (λ p. Shows self.now p × (p.value ≡ value)) }
+        ensures number { IfOk result (λ p. p.index < 2 ^ 48) }
+        ensures err { IfErr result (λ back. back ≡ value) }
+    {
+        let Some(place) = self.next_place() else {
             return Err(value);
         };
-        let (item, blank) = self.rows[row].value(&written)[slot].write(right, value);
-        forget(blank);
-        Ok(Pushed {
-            number: number_of(row, slot),
-            row: written,
-            item,
-        })
+        match self.row(rt, place.row, &value) {
+            Ok(row) => Ok(self.write(place, row, value)),
+            Err(_) => {
+                self.next.give_back(place.right, place.push);
+                Err(value)
+            }
+        }
+    }
+
+    /// The value, pushed where the row of its slot is made. It waits for nobody and takes no memory.
+    /// Else the value comes back, and its number goes to the next push, unless another push came
+    /// between. [`Log::push_shown`] makes the row.
+    #[inline(always)]
+    pub fn try_push(&self, value: T) -> Result<Pushed<T>, T>
+        ensures ok { IfOk result (λ p. Shows self.now p × (p.value ≡ value)) }
+        ensures number { IfOk result (λ p. p.index < 2 ^ 48) }
+        ensures err { IfErr result (λ back. back ≡ value) }
+    {
+        let Some(place) = self.next_place() else {
+            return Err(value);
+        };
+        match self.rows[place.row].witness() {
+            Some(row) => Ok(self.write(place, row, value)),
+            None => {
+                self.next.give_back(place.right, place.push);
+                Err(value)
+            }
+        }
     }
 }
 

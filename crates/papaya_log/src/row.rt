@@ -84,7 +84,7 @@ pub(crate) fn new_row<T: Blank + Drop>(
 {
     let mut row = Vec::with_capacity(alloc, len)?;
     for place in 0..len {
-        row.push(Slot::new(value.blank(), counter, (first + place) as u64))?;
+        row.push_reserved(Slot::new(value.blank(), counter, (first + place) as u64));
     }
     Ok(row)
 }

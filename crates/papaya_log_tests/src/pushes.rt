@@ -36,6 +36,15 @@ fn pushes_from<R: Wait>(rt: &R, log: &Log<u64>, value: u64, first: usize, times:
     true
 }
 
+/// Pushes a value where a row is made for it: the number, and what is read there. Else the value
+/// comes back.
+fn tried(log: &Log<u64>, value: u64) -> Result<(usize, u64), u64> {
+    match log.try_push(value) {
+        Ok(pushed) => Ok((pushed.index(), *log.value(&pushed))),
+        Err(back) => Err(back),
+    }
+}
+
 #[test]
 fn rows_are_as_long_as_all_before_them(rt: HostRuntime) -> Result<(), Fail> {
     let log = Log::new(rt.alloc(), 0)?;
@@ -66,5 +75,17 @@ fn a_value_stays_while_others_come(rt: HostRuntime) -> Result<(), Fail> {
     is(&rt, (*log.value(&first), *log.value(&second)), (7, 8));
     let again = token(tell(&first), first.index());
     is(&rt, *log.value(&again), 7);
+    Ok(())
+}
+
+#[test]
+fn a_push_that_makes_no_row_needs_one(rt: HostRuntime) -> Result<(), Fail> {
+    let log = Log::new(rt.alloc(), 0)?;
+    is(&rt, tried(&log, 5), Err(5));
+    is(&rt, pushes_from(&rt, &log, 1, 0, 31), true);
+    is(&rt, tried(&log, 6), Ok((31, 6)));
+    is(&rt, tried(&log, 7), Err(7));
+    is(&rt, pushes_from(&rt, &log, 2, ROW_SPAN, 1), true);
+    is(&rt, tried(&log, 8), Ok((ROW_SPAN + 1, 8)));
     Ok(())
 }

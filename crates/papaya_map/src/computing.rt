@@ -1,18 +1,16 @@
 //! Computes whose closure may keep what it is shown: their fast path, and the loop of their slow
 //! one. They stand here, and not with the steps of a compute, since a call of another crate's
 //! function that is generic over such a closure is not proved.
-ghost use Rattle.std.specs.Prelude.{◌≡◌, false, None, Err};
+ghost use Rattle.std.specs.Prelude.{◌≡◌, None, Err};
 ghost use Rattle.std.specs.Int.{IsPowerOfTwo};
 ghost use Rattle.papaya_book.specs.Books.{IsIn};
-ghost use Rattle.papaya_book.specs.Limits.{HasNoRoom, IsSpent, tables_of};
 ghost use Rattle.papaya_book.specs.Logs.{pair_named};
-ghost use Rattle.papaya_book.specs.Windows.{Does, IsLawful, Sees};
+ghost use Rattle.papaya_book.specs.Windows.{IsLawful};
 ghost use Rattle.papaya_change.specs.Showings.{Operates};
-ghost use Rattle.papaya_compute.specs.FastPath.{IfOn, IfOver, IsOnItsWay};
+ghost use Rattle.papaya_change.specs.Window.Ends.{Ends, TellsWhy};
+ghost use Rattle.papaya_compute.specs.FastPath.{ComesTo, IsOnItsWay};
 ghost use Rattle.papaya_compute.specs.ComputeAnswers.{IsComputeBy, changes};
-ghost use Rattle.papaya_compute.specs.declared.fast_path.First.TheVariants.{Over};
-ghost use Rattle.papaya_lookup.specs.Drivers.{own, past};
-ghost use Rattle.papaya_lookup.specs.History.{Makes};
+ghost use Rattle.papaya_lookup.specs.Drivers.{past};
 
 use papaya_book::book::Book;
 use papaya_book::count::Shard;
@@ -74,27 +72,15 @@ fn compute_fast<
 >(
     means: &Means<'_, '_, R>,
     window: &mut Window<'a, K, V, S>,
-    given: &mut OwnSteps<CapacityCause>,
     key: K,
     f: &mut F,
 ) -> First<Start<K, V>, Result<Compute<'a, K, V, T>, Refused>>
     requires callable { F.IsAlwaysCallable f.old }
-    requires initial { IsPowerOfTwo means.now.initial }
     requires lawful { IsLawful window.old }
     ensures callable { F.IsAlwaysCallable f.new }
-    ensures sees { Sees window.old window.new }
-    ensures lawful { IfOver result (λ answer. IsLawful window.new) }
-    ensures made { IfOver result (λ answer. Makes (changes answer) (own window.old) (own window.new)
-        (past window.new)) }
-    ensures crowded { result ≡ Over (Err Refused.Capacity) → HasNoRoom means.now.initial
-        (tables_of window.new.sight.log) given.new.done }
-    ensures spent { result ≡ Over (Err Refused.Limit) → IsSpent window.new.book.now.parts.limit
-        window.new.sight.log }
-    ensures computed { IfOver result (λ answer. IsComputeBy K.eq key (past window.old)
-        (past window.new) (Operates F.FnMut) f.old answer) }
-    ensures idle { IfOn result (λ start. Does false window.old window.new) }
-    ensures goes { IfOn result (IsOnItsWay window.old window.new key (Operates F.FnMut) f.old
-        f.new) }
+    ensures comes { ComesTo changes (IsComputeBy K.eq key (past window.old) (past window.new)
+        (Operates F.FnMut) f.old) (IsOnItsWay window.old window.new key (Operates F.FnMut) f.old
+        f.new) window.old window.new result }
 {
     let book = window.book;
     let hash = hash(&book.parts.hasher, &key);
@@ -105,12 +91,12 @@ fn compute_fast<
     match spot.turn {
         Turn::Empty(at) => {
             let operation = operate(book, &None, f);
-            fill(means, window, given, key, hash, table, at, operation)
+            fill(means, window, key, hash, table, at, operation)
         }
-        Turn::Met(met) => {
-            let old = entry(book, &met.stored);
+        Turn::Met(live) => {
+            let old = book.entry(live.pair());
             let again = f(Some(old));
-            renew(means, window, given, key, hash, table, met, old, again)
+            renew(means, window, key, hash, table, live, old, again)
         }
         _ => First::On(Start::Anew(key)),
     }
@@ -138,13 +124,9 @@ fn compute_slow<
     requires initial { IsPowerOfTwo means.now.initial }
     requires can { (since : _) × (key : K) × (first : F) × IsOnItsWay since window.old key
         (Operates F.FnMut) first f.old start }
-    ensures sees { Sees window.old window.new }
-    ensures lawful { IsLawful window.new }
-    ensures made { Makes (changes result) (own window.old) (own window.new) (past window.new) }
-    ensures crowded { result ≡ Err Refused.Capacity → HasNoRoom means.now.initial
-        (tables_of window.new.sight.log) given.new.done }
-    ensures spent { result ≡ Err Refused.Limit → IsSpent window.new.book.now.parts.limit
-        window.new.sight.log }
+    ensures ends { Ends (changes result) window.old window.new }
+    ensures tells { TellsWhy means.now.initial window.new given.new.done
+        (λ cause. result ≡ Err cause) }
     ensures computed { (since : _) (key : K) (first : F) → IsOnItsWay since window.old key
         (Operates F.FnMut) first f.old start → IsComputeBy K.eq key (past since)
         (past window.new) (Operates F.FnMut) first result }
@@ -193,13 +175,8 @@ pub fn compute<
 ) -> Result<Compute<'a, K, V, T>, Refused>
     requires callable { F.IsAlwaysCallable f }
     requires initial { IsPowerOfTwo initial }
-    ensures sees { Sees window.old window.new }
-    ensures lawful { IsLawful window.new }
-    ensures made { Makes (changes result) (own window.old) (own window.new) (past window.new) }
-    ensures crowded { result ≡ Err Refused.Capacity → HasNoRoom initial
-        (tables_of window.new.sight.log) given.new.done }
-    ensures spent { result ≡ Err Refused.Limit → IsSpent window.new.book.now.parts.limit
-        window.new.sight.log }
+    ensures ends { Ends (changes result) window.old window.new }
+    ensures tells { TellsWhy initial window.new given.new.done (λ cause. result ≡ Err cause) }
     ensures computed { IsComputeBy K.eq key (past window.old) (past window.new) (Operates F.FnMut) f
         result }
 {
@@ -210,7 +187,7 @@ pub fn compute<
         initial,
         shard,
     };
-    match compute_fast(&means, window, given, key, &mut f) {
+    match compute_fast(&means, window, key, &mut f) {
         First::Over(answer) => answer,
         First::On(start) => compute_slow(&means, window, given, start, &mut f),
     }

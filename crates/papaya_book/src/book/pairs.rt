@@ -1,16 +1,14 @@
 //! Pairs in the arena of pairs: what they hold, and logging what callers put into a map.
 ghost use Rattle.papaya_book.specs.Books.{IsIn};
-ghost use Rattle.std.specs.Prelude.{◌≡◌, None, Some, IfErr, IfOk, [], ◌∷◌};
+ghost use Rattle.std.specs.Prelude.{◌≡◌, ◌<◌, ◌^◌, None, Some, IfErr, IfOk};
 ghost use Rattle.boxcar.specs.Table.{Shows, id_at};
 ghost use Rattle.papaya_book.specs.Brought.{IsBrought, pair_held};
 ghost use Rattle.papaya_book.specs.PairParts.{IsKeyPartIn, IsValuePartIn, key_in, value_in};
 ghost use Rattle.papaya_book.specs.Pairs.{IsKeyIn, IsValueIn};
 ghost use Rattle.papaya_book.specs.declared.rule.entry.Named.TheVariants.{Pair as PairNamed};
-ghost use Rattle.papaya_book.specs.declared.rule.own.CapacityCause.TheVariants as given;
 
 use crate::book::Book;
 use crate::rule::entry::Stored;
-use crate::rule::own::{CapacityCause, OwnSteps};
 use crate::rule::pair::{Held, Pair, Shown, first_of, shown_of};
 use papaya_log::token::Pushed;
 use std::hash::{BuildHasher, Hash};
@@ -143,24 +141,17 @@ impl<K: Hash + Eq, V, S: BuildHasher> Book<K, V, S> {
         }
     }
 
-    /// What tells that the arena of pairs gave this number.
-    pub fn gave_pair(&self, stored: &Stored<K, V>) -> OwnSteps<CapacityCause>
-        requires { IsIn self.now (PairNamed stored.now) }
-        ensures { result.done ≡ given.Pair stored.now.index ∷ [] }
-    {
-        let number = CapacityCause::Pair(stored.index());
-        OwnSteps::only(&number)
-    }
-
     /// The pair that brought the key of a logged pair.
-    fn key_first(&self, stored: &Stored<K, V>) -> Pushed<Shown<K, V>>
+    #[inline(always)]
+    fn key_first(&self, stored: &Stored<K, V>, pair: &Pair<K, V>) -> Pushed<Shown<K, V>>
         requires shown { Shows self.now.parts.pairs stored.now }
+        requires pair { pair.now ≡ stored.now.value }
         requires key { IsKeyIn self.now.parts.pairs stored.now.value.key }
         ensures shown { Shows self.now.parts.pairs result }
         ensures brought { result.value.key.at ≡ None }
         ensures key { result.value.key.value ≡ stored.now.value.key.value }
     {
-        match &self.parts.pairs.value(stored).held {
+        match &pair.held {
             Held::Own(_, _) => shown_of(stored),
             Held::Lent(_, _) => shown_of(stored),
             Held::Keyed(first, _) => first.again(),
@@ -194,18 +185,59 @@ impl<K: Hash + Eq, V, S: BuildHasher> Book<K, V, S> {
 }
 
 impl<K: Hash + Eq + Drop, V: Drop, S: BuildHasher> Book<K, V, S> {
-    /// What is held, logged. It comes back where there is no memory.
+    /// A pair of a key and a value that are handed in, logged where the arena has a slot at hand.
+    /// Both come back where it has none.
     #[inline(always)]
+    pub fn log_fresh(&self, key: K, value: V) -> Result<Stored<K, V>, (K, V)>
+        ensures placed { IfOk result (λ p. IsIn self.now (PairNamed p)) }
+        ensures key { IfOk result (λ p. p.value.key.value ≡ key) }
+        ensures value { IfOk result (λ p. p.value.value ≡ value) }
+        ensures number { IfOk result (λ p. p.index < 2 ^ 48) }
+        ensures err { IfErr result (λ back. (back.0 ≡ key) × (back.1 ≡ value)) }
+    {
+        let held = Held::Own(key, value);
+        match self.parts.pairs.try_push(Pair { held }) {
+            Ok(pair) => Ok(pair),
+            Err(back) => Err(back.into_both()),
+        }
+    }
+
+    /// A pair with the key of a logged pair, logged where the arena has a slot at hand. The value
+    /// comes back where it has none.
+    #[inline(always)]
+    pub fn log_renewed(
+        &self,
+        stored: &Stored<K, V>,
+        pair: &Pair<K, V>,
+        value: V,
+    ) -> Result<Stored<K, V>, V>
+        requires placed { IsIn self.now (PairNamed stored.now) }
+        requires pair { pair.now ≡ stored.now.value }
+        ensures placed { IfOk result (λ p. IsIn self.now (PairNamed p)) }
+        ensures key { IfOk result (λ p. p.value.key.value ≡ stored.now.value.key.value) }
+        ensures value { IfOk result (λ p. p.value.value ≡ value) }
+        ensures number { IfOk result (λ p. p.index < 2 ^ 48) }
+        ensures err { IfErr result (λ back. back ≡ value) }
+    {
+        let first = self.key_first(stored, pair);
+        let held = Held::Keyed(first, value);
+        match self.parts.pairs.try_push(Pair { held }) {
+            Ok(pair) => Ok(pair),
+            Err(back) => Err(back.into_value()),
+        }
+    }
+
+    /// What is held, logged. It comes back where there is no memory.
     fn log<R: Wait>(&self, rt: &R, held: Held<K, V>) -> Result<Stored<K, V>, Pair<K, V>>
         requires brought { IsBrought held }
         ensures ok { IfOk result (λ p. Shows self.now.parts.pairs p × (p.value ≡ pair_held held)) }
+        ensures number { IfOk result (λ p. p.index < 2 ^ 48) }
         ensures err { IfErr result (λ back. back ≡ pair_held held) }
     {
         self.parts.pairs.push_shown(rt, Pair { held })
     }
 
     /// The pair of this key and this value, logged. Both come back where there is no memory.
-    #[inline(always)]
     pub fn log_pair<R: Wait>(
         &self,
         rt: &R,
@@ -217,6 +249,7 @@ impl<K: Hash + Eq + Drop, V: Drop, S: BuildHasher> Book<K, V, S> {
         ensures placed { IfOk result (λ p. IsIn self.now (PairNamed p)) }
         ensures key { IfOk result (λ p. p.value.key.value ≡ key_in key) }
         ensures value { IfOk result (λ p. p.value.value ≡ value_in value) }
+        ensures number { IfOk result (λ p. p.index < 2 ^ 48) }
         ensures err { IfErr result (λ back. (back.0 ≡ key) × (back.1 ≡ value)) }
     {
         match (key, value) {
@@ -231,7 +264,7 @@ impl<K: Hash + Eq + Drop, V: Drop, S: BuildHasher> Book<K, V, S> {
                 }
             },
             (KeyPart::Of(by), ValuePart::Own(value)) => {
-                let first = self.key_first(&by);
+                let first = self.key_first(&by, self.parts.pairs.value(&by));
                 match self.log(rt, Held::Keyed(first, value)) {
                     Ok(pair) => Ok(pair),
                     Err(back) => Err((KeyPart::Of(by), ValuePart::Own(back.into_value()))),
@@ -245,7 +278,8 @@ impl<K: Hash + Eq + Drop, V: Drop, S: BuildHasher> Book<K, V, S> {
                 }
             }
             (KeyPart::Of(by), ValuePart::Of(of)) => {
-                let (first, second) = (self.key_first(&by), self.value_first(&of));
+                let first = self.key_first(&by, self.parts.pairs.value(&by));
+                let second = self.value_first(&of);
                 match self.log(rt, Held::Both(first, second)) {
                     Ok(pair) => Ok(pair),
                     Err(_) => Err((KeyPart::Of(by), ValuePart::Of(of))),

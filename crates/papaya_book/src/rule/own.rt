@@ -10,11 +10,9 @@ use crate::rule::offer::Seen;
 use std::hash::{BuildHasher, Hash};
 use std::marker::{Model, PhantomData};
 
-/// A number that a map gave to a call: one of its logs to what was put into it, or the sum of
-/// its count.
+/// A number that a map gave to a call: its log of tables to a new table, or the sum of its count.
 #[derive(Clone, Copy)]
 pub enum CapacityCause {
-    Pair(usize),
     Table(usize),
     Sum(usize),
 }

@@ -12,6 +12,7 @@ use Rattle.papaya_book.specs.Logs.{Stored}
 use Rattle.papaya_book.specs.Parts.{begun_of}
 use Rattle.papaya_book.specs.Sheets.{Sheet}
 use Rattle.papaya_lookup.specs.Drivers.{past}
+use Rattle.papaya_lookup.specs.declared.lookup.Met.{Met}
 use Rattle.papaya_lookup.specs.History.{history_of}
 use Rattle.papaya_change.specs.Changes.{IsPut}
 use Rattle.papaya_change.specs.Seeking.{Seeker, leads, led_to, met_by}
@@ -43,23 +44,23 @@ module _ {K V S H : Type 0} {d : keyed.Ghosts S K H} where
   ReadsAt w key table at = StandsAt w key (Searching (Reading at)) None table
 
   -- one that a turn has led there
-  abbrev pub StandsBy : Window K V S H d → K → Sheet → Turn K V → Type 0
+  abbrev pub StandsBy : Window K V S H d → K → Sheet → Turn (Met K V) → Type 0
   StandsBy w key table turn = (state : State) × (led_to turn ≡ Some state)
       × StandsAt w key state (met_by turn) table
 
   -- each call that stood there is led on by a turn, as is seen by now
-  abbrev pub Turns : (w w' : Window K V S H d) → K → Sheet → State → Turn K V → Type 0
+  abbrev pub Turns : (w w' : Window K V S H d) → K → Sheet → State → Turn (Met K V) → Type 0
   Turns w w' key table state turn = (who : Seeker) (begun : List (Event K V S)) (state' : State)
       → leads who turn ≡ Some state' → IsSeekingAt who w key begun state None table
       → IsSeekingAt who w' key begun state' (met_by turn) table
 
   -- one that began at what was seen of the map first is led there
-  abbrev pub IsFoundFor : (w w' : Window K V S H d) → K → Sheet → Turn K V → Type 0
+  abbrev pub IsFoundFor : (w w' : Window K V S H d) → K → Sheet → Turn (Met K V) → Type 0
   IsFoundFor w w' key table turn = (who : Seeker) (state : State) → leads who turn ≡ Some state
       → IsSeekingAt who w' key w.sight.log state (met_by turn) table
 
   -- what each has put in that a turn had led there
-  abbrev pub HasWritten : (w w' : Window K V S H d) → K → V → Sheet → Turn K V → Option (Bor V)
+  abbrev pub HasWritten : (w w' : Window K V S H d) → K → V → Sheet → Turn (Met K V) → Option (Bor V)
       → Type 0
   HasWritten w w' key value table turn answer = (begun : List (Event K V S)) (state : State)
       → led_to turn ≡ Some state → IsInsertingAt w key begun state (met_by turn) table

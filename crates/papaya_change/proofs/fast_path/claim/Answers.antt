@@ -1,4 +1,4 @@
-use Rattle.std.proofs.Common.{◌≡◌, ℕ, ◌==◌, Bool, true, false, None, Some, refl, sym, ap, ◌∙◌, rules, subst, [], append-nil, inl}
+use Rattle.std.proofs.Common.{◌≡◌, ℕ, ◌==◌, Bool, true, false, None, Some, refl, sym, ap, ◌∙◌, rules, subst, [], append-nil}
 use Rattle.papaya_words.specs.Word.{live_word}
 use Rattle.papaya_ask.specs.declared.ask.StepKind.TheVariants as steps
 use Rattle.papaya_call.specs.declared.machine.State.{State}
@@ -15,6 +15,7 @@ use Rattle.papaya_lookup.specs.Drivers.{past}
 use Rattle.papaya_lookup.specs.History.{history_of, key_of}
 use Rattle.papaya_change.specs.Changes.{IsChangeOf}
 use Rattle.papaya_change.specs.Seeking.{IsInsertingAt}
+use Rattle.papaya_change.specs.Tries.{IsLoggedAs}
 use Rattle.papaya_change.proofs.Doing.{idles, makes}
 use Rattle.papaya_change.proofs.Logged.{makes_none}
 use Rattle.papaya_change.proofs.Claiming.{claim_hint, claim_traded, counts, ended, put_can, slot_there}
@@ -38,7 +39,7 @@ put_slot-found-requires-clause-can g c =
     let at = c.args.at in let q = c.in-Ok.pair in
     let key_is : key_of q ≡ key = c.in-Ok.ensures.key in
     let hash = (hash_of g.K.Hash.hash_input g.S.BuildHasher.build_hasher g.S.Hasher.Hasher.write g.S.Hasher.Hasher.finish) in
-    let word : c.live.result.0 ≡ live_word q.index = c.live.ensures ∙ ap live_word c.index-2.ensures in
+    let word : c.live.result.0 ≡ live_word q.index = c.live.ensures ∙ ap live_word c.index.ensures in
     let st = c.requires.stands in let led : Some (Writing (record { place = at; old = 0 })) ≡ Some st.0 = st.1 in
     let to : Writing (record { place = at; old = 0 }) ≡ st.0 = cc led in
     let r = subst (λ (z : State). IsInsertingAt g.K.PartialEq.eq hash b w.begun.book key st.2.0 log z None c.args.table.now) (sym to) st.2.1 in
@@ -78,7 +79,7 @@ write_hint-requires-clause-hint g c =
     let at = c.args.at in let q = c.in-Ok.pair in
     let key_is : key_of q ≡ key = c.in-Ok.ensures.key in
     let hash = (hash_of g.K.Hash.hash_input g.S.BuildHasher.build_hasher g.S.Hasher.Hasher.write g.S.Hasher.Hasher.finish) in
-    let word : c.live.result.0 ≡ live_word q.index = c.live.ensures ∙ ap live_word c.index-2.ensures in
+    let word : c.live.result.0 ≡ live_word q.index = c.live.ensures ∙ ap live_word c.index.ensures in
     let st = c.requires.stands in let led : Some (Writing (record { place = at; old = 0 })) ≡ Some st.0 = st.1 in
     let to : Writing (record { place = at; old = 0 }) ≡ st.0 = cc led in
     let r = subst (λ (z : State). IsInsertingAt g.K.PartialEq.eq hash b w.begun.book key st.2.0 log z None c.args.table.now) (sym to) st.2.1 in
@@ -97,7 +98,7 @@ returns-clause-put g c = λ z e begun state led stands.
     let at = c.args.at in let q = c.in-Ok.pair in
     let key_is : key_of q ≡ key = c.in-Ok.ensures.key in
     let hash = (hash_of g.K.Hash.hash_input g.S.BuildHasher.build_hasher g.S.Hasher.Hasher.write g.S.Hasher.Hasher.finish) in
-    let word : c.live.result.0 ≡ live_word q.index = c.live.ensures ∙ ap live_word c.index-2.ensures in
+    let word : c.live.result.0 ≡ live_word q.index = c.live.ensures ∙ ap live_word c.index.ensures in
     let to : Writing (record { place = at; old = 0 }) ≡ state = cc led in
     let r = subst (λ (z : State). IsInsertingAt g.K.PartialEq.eq hash b w.begun.book key begun log z None c.args.table.now) (sym to) stands in
     let put = c.put_slot-found in let mid = put.new.self.sight.log in
@@ -126,7 +127,7 @@ returns-clause-tried g c = record {
       let at = c.args.at in let q = c.in-Ok.pair in
       let key_is : key_of q ≡ key = c.in-Ok.ensures.key in
       let hash = (hash_of g.K.Hash.hash_input g.S.BuildHasher.build_hasher g.S.Hasher.Hasher.write g.S.Hasher.Hasher.finish) in
-      let word : c.live.result.0 ≡ live_word q.index = c.live.ensures ∙ ap live_word c.index-2.ensures in
+      let word : c.live.result.0 ≡ live_word q.index = c.live.ensures ∙ ap live_word c.index.ensures in
       let st = c.requires.stands in let led : Some (Writing (record { place = at; old = 0 })) ≡ Some st.0 = st.1 in
       let to : Writing (record { place = at; old = 0 }) ≡ st.0 = cc led in
       let r = subst (λ (z : State). IsInsertingAt g.K.PartialEq.eq hash b w.begun.book key st.2.0 log z None c.args.table.now) (sym to) st.2.1 in
@@ -142,9 +143,10 @@ returns-clause-tried g c = record {
       (ended g.K.PartialEq.eq g.K.Hash.hash_input g.S.BuildHasher.build_hasher g.S.Hasher.Hasher.write g.S.Hasher.Hasher.finish g.met.K.Eq.laws
       g.met.K.Hash.respects_eq b w.begun.book key st.2.0 log at c.args.table.now c.requires.limit r q key_is c.in-Ok.ensures.placed mid put.result.0
       put.result.1 tried is).changed does;
-  logged = search rules;
-  refused = tt;
-  crowded = λ e. absurd (cc e);
+  logged = λ pair e.
+      let one : c.in-Ok.pair ≡ pair = cc e in
+      let it : IsLoggedAs c.put_slot-found.new.self c.args.key c.args.value c.in-Ok.pair = search rules in
+      subst (λ (z : Stored _ _). IsLoggedAs c.put_slot-found.new.self c.args.key c.args.value z) one it;
 }
 
 pub returns-then-found-ne0-clause-tried : goal.returns-then-found-ne0-clause-tried
@@ -159,18 +161,17 @@ returns-then-found-ne0-clause-tried g c = record {
       let put = c.put_slot-found in
       let is : (put.result.0 == 0) ≡ false = search rules in
       makes_none c.args.window.now put.new.self (subst (λ (z : Bool). Does z c.args.window.now put.new.self) is put.ensures.does);
-  logged = search rules;
-  refused = tt;
-  crowded = λ e. absurd (cc e);
+  logged = λ pair e.
+      let one : c.in-Ok.pair ≡ pair = cc e in
+      let it : IsLoggedAs c.put_slot-found.new.self c.args.key c.args.value c.in-Ok.pair = search rules in
+      subst (λ (z : Stored _ _). IsLoggedAs c.put_slot-found.new.self c.args.key c.args.value z) one it;
 }
 
-pub returns-in_default-clause-tried : goal.returns-in_default-clause-tried
-returns-in_default-clause-tried g c = let w = c.args.window.now in record {
+pub returns-in-Err-clause-tried : goal.returns-in-Err-clause-tried
+returns-in-Err-clause-tried g c = let w = c.args.window.now in record {
   sees = record { book = refl; log = ([], append-nil _) };
   lawful = c.requires.stands.2.1.4.lawful;
   does = idles w w refl;
   made = makes_none w w (idles w w refl);
-  logged = tt;
-  refused = inl refl;
-  crowded = λ e. absurd (cc e);
+  logged = λ pair e. absurd (cc e);
 }

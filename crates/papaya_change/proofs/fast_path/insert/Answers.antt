@@ -39,7 +39,7 @@ pub claim_at-requires-clause-stands : goal.claim_at-requires-clause-stands
 claim_at-requires-clause-stands g c =
     let log = c.learn.new.self.sight.log in
     let to = Writing (record { place = c.in-Empty.at; old = 0 }) in
-    let there = subst (λ (z : Turn _ _). led_to z ≡ Some to
+    let there = subst (λ (z : Turn (Met _ _)). led_to z ≡ Some to
     → IsInsertingAt c.find_place.new.window c.args.key log to (met_by z) c.in-Some.spot.table.now) c.in-Empty.is
     (c.find_place.ensures.found c.in-Some.spot c.in-Some.is Inserts to) refl in
     (to, refl, (log, there))
@@ -48,7 +48,7 @@ pub returns-in-Empty-clause-put : goal.returns-in-Empty-clause-put
 returns-in-Empty-clause-put g c =
     let log = c.learn.new.self.sight.log in
     let to = Writing (record { place = c.in-Empty.at; old = 0 }) in
-    let there = subst (λ (z : Turn _ _). led_to z ≡ Some to
+    let there = subst (λ (z : Turn (Met _ _)). led_to z ≡ Some to
     → IsInsertingAt c.find_place.new.window c.args.key log to (met_by z) c.in-Some.spot.table.now) c.in-Empty.is
     (c.find_place.ensures.found c.in-Some.spot c.in-Some.is Inserts to) refl in
     if_ok _ _ c.claim_at.result c.claim_at.ensures.put
@@ -58,34 +58,30 @@ returns-in-Empty-clause-put g c =
 pub replace_at-requires-clause-stands : goal.replace_at-requires-clause-stands
 replace_at-requires-clause-stands g c =
     let log = c.learn.new.self.sight.log in
-    let to = Writing (record { place = c.in-Met.met.place; old = c.in-Met.met.word }) in
-    let there = subst (λ (z : Turn _ _). led_to z ≡ Some to
+    let to = Writing (record { place = c.in-Met.live.place; old = c.in-Met.live.word }) in
+    let there = subst (λ (z : Turn (Met _ _)). led_to z ≡ Some to
     → IsInsertingAt c.find_place.new.window c.args.key log to (met_by z) c.in-Some.spot.table.now) c.in-Met.is
     (c.find_place.ensures.found c.in-Some.spot c.in-Some.is Inserts to) refl in
-    rw c.in-Met.met-is (to, refl, (log, there))
-
-pub replace_at-requires-clause-live : goal.replace_at-requires-clause-live
-replace_at-requires-clause-live g c =
-    rw c.in-Met.met-is (c.find_place.ensures.live c.in-Some.spot c.in-Some.is c.in-Met.met c.in-Met.is)
+    rw c.in-Met.live-is (to, refl, (log, there))
 
 pub returns-in-Met-clause-put : goal.returns-in-Met-clause-put
 returns-in-Met-clause-put g c =
     let log = c.learn.new.self.sight.log in
-    let to = Writing (record { place = c.in-Met.met.place; old = c.in-Met.met.word }) in
-    let there = subst (λ (z : Turn _ _). led_to z ≡ Some to
+    let to = Writing (record { place = c.in-Met.live.place; old = c.in-Met.live.word }) in
+    let there = subst (λ (z : Turn (Met _ _)). led_to z ≡ Some to
     → IsInsertingAt c.find_place.new.window c.args.key log to (met_by z) c.in-Some.spot.table.now) c.in-Met.is
     (c.find_place.ensures.found c.in-Some.spot c.in-Some.is Inserts to) refl in
     if_ok _ _ c.replace_at.result c.replace_at.ensures.put
     (λ a h. put_since g.K.PartialEq.eq c.args.key c.args.value c.args.window.now.sight.log log c.replace_at.new.window.sight.log a
     c.learn.ensures.sees.log (subst (λ (z : Met _ _).
-    HasWritten c.find_place.new.window c.replace_at.new.window c.args.key c.args.value c.in-Some.spot.table.now (MetPair z) a) c.in-Met.met-is h log
+    HasWritten c.find_place.new.window c.replace_at.new.window c.args.key c.args.value c.in-Some.spot.table.now (MetPair z) a) c.in-Met.live-is h log
     to refl there))
 
 pub insert_onward-requires-clause-stands : goal.insert_onward-requires-clause-stands
 insert_onward-requires-clause-stands g c =
     let log = c.learn.new.self.sight.log in
     let to = Growing (Room c.in-Over.number) in
-    let there = subst (λ (z : Turn _ _). led_to z ≡ Some to
+    let there = subst (λ (z : Turn (Met _ _)). led_to z ≡ Some to
     → IsInsertingAt c.find_place.new.window c.args.key log to (met_by z) c.in-Some.spot.table.now) c.in-Over.is
     (c.find_place.ensures.found c.in-Some.spot c.in-Some.is Inserts to) refl in
     (to, refl, (log, there))
@@ -94,7 +90,7 @@ pub returns-in-Over-clause-put : goal.returns-in-Over-clause-put
 returns-in-Over-clause-put g c =
     let log = c.learn.new.self.sight.log in
     let to = Growing (Room c.in-Over.number) in
-    let there = subst (λ (z : Turn _ _). led_to z ≡ Some to
+    let there = subst (λ (z : Turn (Met _ _)). led_to z ≡ Some to
     → IsInsertingAt c.find_place.new.window c.args.key log to (met_by z) c.in-Some.spot.table.now) c.in-Over.is
     (c.find_place.ensures.found c.in-Some.spot c.in-Some.is Inserts to) refl in
     if_ok _ _ c.insert_onward.result c.insert_onward.ensures.put

@@ -1,4 +1,4 @@
-use Rattle.std.proofs.Common.{◌≡◌, Some, sym, ap, ◌∙◌, rules, subst}
+use Rattle.std.proofs.Common.{◌≡◌, true, false, Some, refl, ap, ◌∙◌, rules, subst}
 use Rattle.papaya_words.specs.Word.{kind_of}
 use Rattle.papaya_words.specs.declared.word.Kind.TheVariants.{Live}
 use Rattle.papaya_ask.specs.declared.search.Search.TheVariants.{Comparing}
@@ -8,7 +8,7 @@ use Rattle.papaya_call.specs.declared.machine.State.{State}
 use Rattle.papaya_book.specs.Hashes.{hash_of}
 use Rattle.papaya_book.specs.Parts.{begun_of}
 use Rattle.papaya_change.specs.Seeking.{Inserts, IsSeekingAt, at_live, turn_of}
-use Rattle.papaya_change.proofs.Seeking.{here_same, looked, matched, met_live, pair_there, place_there, turned}
+use Rattle.papaya_change.proofs.Seeking.{looked, matched, met_live, pair_there, place_there, turned}
 use Rattle.papaya_change.proofs.fast_path.read_at.Goals as goal
 
 pub slot_word-word-requires-clause-place : goal.slot_word-word-requires-clause-place
@@ -26,12 +26,12 @@ named_pair-stored-requires g c =
     s.ensures.sees.log c.args.at c.args.table.now st.1 s.result.0 s.result.1.state s.ensures.slot
     c.in-On-Comparing.field-0-0 c.in-On-Comparing.field-0-1 looks
 
-pub returns-in-Here-clause-turns : goal.returns-in-Here-clause-turns
-returns-in-Here-clause-turns g c =
+pub returns-in-Some-true-clause-turns : goal.returns-in-Some-true-clause-turns
+returns-in-Some-true-clause-turns g c =
     let w = c.args.window.now.book.now in let s = c.slot_word-word in let p = c.named_pair-stored.result in
     let looks : look c.args.at s.result.0 ≡ On (Comparing c.in-On-Comparing.field-0-0 c.in-On-Comparing.field-0-1) = search rules in
-    let same = c.eq-same.ensures ∙ ap (g.K.PartialEq.eq c.args.key.now) (c.near_entry.ensures.key c.in-Some.entry c.in-Some.is ∙ ap (λ z. z.key.value) c.pair-pair.ensures) in
-    let is_same = here_same c.args.at s.result.0 c.eq-same.result c.in-Here.field-0 c.in-Here.field-1 (sym c.at_yes-compared.ensures.value ∙ c.in-Here.is) in
+    let met : c.has_key.result ≡ Some true = search rules in
+    let same = c.has_key.ensures true met ∙ ap (λ z. g.K.PartialEq.eq c.args.key.now z.key.value) c.pair-pair.ensures in
     let live : kind_of s.result.0 ≡ Live = search rules in
     rw s.ensures.sees.book (λ who begun state e r.
     let is : at_live who c.args.at s.result.0 ≡ state = cc e in
@@ -41,28 +41,29 @@ returns-in-Here-clause-turns g c =
     (met_live g.K.PartialEq.eq g.K.Hash.hash_input g.S.BuildHasher.build_hasher g.S.Hasher.Hasher.write g.S.Hasher.Hasher.finish g.met.K.Eq.laws
     g.met.K.Hash.respects_eq (begun_of w.parts) w.begun.book c.args.key.now begun who c.args.window.now.sight.log s.new.self.sight.log
     s.ensures.sees.log c.args.at c.args.table.now r s.result.0 s.result.1.state s.ensures.slot
-    c.in-On-Comparing.field-0-0 c.in-On-Comparing.field-0-1 looks p c.named_pair-stored.ensures c.eq-same.result same is_same live))
+    c.in-On-Comparing.field-0-0 c.in-On-Comparing.field-0-1 looks p c.named_pair-stored.ensures true same refl live))
 
-pub returns-in_default-compared-clause-turns : goal.returns-in_default-compared-clause-turns
-returns-in_default-compared-clause-turns g c =
+pub returns-in-Some-false-clause-turns : goal.returns-in-Some-false-clause-turns
+returns-in-Some-false-clause-turns g c =
     let w = c.args.window.now.book.now in let s = c.slot_word-word in
     let looks : look c.args.at s.result.0 ≡ On (Comparing c.in-On-Comparing.field-0-0 c.in-On-Comparing.field-0-1) = search rules in
-    let same = c.eq-same.ensures ∙ ap (g.K.PartialEq.eq c.args.key.now) (c.near_entry.ensures.key c.in-Some.entry c.in-Some.is ∙ ap (λ z. z.key.value) c.pair-pair.ensures) in
-    let to : c.without.result ≡ turn_of (at_yes (Comparing c.args.at s.result.0) c.eq-same.result) = c.without.ensures
-    ∙ ap (λ z. turn_of z) c.at_yes-compared.ensures.value in
+    let met : c.has_key.result ≡ Some false = search rules in
+    let same = c.has_key.ensures false met ∙ ap (λ z. g.K.PartialEq.eq c.args.key.now z.key.value) c.pair-pair.ensures in
+    let to : c.without-passed.result ≡ turn_of (at_yes (Comparing c.args.at s.result.0) false) = c.without-passed.ensures
+    ∙ ap (λ z. turn_of z) c.at_yes.ensures.value in
     rw (s.ensures.sees.book, to) (λ who begun state e r.
     turned g.K.PartialEq.eq g.K.Hash.hash_input g.S.BuildHasher.build_hasher g.S.Hasher.Hasher.write g.S.Hasher.Hasher.finish g.met.K.Eq.laws
     g.met.K.Hash.respects_eq (begun_of w.parts) w.begun.book c.args.key.now begun who s.new.self.sight.log
-    (at_yes (Comparing c.args.at s.result.0) c.eq-same.result) c.args.table.now
+    (at_yes (Comparing c.args.at s.result.0) false) c.args.table.now
     (matched g.K.PartialEq.eq g.K.Hash.hash_input g.S.BuildHasher.build_hasher g.S.Hasher.Hasher.write g.S.Hasher.Hasher.finish g.met.K.Eq.laws
     g.met.K.Hash.respects_eq (begun_of w.parts) w.begun.book c.args.key.now begun who c.args.window.now.sight.log s.new.self.sight.log
     s.ensures.sees.log c.args.at c.args.table.now r s.result.0 s.result.1.state s.ensures.slot
-    c.in-On-Comparing.field-0-0 c.in-On-Comparing.field-0-1 looks c.named_pair-stored.result c.named_pair-stored.ensures c.eq-same.result same) state e)
+    c.in-On-Comparing.field-0-0 c.in-On-Comparing.field-0-1 looks c.named_pair-stored.result c.named_pair-stored.ensures false same) state e)
 
-pub returns-in_default-clause-turns : goal.returns-in_default-clause-turns
-returns-in_default-clause-turns g c =
+pub returns-clause-turns : goal.returns-clause-turns
+returns-clause-turns g c =
     let w = c.args.window.now.book.now in let s = c.slot_word-word in
-    let to : c.without-in_default.result ≡ turn_of (look c.args.at s.result.0) = c.without-in_default.ensures ∙ ap (λ z. turn_of z) c.look-seen.ensures.value in
+    let to : c.without.result ≡ turn_of (look c.args.at s.result.0) = c.without.ensures ∙ ap (λ z. turn_of z) c.look-seen.ensures.value in
     rw (s.ensures.sees.book, to) (λ who begun state e r.
     turned g.K.PartialEq.eq g.K.Hash.hash_input g.S.BuildHasher.build_hasher g.S.Hasher.Hasher.write g.S.Hasher.Hasher.finish g.met.K.Eq.laws
     g.met.K.Hash.respects_eq (begun_of w.parts) w.begun.book c.args.key.now begun who s.new.self.sight.log (look c.args.at s.result.0) c.args.table.now

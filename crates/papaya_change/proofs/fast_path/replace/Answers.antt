@@ -1,4 +1,4 @@
-use Rattle.std.proofs.Common.{◌≡◌, ℕ, ◌==◌, Bool, true, false, Option, Some, refl, sym, ap, ◌∙◌, rules, subst, [], append-nil, inl}
+use Rattle.std.proofs.Common.{◌≡◌, ℕ, ◌==◌, Bool, true, false, Option, Some, refl, sym, ap, ◌∙◌, rules, subst, [], append-nil}
 use Rattle.papaya_words.specs.Word.{live_word}
 use Rattle.papaya_ask.specs.declared.ask.StepKind.TheVariants as steps
 use Rattle.papaya_call.specs.declared.machine.State.{State}
@@ -15,6 +15,10 @@ use Rattle.papaya_lookup.specs.Drivers.{past}
 use Rattle.papaya_lookup.specs.History.{history_of, key_of}
 use Rattle.papaya_change.specs.Changes.{IsChangeOf}
 use Rattle.papaya_change.specs.Seeking.{IsInsertingAt}
+use Rattle.papaya_change.specs.Tries.{IsLoggedAs}
+use Rattle.papaya_change.specs.Window.Seeking.{StandsBy}
+use Rattle.papaya_change.specs.declared.fast_path.Turn.TheVariants.{Met as MetPair}
+use Rattle.papaya_lookup.specs.declared.lookup.Met.{Met}
 use Rattle.papaya_change.proofs.Doing.{idles, makes}
 use Rattle.papaya_change.proofs.Logged.{makes_none}
 use Rattle.papaya_change.proofs.Replacing.{ended, ends, live_full, met_placed, put_can, replace_traded, slot_there, taken_number, taken_there}
@@ -23,11 +27,11 @@ use Rattle.papaya_change.proofs.fast_path.replace.Goals as goal
 pub put_slot-found-requires-clause-place : goal.put_slot-found-requires-clause-place
 put_slot-found-requires-clause-place g c =
     let w = c.args.window.now.book.now in let b = begun_of w.parts in let log = c.args.window.now.sight.log in let key = c.requires.stands.0 in
-    let met = c.args.met.now in let p = met.stored in let q = c.in-Ok.pair in
-    let key_is : key_of q ≡ key_of p = c.in-Ok.ensures.key ∙ ap (λ (z : Stored _ _). key_of z) c.again.ensures in
+    let met = c.live.inside.met in let p = met.stored in let q = c.in-Ok.pair in
+    let key_is : key_of q ≡ key_of p = c.in-Ok.ensures.key in
     let hash = (hash_of g.K.Hash.hash_input g.S.BuildHasher.build_hasher g.S.Hasher.Hasher.write g.S.Hasher.Hasher.finish) in
-    let full = live_full met.word c.requires.live in
-    let st = c.requires.stands.1 in let led : Some (Writing (record { place = met.place; old = met.word })) ≡ Some st.0 = st.1 in
+    let full = live_full met.word c.live.invariant.0 in
+    let st = subst (λ (z : Met _ _). StandsBy c.args.window.now key c.args.table.now (MetPair z)) (sym c.live.view_is) c.requires.stands.1 in let led : Some (Writing (record { place = met.place; old = met.word })) ≡ Some st.0 = st.1 in
     let to : Writing (record { place = met.place; old = met.word }) ≡ st.0 = cc led in
     let r = subst (λ (z : State). IsInsertingAt g.K.PartialEq.eq hash b w.begun.book key st.2.0 log z (Some p) c.args.table.now) (sym to) st.2.1 in
     (slot_there g.K.PartialEq.eq g.K.Hash.hash_input g.S.BuildHasher.build_hasher g.S.Hasher.Hasher.write g.S.Hasher.Hasher.finish g.met.K.Eq.laws
@@ -36,12 +40,12 @@ put_slot-found-requires-clause-place g c =
 pub put_slot-found-requires-clause-can : goal.put_slot-found-requires-clause-can
 put_slot-found-requires-clause-can g c =
     let w = c.args.window.now.book.now in let b = begun_of w.parts in let log = c.args.window.now.sight.log in let key = c.requires.stands.0 in
-    let met = c.args.met.now in let p = met.stored in let q = c.in-Ok.pair in
-    let key_is : key_of q ≡ key_of p = c.in-Ok.ensures.key ∙ ap (λ (z : Stored _ _). key_of z) c.again.ensures in
+    let met = c.live.inside.met in let p = met.stored in let q = c.in-Ok.pair in
+    let key_is : key_of q ≡ key_of p = c.in-Ok.ensures.key in
     let hash = (hash_of g.K.Hash.hash_input g.S.BuildHasher.build_hasher g.S.Hasher.Hasher.write g.S.Hasher.Hasher.finish) in
-    let full = live_full met.word c.requires.live in
-    let word : c.live.result.0 ≡ live_word q.index = c.live.ensures ∙ ap live_word c.index-2.ensures in
-    let st = c.requires.stands.1 in let led : Some (Writing (record { place = met.place; old = met.word })) ≡ Some st.0 = st.1 in
+    let full = live_full met.word c.live.invariant.0 in
+    let word : c.live-2.result.0 ≡ live_word q.index = c.live-2.ensures ∙ ap live_word c.index.ensures in
+    let st = subst (λ (z : Met _ _). StandsBy c.args.window.now key c.args.table.now (MetPair z)) (sym c.live.view_is) c.requires.stands.1 in let led : Some (Writing (record { place = met.place; old = met.word })) ≡ Some st.0 = st.1 in
     let to : Writing (record { place = met.place; old = met.word }) ≡ st.0 = cc led in
     let r = subst (λ (z : State). IsInsertingAt g.K.PartialEq.eq hash b w.begun.book key st.2.0 log z (Some p) c.args.table.now) (sym to) st.2.1 in
     rw word (put_can g.K.PartialEq.eq g.K.Hash.hash_input g.S.BuildHasher.build_hasher g.S.Hasher.Hasher.write g.S.Hasher.Hasher.finish
@@ -51,12 +55,12 @@ put_slot-found-requires-clause-can g c =
 pub agrees-requires : goal.agrees-requires
 agrees-requires g c =
     let w = c.args.window.now.book.now in let b = begun_of w.parts in let log = c.args.window.now.sight.log in let key = c.requires.stands.0 in
-    let met = c.args.met.now in let p = met.stored in let q = c.in-Ok.pair in
-    let key_is : key_of q ≡ key_of p = c.in-Ok.ensures.key ∙ ap (λ (z : Stored _ _). key_of z) c.again.ensures in
+    let met = c.live.inside.met in let p = met.stored in let q = c.in-Ok.pair in
+    let key_is : key_of q ≡ key_of p = c.in-Ok.ensures.key in
     let hash = (hash_of g.K.Hash.hash_input g.S.BuildHasher.build_hasher g.S.Hasher.Hasher.write g.S.Hasher.Hasher.finish) in
-    let full = live_full met.word c.requires.live in
-    let word : c.live.result.0 ≡ live_word q.index = c.live.ensures ∙ ap live_word c.index-2.ensures in
-    let st = c.requires.stands.1 in let led : Some (Writing (record { place = met.place; old = met.word })) ≡ Some st.0 = st.1 in
+    let full = live_full met.word c.live.invariant.0 in
+    let word : c.live-2.result.0 ≡ live_word q.index = c.live-2.ensures ∙ ap live_word c.index.ensures in
+    let st = subst (λ (z : Met _ _). StandsBy c.args.window.now key c.args.table.now (MetPair z)) (sym c.live.view_is) c.requires.stands.1 in let led : Some (Writing (record { place = met.place; old = met.word })) ≡ Some st.0 = st.1 in
     let to : Writing (record { place = met.place; old = met.word }) ≡ st.0 = cc led in
     let r = subst (λ (z : State). IsInsertingAt g.K.PartialEq.eq hash b w.begun.book key st.2.0 log z (Some p) c.args.table.now) (sym to) st.2.1 in
     let put = c.put_slot-found in let mid = put.new.self.sight.log in
@@ -75,13 +79,13 @@ agrees-requires g c =
     )
 
 pub returns-clause-put : goal.returns-clause-put
-returns-clause-put g c = λ z e key begun state led stands.
-    let w = c.args.window.now.book.now in let b = begun_of w.parts in let log = c.args.window.now.sight.log in let met = c.args.met.now in
+returns-clause-put g c = rw (sym c.live.view_is) (λ z e key begun state led stands.
+    let w = c.args.window.now.book.now in let b = begun_of w.parts in let log = c.args.window.now.sight.log in let met = c.live.inside.met in
     let p = met.stored in let q = c.in-Ok.pair in
-    let key_is : key_of q ≡ key_of p = c.in-Ok.ensures.key ∙ ap (λ (z : Stored _ _). key_of z) c.again.ensures in
+    let key_is : key_of q ≡ key_of p = c.in-Ok.ensures.key in
     let hash = (hash_of g.K.Hash.hash_input g.S.BuildHasher.build_hasher g.S.Hasher.Hasher.write g.S.Hasher.Hasher.finish) in
-    let full = live_full met.word c.requires.live in
-    let word : c.live.result.0 ≡ live_word q.index = c.live.ensures ∙ ap live_word c.index-2.ensures in
+    let full = live_full met.word c.live.invariant.0 in
+    let word : c.live-2.result.0 ≡ live_word q.index = c.live-2.ensures ∙ ap live_word c.index.ensures in
     let to : Writing (record { place = met.place; old = met.word }) ≡ state = cc led in
     let r = subst (λ (z : State). IsInsertingAt g.K.PartialEq.eq hash b w.begun.book key begun log z (Some p) c.args.table.now) (sym to) stands in
     let put = c.put_slot-found in let mid = put.new.self.sight.log in
@@ -98,24 +102,24 @@ returns-clause-put g c = λ z e key begun state led stands.
           (replace_traded g.K.PartialEq.eq g.K.Hash.hash_input g.S.BuildHasher.build_hasher g.S.Hasher.Hasher.write g.S.Hasher.Hasher.finish
           g.met.K.Eq.laws g.met.K.Hash.respects_eq b w.begun.book key begun log met.place met.word full p c.args.table.now r c.requires.limit q
           key_is c.in-Ok.ensures.placed mid put.result.0 put.result.1 tried is c.in-Some.taken c.in-Some.is),
-    )
+    ))
 
 pub returns-clause-tried : goal.returns-clause-tried
-returns-clause-tried g c = record {
+returns-clause-tried g c = rw (sym c.live.view_is) (record {
   sees = c.put_slot-found.ensures.sees;
   lawful = search rules;
   does =
       let put = c.put_slot-found in
-      let is : (put.result.0 == c.args.met.now.word) ≡ true = search rules in
+      let is : (put.result.0 == c.live.inside.met.word) ≡ true = search rules in
       subst (λ (z : Bool). Does z c.args.window.now put.new.self) is put.ensures.does;
   made =
       let w = c.args.window.now.book.now in let b = begun_of w.parts in let log = c.args.window.now.sight.log in let key = c.requires.stands.0 in
-      let met = c.args.met.now in let p = met.stored in let q = c.in-Ok.pair in
-      let key_is : key_of q ≡ key_of p = c.in-Ok.ensures.key ∙ ap (λ (z : Stored _ _). key_of z) c.again.ensures in
+      let met = c.live.inside.met in let p = met.stored in let q = c.in-Ok.pair in
+      let key_is : key_of q ≡ key_of p = c.in-Ok.ensures.key in
       let hash = (hash_of g.K.Hash.hash_input g.S.BuildHasher.build_hasher g.S.Hasher.Hasher.write g.S.Hasher.Hasher.finish) in
-      let full = live_full met.word c.requires.live in
-      let word : c.live.result.0 ≡ live_word q.index = c.live.ensures ∙ ap live_word c.index-2.ensures in
-      let st = c.requires.stands.1 in let led : Some (Writing (record { place = met.place; old = met.word })) ≡ Some st.0 = st.1 in
+      let full = live_full met.word c.live.invariant.0 in
+      let word : c.live-2.result.0 ≡ live_word q.index = c.live-2.ensures ∙ ap live_word c.index.ensures in
+      let st = subst (λ (z : Met _ _). StandsBy c.args.window.now key c.args.table.now (MetPair z)) (sym c.live.view_is) c.requires.stands.1 in let led : Some (Writing (record { place = met.place; old = met.word })) ≡ Some st.0 = st.1 in
       let to : Writing (record { place = met.place; old = met.word }) ≡ st.0 = cc led in
       let r = subst (λ (z : State). IsInsertingAt g.K.PartialEq.eq hash b w.begun.book key st.2.0 log z (Some p) c.args.table.now) (sym to) st.2.1 in
       let put = c.put_slot-found in let mid = put.new.self.sight.log in
@@ -130,35 +134,35 @@ returns-clause-tried g c = record {
       (ended g.K.PartialEq.eq g.K.Hash.hash_input g.S.BuildHasher.build_hasher g.S.Hasher.Hasher.write g.S.Hasher.Hasher.finish g.met.K.Eq.laws
       g.met.K.Hash.respects_eq b w.begun.book key st.2.0 log met.place met.word full p c.args.table.now r c.requires.limit q key_is
       c.in-Ok.ensures.placed mid put.result.0 put.result.1 tried is).changed does;
-  logged = search rules;
-  refused = tt;
-  crowded = λ e. absurd (cc e);
-}
+  logged = λ pair e.
+      let one : c.in-Ok.pair ≡ pair = cc e in
+      let it : IsLoggedAs c.put_slot-found.new.self (key_of c.live.inside.met.stored) c.args.value c.in-Ok.pair = search rules in
+      subst (λ (z : Stored _ _). IsLoggedAs c.put_slot-found.new.self (key_of c.live.inside.met.stored) c.args.value z) one it;
+})
 
 pub returns-then-found-word-clause-tried : goal.returns-then-found-word-clause-tried
-returns-then-found-word-clause-tried g c = record {
+returns-then-found-word-clause-tried g c = rw (sym c.live.view_is) (record {
   sees = c.put_slot-found.ensures.sees;
   lawful = search rules;
   does =
       let put = c.put_slot-found in
-      let is : (put.result.0 == c.args.met.now.word) ≡ false = search rules in
+      let is : (put.result.0 == c.live.inside.met.word) ≡ false = search rules in
       subst (λ (z : Bool). Does z c.args.window.now put.new.self) is put.ensures.does;
   made =
       let put = c.put_slot-found in
-      let is : (put.result.0 == c.args.met.now.word) ≡ false = search rules in
+      let is : (put.result.0 == c.live.inside.met.word) ≡ false = search rules in
       makes_none c.args.window.now put.new.self (subst (λ (z : Bool). Does z c.args.window.now put.new.self) is put.ensures.does);
-  logged = search rules;
-  refused = tt;
-  crowded = λ e. absurd (cc e);
-}
+  logged = λ pair e.
+      let one : c.in-Ok.pair ≡ pair = cc e in
+      let it : IsLoggedAs c.put_slot-found.new.self (key_of c.live.inside.met.stored) c.args.value c.in-Ok.pair = search rules in
+      subst (λ (z : Stored _ _). IsLoggedAs c.put_slot-found.new.self (key_of c.live.inside.met.stored) c.args.value z) one it;
+})
 
-pub returns-in_default-clause-tried : goal.returns-in_default-clause-tried
-returns-in_default-clause-tried g c = let w = c.args.window.now in record {
+pub returns-in-Err-clause-tried : goal.returns-in-Err-clause-tried
+returns-in-Err-clause-tried g c = let w = c.args.window.now in record {
   sees = record { book = refl; log = ([], append-nil _) };
   lawful = c.requires.stands.1.2.1.4.lawful;
   does = idles w w refl;
   made = makes_none w w (idles w w refl);
-  logged = tt;
-  refused = inl refl;
-  crowded = λ e. absurd (cc e);
+  logged = λ pair e. absurd (cc e);
 }

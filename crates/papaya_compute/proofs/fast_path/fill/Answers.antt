@@ -1,22 +1,23 @@
-use Rattle.std.proofs.Common.{◌≡◌, Option, None, Some, Result, Ok, Err, IfErr, IfOk, [], ◌∷◌, append-nil, refl, sym, ap, ◌∙◌, subst}
-use Rattle.papaya_words.specs.declared.probe.Refused.TheVariants.{Capacity}
+use Rattle.std.proofs.Common.{◌≡◌, ◌<◌, ◌^◌, Option, None, Some, [], ◌∷◌, append-nil, refl, sym, ap, ◌∙◌, inl, inr, subst}
+use Rattle.std.specs.Prelude.{IfSome}
+use Rattle.papaya_words.specs.declared.probe.Refused.TheVariants.{Memory, RemoveNothing}
 use Rattle.papaya_call.specs.declared.answers.Operation.{Operation}
 use Rattle.papaya_call.specs.declared.answers.Operation.TheVariants as operation
 use Rattle.papaya_call.specs.declared.compute.Gap.TheVariants.{At}
 use Rattle.papaya_call.specs.declared.machine.State.TheVariants.{Offering, Writing}
-use Rattle.papaya_book.specs.Hashes.{hash_of}
+use Rattle.papaya_book.specs.declared.rule.entry.Named.TheVariants as names
+use Rattle.papaya_book.specs.Books.{IsIn}
 use Rattle.papaya_book.specs.Logs.{Stored}
 use Rattle.papaya_book.specs.Parts.{begun_of}
 use Rattle.papaya_book.specs.Windows.{Does}
 use Rattle.papaya_book.proofs.Logs.{prefix_trans}
 use Rattle.papaya_lookup.specs.Drivers.{own, past}
-use Rattle.papaya_lookup.specs.History.{Makes, history_of}
+use Rattle.papaya_lookup.specs.History.{Makes, history_of, key_of}
 use Rattle.papaya_lookup.proofs.Histories.{history_since}
 use Rattle.papaya_change.specs.declared.fast_path.Tried.{Tried}
 use Rattle.papaya_change.specs.Changes.{IsChangeOf}
 use Rattle.papaya_change.specs.Seeking.{Computes, Inserts}
-use Rattle.papaya_change.specs.Tries.{IsLoggedAs, is_put, pair_in}
-use Rattle.papaya_change.specs.Writing.{IsMemoryOrCapacity}
+use Rattle.papaya_change.specs.Tries.{is_put, pair_in}
 use Rattle.papaya_change.proofs.Showings.{held_wider}
 use Rattle.papaya_change.proofs.Trading.{met_none}
 use Rattle.papaya_compute.proofs.FastPath.{aborts, inserts, refuses, removes_nothing}
@@ -26,134 +27,190 @@ use Rattle.papaya_compute.proofs.fast_path.fill.Goals as goal
 pub claim-requires-clause-stands : goal.claim-requires-clause-stands
 claim-requires-clause-stands g c =
     let w = c.args.window.now in let log = w.sight.log in let key = c.args.key in let b = begun_of w.book.now.parts in
-    let name = w.book.now.begun.book in let hash =
-    (hash_of g.K.Hash.hash_input g.S.BuildHasher.build_hasher g.S.Hasher.Hasher.write g.S.Hasher.Hasher.finish) in
-    let at = c.args.at in let write = Writing (record { place = at; old = 0 }) in
-    let found = c.requires.found in (write, refl, (found.0, found.1 Inserts write refl))
+    let name = w.book.now.begun.book in let at = c.args.at in let write = Writing (record { place = at; old = 0 }) in
+    let led = c.requires.led in (write, refl, (led.0, led.1.found Inserts write refl))
 
-pub returns-in-Ok-Put-clause-replies : goal.returns-in-Ok-Put-clause-replies
-returns-in-Ok-Put-clause-replies g c = λ begun found.
-    let w = c.args.window.now in let log = w.sight.log in let key = c.args.key in let b = begun_of w.book.now.parts in
-    let name = w.book.now.begun.book in let hash =
-    (hash_of g.K.Hash.hash_input g.S.BuildHasher.build_hasher g.S.Hasher.Hasher.write g.S.Hasher.Hasher.finish) in
-    let at = c.args.at in let write = Writing (record { place = at; old = 0 }) in
-    let there = found Computes (Offering (At at)) refl in
-    let was = none_found g.K.PartialEq.eq g.K.Hash.hash_input g.S.BuildHasher.build_hasher g.S.Hasher.Hasher.write g.S.Hasher.Hasher.finish
-    g.met.K.Eq.laws g.met.K.Hash.respects_eq b name key begun log c.args.table.now at there in
-    let then = c.claim.new.window in let later = held_wider g.K.PartialEq.eq (g.K.PartialEq.eq key) (history_of begun) (history_of begun)
-    (history_of log) (history_of then.sight.log) ([], append-nil (history_of begun)) (history_since log then.sight.log c.claim.ensures.tried.sees.log) None was in
-    let value = c.in-Insert.value in let done = c.in-Ok-Put in let is = done.is ∙ ap (λ z. Ok z) done.field-0-is in let q = done.pair in
-    let l = subst (λ (z : Result (Tried _ _) _). IfOk z (λ t. IsLoggedAs c.claim.new.window key value (pair_in t))) is c.claim.ensures.tried.logged in
-    let op : c.args.operation ≡ operation.Insert q.value.value = c.in-Insert.is ∙ ap (λ v. operation.Insert v) (sym l.value_is) in
-    let t = c.claim.ensures.put q is begun write refl (found Inserts write refl) in
-    let change = subst (λ (o : Option (Stored _ _)). IsChangeOf (g.K.PartialEq.eq key) (history_of begun) (past then) o (Some q)) (met_none t.0 t.1) t.2 in
-    inserts g.K.PartialEq.eq key _ _ None later c.args.operation refl q op change l.key_is c.entry.result.0 c.entry.result.1 c.entry.ensures
+pub claim-requires-clause-hashed : goal.claim-requires-clause-hashed
+claim-requires-clause-hashed g c = c.requires.led.1.hashed
 
-pub returns-in-Ok-Put-clause-made : goal.returns-in-Ok-Put-clause-made
-returns-in-Ok-Put-clause-made g c =
-    let w = c.args.window.now in let then = c.claim.new.window in let done = c.in-Ok-Put in let is = done.is ∙ ap (λ z. Ok z) done.field-0-is in
-    subst (λ (z : Result (Tried _ _) _). Makes (is_put z) (own w) (own then) (past then)) is c.claim.ensures.tried.made
+pub claim-requires-clause-limit : goal.claim-requires-clause-limit
+claim-requires-clause-limit g c = c.requires.led.1.limit
 
 pub entry-requires : goal.entry-requires
 entry-requires g c =
     let w = c.args.window.now in let log = w.sight.log in let key = c.args.key in let b = begun_of w.book.now.parts in
-    let name = w.book.now.begun.book in let hash =
-    (hash_of g.K.Hash.hash_input g.S.BuildHasher.build_hasher g.S.Hasher.Hasher.write g.S.Hasher.Hasher.finish) in
-    let value = c.in-Insert.value in let done = c.in-Ok-Put in let is = done.is ∙ ap (λ z. Ok z) done.field-0-is in let q = done.pair in
-    let l = subst (λ (z : Result (Tried _ _) _). IfOk z (λ t. IsLoggedAs c.claim.new.window key value (pair_in t))) is c.claim.ensures.tried.logged in
-    l.placed
+    let name = w.book.now.begun.book in let at = c.args.at in let write = Writing (record { place = at; old = 0 }) in
+    let tried = c.claim.ensures.tried in let then = c.claim.new.window in
+    let q = c.in-Put.pair in let l = tried.logged q (ap pair_in c.in-Put.is) in l.placed
 
-pub returns-in-Ok-Lost-clause-idle : goal.returns-in-Ok-Lost-clause-idle
-returns-in-Ok-Lost-clause-idle g c =
-    let done = c.in-Ok-Lost in let is = done.is ∙ ap (λ z. Ok z) done.field-0-is in
-    subst (λ (z : Result (Tried _ _) _). Does (is_put z) c.args.window.now c.claim.new.window) is c.claim.ensures.tried.does
-
-pub returns-in-Ok-Lost-clause-goes : goal.returns-in-Ok-Lost-clause-goes
-returns-in-Ok-Lost-clause-goes g c = λ begun found.
+pub returns-in-Put : goal.returns-in-Put
+returns-in-Put g c =
     let w = c.args.window.now in let log = w.sight.log in let key = c.args.key in let b = begun_of w.book.now.parts in
-    let name = w.book.now.begun.book in let hash =
-    (hash_of g.K.Hash.hash_input g.S.BuildHasher.build_hasher g.S.Hasher.Hasher.write g.S.Hasher.Hasher.finish) in
-    let at = c.args.at in let write = Writing (record { place = at; old = 0 }) in
-    let there = found Computes (Offering (At at)) refl in
-    let was = none_found g.K.PartialEq.eq g.K.Hash.hash_input g.S.BuildHasher.build_hasher g.S.Hasher.Hasher.write g.S.Hasher.Hasher.finish
-    g.met.K.Eq.laws g.met.K.Hash.respects_eq b name key begun log c.args.table.now at there in
-    let then = c.claim.new.window in let later = held_wider g.K.PartialEq.eq (g.K.PartialEq.eq key) (history_of begun) (history_of begun)
-    (history_of log) (history_of then.sight.log) ([], append-nil (history_of begun)) (history_since log then.sight.log c.claim.ensures.tried.sees.log) None was in
-    let value = c.in-Insert.value in let done = c.in-Ok-Lost in let is = done.is ∙ ap (λ z. Ok z) done.field-0-is in let q = done.pair in
-    let l = subst (λ (z : Result (Tried _ _) _). IfOk z (λ t. IsLoggedAs c.claim.new.window key value (pair_in t))) is c.claim.ensures.tried.logged in
-    let op : c.args.operation ≡ operation.Insert q.value.value = c.in-Insert.is ∙ ap (λ v. operation.Insert v) (sym l.value_is) in (
-      (
-        record {
-          lawful = c.claim.ensures.tried.lawful;
-          hashed = rw c.claim.ensures.tried.sees.book c.requires.hashed;
-          placed = l.placed;
-          number = l.number;
-          same = ap (g.K.PartialEq.eq key) l.key_is ∙ g.met.K.Eq.laws.refl key;
-        },
-        l.key_is,
-        ap (λ (o : Operation _ _). (None, o) ∷ []) op,
-      ),
-      prefix_trans begun log then.sight.log there.4.seen c.claim.ensures.tried.sees.log,
-      (later, tt),
-    )
+    let name = w.book.now.begun.book in let at = c.args.at in let write = Writing (record { place = at; old = 0 }) in
+    let tried = c.claim.ensures.tried in let then = c.claim.new.window in
+    let q = c.in-Put.pair in let l = tried.logged q (ap pair_in c.in-Put.is) in
+    record {
+      does = record {
+        sees = tried.sees;
+        lawful = tried.lawful;
+        made = subst (λ (z : Tried _ _ _). Makes (is_put z) (own w) (own then) (past then)) c.in-Put.is tried.made;
+        refused = λ cause e. absurd (cc e);
+        right = λ begun found.
+            let there = found Computes (Offering (At at)) refl in
+            let was = none_found g.K.PartialEq.eq g.K.Hash.hash_input g.S.BuildHasher.build_hasher g.S.Hasher.Hasher.write g.S.Hasher.Hasher.finish
+            g.met.K.Eq.laws g.met.K.Hash.respects_eq b name key begun log c.args.table.now at there in
+            let later = held_wider g.K.PartialEq.eq (g.K.PartialEq.eq key) (history_of begun) (history_of begun)
+            (history_of log) (history_of then.sight.log) ([], append-nil (history_of begun)) (history_since log then.sight.log tried.sees.log) None was in
+            let op : c.args.operation ≡ operation.Insert q.value.value = c.in-Insert.is ∙ ap (λ v. operation.Insert v) (sym l.value_is) in
+            let t = c.claim.ensures.put q c.in-Put.is begun write refl (found Inserts write refl) in
+            let change = subst (λ (o : Option (Stored _ _)). IsChangeOf (g.K.PartialEq.eq key) (history_of begun) (past then) o (Some q)) (met_none t.0 t.1) t.2 in
+            inserts g.K.PartialEq.eq key _ _ None later c.args.operation refl q op change l.key_is c.entry.result.0 c.entry.result.1 c.entry.ensures;
+        idle = tt;
+        starts = tt;
+      };
+    }
 
-pub returns-in-Err-clause-replies : goal.returns-in-Err-clause-replies
-returns-in-Err-clause-replies g c = λ begun found.
+pub returns-in-Lost : goal.returns-in-Lost
+returns-in-Lost g c =
     let w = c.args.window.now in let log = w.sight.log in let key = c.args.key in let b = begun_of w.book.now.parts in
-    let name = w.book.now.begun.book in let hash =
-    (hash_of g.K.Hash.hash_input g.S.BuildHasher.build_hasher g.S.Hasher.Hasher.write g.S.Hasher.Hasher.finish) in
-    let at = c.args.at in let write = Writing (record { place = at; old = 0 }) in
-    let there = found Computes (Offering (At at)) refl in
-    let was = none_found g.K.PartialEq.eq g.K.Hash.hash_input g.S.BuildHasher.build_hasher g.S.Hasher.Hasher.write g.S.Hasher.Hasher.finish
-    g.met.K.Eq.laws g.met.K.Hash.respects_eq b name key begun log c.args.table.now at there in
-    let then = c.claim.new.window in let later = held_wider g.K.PartialEq.eq (g.K.PartialEq.eq key) (history_of begun) (history_of begun)
-    (history_of log) (history_of then.sight.log) ([], append-nil (history_of begun)) (history_since log then.sight.log c.claim.ensures.tried.sees.log) None was in
-    let cause = c.in-Err.refused in
-    let none = subst (λ (z : Result (Tried _ _) _). IfErr z IsMemoryOrCapacity) c.in-Err.is c.claim.ensures.tried.refused in
-    refuses g.K.PartialEq.eq key _ _ None later c.args.operation cause none
+    let name = w.book.now.begun.book in let at = c.args.at in let write = Writing (record { place = at; old = 0 }) in
+    let tried = c.claim.ensures.tried in let then = c.claim.new.window in
+    let q = c.in-Lost.pair in let l = tried.logged q (ap pair_in c.in-Lost.is) in
+    let placed = l.placed in let key_is = l.key_is in let value_is = l.value_is in let number = l.number in
+    record {
+      does = record {
+        sees = tried.sees;
+        lawful = tt;
+        made = tt;
+        refused = λ cause e. absurd (cc e);
+        right = tt;
+        idle = subst (λ (z : Tried _ _ _). Does (is_put z) w then) c.in-Lost.is tried.does;
+        starts = λ begun found.
+            let there = found Computes (Offering (At at)) refl in
+            let was = none_found g.K.PartialEq.eq g.K.Hash.hash_input g.S.BuildHasher.build_hasher g.S.Hasher.Hasher.write g.S.Hasher.Hasher.finish
+            g.met.K.Eq.laws g.met.K.Hash.respects_eq b name key begun log c.args.table.now at there in
+            let later = held_wider g.K.PartialEq.eq (g.K.PartialEq.eq key) (history_of begun) (history_of begun)
+            (history_of log) (history_of then.sight.log) ([], append-nil (history_of begun)) (history_since log then.sight.log tried.sees.log) None was in
+            let op : c.args.operation ≡ operation.Insert q.value.value = c.in-Insert.is ∙ ap (λ v. operation.Insert v) (sym value_is) in (
+              (
+                record {
+                  lawful = tried.lawful;
+                  hashed = rw tried.sees.book c.requires.led.1.hashed;
+                  placed = placed;
+                  number = number;
+                  same = ap (g.K.PartialEq.eq key) key_is ∙ g.met.K.Eq.laws.refl key;
+                },
+                key_is,
+                ap (λ (o : Operation _ _). (None, o) ∷ []) op,
+              ),
+              prefix_trans begun log then.sight.log there.4.seen tried.sees.log,
+              (later, tt),
+            );
+      };
+    }
 
-pub returns-in-Err-clause-made : goal.returns-in-Err-clause-made
-returns-in-Err-clause-made g c =
-    let w = c.args.window.now in let then = c.claim.new.window in let done = c.in-Err in let is = done.is in
-    subst (λ (z : Result (Tried _ _) _). Makes (is_put z) (own w) (own then) (past then)) is c.claim.ensures.tried.made
-
-pub returns-in-Err-clause-crowded : goal.returns-in-Err-clause-crowded
-returns-in-Err-clause-crowded g c = λ e. let same : c.in-Err.refused ≡ Capacity = cc e in c.claim.ensures.tried.crowded (c.in-Err.is ∙ ap (λ z. Err z) same)
-
-pub returns-in-Remove-clause-replies : goal.returns-in-Remove-clause-replies
-returns-in-Remove-clause-replies g c = λ begun found.
+pub returns-in-Some : goal.returns-in-Some
+returns-in-Some g c =
     let w = c.args.window.now in let log = w.sight.log in let key = c.args.key in let b = begun_of w.book.now.parts in
-    let name = w.book.now.begun.book in let hash =
-    (hash_of g.K.Hash.hash_input g.S.BuildHasher.build_hasher g.S.Hasher.Hasher.write g.S.Hasher.Hasher.finish) in
-    let at = c.args.at in let write = Writing (record { place = at; old = 0 }) in
-    let there = found Computes (Offering (At at)) refl in
-    let was = none_found g.K.PartialEq.eq g.K.Hash.hash_input g.S.BuildHasher.build_hasher g.S.Hasher.Hasher.write g.S.Hasher.Hasher.finish
-    g.met.K.Eq.laws g.met.K.Hash.respects_eq b name key begun log c.args.table.now at there in
-    removes_nothing g.K.PartialEq.eq key _ _ None was c.args.operation refl c.in-Remove.is
+    let name = w.book.now.begun.book in let at = c.args.at in let write = Writing (record { place = at; old = 0 }) in
+    let tried = c.claim.ensures.tried in let then = c.claim.new.window in
+    let back = c.claim.ensures.back (c.in-Back.key, c.in-Back.value) c.in-Back.is in
+    let q = c.in-Some.pair in let by = c.log_by_waiting.ensures in
+    let placed = subst (λ (z : Option (Stored _ _)). IfSome z (λ p. IsIn then.book.now (names.Pair p))) c.in-Some.is by.placed in
+    let key_is = subst (λ (z : Option (Stored _ _)). IfSome z (λ p. key_of p ≡ c.in-Back.key)) c.in-Some.is by.key ∙ ap (λ z. z.0) back in
+    let value_is = subst (λ (z : Option (Stored _ _)). IfSome z (λ p. p.value.value ≡ c.in-Back.value)) c.in-Some.is by.value ∙ ap (λ z. z.1) back in
+    let number = subst (λ (z : Option (Stored _ _)). IfSome z (λ p. p.index < 2 ^ 48)) c.in-Some.is by.number in
+    record {
+      does = record {
+        sees = tried.sees;
+        lawful = tt;
+        made = tt;
+        refused = λ cause e. absurd (cc e);
+        right = tt;
+        idle = subst (λ (z : Tried _ _ _). Does (is_put z) w then) c.in-Back.is tried.does;
+        starts = λ begun found.
+            let there = found Computes (Offering (At at)) refl in
+            let was = none_found g.K.PartialEq.eq g.K.Hash.hash_input g.S.BuildHasher.build_hasher g.S.Hasher.Hasher.write g.S.Hasher.Hasher.finish
+            g.met.K.Eq.laws g.met.K.Hash.respects_eq b name key begun log c.args.table.now at there in
+            let later = held_wider g.K.PartialEq.eq (g.K.PartialEq.eq key) (history_of begun) (history_of begun)
+            (history_of log) (history_of then.sight.log) ([], append-nil (history_of begun)) (history_since log then.sight.log tried.sees.log) None was in
+            let op : c.args.operation ≡ operation.Insert q.value.value = c.in-Insert.is ∙ ap (λ v. operation.Insert v) (sym value_is) in (
+              (
+                record {
+                  lawful = tried.lawful;
+                  hashed = rw tried.sees.book c.requires.led.1.hashed;
+                  placed = placed;
+                  number = number;
+                  same = ap (g.K.PartialEq.eq key) key_is ∙ g.met.K.Eq.laws.refl key;
+                },
+                key_is,
+                ap (λ (o : Operation _ _). (None, o) ∷ []) op,
+              ),
+              prefix_trans begun log then.sight.log there.4.seen tried.sees.log,
+              (later, tt),
+            );
+      };
+    }
 
-pub returns-in-Remove-clause-lawful : goal.returns-in-Remove-clause-lawful
-returns-in-Remove-clause-lawful g c =
+pub returns-in-None : goal.returns-in-None
+returns-in-None g c =
     let w = c.args.window.now in let log = w.sight.log in let key = c.args.key in let b = begun_of w.book.now.parts in
-    let name = w.book.now.begun.book in let hash =
-    (hash_of g.K.Hash.hash_input g.S.BuildHasher.build_hasher g.S.Hasher.Hasher.write g.S.Hasher.Hasher.finish) in
-    let at = c.args.at in let write = Writing (record { place = at; old = 0 }) in
-    let found = c.requires.found in (found.1 Inserts write refl).4.lawful
+    let name = w.book.now.begun.book in let at = c.args.at in let write = Writing (record { place = at; old = 0 }) in
+    let tried = c.claim.ensures.tried in let then = c.claim.new.window in
+    record {
+      does = record {
+        sees = tried.sees;
+        lawful = tried.lawful;
+        made = subst (λ (z : Tried _ _ _). Makes (is_put z) (own w) (own then) (past then)) c.in-Back.is tried.made;
+        refused = λ cause e. let is : Memory ≡ cause = cc e in inl (sym is);
+        right = λ begun found.
+            let there = found Computes (Offering (At at)) refl in
+            let was = none_found g.K.PartialEq.eq g.K.Hash.hash_input g.S.BuildHasher.build_hasher g.S.Hasher.Hasher.write g.S.Hasher.Hasher.finish
+            g.met.K.Eq.laws g.met.K.Hash.respects_eq b name key begun log c.args.table.now at there in
+            let later = held_wider g.K.PartialEq.eq (g.K.PartialEq.eq key) (history_of begun) (history_of begun)
+            (history_of log) (history_of then.sight.log) ([], append-nil (history_of begun)) (history_since log then.sight.log tried.sees.log) None was in
+            refuses g.K.PartialEq.eq key _ _ None later c.args.operation Memory (inl refl);
+        idle = tt;
+        starts = tt;
+      };
+    }
 
-pub returns-in-Abort-clause-replies : goal.returns-in-Abort-clause-replies
-returns-in-Abort-clause-replies g c = λ begun found.
+pub returns-in-Remove : goal.returns-in-Remove
+returns-in-Remove g c =
     let w = c.args.window.now in let log = w.sight.log in let key = c.args.key in let b = begun_of w.book.now.parts in
-    let name = w.book.now.begun.book in let hash =
-    (hash_of g.K.Hash.hash_input g.S.BuildHasher.build_hasher g.S.Hasher.Hasher.write g.S.Hasher.Hasher.finish) in
-    let at = c.args.at in let write = Writing (record { place = at; old = 0 }) in
-    let there = found Computes (Offering (At at)) refl in
-    let was = none_found g.K.PartialEq.eq g.K.Hash.hash_input g.S.BuildHasher.build_hasher g.S.Hasher.Hasher.write g.S.Hasher.Hasher.finish
-    g.met.K.Eq.laws g.met.K.Hash.respects_eq b name key begun log c.args.table.now at there in
-    aborts g.K.PartialEq.eq key _ _ None was c.args.operation c.in-Abort.with c.in-Abort.is
+    let name = w.book.now.begun.book in let at = c.args.at in let write = Writing (record { place = at; old = 0 }) in
+    record {
+      does = record {
+        sees = record { book = refl; log = ([], append-nil log) };
+        lawful = let led = c.requires.led in (led.1.found Inserts write refl).4.lawful;
+        made = sym (append-nil (own w));
+        refused = λ cause e. let is : RemoveNothing ≡ cause = cc e in inr (sym is);
+        right = λ begun found.
+            let there = found Computes (Offering (At at)) refl in
+            let was = none_found g.K.PartialEq.eq g.K.Hash.hash_input g.S.BuildHasher.build_hasher g.S.Hasher.Hasher.write g.S.Hasher.Hasher.finish
+            g.met.K.Eq.laws g.met.K.Hash.respects_eq b name key begun log c.args.table.now at there in
+            removes_nothing g.K.PartialEq.eq key _ _ None was c.args.operation refl c.in-Remove.is;
+        idle = tt;
+        starts = tt;
+      };
+    }
 
-pub returns-in-Abort-clause-lawful : goal.returns-in-Abort-clause-lawful
-returns-in-Abort-clause-lawful g c =
+pub returns-in-Abort : goal.returns-in-Abort
+returns-in-Abort g c =
     let w = c.args.window.now in let log = w.sight.log in let key = c.args.key in let b = begun_of w.book.now.parts in
-    let name = w.book.now.begun.book in let hash =
-    (hash_of g.K.Hash.hash_input g.S.BuildHasher.build_hasher g.S.Hasher.Hasher.write g.S.Hasher.Hasher.finish) in
-    let at = c.args.at in let write = Writing (record { place = at; old = 0 }) in
-    let found = c.requires.found in (found.1 Inserts write refl).4.lawful
+    let name = w.book.now.begun.book in let at = c.args.at in let write = Writing (record { place = at; old = 0 }) in
+    record {
+      does = record {
+        sees = record { book = refl; log = ([], append-nil log) };
+        lawful = let led = c.requires.led in (led.1.found Inserts write refl).4.lawful;
+        made = sym (append-nil (own w));
+        refused = λ cause e. absurd (cc e);
+        right = λ begun found.
+            let there = found Computes (Offering (At at)) refl in
+            let was = none_found g.K.PartialEq.eq g.K.Hash.hash_input g.S.BuildHasher.build_hasher g.S.Hasher.Hasher.write g.S.Hasher.Hasher.finish
+            g.met.K.Eq.laws g.met.K.Hash.respects_eq b name key begun log c.args.table.now at there in
+            aborts g.K.PartialEq.eq key _ _ None was c.args.operation c.in-Abort.with c.in-Abort.is;
+        idle = tt;
+        starts = tt;
+      };
+    }

@@ -1,4 +1,5 @@
 use Rattle.std.proofs.Common.{false, ap, ◌∙◌, subst}
+use Rattle.papaya_words.specs.declared.probe.Refused.TheVariants.{Capacity, Limit}
 use Rattle.papaya_chain.specs.declared.ask.Answer.TheVariants as answers
 use Rattle.papaya_book.specs.Windows.{Does, IsLawful}
 use Rattle.papaya_book.proofs.Windows.{sees_trans}
@@ -12,7 +13,7 @@ use Rattle.papaya_compute.specs.FastPath.{IfOn, IfOver, IsOnItsWay}
 use Rattle.papaya_compute.specs.ComputeAnswers.{IsComputeBy, changes}
 use Rattle.papaya_compute.specs.declared.fast_path.First.{First}
 use Rattle.papaya_compute.specs.declared.fast_path.First.TheVariants.{Over}
-use Rattle.papaya_compute.proofs.FastPath.{does_since}
+use Rattle.papaya_compute.proofs.FastPath.{does_since, no_limit, no_room}
 use Rattle.papaya_compute.proofs.ComputeReplies.{computed_by}
 use Rattle.papaya_compute.proofs.lending.compute_lent.Goals as goal
 
@@ -20,7 +21,7 @@ pub returns-in-Over-clause-computed : goal.returns-in-Over-clause-computed
 returns-in-Over-clause-computed g c =
     let first = c.learn.new.self in let at = c.lend_fast in let then = at.new.window in
     let d = subst (λ (z : First _ _). IfOver z
-    (λ answer. IsComputeBy g.K.PartialEq.eq c.args.key (past first) (past then) (Operates g.F.FnMut) c.args.f answer)) c.in-Over.is at.ensures.computed in
+    (λ answer. IsComputeBy g.K.PartialEq.eq c.args.key (past first) (past then) (Operates g.F.FnMut) c.args.f answer)) c.in-Over.is at.ensures.comes.right in
     computed_by g.K.PartialEq.eq c.args.key _ _ _ (history_since c.args.window.now.sight.log first.sight.log c.learn.ensures.sees.log)
     (Operates g.F.FnMut) c.args.f d.left d.said d.has_said c.in-Over.answer (record { held = d.held; none_once = d.none_once; operated = d.operated })
 
@@ -31,14 +32,14 @@ lend_slow-requires-clause-can g c =
       c.args.key,
       c.args.f,
       subst (λ (z : First _ _). IfOn z (IsOnItsWay first at.new.window c.args.key (Operates g.F.FnMut) c.args.f at.new.f)) c.in-On.is
-          at.ensures.goes,
+          at.ensures.comes.starts,
     )
 
 pub returns-clause-computed : goal.returns-clause-computed
 returns-clause-computed g c =
     let first = c.learn.new.self in let at = c.lend_fast in
     let goes = subst (λ (z : First _ _). IfOn z (IsOnItsWay first at.new.window c.args.key (Operates g.F.FnMut) c.args.f at.new.f)) c.in-On.is
-    at.ensures.goes in
+    at.ensures.comes.starts in
     let d = c.lend_slow.ensures.computed first c.args.key c.args.f goes in
     computed_by g.K.PartialEq.eq c.args.key _ _ _ (history_since c.args.window.now.sight.log first.sight.log c.learn.ensures.sees.log)
     (Operates g.F.FnMut) c.args.f d.left d.said d.has_said c.lend_slow.result
@@ -46,26 +47,26 @@ returns-clause-computed g c =
 
 pub returns-in-Over-clause-ends : goal.returns-in-Over-clause-ends
 returns-in-Over-clause-ends g c = record {
-  sees = sees_trans _ _ _ c.learn.ensures.sees c.lend_fast.ensures.sees;
-  lawful = subst (λ (z : First _ _). IfOver z (λ answer. IsLawful c.lend_fast.new.window)) c.in-Over.is c.lend_fast.ensures.lawful;
+  sees = sees_trans _ _ _ c.learn.ensures.sees c.lend_fast.ensures.comes.sees;
+  lawful = subst (λ (z : First _ _). IfOver z (λ answer. IsLawful c.lend_fast.new.window)) c.in-Over.is c.lend_fast.ensures.comes.lawful;
   made =
       let first = c.learn.new.self in let at = c.lend_fast in let then = at.new.window in
-      let m = subst (λ (z : First _ _). IfOver z (λ answer. Makes (changes answer) (own first) (own then) (past then))) c.in-Over.is at.ensures.made in
+      let m = subst (λ (z : First _ _). IfOver z (λ answer. Makes (changes answer) (own first) (own then) (past then))) c.in-Over.is at.ensures.comes.made in
       makes_since (changes c.in-Over.answer) c.args.window.now first then (idles c.args.window.now first c.learn.ensures.own) m;
 }
 
 pub returns-in-Over-clause-tells : goal.returns-in-Over-clause-tells
 returns-in-Over-clause-tells g c = record {
-  crowded = λ e. c.lend_fast.ensures.crowded (c.in-Over.is ∙ ap (λ z. Over z) e);
-  spent = λ e. c.lend_fast.ensures.spent (c.in-Over.is ∙ ap (λ z. Over z) e);
+  crowded = λ e. no_room (c.lend_fast.ensures.comes.refused Capacity (c.in-Over.is ∙ ap (λ z. Over z) e));
+  spent = λ e. no_limit (c.lend_fast.ensures.comes.refused Limit (c.in-Over.is ∙ ap (λ z. Over z) e));
 }
 
 pub returns-clause-ends : goal.returns-clause-ends
 returns-clause-ends g c = record {
-  sees = sees_trans _ _ _ (sees_trans _ _ _ c.learn.ensures.sees c.lend_fast.ensures.sees) c.lend_slow.ensures.ends.sees;
+  sees = sees_trans _ _ _ (sees_trans _ _ _ c.learn.ensures.sees c.lend_fast.ensures.comes.sees) c.lend_slow.ensures.ends.sees;
   lawful = c.lend_slow.ensures.ends.lawful;
   made =
       let before = c.args.window.now in let at = c.lend_fast in let then = at.new.window in let slow = c.lend_slow in
-      let idle = subst (λ (z : First _ _). IfOn z (λ start. Does false c.learn.new.self then)) c.in-On.is at.ensures.idle in
+      let idle = subst (λ (z : First _ _). IfOn z (λ start. Does false c.learn.new.self then)) c.in-On.is at.ensures.comes.idle in
       makes_since (changes slow.result) before then slow.new.window (does_since before c.learn.new.self then c.learn.ensures.own idle) slow.ensures.ends.made;
 }

@@ -1,174 +1,79 @@
-use Rattle.std.proofs.Common.{◌≡◌, None, Some, [], ◌∷◌, append-nil, refl, sym, ap, subst}
+use Rattle.std.proofs.Common.{◌≡◌, None, Some, [], ◌∷◌, append-nil, refl, sym, ap, ◌∙◌, subst}
 use Rattle.papaya_call.specs.declared.machine.State.TheVariants.{Showing}
 use Rattle.papaya_book.specs.declared.rule.entry.Named.TheVariants as names
 use Rattle.papaya_book.specs.Rule.{IsPlaced}
-use Rattle.papaya_book.specs.Logs.{Stored}
 use Rattle.papaya_book.specs.Parts.{begun_of}
 use Rattle.papaya_lookup.specs.Drivers.{past}
 use Rattle.papaya_lookup.specs.declared.lookup.Met.{Met}
 use Rattle.papaya_change.specs.declared.fast_path.Turn.{Turn}
-use Rattle.papaya_change.specs.Seeking.{Computes, leads, met_by}
-use Rattle.papaya_change.specs.Window.Seeking.{IsSeekingAt}
-use Rattle.papaya_change.specs.Showings.{AreOf, Operates}
+use Rattle.papaya_change.specs.Seeking.{Computes}
+use Rattle.papaya_change.specs.Showings.{AreOf, HasSaid, Operates}
 use Rattle.papaya_change.specs.declared.fast_path.Turn.TheVariants.{Empty, Met as MetPair}
-use Rattle.papaya_change.proofs.Doing.{idles}
-use Rattle.papaya_compute.specs.FastPath.{GoesOnce, IsFoundAt, RepliesOnce}
-use Rattle.papaya_compute.proofs.FastPath.{does_since, if_on, if_over, over_any}
+use Rattle.papaya_compute.specs.ComputeAnswers.{changes}
+use Rattle.papaya_compute.specs.FastPath.{DoesAtOnce, IsLed}
+use Rattle.papaya_compute.proofs.FastPath.{comes_asked_nothing, comes_since}
 use Rattle.papaya_compute.proofs.ComputeReplies.{computed_by}
 use Rattle.papaya_compute.proofs.Found.{pair_placed}
 use Rattle.papaya_map.proofs.computing.compute_fast.Goals as goal
 
-pub returns-in_default-clause-goes : goal.returns-in_default-clause-goes
-returns-in_default-clause-goes g c = ([], ((refl, refl), c.look.ensures.sees.log, tt), refl)
+pub returns-in_default-clause-comes : goal.returns-in_default-clause-comes
+returns-in_default-clause-comes g c =
+    comes_asked_nothing changes c.args.window.now _ _ c.look.new.window _ c.look.ensures.looked ([], ((refl, refl), c.look.ensures.looked.sees.log, tt), refl)
 
-pub returns-in_default-clause-idle : goal.returns-in_default-clause-idle
-returns-in_default-clause-idle g c = idles c.args.window.now c.look.new.window c.look.ensures.own
+pub returns-in_default-turn-clause-comes : goal.returns-in_default-turn-clause-comes
+returns-in_default-turn-clause-comes g c =
+    comes_asked_nothing changes c.args.window.now _ _ c.look.new.window _ c.look.ensures.looked ([], ((refl, refl), c.look.ensures.looked.sees.log, tt), refl)
 
-pub fill-requires-clause-found : goal.fill-requires-clause-found
-fill-requires-clause-found g c =
+pub fill-requires : goal.fill-requires
+fill-requires g c =
+    let log = c.args.window.now.sight.log in let mid = c.look.new.window in let spot = c.in-Some.spot in
+    let led = subst (λ (z : Turn _). IsLed mid c.args.key c.hash-hash.result log spot.table.now z) c.in-Empty.is (c.look.ensures.led spot c.in-Some.is) in
+    record { led = (log, led) }
+
+pub returns-in-Empty-clause-comes : goal.returns-in-Empty-clause-comes
+returns-in-Empty-clause-comes g c =
     let w = c.args.window.now in let log = w.sight.log in let key = c.args.key in let mid = c.look.new.window in let spot = c.in-Some.spot in
-    let found : IsFoundAt mid key log spot.table.now (Empty c.in-Empty.at) = λ who state.
-    subst (λ (z : Turn _ _). leads who z ≡ Some state → IsSeekingAt who mid key log state (met_by z) spot.table.now) c.in-Empty.is
-    (c.look.ensures.found spot c.in-Some.is who state) in
-    (log, found)
-
-pub fill-requires-clause-limit : goal.fill-requires-clause-limit
-fill-requires-clause-limit g c = c.look.ensures.limit c.in-Some.spot c.in-Some.is
-
-pub fill-requires-clause-hashed : goal.fill-requires-clause-hashed
-fill-requires-clause-hashed g c = rw c.look.ensures.sees.book c.hash-hash.ensures
-
-pub returns-in-Empty-clause-computed : goal.returns-in-Empty-clause-computed
-returns-in-Empty-clause-computed g c =
-    let w = c.args.window.now in let log = w.sight.log in let key = c.args.key in let mid = c.look.new.window in let spot = c.in-Some.spot in
-    let found : IsFoundAt mid key log spot.table.now (Empty c.in-Empty.at) = λ who state.
-    subst (λ (z : Turn _ _). leads who z ≡ Some state → IsSeekingAt who mid key log state (met_by z) spot.table.now) c.in-Empty.is
-    (c.look.ensures.found spot c.in-Some.is who state) in
+    let led = subst (λ (z : Turn _). IsLed mid key c.hash-hash.result log spot.table.now z) c.in-Empty.is (c.look.ensures.led spot c.in-Some.is) in
     let tried = c.fill in let then = tried.new.window in let done = c.operate-operation.result in
-    if_over _ _ tried.result (λ a h. computed_by g.K.PartialEq.eq key _ _ _ ([], append-nil (past w)) (Operates g.F.FnMut) c.args.f.now
-    c.operate-operation.new.f ((None, done) ∷ []) (c.args.f.now, refl, c.operate-operation.ensures.operates) a (h log found)) tried.ensures.replies
+    let said : HasSaid (Operates g.F.FnMut) c.args.f.now ((None, done) ∷ []) c.operate-operation.new.f =
+    (c.args.f.now, refl, c.operate-operation.ensures.operates) in
+    comes_since changes w _ _ _ _ mid then tried.result c.look.ensures.looked
+    (λ a h. computed_by g.K.PartialEq.eq key _ _ _ ([], append-nil (past w)) (Operates g.F.FnMut) c.args.f.now c.operate-operation.new.f
+    ((None, done) ∷ []) said a (h log led.found)) (λ x h. ((None, done) ∷ [], h log led.found, said)) tried.ensures.does
 
-pub returns-in-Empty-clause-lawful : goal.returns-in-Empty-clause-lawful
-returns-in-Empty-clause-lawful g c = over_any _ c.fill.result c.fill.ensures.lawful
+pub renew-requires-clause-led : goal.renew-requires-clause-led
+renew-requires-clause-led g c =
+    let log = c.args.window.now.sight.log in let mid = c.look.new.window in let spot = c.in-Some.spot in
+    let led = subst (λ (z : Turn _). IsLed mid c.args.key c.hash-hash.result log spot.table.now z) c.in-Met.is (c.look.ensures.led spot c.in-Some.is) in
+    rw c.in-Met.live-is (log, led)
 
-pub returns-in-Empty-clause-made : goal.returns-in-Empty-clause-made
-returns-in-Empty-clause-made g c =
+pub renew-requires-clause-shown : goal.renew-requires-clause-shown
+renew-requires-clause-shown g c = (c.entry-old.ensures.key ∙ ap (λ p. p.key.value) c.pair.ensures, c.entry-old.ensures.value ∙ ap (λ p. p.value) c.pair.ensures)
+
+pub returns-in-Met-clause-comes : goal.returns-in-Met-clause-comes
+returns-in-Met-clause-comes g c =
     let w = c.args.window.now in let log = w.sight.log in let key = c.args.key in let mid = c.look.new.window in let spot = c.in-Some.spot in
-    let found : IsFoundAt mid key log spot.table.now (Empty c.in-Empty.at) = λ who state.
-    subst (λ (z : Turn _ _). leads who z ≡ Some state → IsSeekingAt who mid key log state (met_by z) spot.table.now) c.in-Empty.is
-    (c.look.ensures.found spot c.in-Some.is who state) in
-    let tried = c.fill in let then = tried.new.window in let done = c.operate-operation.result in
-    rw (sym c.look.ensures.own) tried.ensures.made
-
-pub returns-in-Empty-clause-idle : goal.returns-in-Empty-clause-idle
-returns-in-Empty-clause-idle g c =
-    let w = c.args.window.now in let log = w.sight.log in let key = c.args.key in let mid = c.look.new.window in let spot = c.in-Some.spot in
-    let found : IsFoundAt mid key log spot.table.now (Empty c.in-Empty.at) = λ who state.
-    subst (λ (z : Turn _ _). leads who z ≡ Some state → IsSeekingAt who mid key log state (met_by z) spot.table.now) c.in-Empty.is
-    (c.look.ensures.found spot c.in-Some.is who state) in
-    let tried = c.fill in let then = tried.new.window in let done = c.operate-operation.result in
-    if_on _ _ tried.result (λ x h. does_since w mid then c.look.ensures.own h) tried.ensures.idle
-
-pub returns-in-Empty-clause-goes : goal.returns-in-Empty-clause-goes
-returns-in-Empty-clause-goes g c =
-    let w = c.args.window.now in let log = w.sight.log in let key = c.args.key in let mid = c.look.new.window in let spot = c.in-Some.spot in
-    let found : IsFoundAt mid key log spot.table.now (Empty c.in-Empty.at) = λ who state.
-    subst (λ (z : Turn _ _). leads who z ≡ Some state → IsSeekingAt who mid key log state (met_by z) spot.table.now) c.in-Empty.is
-    (c.look.ensures.found spot c.in-Some.is who state) in
-    let tried = c.fill in let then = tried.new.window in let done = c.operate-operation.result in
-    if_on _ _ tried.result (λ x h. (
-      (None, done) ∷ [],
-      h log found,
-      (c.args.f.now, refl, c.operate-operation.ensures.operates),
-    )) tried.ensures.goes
-
-pub renew-requires-clause-found : goal.renew-requires-clause-found
-renew-requires-clause-found g c =
-    let w = c.args.window.now in let log = w.sight.log in let key = c.args.key in let mid = c.look.new.window in let spot = c.in-Some.spot in
-    let found : IsFoundAt mid key log spot.table.now (MetPair c.in-Met.met) = λ who state.
-    subst (λ (z : Turn _ _). leads who z ≡ Some state → IsSeekingAt who mid key log state (met_by z) spot.table.now) c.in-Met.is
-    (c.look.ensures.found spot c.in-Some.is who state) in
-    rw c.in-Met.met-is (log, found)
-
-pub renew-requires-clause-limit : goal.renew-requires-clause-limit
-renew-requires-clause-limit g c = c.look.ensures.limit c.in-Some.spot c.in-Some.is
-
-pub renew-requires-clause-hashed : goal.renew-requires-clause-hashed
-renew-requires-clause-hashed g c = rw c.look.ensures.sees.book c.hash-hash.ensures
-
-pub returns-in-Met-clause-computed : goal.returns-in-Met-clause-computed
-returns-in-Met-clause-computed g c =
-    let w = c.args.window.now in let log = w.sight.log in let key = c.args.key in let mid = c.look.new.window in let spot = c.in-Some.spot in
-    let found : IsFoundAt mid key log spot.table.now (MetPair c.in-Met.met) = λ who state.
-    subst (λ (z : Turn _ _). leads who z ≡ Some state → IsSeekingAt who mid key log state (met_by z) spot.table.now) c.in-Met.is
-    (c.look.ensures.found spot c.in-Some.is who state) in
-    let tried = c.renew in let then = tried.new.window in let done = c.f-again.result in
-    if_over _ _ tried.result (λ a h. computed_by g.K.PartialEq.eq key _ _ _ ([], append-nil (past w)) (Operates g.F.FnMut) c.args.f.now
-    c.f-again.new.self (((Some c.in-Met.met.stored), done) ∷ []) (
-      c.args.f.now,
-      refl,
-      (Some c.entry-old.result, subst (λ (z : Met _ _). AreOf c.entry-old.result z.stored) c.in-Met.met-is c.entry-old.ensures, c.f-again.ensures),
-    ) a (h log found))
-    (subst (λ (z : Met _ _). RepliesOnce mid then key spot.table.now (MetPair z) done tried.result) c.in-Met.met-is tried.ensures.replies)
-
-pub returns-in-Met-clause-lawful : goal.returns-in-Met-clause-lawful
-returns-in-Met-clause-lawful g c = over_any _ c.renew.result c.renew.ensures.lawful
-
-pub returns-in-Met-clause-made : goal.returns-in-Met-clause-made
-returns-in-Met-clause-made g c =
-    let w = c.args.window.now in let log = w.sight.log in let key = c.args.key in let mid = c.look.new.window in let spot = c.in-Some.spot in
-    let found : IsFoundAt mid key log spot.table.now (MetPair c.in-Met.met) = λ who state.
-    subst (λ (z : Turn _ _). leads who z ≡ Some state → IsSeekingAt who mid key log state (met_by z) spot.table.now) c.in-Met.is
-    (c.look.ensures.found spot c.in-Some.is who state) in
-    let tried = c.renew in let then = tried.new.window in let done = c.f-again.result in
-    rw (sym c.look.ensures.own) tried.ensures.made
-
-pub returns-in-Met-clause-idle : goal.returns-in-Met-clause-idle
-returns-in-Met-clause-idle g c =
-    let w = c.args.window.now in let log = w.sight.log in let key = c.args.key in let mid = c.look.new.window in let spot = c.in-Some.spot in
-    let found : IsFoundAt mid key log spot.table.now (MetPair c.in-Met.met) = λ who state.
-    subst (λ (z : Turn _ _). leads who z ≡ Some state → IsSeekingAt who mid key log state (met_by z) spot.table.now) c.in-Met.is
-    (c.look.ensures.found spot c.in-Some.is who state) in
-    let tried = c.renew in let then = tried.new.window in let done = c.f-again.result in
-    if_on _ _ tried.result (λ x h. does_since w mid then c.look.ensures.own h) tried.ensures.idle
-
-pub returns-in-Met-clause-goes : goal.returns-in-Met-clause-goes
-returns-in-Met-clause-goes g c =
-    let w = c.args.window.now in let log = w.sight.log in let key = c.args.key in let mid = c.look.new.window in let spot = c.in-Some.spot in
-    let found : IsFoundAt mid key log spot.table.now (MetPair c.in-Met.met) = λ who state.
-    subst (λ (z : Turn _ _). leads who z ≡ Some state → IsSeekingAt who mid key log state (met_by z) spot.table.now) c.in-Met.is
-    (c.look.ensures.found spot c.in-Some.is who state) in
-    let tried = c.renew in let then = tried.new.window in let done = c.f-again.result in
-    if_on _ _ tried.result (λ x h. (
-      ((Some c.in-Met.met.stored), done) ∷ [],
-      h log found,
-      (
-        c.args.f.now,
-        refl,
-        (Some c.entry-old.result, subst (λ (z : Met _ _). AreOf c.entry-old.result z.stored) c.in-Met.met-is c.entry-old.ensures, c.f-again.ensures),
-      ),
-    ))
-    (subst (λ (z : Met _ _). GoesOnce mid then key spot.table.now (MetPair z) done tried.result) c.in-Met.met-is tried.ensures.goes)
+    let led = subst (λ (z : Turn _). IsLed mid key c.hash-hash.result log spot.table.now z) c.in-Met.is (c.look.ensures.led spot c.in-Some.is) in
+    let tried = c.renew in let then = tried.new.window in let done = c.f-again.result in let held = Some c.in-Met.live.stored in
+    let are : AreOf c.entry-old.result c.in-Met.live.stored = (
+      c.entry-old.ensures.key ∙ (ap (λ p. p.key.value) c.pair.ensures ∙ ap (λ (z : Met _ _). z.stored.value.key.value) c.in-Met.live-is),
+      c.entry-old.ensures.value ∙ (ap (λ p. p.value) c.pair.ensures ∙ ap (λ (z : Met _ _). z.stored.value.value) c.in-Met.live-is),
+    ) in
+    let said : HasSaid (Operates g.F.FnMut) c.args.f.now ((held, done) ∷ []) c.f-again.new.self =
+    (c.args.f.now, refl, (Some c.entry-old.result, are, c.f-again.ensures)) in
+    comes_since changes w _ _ _ _ mid then tried.result c.look.ensures.looked
+    (λ a h. computed_by g.K.PartialEq.eq key _ _ _ ([], append-nil (past w)) (Operates g.F.FnMut) c.args.f.now c.f-again.new.self ((held, done) ∷ []) said a
+    (h log led.found)) (λ x h. ((held, done) ∷ [], h log led.found, said))
+    (subst (λ (z : Met _ _). DoesAtOnce mid then key spot.table.now (MetPair z) done tried.result) c.in-Met.live-is tried.ensures.does)
 
 pub entry-old-requires : goal.entry-old-requires
 entry-old-requires g c =
     let w = c.args.window.now in let log = w.sight.log in let key = c.args.key in let mid = c.look.new.window in let spot = c.in-Some.spot in
-    let found : IsFoundAt mid key log spot.table.now (MetPair c.in-Met.met) = λ who state.
-    subst (λ (z : Turn _ _). leads who z ≡ Some state → IsSeekingAt who mid key log state (met_by z) spot.table.now) c.in-Met.is
-    (c.look.ensures.found spot c.in-Some.is who state) in
-    let met = c.in-Met.met in let p = met.stored in
+    let led = subst (λ (z : Turn _). IsLed mid key c.hash-hash.result log spot.table.now z) c.in-Met.is (c.look.ensures.led spot c.in-Some.is) in
+    let met = c.in-Met.live in let p = met.stored in
     let there = pair_placed g.K.PartialEq.eq g.K.Hash.hash_input g.S.BuildHasher.build_hasher g.S.Hasher.Hasher.write g.S.Hasher.Hasher.finish
     g.met.K.Eq.laws g.met.K.Hash.respects_eq (begun_of mid.book.now.parts) mid.book.now.begun.book key log mid.sight.log spot.table.now met.place
-    met.word p (found Computes (Showing (record { place = met.place; word = met.word })) refl) in
-    subst (λ (z : Stored _ _). IsPlaced (begun_of w.book.now.parts) (Some w.book.now.begun.book) (names.Pair z))
-    (sym (ap (λ (z : Met _ _). z.stored) c.in-Met.met-is))
-    (subst (λ (k : _). IsPlaced (begun_of k.now.parts) (Some k.now.begun.book) (names.Pair p)) c.look.ensures.sees.book there)
-
-pub renew-requires-clause-live : goal.renew-requires-clause-live
-renew-requires-clause-live g c = rw c.in-Met.met-is (c.look.ensures.live c.in-Some.spot c.in-Some.is c.in-Met.met c.in-Met.is)
-
-pub returns-in_default-turn-clause-goes : goal.returns-in_default-turn-clause-goes
-returns-in_default-turn-clause-goes g c = ([], ((refl, refl), c.look.ensures.sees.log, tt), refl)
-
-pub returns-in_default-turn-clause-idle : goal.returns-in_default-turn-clause-idle
-returns-in_default-turn-clause-idle g c = idles c.args.window.now c.look.new.window c.look.ensures.own
+    met.word p (led.found Computes (Showing (record { place = met.place; word = met.word })) refl) in
+    let placed = subst (λ (k : _). IsPlaced (begun_of k.now.parts) (Some k.now.begun.book) (names.Pair p)) c.look.ensures.looked.sees.book there in
+    let there = subst (λ (z : Met _ _). IsPlaced (begun_of w.book.now.parts) (Some w.book.now.begun.book) (names.Pair z.stored)) (sym c.in-Met.live-is) placed in
+    rw c.pair.ensures (record { key = there.1; value = there.2 })

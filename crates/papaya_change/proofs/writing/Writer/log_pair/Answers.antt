@@ -1,5 +1,5 @@
-use Rattle.std.proofs.Common.{◌≡◌, ◌<◌, ◌^◌, inl, IfErr, IfOk, Some, Result, Ok, Err, ◌∷◌, refl, sym, ◌∙◌, rules, subst}
-use Rattle.papaya_words.specs.declared.probe.Refused.TheVariants.{Capacity, Memory}
+use Rattle.std.proofs.Common.{◌≡◌, inl, Some, ◌∷◌, refl, sym, ◌∙◌, rules, subst}
+use Rattle.papaya_words.specs.declared.probe.Refused.TheVariants.{Memory}
 use Rattle.papaya_ask.specs.declared.ask.Answer.TheVariants.{Made, Refused}
 use Rattle.papaya_book.specs.declared.book.pairs.KeyPart.TheVariants as keys
 use Rattle.papaya_book.specs.declared.book.pairs.ValuePart.TheVariants as values
@@ -9,16 +9,8 @@ use Rattle.papaya_book.specs.Rule.{IsPlaced}
 use Rattle.papaya_book.specs.declared.rule.entry.Named.TheVariants as names
 use Rattle.papaya_lookup.specs.History.{key_of}
 use Rattle.papaya_change.specs.Writing.{HasKey, HasValue, IsWritingOn}
-use Rattle.papaya_change.proofs.Written.{pair_made, pair_unmade, with_given}
+use Rattle.papaya_change.proofs.Written.{pair_made, pair_unmade}
 use Rattle.papaya_change.proofs.writing.Writer.log_pair.Goals as goal
-
-if_ok : {A E : Type 0} (P Q : A → Type 0) (r : Result A E) → IfOk r P → ((a : A) → P a → Q a) → IfOk r Q
-if_ok P Q (Ok a) p f = f a p
-if_ok P Q (Err e) p f = tt
-
-if_err : {A E : Type 0} (P Q : E → Type 0) (r : Result A E) → IfErr r P → ((e : E) → P e → Q e) → IfErr r Q
-if_err P Q (Ok a) p f = tt
-if_err P Q (Err e) p f = f e p
 
 pub returns-in-Ok-clause-logs : goal.returns-in-Ok-clause-logs
 returns-in-Ok-clause-logs g c = record {
@@ -28,40 +20,22 @@ returns-in-Ok-clause-logs g c = record {
   number = search rules;
   placed = search rules;
   value = search rules;
-  pairs = if_ok _ _ c.hold.result c.hold.ensures.ok (λ q' h key made begun r.
-      let w = c.args.window.now.book.now in let b = begun_of w.parts in let log = c.args.window.now.sight.log in let x = c.args.self.now in
-      let q = c.in-Ok.pair in
-      let placed = c.in-Ok.ensures.placed in let low = subst (λ z. z.index < 2 ^ 48) h.0 h.1 in
-      let has_part : x.key ≡ Some c.in-Some-take.key = search rules in
-      let key_is : key_of q ≡ key = c.in-Ok.ensures.key ∙ (subst (HasKey b w.begun.book key) has_part r.keyed).0 in
-      let going = with_given g.K.PartialEq.eq (hash_of g.K.Hash.hash_input g.S.BuildHasher.build_hasher g.S.Hasher.Hasher.write
-      g.S.Hasher.Hasher.finish) b w.begun.book key (q ∷ made) begun log (record x { value = Some (values.Of q); key = Some (keys.Of c.again.result) })
-      c.hold.new.self.call.given (Made q.index)
-      (pair_made g.K.PartialEq.eq g.K.Hash.hash_input g.S.BuildHasher.build_hasher g.S.Hasher.Hasher.write g.S.Hasher.Hasher.finish g.met.K.Eq.laws
-      g.met.K.Hash.respects_eq b w.begun.book key made begun log x r (Some (keys.Of c.again.result)) (Some (values.Of q))
-      (subst (λ z. (key_of z ≡ key) × IsPlaced b (Some w.begun.book) (names.Pair z)) (sym c.again.ensures) (key_is, placed)) placed q low placed
-      key_is c.requires.waits.asks) in
-      subst (λ z. IsWritingOn g.K.PartialEq.eq
-      (hash_of g.K.Hash.hash_input g.S.BuildHasher.build_hasher g.S.Hasher.Hasher.write g.S.Hasher.Hasher.finish) b w.begun.book key (z ∷ made) begun
-      log c.hold.new.self (Made z.index)) (sym h.0) (rw c.hold.ensures.rest going));
-  unlogged = search rules;
-  unsaid = search rules;
-  writes = if_err _ _ c.hold.result c.hold.ensures.err (λ answer h key made begun r.
+  pairs = λ key made begun r.
       let w = c.args.window.now.book.now in let b = begun_of w.parts in let log = c.args.window.now.sight.log in let x = c.args.self.now in
       let q = c.in-Ok.pair in
       let placed = c.in-Ok.ensures.placed in
       let has_part : x.key ≡ Some c.in-Some-take.key = search rules in
       let key_is : key_of q ≡ key = c.in-Ok.ensures.key ∙ (subst (HasKey b w.begun.book key) has_part r.keyed).0 in
-      let going = with_given g.K.PartialEq.eq (hash_of g.K.Hash.hash_input g.S.BuildHasher.build_hasher g.S.Hasher.Hasher.write
-      g.S.Hasher.Hasher.finish) b w.begun.book key made begun log (record x { value = Some (values.Of q); key = Some (keys.Of c.again.result) })
-      c.hold.new.self.call.given (Refused Capacity)
-      (pair_unmade g.K.PartialEq.eq g.K.Hash.hash_input g.S.BuildHasher.build_hasher g.S.Hasher.Hasher.write g.S.Hasher.Hasher.finish g.met.K.Eq.laws
+      let going = pair_made g.K.PartialEq.eq g.K.Hash.hash_input g.S.BuildHasher.build_hasher g.S.Hasher.Hasher.write g.S.Hasher.Hasher.finish g.met.K.Eq.laws
       g.met.K.Hash.respects_eq b w.begun.book key made begun log x r (Some (keys.Of c.again.result)) (Some (values.Of q))
-      (subst (λ z. (key_of z ≡ key) × IsPlaced b (Some w.begun.book) (names.Pair z)) (sym c.again.ensures) (key_is, placed)) placed (Refused Capacity)
-      c.requires.waits.asks (inl (Capacity, refl)) tt) in
+      (subst (λ z. (key_of z ≡ key) × IsPlaced b (Some w.begun.book) (names.Pair z)) (sym c.again.ensures) (key_is, placed)) placed q c.in-Ok.ensures.number
+      placed key_is c.requires.waits.asks in
       subst (λ z. IsWritingOn g.K.PartialEq.eq
-      (hash_of g.K.Hash.hash_input g.S.BuildHasher.build_hasher g.S.Hasher.Hasher.write g.S.Hasher.Hasher.finish) b w.begun.book key made begun log
-      c.hold.new.self z) (sym h.0) (rw c.hold.ensures.rest going));
+      (hash_of g.K.Hash.hash_input g.S.BuildHasher.build_hasher g.S.Hasher.Hasher.write g.S.Hasher.Hasher.finish) b w.begun.book key (z ∷ made) begun
+      log c.hold.new.self (Made z.index)) (sym c.hold.ensures.pair) (rw c.hold.ensures.value going);
+  unlogged = tt;
+  unsaid = tt;
+  writes = tt;
 }
 
 pub returns-in-Err-clause-logs : goal.returns-in-Err-clause-logs

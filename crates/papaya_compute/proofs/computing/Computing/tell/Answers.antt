@@ -35,35 +35,35 @@ help-requires-clause-can g c =
       on,
     )
 
-pub returns-clause-still : goal.returns-clause-still
-returns-clause-still g c = λ calling. (c.help.ensures.still (ap (λ (d : Driver _ _ _ _). d.machine.phase) c.answer.ensures.after ∙ calling)).1
-
-pub returns-clause-takes : goal.returns-clause-takes
-returns-clause-takes g c = λ key begun heard r.
-    let w = c.args.window.now.book.now in let b = begun_of w.parts in let then = c.help.new.self in let log = c.help.new.window.sight.log in
-    let x = record c.args.self.now { writer = record c.args.self.now.writer { call = c.answer.new.self } } in
-    let on = subst (λ (z : Driver _ _ _ _). IsComputing g.K.PartialEq.eq
-    (hash_of g.K.Hash.hash_input g.S.BuildHasher.build_hasher g.S.Hasher.Hasher.write g.S.Hasher.Hasher.finish) b w.begun.book key begun
-    c.args.window.now.sight.log (record c.args.self.now { writer = record c.args.self.now.writer { call = z } }) heard) (sym c.answer.ensures.after) r.0 in
-    let query = own_query g.K.PartialEq.eq g.K.Hash.hash_input g.S.BuildHasher.build_hasher g.S.Hasher.Hasher.write g.S.Hasher.Hasher.finish
-    g.met.K.Eq.laws g.met.K.Hash.respects_eq b w.begun.book key in
-    let driven = c.help.ensures.goes_on (g.K.PartialEq.eq key)
-    ((hash_of g.K.Hash.hash_input g.S.BuildHasher.build_hasher g.S.Hasher.Hasher.write g.S.Hasher.Hasher.finish) b.hasher key)
-    (form g.K.PartialEq.eq g.K.Hash.hash_input g.S.BuildHasher.build_hasher g.S.Hasher.Hasher.write g.S.Hasher.Hasher.finish g.met.K.Eq.laws
-    g.met.K.Hash.respects_eq b (g.K.PartialEq.eq key) (g.K.Hash.hash_input key) query (Some key) w.begun.book begun) (Some key) begun on.made
-    on.writing.calling in
-    computing_helped g.K.PartialEq.eq g.K.Hash.hash_input g.S.BuildHasher.build_hasher g.S.Hasher.Hasher.write g.S.Hasher.Hasher.finish
-    g.met.K.Eq.laws g.met.K.Hash.respects_eq b w.begun.book key begun c.args.window.now.sight.log log c.help.ensures.helps.sees.log x heard on then driven
-    c.help.ensures.rest.1 c.help.ensures.helps.calling (λ e. let same = c.help.ensures.still e in (same.0, ap (λ (z : _). z.sight.log) same.1))
-    c.help.ensures.helps.helped
-
-pub returns-clause-helps : goal.returns-clause-helps
-returns-clause-helps g c = record {
-  sees = c.help.ensures.helps.sees;
-  own = c.help.ensures.helps.own;
-  standing = c.help.ensures.helps.standing;
-  calling = c.help.ensures.helps.calling;
-  helped = subst (λ (z : Machine).
-      HasHelped z c.help.new.self.machine (tables_of c.help.new.window.sight.log) c.help.new.self.given.done)
-      (ap (λ (d : Driver _ _ _ _). d.machine) c.answer.ensures.after) c.help.ensures.helps.helped;
+pub returns : goal.returns
+returns g c = record {
+  told = record {
+    helps = record {
+      sees = c.help.ensures.helps.sees;
+      own = c.help.ensures.helps.own;
+      standing = c.help.ensures.helps.standing;
+      calling = c.help.ensures.helps.calling;
+      helped = subst (λ (z : Machine).
+          HasHelped z c.help.new.self.machine (tables_of c.help.new.window.sight.log) c.help.new.self.given.done)
+          (ap (λ (d : Driver _ _ _ _). d.machine) c.answer.ensures.after) c.help.ensures.helps.helped;
+    };
+    still = λ calling. (c.help.ensures.still (ap (λ (d : Driver _ _ _ _). d.machine.phase) c.answer.ensures.after ∙ calling)).1;
+    takes = λ key begun heard r.
+        let w = c.args.window.now.book.now in let b = begun_of w.parts in let then = c.help.new.self in let log = c.help.new.window.sight.log in
+        let x = record c.args.self.now { writer = record c.args.self.now.writer { call = c.answer.new.self } } in
+        let on = subst (λ (z : Driver _ _ _ _). IsComputing g.K.PartialEq.eq
+        (hash_of g.K.Hash.hash_input g.S.BuildHasher.build_hasher g.S.Hasher.Hasher.write g.S.Hasher.Hasher.finish) b w.begun.book key begun
+        c.args.window.now.sight.log (record c.args.self.now { writer = record c.args.self.now.writer { call = z } }) heard) (sym c.answer.ensures.after) r.0 in
+        let query = own_query g.K.PartialEq.eq g.K.Hash.hash_input g.S.BuildHasher.build_hasher g.S.Hasher.Hasher.write g.S.Hasher.Hasher.finish
+        g.met.K.Eq.laws g.met.K.Hash.respects_eq b w.begun.book key in
+        let driven = c.help.ensures.goes_on (g.K.PartialEq.eq key)
+        ((hash_of g.K.Hash.hash_input g.S.BuildHasher.build_hasher g.S.Hasher.Hasher.write g.S.Hasher.Hasher.finish) b.hasher key)
+        (form g.K.PartialEq.eq g.K.Hash.hash_input g.S.BuildHasher.build_hasher g.S.Hasher.Hasher.write g.S.Hasher.Hasher.finish g.met.K.Eq.laws
+        g.met.K.Hash.respects_eq b (g.K.PartialEq.eq key) (g.K.Hash.hash_input key) query (Some key) w.begun.book begun) (Some key) begun on.made
+        on.writing.calling in
+        computing_helped g.K.PartialEq.eq g.K.Hash.hash_input g.S.BuildHasher.build_hasher g.S.Hasher.Hasher.write g.S.Hasher.Hasher.finish
+        g.met.K.Eq.laws g.met.K.Hash.respects_eq b w.begun.book key begun c.args.window.now.sight.log log c.help.ensures.helps.sees.log x heard on then driven
+        c.help.ensures.rest.1 c.help.ensures.helps.calling (λ e. let same = c.help.ensures.still e in (same.0, ap (λ (z : _). z.sight.log) same.1))
+        c.help.ensures.helps.helped;
+  };
 }
