@@ -1,16 +1,17 @@
 -- A hint's rule as one of `logbook`'s: the same, but that an untracked word says what a hint does
--- beside the word with this key.
-use Rattle.std.proofs.Common.{ℕ}
+-- beside this word.
 use mir.Syntax.{Body, seq, skip}
+use Rattle.logbook.specs.Pages.{Named}
 use Rattle.logbook.specs.declared.tokens.Rule.{Ghosts as Rule}
 use Rattle.papaya_hint.specs.declared.hint.Hinting.{Ghosts as Hinting}
+use Rattle.papaya_hint.specs.Untracked.{Says}
 
 module _ {P E A : Type 0} (g : Rule P E A) (h : Hinting P E) where
-  abbrev pub at_key : ℕ → Rule P E A
-  at_key key = record {
+  abbrev pub beside_word : Named → Rule P E A
+  beside_word w = record {
     holds = g.holds;
     first = g.first;
-    hinted = h.hinted_beside key;
+    hinted = Says h.hinted_beside w.tracked w.key;
     shows = g.shows;
     keeps = g.keeps;
     moves = g.moves;

@@ -1,10 +1,10 @@
-//! Words that the book does not track, each beside one that it tracks.
-ghost use Rattle.std.specs.Prelude.{◌≡◌, ℕ, List};
+//! Numbers that no book tracks, each beside a word that a book tracks or will track.
+ghost use Rattle.std.specs.Prelude.{◌≡◌, ℕ, true, false, List};
 ghost use mathlib.Core.List.{IsPrefix};
 ghost use base.Fml.{fsep, fex};
 ghost use Rattle.logbook.specs.Pages.{Named, named_coded, Grows};
 ghost use Rattle.logbook.specs.Kept.{inner, word_shares};
-ghost use Rattle.papaya_hint.specs.Untracked.{untracked};
+ghost use Rattle.papaya_hint.specs.Untracked.{untracked, Says};
 
 use atomic_table::exchange;
 use logbook::{Rule, Seen, Word};
@@ -20,7 +20,7 @@ pub trait Hinting<E> {
 }
 
 /// A number beside a word of the book, which threads change in single atomic steps. Contracts see
-/// the word that it stands beside.
+/// the word that it stands beside. While no book tracks that word, the hint is fresh and holds 0.
 pub struct Hint<E, A, P: Rule<E, A> + Hinting<E>> {
     bits: u64,
     marker: PhantomData<(E, A, P)>,
@@ -31,21 +31,21 @@ impl<E, A, P: Rule<E, A> + Hinting<E>> Owns for Hint<E, A, P> {
 
     ghost coded = { named_coded };
 
-    ghost shr_at = { λ w p κ. word_shares E.row.coded.code (P.hinted_beside w.key) (untracked w) p κ };
+    ghost shr_at = { λ w p κ. word_shares E.row.coded.code
+        (Says P.hinted_beside w.tracked w.key) (untracked w) p κ };
 }
 
 impl<E, A, P: Rule<E, A> + Hinting<E>> Move for Hint<E, A, P> {
     ghost own_val = { λ w vs. fex ℕ (λ n. fsep
         (Fields.own_val (record { bits = n; marker = record {} }) vs)
-        (inner E.row.coded.code (P.hinted_beside w.key) (untracked w) n)) };
+        (inner E.row.coded.code (Says P.hinted_beside w.tracked w.key) (untracked w) n)) };
 }
 
 impl<E, A, P: Rule<E, A> + Hinting<E>> Hint<E, A, P> {
-    /// A hint beside this word. It holds 0.
+    /// A fresh hint, beside a word that no book tracks yet. It holds 0.
     #[inline(always)]
-    pub fn beside(word: &Word<E, A, P>, seen: &Seen<E, A, P>) -> Hint<E, A, P>
-        requires { (seen.now.book ≡ word.now.book)
-            × P.hinted_beside word.now.key 0 seen.now.log }
+    pub fn fresh(word: &Word<E, A, P>, seen: &Seen<E, A, P>) -> Hint<E, A, P>
+        requires { (word.now.tracked ≡ false) × (seen.now.book ≡ word.now.book) }
         ensures { result ≡ word.now }
     {
         Hint {
@@ -54,10 +54,20 @@ impl<E, A, P: Rule<E, A> + Hinting<E>> Hint<E, A, P> {
         }
     }
 
+    /// The hint stands beside this word from now on. Until now it was fresh. This runs no code.
+    #[inline(always)]
+    pub fn stand_beside(&mut self, word: &Word<E, A, P>, seen: &Seen<E, A, P>)
+        requires fresh { self.old.tracked ≡ false }
+        requires tracked { (word.now.tracked ≡ true) × (seen.now.book ≡ word.now.book) }
+        requires nought { P.hinted_beside word.now.key 0 seen.now.log }
+        ensures { self.new ≡ word.now }
+    {}
+
     /// The number. What the rule says of it holds of the log that the caller has then seen.
     #[inline(always)]
     pub fn load(&self, seen: &mut Seen<E, A, P>) -> u64
-        requires { (seen.old.book ≡ self.now.book) × Grows (P.hinted_beside self.now.key) }
+        requires { (self.now.tracked ≡ true) × (seen.old.book ≡ self.now.book)
+            × Grows (P.hinted_beside self.now.key) }
         ensures { (seen.new.book ≡ seen.old.book) × (seen.new.names ≡ seen.old.names)
             × IsPrefix seen.old.log seen.new.log
             × P.hinted_beside self.now.key result seen.new.log }
@@ -68,7 +78,7 @@ impl<E, A, P: Rule<E, A> + Hinting<E>> Hint<E, A, P> {
     /// Writes `new` where the number is `old`, and answers the number that it found.
     #[inline(always)]
     pub fn compare_exchange(&self, old: u64, new: u64, seen: &Seen<E, A, P>) -> u64
-        requires { (seen.now.book ≡ self.now.book)
+        requires { (self.now.tracked ≡ true) × (seen.now.book ≡ self.now.book)
             × P.hinted_beside self.now.key new seen.now.log }
     {
         unsafe { exchange::<Brand>(self as *const Self as *const u64, old, new) }

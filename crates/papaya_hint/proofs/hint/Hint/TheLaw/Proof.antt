@@ -1,4 +1,4 @@
--- A `&` to a hint is made as one to an untracked word whose rule says what it says beside this key.
+-- A `&` to a hint is made as one to an untracked word whose rule says what it says beside this word.
 use Prim.Native.Nat.{ℕ}
 use seplogic.Ra.Ura.{Ura}
 use base.Fraction.{full_share}
@@ -16,7 +16,7 @@ use Rattle.logbook.proofs.word.Word.TheLaws.{the_row_laws}
 use Rattle.papaya_hint.specs.contracts.hint.Hint.{the_written}
 use Rattle.papaya_hint.specs.declared.hint.Hinting.{Ghosts as Hinting}
 use Rattle.papaya_hint.specs.Untracked.{untracked}
-use Rattle.papaya_hint.proofs.Keyed.{at_key}
+use Rattle.papaya_hint.proofs.Keyed.{beside_word}
 use Rattle.papaya_hint.proofs.hint.Hint.TheLaw.Statement.{statement}
 
 module _ (E A P : RattleType) (g : Rule P.Denot E.Denot A.Denot) (h : Hinting P.Denot E.Denot)
@@ -25,20 +25,20 @@ module _ (E A P : RattleType) (g : Rule P.Denot E.Denot A.Denot) (h : Hinting P.
   hint = the_written E A P g h
 
   abbrev word : RattleType
-  word = Word.the_written E A P (at_key g h d.key)
+  word = Word.the_written E A P (beside_word g h d)
 
-  abbrev laws : Laws (Word.the_row E A P (at_key g h d.key))
-  laws = the_row_laws E A P (at_key g h d.key) L L' L''
+  abbrev laws : Laws (Word.the_row E A P (beside_word g h d))
+  laws = the_row_laws E A P (beside_word g h d) L L' L''
 
   module _ {M : Type 1} {𝓤 : Ura M} (𝓛 : Logic 𝓤) (b o : ℕ) where
     -- the two lie in memory alike and own the same
     opens : ent 𝓤 (sem 𝓛 (part_at hint full_share d b o))
-        (sem 𝓛 (part_at (Word.the_row E A P (at_key g h d.key)) full_share (untracked d) b o))
+        (sem 𝓛 (part_at (Word.the_row E A P (beside_word g h d)) full_share (untracked d) b o))
     unfolding part_of
     opens = Laid-in word Named named_coded (λ x. x) word.shr_at 𝓛 (untracked d) b o laws.one
 
     closes : ent 𝓤
-        (sem 𝓛 (part_at (Word.the_row E A P (at_key g h d.key)) full_share (untracked d) b o))
+        (sem 𝓛 (part_at (Word.the_row E A P (beside_word g h d)) full_share (untracked d) b o))
         (sem 𝓛 (part_at hint full_share d b o))
     unfolding part_of
     closes = laid_out word Named named_coded (λ x. x) word.shr_at 𝓛 (untracked d) b o laws.one
@@ -47,7 +47,7 @@ pub shares : (E A P : RattleType) (g : Rule P.Denot E.Denot A.Denot) (h : Hintin
     (L : Laws E) (L' : Laws A) (L'' : Laws P) → statement E A P g h L L' L''
 shares E A P g h L L' L'' = record {
   shr_laws = λ d b o. (laws E A P g h L L' L'' d).shr_laws (untracked d) b o;
-  shares = λ M 𝓤 𝓛 d κ ts b o. let row = Word.the_row E A P (at_key g h d.key) in
+  shares = λ M 𝓤 𝓛 d κ ts b o. let row = Word.the_row E A P (beside_word g h d) in
       Lends-as 𝓛 (part_at (hint E A P g h L L' L'' d) full_share d b o)
       (part_at row full_share (untracked d) b o)
       (row.shr_at (untracked d) b o) row.lives

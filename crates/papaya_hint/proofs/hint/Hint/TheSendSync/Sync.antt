@@ -5,10 +5,10 @@ use Rattle.logbook.proofs.word.Word.TheSendSync as word
 use Rattle.papaya_hint.specs.contracts.hint.Hint.{the_row}
 use Rattle.papaya_hint.specs.declared.hint.Hinting.{Ghosts as Hinting}
 use Rattle.papaya_hint.specs.Untracked.{untracked}
-use Rattle.papaya_hint.proofs.Keyed.{at_key}
+use Rattle.papaya_hint.proofs.Keyed.{beside_word}
 
 pub sync : (E A P : RattleType) (g : Rule P.Denot E.Denot A.Denot) (h : Hinting P.Denot E.Denot)
     → IsSync (the_row E A P g h)
 sync E A P g h = record {
-  shared = λ d b o κ. (word.the_sync E A P (at_key g h d.key)).shared (untracked d) b o κ;
+  shared = λ d b o κ. (word.the_sync E A P (beside_word g h d)).shared (untracked d) b o κ;
 }

@@ -1,5 +1,5 @@
 -- `compare_exchange` is one step, which leaves what was seen of the log beside the new number.
-use Rattle.std.proofs.Common.{ℕ, ◌^◌, false, List, [], ◌∷◌, refl, w64}
+use Rattle.std.proofs.Common.{ℕ, ◌^◌, Bool, false, List, [], ◌∷◌, sym, refl, subst, w64}
 use mir.Syntax.{a_type, dcons, dnil, named}
 use mir.Val.{Val, vint, vptr}
 use mir.MapTy.{inst_fn}
@@ -37,6 +37,7 @@ use Rattle.logbook.proofs.Fields.{Token, ends}
 use Rattle.papaya_hint.specs.contracts.hint.Hint as Hint
 use Rattle.papaya_hint.specs.contracts.hint.Hint.compare_exchange.{ended, clauses}
 use Rattle.papaya_hint.specs.contracts.hint.Hint.compare_exchange.Key.{name as #self}
+use Rattle.papaya_hint.specs.Untracked.{Says}
 use Rattle.papaya_hint.proofs.Keyed.{after_first}
 use Rattle.papaya_hint.proofs.hint.Hint.compare_exchange.Statement.{statement}
 use Rattle.papaya_hint.proofs.hint.Hint.compare_exchange.Code as code
@@ -92,7 +93,7 @@ compare_exchange_spec 𝓤 𝓛 𝓜 𝓡 wired E A P _ _ _ g d h d' _ _ =
     let new = a.1.1.0 in
     let seen = a.1.1.1.0.now in
     let at' = a.1.1.1.0.ref_ptr in
-    let hinted = h.hinted_beside me.key in
+    let hinted : Bool → ℕ → List E.Denot → Type 0 = λ t. Says h.hinted_beside t me.key in
     let p : Val = vptr at.0 at.1 in
     let p' : Val = vptr at'.0 at'.1 in
     let y : (walk_of 𝓛 En hs c).Ghost = (
@@ -139,15 +140,15 @@ compare_exchange_spec 𝓤 𝓛 𝓜 𝓡 wired E A P _ _ _ g d h d' _ _ =
     split ! $ drop ! $ unhide ! $
     use1 𝓛 (‵ (reached cv.code seen.book.log_name seen.log))
     (steps.seen_log 𝓛 cv rule seen.book seen.names seen.log) $
-    rewrite ! 0 (λ (z : _). ‵ (reached cv.code z.log_name seen.log)) asked.0 refl $
+    rewrite ! 0 (λ (z : _). ‵ (reached cv.code z.log_name seen.log)) asked.1 refl $
     let out : ℕ → Fml = λ n. fsep (flft t.0 s) ftrue in
     first ! $ blocks ! $ sets ! (addr ! (through ! refl (stop !))) refl (tt, tt) $
     sets ! (of_opd ! (get ! refl)) refl (tt, tt) $
     move ! (3 ∷ 1 ∷ 0 ∷ []) $
     use3 𝓛 (raw (𝓣.C _ (p ∷ vint w64 old ∷ vint w64 new ∷ []) (λ u. mean 𝓛 (found out u))))
     (via 𝓤 _
-    (steps.hints 𝓛 cv rule me.book seen.names hinted false me.key at.0 at.1 t.0 s t.1 old new
-    seen.log refl asked.1)
+    (steps.hints 𝓛 cv rule me.book seen.names (hinted me.tracked) false me.key at.0 at.1 t.0 s t.1 old new
+    seen.log refl (subst (λ (t : Bool). hinted t new seen.log) (sym asked.0) asked.2))
     (exchanges 𝓛 𝓜 𝓡 (code.calls-atomic_table::exchange 𝓡.env wired) (block_ptr at.0 at.1) old new
     are.1.0.1 are.1.1.0.1 out)) $
     Calls-last ! (fm 𝓛 𝓜 𝓡) (found out)

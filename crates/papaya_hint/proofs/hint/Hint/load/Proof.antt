@@ -1,5 +1,5 @@
 -- `load` is one step, which learns what the number says.
-use Rattle.std.proofs.Common.{ℕ, ◌^◌, false, List, [], ◌∷◌, sym, refl, lit<, w64}
+use Rattle.std.proofs.Common.{ℕ, ◌^◌, Bool, false, List, [], ◌∷◌, sym, refl, subst, lit<, w64}
 use mir.Syntax.{a_type, dcons, dnil, named}
 use mir.Val.{Val, vint, vptr}
 use mir.MapTy.{inst_fn}
@@ -26,6 +26,7 @@ use denote.Param.{param, bounded}
 use denote.Triple.Walked.{Stays, stay_dropped, stay_ref, walk_of, Goes-dropped, Goes-ref}
 use Rattle.atomic_table.proofs.Walks.{proved}
 use Rattle.atomic_table.proofs.Calls.{fm, seq_cst, found, finds, loads}
+use Rattle.logbook.specs.Pages.{Grows}
 use Rattle.logbook.specs.Kept.{rules, seen_owns}
 use Rattle.logbook.specs.contracts.tokens.Seen as Seen
 use Rattle.logbook.proofs.Steps as steps
@@ -33,6 +34,7 @@ use Rattle.logbook.proofs.Fields.{ends}
 use Rattle.papaya_hint.specs.contracts.hint.Hint as Hint
 use Rattle.papaya_hint.specs.contracts.hint.Hint.load.{ended, clauses}
 use Rattle.papaya_hint.specs.contracts.hint.Hint.load.Key.{name as #self}
+use Rattle.papaya_hint.specs.Untracked.{Says}
 use Rattle.papaya_hint.proofs.Keyed.{after_first}
 use Rattle.papaya_hint.proofs.hint.Hint.load.Statement.{statement}
 use Rattle.papaya_hint.proofs.hint.Hint.load.Code as code
@@ -64,7 +66,7 @@ load_spec 𝓤 𝓛 𝓜 𝓡 wired E A P _ _ _ g d h d' _ _ =
     let at = a.0.ref_ptr in
     let seen = a.1.0.now in
     let at' = a.1.0.ref_ptr in
-    let hinted = h.hinted_beside me.key in
+    let hinted : Bool → ℕ → List E.Denot → Type 0 = λ t. Says h.hinted_beside t me.key in
     let p : Val = vptr at.0 at.1 in
     let p' : Val = vptr at'.0 at'.1 in
     let y : (walk_of 𝓛 En hs c).Ghost = ((κs, qs, bounds, a, (p ∷ [], (p' ∷ [], tt))), gh) in
@@ -87,16 +89,16 @@ load_spec 𝓤 𝓛 𝓜 𝓡 wired E A P _ _ _ g d h d' _ _ =
     (Lends-one 𝓛 𝓜 𝓡 κs.0 t.0 qs.0) $
     await ! tt $ pick ! (λ s. split ! $
     move ! (3 ∷ 4 ∷ 5 ∷ []) $ opens ! tt Book at'.0 at'.1 (λ vs. move ! (1 ∷ []) $ fsplit ! $ move ! (1 ∷ []) $
-    rewrite ! 0 (λ (z : _). ‵ (seen_owns cv.code rule z seen.names seen.log)) asked.0 refl $
+    rewrite ! 0 (λ (z : _). ‵ (seen_owns cv.code rule z seen.names seen.log)) asked.1 refl $
     let out : ℕ → Fml = λ n. fsep (flft t.0 s) (fex (List E.Denot)
-    (steps.heard 𝓛 cv rule me.book seen.names hinted false me.key at.0 at.1 t.0 s t.1 seen.log n)) in
+    (steps.heard 𝓛 cv rule me.book seen.names (hinted me.tracked) false me.key at.0 at.1 t.0 s t.1 seen.log n)) in
     first ! $ blocks ! $ sets ! (addr ! (through ! refl (stop !))) refl (tt, tt) $
     sets ! (of_opd ! (get ! refl)) refl (tt, tt) $
     move ! (8 ∷ 6 ∷ 0 ∷ []) $
     use3 𝓛 (raw (𝓣.C _ (p ∷ seq_cst ∷ []) (λ u. mean 𝓛 (found out u))))
     (via 𝓤 _
-    (steps.hears 𝓛 cv rule me.book seen.names hinted false me.key at.0 at.1 t.0 s t.1 seen.log refl
-    past asked.1)
+    (steps.hears 𝓛 cv rule me.book seen.names (hinted me.tracked) false me.key at.0 at.1 t.0 s t.1 seen.log refl
+    past (subst (λ (t : Bool). Grows (hinted t)) (sym asked.0) asked.2))
     (loads 𝓛 𝓜 𝓡 (code.calls-std::sync::atomic::raw::load 𝓡.env wired) (block_ptr at.0 at.1) out)) $
     sets ! (agg ! (and_then ! (lit ! tt) (no_more !))) refl (tt, (record { fits = lit< tt }, tt)) $
     Calls-last ! (fm 𝓛 𝓜 𝓡) (found out) (and_then ! (get ! refl) (and_then ! (get ! refl) (no_more !)))
@@ -116,4 +118,4 @@ load_spec 𝓤 𝓛 𝓜 𝓡 wired E A P _ _ _ g d h d' _ _ =
     nothing ! $ fjoin ! $
     returns ! (look_at ! 0 refl) $ free_all ! refl $ keep ! (1 ∷ 0 ∷ 2 ∷ []) $
     by ! (ends 𝓛 En hs c y (vint w64 n) n (tt, (left, tt)) (tt, (tt, tt))
-    (fact_i 𝓤 _ (emp 𝓤) ((sym asked.0, refl, so.0, so.1)))))))))))))))
+    (fact_i 𝓤 _ (emp 𝓤) ((sym asked.1, refl, so.0, subst (λ (t : Bool). hinted t n log) asked.0 so.1)))))))))))))))

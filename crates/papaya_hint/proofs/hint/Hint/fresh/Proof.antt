@@ -1,5 +1,5 @@
--- `beside` puts what was seen of the log beside the number.
-use Rattle.std.proofs.Common.{false, [], ◌∷◌, refl, lit<}
+-- `fresh` puts what was seen of the log beside the number.
+use Rattle.std.proofs.Common.{ℕ, Bool, false, List, [], ◌∷◌, sym, refl, subst, lit<}
 use mir.Syntax.{a_type, dcons, dnil, named}
 use mir.Val.{Val, vptr}
 use mir.MapTy.{inst_fn}
@@ -31,16 +31,16 @@ use Rattle.logbook.specs.contracts.tokens.Seen as Seen
 use Rattle.logbook.specs.contracts.word.Word as Word
 use Rattle.logbook.proofs.Steps as steps
 use Rattle.logbook.proofs.Fields.{word_val, Token, word_made, ends}
-use Rattle.papaya_hint.specs.Untracked.{untracked}
+use Rattle.papaya_hint.specs.Untracked.{untracked, Says}
 use Rattle.papaya_hint.specs.contracts.hint.Hint as Hint
-use Rattle.papaya_hint.specs.contracts.hint.Hint.beside.{ended, clauses}
-use Rattle.papaya_hint.specs.contracts.hint.Hint.beside.Key.{name as #self}
-use Rattle.papaya_hint.proofs.Keyed.{at_key}
-use Rattle.papaya_hint.proofs.hint.Hint.beside.Statement.{statement}
-use Rattle.papaya_hint.proofs.hint.Hint.beside.Code as code
+use Rattle.papaya_hint.specs.contracts.hint.Hint.fresh.{ended, clauses}
+use Rattle.papaya_hint.specs.contracts.hint.Hint.fresh.Key.{name as #self}
+use Rattle.papaya_hint.proofs.Keyed.{beside_word}
+use Rattle.papaya_hint.proofs.hint.Hint.fresh.Statement.{statement}
+use Rattle.papaya_hint.proofs.hint.Hint.fresh.Code as code
 
-pub beside_spec : {M : Type 1} → statement M
-beside_spec 𝓤 𝓛 𝓜 𝓡 wired E A P _ _ _ g d h d' _ _ =
+pub fresh_spec : {M : Type 1} → statement M
+fresh_spec 𝓤 𝓛 𝓜 𝓡 wired E A P _ _ _ g d h d' _ _ =
     let 𝓣 = tables 𝓤 𝓛.H 𝓜 𝓡 𝓡.env in
     let E' : RattleType = param 0 E in
     let A' : RattleType = param 1 A in
@@ -66,7 +66,7 @@ beside_spec 𝓤 𝓛 𝓜 𝓡 wired E A P _ _ _ g d h d' _ _ =
     let word = a.0.now in
     let seen = a.1.0.now in
     let at = a.1.0.ref_ptr in
-    let hinted = h.hinted_beside word.key in
+    let hinted : Bool → ℕ → List E.Denot → Type 0 = λ t. Says h.hinted_beside t word.key in
     let p : Val = vptr a.0.ref_ptr.0 a.0.ref_ptr.1 in
     let p' : Val = vptr at.0 at.1 in
     let y : (walk_of 𝓛 En hs c).Ghost = ((κs, qs, bounds, a, (p ∷ [], (p' ∷ [], tt))), gh) in
@@ -85,12 +85,12 @@ beside_spec 𝓤 𝓛 𝓜 𝓡 wired E A P _ _ _ g d h d' _ _ =
     split ! $ drop ! $ unhide ! $
     use1 𝓛 (‵ (reached cv.code seen.book.log_name seen.log))
     (steps.seen_log 𝓛 cv rule seen.book seen.names seen.log) $
-    rewrite ! 0 (λ (z : _). ‵ (reached cv.code z.log_name seen.log)) asked.0 refl $
-    use1 𝓛 (‵ (inner cv.code hinted (untracked word) 0))
-    (steps.tells 𝓛 cv rule word.book seen.names hinted false word.key 0 0 [] qs.0 0 0 seen.log
-    asked.1) $
+    rewrite ! 0 (λ (z : _). ‵ (reached cv.code z.log_name seen.log)) asked.1 refl $
+    use1 𝓛 (‵ (inner cv.code (hinted word.tracked) (untracked word) 0))
+    (steps.tells 𝓛 cv rule word.book seen.names (hinted word.tracked) false word.key 0 0 [] qs.0 0 0 seen.log
+    (subst (λ (t : Bool). hinted t 0 seen.log) (sym asked.0) refl)) $
     use1 𝓛 (‵ ((Hint.the_row E' A' P' g h).own_val word (word_val 0 ∷ [])))
-    (word_made 𝓛 E' A' P' (at_key g h word.key) (untracked word) 0 (lit< tt)) $
+    (word_made 𝓛 E' A' P' (beside_word g h word) (untracked word) 0 (lit< tt)) $
     sets ! (agg ! (no_more !)) refl (tt, tt) $
     sets ! (agg ! (and_then ! (lit ! tt) (and_then ! (get ! refl) (no_more !)))) refl
     (tt, (record { fits = lit< tt }, (tt, tt))) $
