@@ -4,15 +4,15 @@ ghost use Rattle.boxcar.specs.Table.{Shows, id_at};
 ghost use Rattle.papaya_log.specs.Rows.{AreRows, row_len, row_first, row_of, slot_of};
 ghost use Rattle.papaya_log.specs.Places.{IsPlace};
 
-use crate::row::{Blank, Row, RowSlot, new_row, no_row};
+use crate::row::{Blank, Row, RowSlot, new_row, no_row, write_some};
 use crate::token::Pushed;
 use boxcar::slot::Written;
 use crossbeam_utils::CachePadded;
 use papaya_slot::counter::Counter;
-use papaya_slot::slot::Right;
+use papaya_slot::slot::{Right, Slot};
 use std::alloc::{AllocError, Global};
 use std::marker::Model;
-use std::mem::forget;
+use std::mem::{forget, replace};
 use std::sync::{Mutex, Wait};
 
 /// How far apart the numbers of two rows are: no row is longer.
@@ -26,6 +26,15 @@ const LEAST_FIRST: usize = 32;
 
 /// No row is longer than a 1 with so many zeros.
 const LAST_BITS: u32 = 41;
+
+/// A row is written ahead while the last of so many parts of the row before it is filled.
+const AHEAD_PARTS: usize = 32;
+
+/// One push in so many writes slots of it then.
+const AHEAD_PUSHES: usize = 8;
+
+/// It writes so many: a row has at most twice the slots of the one before.
+const AHEAD_SLOTS: usize = 2 * AHEAD_PARTS * AHEAD_PUSHES;
 
 /// A number of a log's counter, and the row and the slot of its value.
 #[derive(Drop)]
@@ -43,7 +52,7 @@ pub(crate) struct Place {
 pub struct Log<T> {
     rows: Vec<RowSlot<T>>,
     first_bits: u32,
-    making: Mutex<()>,
+    making: Mutex<Vec<Slot<T>>>,
     alloc: Global,
     next: CachePadded<Counter>,
 }
@@ -153,7 +162,7 @@ impl<T: Drop> Log<T> {
         Ok(Log {
             rows: empty_rows(alloc, first_bits, &next)?,
             first_bits,
-            making: Mutex::new(()),
+            making: Mutex::new(Vec::new(alloc)),
             alloc,
             next: CachePadded::new(next),
         })
@@ -173,7 +182,7 @@ impl<T: Blank + Drop> Log<T> {
         requires { row < 38 }
         ensures { IfOk result (λ written. written.of ≡ id_at self.now.buckets row) }
     {
-        let turn = self.making.lock(rt);
+        let mut ahead = self.making.lock(rt);
         if let Some(written) = self.rows[row].witness() {
             return Ok(written);
         }
@@ -181,10 +190,26 @@ impl<T: Blank + Drop> Log<T> {
             first_of(self.first_bits, row),
             length_of(self.first_bits, row),
         );
-        let slots = new_row(self.alloc, &self.next, first, len, value)?;
+        let written = replace(&mut *ahead, Vec::new(self.alloc));
+        let slots = new_row(&self.next, first, len, written, value)?;
         let made = self.rows[row].set_written(slots).map_err(|_| AllocError);
-        drop(turn);
+        drop(ahead);
         made
+    }
+
+    /// Writes some slots of a row that is not made yet, so that whoever makes it pays for few.
+    fn write_ahead(&self, row: usize, value: &T) {
+        if row >= ROWS {
+            return;
+        }
+        let Some(mut ahead) = self.making.try_lock() else {
+            return;
+        };
+        if self.rows[row].witness().is_some() {
+            return;
+        }
+        let len = length_of(self.first_bits, row);
+        write_some(&mut ahead, &self.next, len, AHEAD_SLOTS, value);
     }
 
     /// What shows that a row is there. It is made where it is not.
@@ -218,6 +243,20 @@ impl<T: Blank + Drop> Log<T> {
         })
     }
 
+    /// Is it this push that writes slots of the next row ahead? None does so in the first row, so that
+    /// a log which holds what it was made for has no other.
+    #[inline(always)]
+    fn is_due(&self, place: &Place, row: &Written<Row<T>>) -> bool
+        requires place { IsPlace self.now.buckets place.now }
+        requires row { row.now.of ≡ id_at self.now.buckets place.now.row }
+    {
+        if !place.slot.is_multiple_of(AHEAD_PUSHES) || place.row == 0 {
+            return false;
+        }
+        let len = self.rows[place.row].value(row).len();
+        place.slot >= len - len / AHEAD_PARTS
+    }
+
     /// Writes a value into its slot, and shows its number.
     #[inline(always)]
     fn write(&self, place: Place, row: Written<Row<T>>, value: T) -> Pushed<T>
@@ -247,7 +286,12 @@ impl<T: Blank + Drop> Log<T> {
             return Err(value);
         };
         match self.row(rt, place.row, &value) {
-            Ok(row) => Ok(self.write(place, row, value)),
+            Ok(row) => {
+                if self.is_due(&place, &row) {
+                    self.write_ahead(place.row + 1, &value);
+                }
+                Ok(self.write(place, row, value))
+            }
             Err(_) => {
                 self.next.give_back(place.right, place.push);
                 Err(value)
@@ -255,9 +299,9 @@ impl<T: Blank + Drop> Log<T> {
         }
     }
 
-    /// The value, pushed where the row of its slot is made. It waits for nobody and takes no memory.
-    /// Else the value comes back, and its number goes to the next push, unless another push came
-    /// between. [`Log::push_shown`] makes the row.
+    /// The value, pushed where the row of its slot is made, and no slots are due to be written ahead.
+    /// It waits for nobody and takes no memory. Else the value comes back, and its number goes to
+    /// the next push, unless another push came between. [`Log::push_shown`] does what is due.
     #[inline(always)]
     pub fn try_push(&self, value: T) -> Result<Pushed<T>, T>
         ensures ok { IfOk result (λ p. Shows self.now p × (p.value ≡ value)) }
@@ -268,8 +312,8 @@ impl<T: Blank + Drop> Log<T> {
             return Err(value);
         };
         match self.rows[place.row].witness() {
-            Some(row) => Ok(self.write(place, row, value)),
-            None => {
+            Some(row) if !self.is_due(&place, &row) => Ok(self.write(place, row, value)),
+            _ => {
                 self.next.give_back(place.right, place.push);
                 Err(value)
             }

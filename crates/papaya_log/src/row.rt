@@ -1,12 +1,14 @@
 //! Rows of slots, each written once.
-ghost use Rattle.std.specs.Prelude.{◌≡◌, ◌+◌, ◌<◌, ◌^◌, [], ◌∷◌, IfOk};
+ghost use Rattle.std.specs.Prelude.{◌≡◌, ◌+◌, ◌<◌, ◌≤◌, ◌^◌, [], ◌∷◌, IfOk};
+ghost use Rattle.std.specs.Vec.{vec_capacity};
 ghost use Rattle.papaya_log.specs.Rows.{AreSlots};
 
 use boxcar::slot::{OnceSlot, SlotRule};
 use boxcar::tag::{Names, Tag};
+use core::mem::replace_with;
 use papaya_slot::counter::Counter;
 use papaya_slot::slot::Slot;
-use std::alloc::{AllocError, Global};
+use std::alloc::AllocError;
 
 /// A row of a log.
 pub type Row<T> = Vec<Slot<T>>;
@@ -71,19 +73,55 @@ pub(crate) fn no_row<T>(counter: &Counter, first: usize, len: usize) -> RowSlot<
     }))
 }
 
+// The slot, for whoever has this number of the counter.
+fn with_number<T>(slot: Slot<T>, right: (&Counter, u64)) -> (Slot<T>, ())
+    ensures { (result.0.counter ≡ right.entry.0.now) × (result.0.number ≡ right.entry.1) }
+{
+    let (counter, number) = right;
+    (Slot::new(slot.into_inner(), counter, number), ())
+}
+
+/// Writes up to so many more slots of a row of so many with blanks, made beside a value. No row
+/// has them yet, so they are nobody's to write. Where there is no memory for them it writes none.
+pub(crate) fn write_some<T: Blank + Drop>(
+    slots: &mut Vec<Slot<T>>,
+    counter: &Counter,
+    len: usize,
+    more: usize,
+    value: &T,
+) {
+    let left = len.saturating_sub(slots.len());
+    if slots.reserve_exact(left).is_ok() {
+        for _ in 0..more.min(left) {
+            slots.push_reserved(Slot::new(value.blank(), counter, 0));
+        }
+    }
+}
+
 /// A row of so many slots, of the numbers from `first` on. They hold blanks, made beside a value.
+/// Slots that were written ahead of it become its own in their places: that is no code.
 pub(crate) fn new_row<T: Blank + Drop>(
-    alloc: Global,
     counter: &Counter,
     first: usize,
     len: usize,
+    ahead: Vec<Slot<T>>,
     value: &T,
 ) -> Result<Row<T>, AllocError>
     requires { first + len < 2 ^ 64 }
     ensures { IfOk result (λ row. AreSlots (len ∷ first ∷ counter.now ∷ []) row.items) }
 {
-    let mut row = Vec::with_capacity(alloc, len)?;
-    for place in 0..len {
+    let mut row = ahead;
+    row.truncate(len);
+    let written = row.len();
+    row.reserve_exact(len - written)?;
+    for place in 0..written {
+        replace_with(
+            &mut row[place],
+            (counter, (first + place) as u64),
+            with_number,
+        );
+    }
+    for place in written..len {
         row.push_reserved(Slot::new(value.blank(), counter, (first + place) as u64));
     }
     Ok(row)
