@@ -18,7 +18,7 @@ use Rattle.papaya_book.specs.declared.rule.entry.Named.{Named}
 use Rattle.papaya_book.specs.declared.rule.entry.Step.{Step}
 use Rattle.papaya_book.specs.declared.rule.entry.Event.{Event}
 use Rattle.papaya_book.specs.declared.rule.entry.Event.TheVariants.{Begin, Stepped}
-use Rattle.papaya_book.specs.Logs.{Stored, brought, coding_of, comes, dealt, exchange_of, key_at}
+use Rattle.papaya_book.specs.Logs.{Stored, brought, coding_of, comes, exchange_of, key_at}
 use Rattle.papaya_book.specs.Logs.{kind_of, made_of, name_in, place_of, plan_of, seals_of}
 use Rattle.papaya_book.specs.Logs.{setting_of, state_of, steps_of, word_names}
 use Rattle.papaya_book.specs.Rows.{row_len}

@@ -35,3 +35,5 @@ pub mod Words
 pub mod Fetching
 -- a table that is linked is another than all that have come
 pub mod Linking
+-- slots that no table has yet
+pub mod Fresh

@@ -27,8 +27,8 @@ use Rattle.papaya_book.specs.Logs.{steps_of, table_in}
 use Rattle.papaya_book.specs.Makers.{AreDealt, Calls, Deals}
 use Rattle.papaya_book.specs.Rows.{row_len}
 use Rattle.papaya_book.specs.Rule.{IsBlank, IsKept, IsLawfulLog, IsOfMap, IsPlaced, IsSealOf, flag, seal_at, word_in}
-use Rattle.papaya_book.specs.Offer.{MovesRow, Moved}
-use Rattle.papaya_book.proofs.Cells.{cell_left, cell_other, cell_past, cell_same, home_still, same_or_not}
+use Rattle.papaya_book.specs.Offer.{Moved}
+use Rattle.papaya_book.proofs.Cells.{cell_left, cell_other, cell_past, cell_same, home_still}
 use Rattle.papaya_book.proofs.Loads.{same_cells, shows}
 use Rattle.papaya_book.proofs.Logs.{entered_last, get_right, name-append, name_later, name_since, or_nothing, owner_later, seals-append, steps_same}
 

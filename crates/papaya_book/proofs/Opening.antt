@@ -1,6 +1,6 @@
 -- The first log and words of a book keep the rule.
-use Rattle.std.proofs.Common.{◌≡◌, ◌⊎◌, inl, inr, ℕ, ◌<◌, zero, suc, ◌≤◌, true, None, Some, List}
-use Rattle.std.proofs.Common.{[], ◌∷◌, length, replicate, refl, sym, ap, ◌∙◌, subst, ⊎_elim, Bool}
+use Rattle.std.proofs.Common.{◌≡◌, ◌⊎◌, inl, inr, ℕ, ◌<◌, zero, suc, ◌≤◌, true, None, Some}
+use Rattle.std.proofs.Common.{[], ◌∷◌, replicate, refl, sym, ap, ◌∙◌, subst, ⊎_elim, Bool}
 use Rattle.std.proofs.Common.{false, ◌+◌, arith}
 use Rattle.std.proofs.lemmas.List.{get_or-replicate, length-replicate}
 use Rattle.logbook.specs.Pages.{Cell, cell}

@@ -1,5 +1,5 @@
 -- What the calls of a book hold and tell, by the keys of the map and the book itself.
-use Rattle.std.specs.Prelude.{◌≡◌, ◌+◌, ◌==◌, ℕ, cond, false, Option, None, Some, List}
+use Rattle.std.specs.Prelude.{◌≡◌, ◌+◌, ◌<◌, ◌^◌, ◌==◌, ℕ, cond, false, Option, None, Some, List}
 use denote.Bor.{Bor}
 use Rattle.logbook.specs.Pages.{nib, may_write}
 use Rattle.logbook.specs.declared.tokens.Pen.{Pen}
@@ -16,6 +16,7 @@ use Rattle.papaya_book.specs.declared.rule.steps.Put.{Put}
 use Rattle.papaya_book.specs.declared.rule.steps.Wish.{Wish}
 use Rattle.papaya_book.specs.Calls as calls
 use Rattle.papaya_book.specs.Keys.{Keys}
+use Rattle.papaya_book.specs.Logs.{Stored}
 use Rattle.papaya_book.specs.Makers as makers
 use Rattle.papaya_book.specs.Parts.{begun_of}
 use Rattle.papaya_book.specs.Plays as plays
@@ -26,6 +27,13 @@ module _ {K V S H : Type 0} (book : Book K V S H) where
   -- what is named lies in the logs of the book
   abbrev pub IsIn : Named K V → Type 0
   IsIn = rule.IsPlaced (begun_of book.parts) (Some book.begun.book)
+
+  -- the pair lies in the log, with this key and this value, and its number fits a word
+  pub record IsLoggedAs (key : K) (value : V) (q : Stored K V) : Type 0 where
+    pub placed : IsIn (names.Pair q)
+    pub key_is : q.value.key.value ≡ key
+    pub value_is : q.value.value ≡ value
+    pub number : q.index < 2 ^ 48
 
   -- the pen of the table's seal
   abbrev pub Seals : Pen → Sheet → Type 0

@@ -1,5 +1,5 @@
 -- What a clause sees of a table.
-use Rattle.std.specs.Prelude.{◌≡◌, ℕ, true, List, [], ◌∷◌}
+use Rattle.std.specs.Prelude.{◌≡◌, ◌<◌, ℕ, false, true, List, [], ◌∷◌, length, slice_index_or}
 use base.Stored.{Coded, coded×, coded_ℕ, coded_list, coded_via}
 use Rattle.logbook.specs.Pages.{Book, book_coded, Named}
 
@@ -34,3 +34,8 @@ word_named b k = record { tracked = true; key = k; book = b }
 abbrev pub AllOf : Book → List Named → Type 0
 AllOf b [] = Unit {0}
 AllOf b (w ∷ ws) = (w ≡ word_named b w.key) × AllOf b ws
+
+-- no book tracks the words: they are of slots that no table has yet
+abbrev pub AreFresh : List Named → Type 0
+AreFresh ws = (place : ℕ) (d : Named) → place < length ws
+    → (slice_index_or ws place d).tracked ≡ false

@@ -9,6 +9,7 @@ ghost use Rattle.papaya_book.specs.Logs.{pair_named};
 ghost use Rattle.papaya_book.specs.declared.rule.entry.Named.TheVariants.{Table as TableNamed};
 
 use crate::book::gains::pair_in;
+use crate::room::Room;
 use crate::rule::entry::Stored;
 use crate::rule::law::Found;
 use crate::rule::offer;
@@ -202,6 +203,7 @@ impl<'a, K: Hash + Eq, V, S: BuildHasher> Window<'a, K, V, S> {
         follows: u64,
         size: (usize, usize),
         chunks: usize,
+        room: Option<Room<K, V, S>>,
         given: &mut OwnSteps<CapacityCause>,
     ) -> Result<(Pushed<Table<K, V, S>>, Pen), Refused>
         requires size { IsSize size.0 size.1 }
@@ -216,8 +218,10 @@ impl<'a, K: Hash + Eq, V, S: BuildHasher> Window<'a, K, V, S> {
         ensures placed { IfOk result (λ r. IsIn self.old (TableNamed r.0)) }
         ensures pen { IfOk result (λ r. Seals self.old.book.now r.1 r.0.value) }
     {
+        let mut room = room;
         for _ in rt.forever() {
-            let (table, seal) = self.make_table(rt, alloc, size.0, size.1, chunks, given)?;
+            let ahead = room.take();
+            let (table, seal) = self.make_table(rt, alloc, size.0, size.1, chunks, ahead, given)?;
             if table.index() as u64 + 1 > follows {
                 return Ok((table, seal));
             }

@@ -14,6 +14,7 @@ pub mod book;
 pub mod copies;
 pub mod count;
 pub mod keyed;
+pub mod room;
 pub mod rule;
 pub mod slot;
 pub mod table;

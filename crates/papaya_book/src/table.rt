@@ -3,14 +3,18 @@ ghost use Rattle.std.specs.Prelude.{◌≡◌, ◌<◌, ℕ, Some, length, map, 
 ghost use Rattle.papaya_ask.specs.Search.{IsSize};
 ghost use Rattle.papaya_book.specs.Sheets.{Sheet, sheet_coded, AllOf, word_named};
 
+use crate::room::Room;
+use crate::rule::offer::Seen;
 use crate::slot::{Cell, HintCell, Slot};
+use papaya_words::limits::MAX_TABLE_LEN;
 use std::hash::{BuildHasher, Hash};
 use std::marker::Model;
 use std::sync::{Mutex, MutexGuard, Wait};
 
 /// A table: its slots, how far a search of it goes, and which chunks of the table before were
 /// copied to it. Contracts see it as the keys of its words. Who makes its next table holds
-/// `making`, so that not each thread that needs one pays for it.
+/// `making`, so that not each thread that needs one pays for it. Slots of that table are written
+/// ahead while this one fills up; `ahead` has none once they were taken.
 #[derive(Drop)]
 pub struct Table<K: Hash + Eq, V, S: BuildHasher> {
     pub limit: usize,
@@ -19,6 +23,7 @@ pub struct Table<K: Hash + Eq, V, S: BuildHasher> {
     pub done: Vec<Cell<K, V, S>>,
     pub slots: Vec<Slot<K, V, S>>,
     pub making: Mutex<()>,
+    pub ahead: Mutex<Option<Room<K, V, S>>>,
 }
 
 impl<K: Hash + Eq, V, S: BuildHasher> Model for Table<K, V, S> {
@@ -95,6 +100,26 @@ impl<K: Hash + Eq, V, S: BuildHasher> Table<K, V, S> {
     /// guard goes. No lookup takes it, and no contract relies on it.
     pub fn lock_next<R: Wait>(&self, rt: &R) -> MutexGuard<'_, ()> {
         self.making.lock(rt)
+    }
+
+    /// Writes some slots of the next table ahead. It waits for nobody: where another thread does so,
+    /// or they were taken, it writes none.
+    #[cold]
+    #[inline(never)]
+    pub fn write_ahead(&self, sight: &Seen<K, V, S>) {
+        let Some(mut ahead) = self.ahead.try_lock() else {
+            return;
+        };
+        let Some(room) = ahead.take() else {
+            return;
+        };
+        let len = self.slots.len().saturating_mul(2).min(MAX_TABLE_LEN);
+        *ahead = Some(room.with_more(len, sight));
+    }
+
+    /// The slots of the next table that were written ahead.
+    pub fn take_room<R: Wait>(&self, rt: &R) -> Option<Room<K, V, S>> {
+        self.ahead.lock(rt).take()
     }
 
     /// The word that says whether the table was given up.

@@ -6,6 +6,7 @@ use crate::book::Book;
 use crate::book::gains::pair_in;
 use crate::book::kept::KeptRoot;
 use crate::keyed::Keyed;
+use crate::room::Room;
 use crate::rule::entry::{Step, Stored};
 use crate::rule::offer;
 use crate::rule::offer::{Offer, Seen};
@@ -292,7 +293,8 @@ impl<'a, K: Hash + Eq, V, S: BuildHasher> Window<'a, K, V, S> {
     }
 
     /// A table of so many slots, all Empty, to which a table of so many chunks is copied, in the
-    /// log of tables, with the pen of its seal. Refused as [`Book::log_table`].
+    /// log of tables, with the pen of its seal. Its slots are those that were written ahead, and
+    /// others. Refused as [`Book::log_table`].
     pub fn make_table<R: Wait>(
         &mut self,
         rt: &R,
@@ -300,6 +302,7 @@ impl<'a, K: Hash + Eq, V, S: BuildHasher> Window<'a, K, V, S> {
         len: usize,
         limit: usize,
         chunks: usize,
+        room: Option<Room<K, V, S>>,
         given: &mut OwnSteps<CapacityCause>,
     ) -> Result<(Pushed<Table<K, V, S>>, Pen), Refused>
         requires size { IsSize len limit }
@@ -315,7 +318,7 @@ impl<'a, K: Hash + Eq, V, S: BuildHasher> Window<'a, K, V, S> {
     {
         let Some((table, seal)) = self
             .book
-            .lay_table(rt, alloc, len, limit, chunks, &mut self.sight)
+            .lay_table(rt, alloc, len, limit, chunks, room, &mut self.sight)
         else {
             return Err(Refused::Memory);
         };

@@ -7,7 +7,7 @@ ghost use Rattle.papaya_ask.specs.Search.{IsSize};
 ghost use Rattle.papaya_book.specs.Makers.{AreFrom, IsMade};
 ghost use Rattle.boxcar.specs.Table.{Shows};
 ghost use Rattle.papaya_book.specs.Limits.{HasTableFrom, IsFull, tables_of};
-ghost use Rattle.papaya_book.specs.Sheets.{AllOf};
+ghost use Rattle.papaya_book.specs.Sheets.{AllOf, AreFresh};
 ghost use Rattle.papaya_book.specs.declared.rule.entry.Named.TheVariants.{Table as TableNamed};
 ghost use Rattle.papaya_book.specs.declared.rule.own.CapacityCause.TheVariants as numbers;
 ghost use Rattle.papaya_words.specs.Probe.{IsEntriesFor};
@@ -15,6 +15,7 @@ ghost use Rattle.papaya_words.specs.declared.limits.TheConstants.{MAX_TABLE_LEN}
 
 use crate::book::Book;
 use crate::keyed::Keyed;
+use crate::room::{Room, fresh_slots};
 use crate::rule::offer::{Offer, Seen};
 use crate::rule::own::{CapacityCause, OwnSteps};
 use crate::rule::steps::Laying;
@@ -52,29 +53,22 @@ impl<K: Hash + Eq, V, S: BuildHasher> Book<K, V, S> {
         Ok(words)
     }
 
-    /// The slots of a new table, whose words are the next ones of the row.
-    fn slots(
-        room: Vec<Slot<K, V, S>>,
-        len: usize,
-        row: &mut Pens,
-        sight: &Seen<K, V, S>,
-    ) -> Result<Vec<Slot<K, V, S>>, AllocError>
-        requires room { room.items ≡ [] }
-        requires left { len ≤ row.old.left }
+    /// Gives fresh slots the next words of the row.
+    fn give_words(slots: &mut Vec<Slot<K, V, S>>, row: &mut Pens, sight: &Seen<K, V, S>)
+        requires fresh { AreFresh slots.old.items }
+        requires left { length slots.old.items ≤ row.old.left }
         requires book { sight.now.book ≡ row.old.book }
-        ensures len { IfOk result (λ v. length v.items ≡ len) }
-        ensures words { IfOk result (λ v. AllOf row.old.book v.items) }
-        ensures keys { IfOk result (λ v. AreFrom (map (λ w. w.key) v.items) row.old.next) }
+        ensures len { length slots.new.items ≡ length slots.old.items }
+        ensures words { AllOf row.old.book slots.new.items }
+        ensures keys { AreFrom (map (λ w. w.key) slots.new.items) row.old.next }
     {
-        let mut slots = room;
-        for _ in 0..len {
-            slots.push(Slot::new(Self::word(row), sight))?;
+        for place in 0..slots.len() {
+            slots[place].give(row, sight);
         }
-        Ok(slots)
     }
 
     /// A table of so many slots, all Empty, to which a table of so many chunks is copied, with the
-    /// pen of its seal. It draws its words once there is room for them.
+    /// pen of its seal. It draws its words once there are slots for them; those of `room` first.
     pub(crate) fn lay_table<R: Wait>(
         &self,
         rt: &R,
@@ -82,6 +76,7 @@ impl<K: Hash + Eq, V, S: BuildHasher> Book<K, V, S> {
         len: usize,
         limit: usize,
         chunks: usize,
+        room: Option<Room<K, V, S>>,
         sight: &mut Seen<K, V, S>,
     ) -> Option<(Table<K, V, S>, Pen)>
         requires book { sight.old.book ≡ self.now.begun.book }
@@ -96,15 +91,13 @@ impl<K: Hash + Eq, V, S: BuildHasher> Book<K, V, S> {
     {
         let count = chunks.checked_add(len + 1)?;
         let done = Vec::with_capacity(alloc, chunks).ok()?;
-        let slots = Vec::with_capacity(alloc, len).ok()?;
+        let mut slots = fresh_slots(room, alloc, len, sight).ok()?;
         let (aborted, seal, mut row) = self.deal(rt, count as u64, sight)?;
         let next = Self::word(&mut row);
         let Ok(done) = Self::words(done, chunks, &mut row) else {
             return None;
         };
-        let Ok(slots) = Self::slots(slots, len, &mut row, sight) else {
-            return None;
-        };
+        Self::give_words(&mut slots, &mut row, sight);
         let table = Table {
             limit,
             next,
@@ -112,6 +105,7 @@ impl<K: Hash + Eq, V, S: BuildHasher> Book<K, V, S> {
             done,
             slots,
             making: Mutex::new(()),
+            ahead: Mutex::new(Some(Room::new(alloc))),
         };
         Some((table, seal))
     }
@@ -202,8 +196,15 @@ impl<K: Hash + Eq, V, S: BuildHasher> Book<K, V, S> {
         let len = table_len(initial);
         let mut sight = self.pass();
         let mut given = OwnSteps::nothing();
-        let Some((table, mut seal)) = self.lay_table(rt, alloc, len, limit(len), 0, &mut sight)
-        else {
+        let Some((table, mut seal)) = self.lay_table(
+            rt,
+            alloc,
+            len,
+            limit(len),
+            0,
+            None,
+            &mut sight,
+        ) else {
             return Err(Refused::Memory);
         };
         let Ok(table) = self.log_table(rt, table, &mut given) else {

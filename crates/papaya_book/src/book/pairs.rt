@@ -1,5 +1,5 @@
 //! Pairs in the arena of pairs: what they hold, and logging what callers put into a map.
-ghost use Rattle.papaya_book.specs.Books.{IsIn};
+ghost use Rattle.papaya_book.specs.Books.{IsIn, IsLoggedAs};
 ghost use Rattle.std.specs.Prelude.{◌≡◌, ◌<◌, ◌^◌, None, Some, IfErr, IfOk};
 ghost use Rattle.boxcar.specs.Table.{Shows, id_at};
 ghost use Rattle.papaya_book.specs.Brought.{IsBrought, pair_held};
@@ -189,10 +189,7 @@ impl<K: Hash + Eq + Drop, V: Drop, S: BuildHasher> Book<K, V, S> {
     /// Both come back where it has none.
     #[inline(always)]
     pub fn log_fresh(&self, key: K, value: V) -> Result<Stored<K, V>, (K, V)>
-        ensures placed { IfOk result (λ p. IsIn self.now (PairNamed p)) }
-        ensures key { IfOk result (λ p. p.value.key.value ≡ key) }
-        ensures value { IfOk result (λ p. p.value.value ≡ value) }
-        ensures number { IfOk result (λ p. p.index < 2 ^ 48) }
+        ensures ok { IfOk result (IsLoggedAs self.now key value) }
         ensures err { IfErr result (λ back. (back.0 ≡ key) × (back.1 ≡ value)) }
     {
         let held = Held::Own(key, value);
@@ -213,10 +210,7 @@ impl<K: Hash + Eq + Drop, V: Drop, S: BuildHasher> Book<K, V, S> {
     ) -> Result<Stored<K, V>, V>
         requires placed { IsIn self.now (PairNamed stored.now) }
         requires pair { pair.now ≡ stored.now.value }
-        ensures placed { IfOk result (λ p. IsIn self.now (PairNamed p)) }
-        ensures key { IfOk result (λ p. p.value.key.value ≡ stored.now.value.key.value) }
-        ensures value { IfOk result (λ p. p.value.value ≡ value) }
-        ensures number { IfOk result (λ p. p.index < 2 ^ 48) }
+        ensures ok { IfOk result (IsLoggedAs self.now stored.now.value.key.value value) }
         ensures err { IfErr result (λ back. back ≡ value) }
     {
         let first = self.key_first(stored, pair);
@@ -246,10 +240,7 @@ impl<K: Hash + Eq + Drop, V: Drop, S: BuildHasher> Book<K, V, S> {
     ) -> Result<Stored<K, V>, (KeyPart<K, V>, ValuePart<K, V>)>
         requires key { IsKeyPartIn self.now key }
         requires value { IsValuePartIn self.now value }
-        ensures placed { IfOk result (λ p. IsIn self.now (PairNamed p)) }
-        ensures key { IfOk result (λ p. p.value.key.value ≡ key_in key) }
-        ensures value { IfOk result (λ p. p.value.value ≡ value_in value) }
-        ensures number { IfOk result (λ p. p.index < 2 ^ 48) }
+        ensures ok { IfOk result (IsLoggedAs self.now (key_in key) (value_in value)) }
         ensures err { IfErr result (λ back. (back.0 ≡ key) × (back.1 ≡ value)) }
     {
         match (key, value) {

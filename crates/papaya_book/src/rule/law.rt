@@ -7,14 +7,14 @@ use std::marker::PhantomData;
 
 /// The rule: the log's exchanges are allowed, the words are those that they leave, each hint was
 /// one of its slot, and the book keeps the tokens of all pairs and tables that came, and the rights
-/// to make words for tables. Hints stand beside words of slots; the book has no other words that it
-/// does not track.
+/// to make words for tables. Hints stand beside words of slots; a word of a fresh slot, which the
+/// book does not track, is 0.
 pub struct Law<K, V, S> {
     of: PhantomData<(K, V, S)>,
 }
 
 impl<K: Hash + Eq, V, S: BuildHasher> Rule<Event<K, V, S>, Named<K, V>> for Law<K, V, S> {
-    ghost use Rattle.std.specs.Prelude.{[]};
+    ghost use Rattle.std.specs.Prelude.{◌≡◌, []};
     ghost use Rattle.papaya_book.specs.Hashes.{hash_of};
     ghost use Rattle.papaya_book.specs.Rule.{IsKept};
     ghost use Rattle.papaya_log.specs.Tokens.{stands as pair_stands};
@@ -28,7 +28,7 @@ impl<K: Hash + Eq, V, S: BuildHasher> Rule<Event<K, V, S>, Named<K, V>> for Law<
 
     ghost first = { [] };
 
-    ghost hinted = { λ number log. ⊥ };
+    ghost hinted = { λ number log. number ≡ 0 };
 
     ghost shows = { λ log. log };
 

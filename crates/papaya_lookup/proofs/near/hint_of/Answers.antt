@@ -21,6 +21,7 @@ load-hint-requires g c =
     let called = name_since w.begun.log v w.begun.book c.learn.ensures.3 w.called in
     let came = table_since c.args.window.now.sight.log v c.args.number r.0 c.learn.ensures.2 r.1 in
     let book = table_book g.K.PartialEq.eq hash b v w.begun.book lawful called c.args.number r.0 came in (
+      ap (λ z. z.tracked) (c.hint.ensures ∙ r.4),
       c.learn.ensures.0 ∙ (c.args.window.now.same_book ∙ (sym book ∙ sym (ap (λ z. z.book) (c.hint.ensures ∙ r.4)))),
       hinted_grows g.K.PartialEq.eq
           hash c.hint.result.now.key,

@@ -4,7 +4,6 @@ use Rattle.papaya_book.specs.contracts.rule.pair.Pair.{the_row as PairOf}
 use Rattle.papaya_book.specs.contracts.rule.entry.Sheet.{the_row as SheetRow}
 use Rattle.papaya_book.specs.Hashes.{hash_of}
 use Rattle.papaya_book.specs.Parts.{begun_of}
-use Rattle.papaya_book.specs.Rows.{row_len}
 use Rattle.papaya_book.specs.Tokens.{stands}
 use Rattle.papaya_book.specs.declared.rule.entry.Event.TheVariants.{Called}
 use Rattle.papaya_log.specs.Tokens.{stands as pair_stands}

@@ -1,4 +1,4 @@
-use Rattle.std.proofs.Common.{◌≡◌, ℕ, ◌+◌, ◌<◌, ◌∷◌, ◌++◌, length, map, refl, sym, ap, ◌∙◌, subst, arith, length-append}
+use Rattle.std.proofs.Common.{rules, ◌≡◌, ℕ, ◌+◌, ◌∷◌, ◌++◌, length, map, refl, sym, ap, ◌∙◌, subst, arith, length-append}
 use Rattle.std.proofs.lemmas.List.{length-map}
 use Rattle.std.proofs.lemmas.Nat.{pow_pos}
 use Rattle.logbook.specs.Pages.{Named}
@@ -10,13 +10,14 @@ use Rattle.papaya_book.proofs.book.Book.lay_table.Goals as goal
 pub returns-clause-made : goal.returns-clause-made
 returns-clause-made g c =
     let key = λ (w : Named). w.key in
-    let deal = c.in_ok-aborted.ensures in let next = c.word-next.ensures in let done = c.in-Ok.ensures in let slots = c.in-Ok-slots.ensures in
+    let deal = c.in_ok-aborted.ensures in let next = c.word-next.ensures in let done = c.in-Ok.ensures in let slots = c.give_words.ensures in
     let s : ℕ = c.in_ok-aborted.aborted.key in let n : ℕ = c.word-next.result.key in let log = c.deal.new.sight.log in
-    let ds = map key c.in-Ok.done.items in let xs = map key c.in-Ok-slots.slots.items in
+    let ds = map key c.in-Ok.done.items in let xs = map key c.give_words.new.slots.items in
     let sheet : Sheet = record { book = c.in_ok-aborted.aborted.book; limit = c.args.limit; next = n; seal = s; done = ds; slots = xs } in
     let first : n ≡ c.in_ok-aborted.row.next = ap key next.word in
+    let sized : length c.in_ok-slots.slots.items ≡ c.args.len = search rules in
     let many_done : length ds ≡ c.args.chunks = length-map c.in-Ok.done.items key ∙ done.len in
-    let many_slots : length xs ≡ c.args.len = length-map c.in-Ok-slots.slots.items key ∙ slots.len in
+    let many_slots : length xs ≡ c.args.len = length-map c.give_words.new.slots.items key ∙ (slots.len ∙ sized) in
     let after : c.word-next.new.row.next ≡ n + 1 = let a = next.rest.1 in omega arith in
     let behind : c.words.new.row.next ≡ n + 1 + length ds = let a = done.rest.1 in omega arith in
     let from : AreFrom (n ∷ (ds ++ xs)) n = (refl, from_append ds xs (n + 1) (subst (AreFrom ds) after done.keys) (subst (AreFrom xs) behind slots.keys)) in

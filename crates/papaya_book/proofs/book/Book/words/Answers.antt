@@ -1,6 +1,6 @@
 use Rattle.std.proofs.Common.{◌≡◌, ℕ, ◌+◌, List, [], ◌∷◌, ◌++◌, length, map, sym, ap, ◌∙◌, subst, arith, length-append}
 use Rattle.std.proofs.lemmas.List.{length-map, map-append}
-use Rattle.logbook.specs.Pages.{Book, Named}
+use Rattle.logbook.specs.Pages.{Named}
 use Rattle.papaya_book.specs.Makers.{AreFrom}
 use Rattle.papaya_book.specs.Sheets.{AllOf, word_named}
 use Rattle.papaya_book.proofs.Making.{all_more, from_more}

@@ -54,7 +54,7 @@ with_table_spec 𝓤 𝓛 𝓜 𝓡 wired K V S X N I _ _ _ _ _ _ gh dh ge de gp
     (Law.the_row (param 0 K) (param 1 V) (param 2 S))
     (LawRule.ghosts (param 0 K) (param 1 V) (param 2 S) (param 5 I) gh LawRule.no_dict ge LawRule.no_dict gp LawRule.no_dict gb LawRule.no_dict gi
     LawRule.no_dict LawRule.no_dict) in
-    let T : RattleType = Table.the_row (param 0 K) (param 1 V) (param 2 S) (param 5 I) gh ge gp gb gi in
+    let T : RattleType = Table.the_row (param 0 K) (param 1 V) (param 2 S) (param 5 I) gh gp gb gi ge in
     let self = RefOf (0 ∷ []) tt (plain (λ _. S')) (λ _. tt) in let about = RefOf (1 ∷ []) tt (plain (λ _. param 3 X)) (λ _. tt) in
     let known = plain (λ _. Known.the_row T) in
     let hs : Stays En.signature.params En.kept = (stay_dropped self yes, (stay_dropped about yes, (stay_dropped known no, tt))) in

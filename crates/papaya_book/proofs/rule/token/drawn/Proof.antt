@@ -1,5 +1,5 @@
 -- What was gained are the rights to make the words that were drawn.
-use Rattle.std.proofs.Common.{ℕ, List, [], ◌∷◌, refl, sym, subst}
+use Rattle.std.proofs.Common.{List, [], ◌∷◌, refl, subst}
 use mir.Syntax.{a_type, seq, assign as assign_to, place, rv_opd, copy, return}
 use mir.Val.{Val}
 use mir.MapTy.{inst_fn}

@@ -21,7 +21,7 @@ load-hint-requires g c =
     let called = name_since w.begun.log v w.begun.book c.learn.ensures.3 w.called in
     let came = table_since c.args.self.now.sight.log v c.args.number c.args.table.now c.learn.ensures.2 c.requires.table in
     let book = table_book g.K.PartialEq.eq hash b v w.begun.book lawful called c.args.number c.args.table.now came in
-    (c.learn.ensures.0 ∙ (c.args.self.now.same_book ∙ (sym book ∙ sym (ap (λ z. z.book) c.hint.ensures.2))), hinted_grows g.K.PartialEq.eq hash c.hint.result.now.key)
+    (ap (λ z. z.tracked) c.hint.ensures.2, c.learn.ensures.0 ∙ (c.args.self.now.same_book ∙ (sym book ∙ sym (ap (λ z. z.book) c.hint.ensures.2))), hinted_grows g.K.PartialEq.eq hash c.hint.result.now.key)
 
 pub returns-clause-hint : goal.returns-clause-hint
 returns-clause-hint g c =

@@ -25,6 +25,7 @@ compare_exchange-requires g c =
     let came = table_since log v c.args.number table since c.requires.table in
     let book = table_book g.K.PartialEq.eq hash b v w.begun.book lawful called c.args.number table came in
     let beside = c.hint.ensures in let k = beside.0 in (
+      ap (λ z. z.tracked) beside.2,
       c.learn.ensures.0 ∙ (ap (λ z. z.book) c.again-seen.ensures ∙ (c.args.self.now.same_book ∙ (sym book ∙ sym (ap (λ z. z.book) beside.2)))),
       subst (λ z. IsHinted g.K.PartialEq.eq hash z c.args.hint v) (sym (ap (λ z. z.key) beside.2))
           (may_say g.K.PartialEq.eq hash b c.args.number c.args.place k c.args.hint log v c.requires.hint
