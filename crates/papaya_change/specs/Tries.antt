@@ -1,15 +1,13 @@
 -- What came of a pair that was logged for a place that a search had found.
-use Rattle.std.specs.Prelude.{◌≡◌, ◌<◌, ◌^◌, Bool, true, false, Option, None, Some, List}
+use Rattle.std.specs.Prelude.{◌≡◌, Bool, true, false, Option, None, Some, List}
 use Rattle.papaya_call.specs.declared.machine.State.{State}
 use Rattle.papaya_book.specs.declared.keyed.Keyed as keyed
 use Rattle.papaya_book.specs.declared.rule.entry.Event.{Event}
-use Rattle.papaya_book.specs.declared.rule.entry.Named.TheVariants as names
 use Rattle.papaya_book.specs.declared.window.Window.{Window}
 use Rattle.papaya_book.specs.Logs.{Stored}
 use Rattle.papaya_book.specs.Sheets.{Sheet}
-use Rattle.papaya_book.specs.Windows.{IsIn}
 use Rattle.papaya_lookup.specs.Drivers.{past}
-use Rattle.papaya_lookup.specs.History.{history_of, key_of}
+use Rattle.papaya_lookup.specs.History.{history_of}
 use Rattle.papaya_lookup.specs.declared.lookup.Met.{Met}
 use Rattle.papaya_change.specs.Changes.{IsChangeOf}
 use Rattle.papaya_change.specs.Seeking.{Computes, at_live, led_to, met_by}
@@ -37,13 +35,6 @@ AreSame met None = met ≡ None
 AreSame {K} {V} met (Some p) = (q : Stored K V) × (met ≡ Some q) × IsSamePair q p
 
 module _ {K V S H : Type 0} {d : keyed.Ghosts S K H} where
-  -- the pair lies in the log, with this key and this value
-  pub record IsLoggedAs (w : Window K V S H d) (key : K) (value : V) (q : Stored K V) : Type 0 where
-    pub placed : IsIn w (names.Pair q)
-    pub key_is : key_of q ≡ key
-    pub value_is : q.value.value ≡ value
-    pub number : q.index < 2 ^ 48
-
   -- each call that a turn had led there has put the pair in the place of the one that it met
   abbrev pub Offers : (w w' : Window K V S H d) → K → Sheet → Turn (Met K V) → Stored K V → Type 0
   Offers w w' key table turn q = (begun : List (Event K V S)) (state : State)

@@ -18,6 +18,7 @@ use logbook::Pen;
 use papaya_ask::ask::{Answer as CallAnswer, At, StepKind};
 use papaya_ask::copy_ask::CopyAsk;
 use papaya_book::count::{Count, Shard};
+use papaya_book::room::Room;
 use papaya_book::rule::entry::Stored;
 use papaya_book::rule::own::{CapacityCause, OwnSteps};
 use papaya_book::table::Table;
@@ -369,8 +370,8 @@ impl<K: Hash + Eq, V, S: BuildHasher> Copier<K, V, S> {
           given = self.new.given;
         } }
     {
-        let size = turn(rt, follows, size, making, window);
-        let made = window.make_table_after(rt, alloc, follows, size, chunks, &mut self.given);
+        let (size, room) = turn(rt, follows, size, making, window);
+        let made = window.make_table_after(rt, alloc, follows, size, chunks, room, &mut self.given);
         window.learn();
         let (table, seal) = made?;
         let number = table.index() as u64 + 1;
@@ -485,9 +486,9 @@ fn size<'a, K: Hash + Eq, V, S: BuildHasher>(
     size
 }
 
-/// Waits for the turn to make the table after this one: how large a table to make. Where another
-/// thread was first that is a small one, since it will not be linked. Nobody waits to make a first
-/// table, which follows none.
+/// Waits for the turn to make the table after this one: how large a table to make, and the slots
+/// that were written ahead of it. Where another thread was first that is a small one, since it will
+/// not be linked. Nobody waits to make a first table, which follows none.
 ///
 /// A thread has one turn at most, as it gives back the one that it has before it waits. It waits
 /// for nothing else until it has tried to link the table, so two threads never wait for each other.
@@ -497,22 +498,22 @@ fn turn<'a, K: Hash + Eq, V, S: BuildHasher, R: Wait>(
     size: (usize, usize),
     making: &mut Option<MutexGuard<'a, ()>>,
     window: &mut Window<'a, K, V, S>,
-) -> (usize, usize)
+) -> ((usize, usize), Option<Room<K, V, S>>)
     requires come { follows ≢ 0 → HasCome window.old follows }
     requires size { IsSize size.0 size.1 }
     ensures sees { Sees window.old window.new }
     ensures own { window.new.own ≡ window.old.own }
-    ensures size { IsSize result.0 result.1 }
+    ensures size { IsSize result.0.0 result.0.1 }
 {
     if follows == 0 {
-        return size;
+        return (size, None);
     }
     *making = None;
     let table = window.table(follows);
     *making = Some(table.lock_next(rt));
     let (next, _) = window.next(table, follows);
     if next == 0 {
-        return size;
+        return (size, table.take_room(rt));
     }
-    (8, 15)
+    ((8, 15), None)
 }

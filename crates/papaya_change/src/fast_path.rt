@@ -44,6 +44,10 @@ use std::hash::{BuildHasher, Hash};
 use std::marker::Model;
 use std::sync::Wait;
 
+/// An insertion that passes more than one in so many of the places that a search may look at finds
+/// its table crowded: the next table is not far.
+const CROWDED: usize = 4;
+
 /// A live pair of the key that a search has met, and where it lies in the arena of pairs.
 #[derive(Drop)]
 pub struct Live<'a, K, V> {
@@ -152,28 +156,25 @@ fn read_at<'a, K: Hash + Eq, V, S: BuildHasher>(
     ensures fewer { left_to result < left_at at }
 {
     let (word, offer) = window.slot_word(table, at.table, at.probe.i);
-    let seen = at.look(word);
-    match seen {
-        Probed::On(Search::Comparing(..)) => {
-            let book = window.book;
-            let stored = named_pair(word, offer);
-            let passed = without(Search::Comparing(at, word).at_yes(false));
-            let pair = book.pair(&stored);
-            match has_key(book, pair, key) {
-                Some(true) if Word(word).kind() == Kind::Live => {
-                    let met = Met {
-                        place: at,
-                        word,
-                        stored,
-                    };
-                    Turn::Met(Live { met, pair })
-                }
-                Some(false) => passed,
-                _ => Turn::Else,
+    let mut seen = at.look(word);
+    if let Probed::On(Search::Comparing(..)) = seen {
+        let book = window.book;
+        let stored = named_pair(word, offer);
+        let pair = book.pair(&stored);
+        match has_key(book, pair, key) {
+            Some(true) if Word(word).kind() == Kind::Live => {
+                let met = Met {
+                    place: at,
+                    word,
+                    stored,
+                };
+                return Turn::Met(Live { met, pair });
             }
+            Some(false) => seen = Search::Comparing(at, word).at_yes(false),
+            _ => return Turn::Else,
         }
-        _ => without(seen),
     }
+    without(seen)
 }
 
 /// Looks at one place of a table: loads its hint, and its word where the hint says nothing or is
@@ -321,6 +322,9 @@ pub fn claim<K: Hash + Eq + Drop, V: Drop, S: BuildHasher>(
         (Empty at) q }
     ensures back { (back : _) → result ≡ Back back → back ≡ (key, value) }
 {
+    if at.probe.len > at.limit / CROWDED {
+        table.write_ahead(&window.sight);
+    }
     let pair = match window.book.log_fresh(key, value) {
         Ok(pair) => pair,
         Err(back) => return Tried::Back(back),
@@ -468,7 +472,8 @@ fn replace_at<'a, R: Wait, K: Hash + Eq + Drop, V: Drop, S: BuildHasher>(
 }
 
 /// Inserts a pair: the value that its key had. Where it is refused for want of room, `given` tells
-/// the number that a full log gave, or the sum of the count that makes a next table too long.
+/// the number that a full log of tables gave, or the sum of the count that makes a next table too
+/// long.
 pub fn insert<'a, R: Wait, K: Hash + Eq + Drop, V: Drop, S: BuildHasher>(
     rt: &R,
     alloc: Global,

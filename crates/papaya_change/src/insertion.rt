@@ -229,8 +229,8 @@ fn drive<'a, R: Wait, K: Hash + Eq + Drop, V: Drop, S: BuildHasher>(
 }
 
 /// Inserts a pair by its machine: the value that its key had. Where it is refused for want of room,
-/// `given` tells the number that a full log gave, or the sum of the count that makes a next table
-/// too long.
+/// `given` tells the number that a full log of tables gave, or the sum of the count that makes a
+/// next table too long.
 pub(crate) fn insert_slow<'a, R: Wait, K: Hash + Eq + Drop, V: Drop, S: BuildHasher>(
     means: &Means<'_, '_, R>,
     window: &mut Window<'a, K, V, S>,

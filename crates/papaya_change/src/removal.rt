@@ -243,7 +243,7 @@ pub fn remove_slow<
 /// Removes a key's pair if the closure agrees. The pair is found by a lookup's search, and deleted
 /// at once where it is found live; where it is not, or another call was there first, the removal's
 /// machine begins. Where that is refused for want of room while it helps to copy, `given` tells the
-/// number that a full log gave, or the sum of the count that makes a next table too long.
+/// number that a full log of tables gave, or the sum of the count that makes a next table too long.
 pub fn remove<
     'a,
     R: Wait,

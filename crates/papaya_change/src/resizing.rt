@@ -162,8 +162,8 @@ impl<K: Hash + Eq, V, S: BuildHasher> Resizing<K, V, S> {
 }
 
 /// Resizes the map, and changes no pair. `given` tells the sum of the count beside which there is
-/// room then. Where it is refused for want of room, it tells the number that a full log gave, or
-/// the sum that makes a table too long.
+/// room then. Where it is refused for want of room, it tells the number that a full log of tables
+/// gave, or the sum that makes a table too long.
 pub fn resize<'a, R: Wait, K: Hash + Eq, V, S: BuildHasher>(
     rt: &R,
     alloc: Global,

@@ -244,7 +244,7 @@ fn decide_slow<'a, R: Wait, K: Hash + Eq + Drop, V: Drop, S: BuildHasher, D: Rul
 }
 
 /// Stores for a key what the rule answers. Where it is refused for want of room, `given` tells the
-/// number that a full log gave, or the sum of the count that makes a next table too long.
+/// number that a full log of tables gave, or the sum of the count that makes a next table too long.
 pub fn decide<'a, R: Wait, K: Hash + Eq + Drop, V: Drop, S: BuildHasher, D: Rule<V>>(
     rt: &R,
     alloc: Global,

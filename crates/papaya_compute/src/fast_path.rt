@@ -1,15 +1,13 @@
 //! Computes whose search of the root ends at an empty place or at a live pair: what their closure
 //! answered is done at once. Where another call was first, they tell in a few words where their
 //! machine starts. A machine is large, so that no fast path makes one.
-ghost use Rattle.std.specs.Prelude.{◌≡◌, ◌<◌, ◌^◌, Some, IfSome, List, Option};
+ghost use Rattle.std.specs.Prelude.{◌≡◌, Some, IfSome, List, Option};
 ghost use Rattle.std.specs.Int.{IsPowerOfTwo};
 ghost use Rattle.papaya_call.specs.declared.answers.Operation.{Operation};
-ghost use Rattle.papaya_book.specs.Books.{IsIn};
+ghost use Rattle.papaya_book.specs.Books.{IsLoggedAs};
 ghost use Rattle.papaya_book.specs.Logs.{Stored};
 ghost use Rattle.papaya_book.specs.PairParts.{IsKeyPartIn, key_in};
 ghost use Rattle.papaya_book.specs.Windows.{IsLawful};
-ghost use Rattle.papaya_book.specs.declared.rule.entry.Named.TheVariants.{Pair as PairNamed};
-ghost use Rattle.papaya_lookup.specs.History.{key_of};
 ghost use Rattle.papaya_change.specs.Showings.{AreOf};
 ghost use Rattle.papaya_change.specs.declared.fast_path.Turn.TheVariants.{Empty, Met as MetPair};
 ghost use Rattle.papaya_compute.specs.FastPath.{DoesAtOnce, HasHeard, HasLooked, IsLed, StartsAt};
@@ -127,10 +125,7 @@ fn log_by_waiting<R: Wait, K: Hash + Eq + Drop, V: Drop, S: BuildHasher>(
     value: V,
 ) -> Option<Stored<K, V>>
     requires { IsKeyPartIn book.now key }
-    ensures placed { IfSome result (λ pair. IsIn book.now (PairNamed pair)) }
-    ensures key { IfSome result (λ pair. key_of pair ≡ key_in key) }
-    ensures value { IfSome result (λ pair. pair.value.value ≡ value) }
-    ensures number { IfSome result (λ pair. pair.index < 2 ^ 48) }
+    ensures { IfSome result (IsLoggedAs book.now (key_in key) value) }
 {
     book.log_pair(rt, key, ValuePart::Own(value)).ok()
 }

@@ -153,8 +153,8 @@ fn compute_slow<
 }
 
 /// Does with a key's pair, or where it has none, what the closure answers that is shown it. Where
-/// it is refused for want of room, `given` tells the number that a full log gave, or the sum of the
-/// count that makes a next table too long.
+/// it is refused for want of room, `given` tells the number that a full log of tables gave, or the
+/// sum of the count that makes a next table too long.
 pub fn compute<
     'a,
     R: Wait,

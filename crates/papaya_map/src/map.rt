@@ -73,9 +73,9 @@ impl<K: Hash + Eq, V, S: BuildHasher> Model for HashMap<K, V, S> {
 /// more than a number, by which its calls pick a shard of the map's count. Contracts see that
 /// history, which is legal, the changes that were made by this pass, oldest first, and which book
 /// they are of. They see how many slots each table has that it has seen come, oldest first. Where
-/// its last change was refused for want of room, they see the number that a full log gave, or the
-/// sum of the map's count by which the table after one of those would be too long. And of a map
-/// with a limit on pairs they see how many numbers were taken for pairs.
+/// its last change was refused for want of room, they see the number that a full log of tables
+/// gave, or the sum of the map's count by which the table after one of those would be too long. And
+/// of a map with a limit on pairs they see how many numbers were taken for pairs.
 ///
 /// Each call by a pass stands in the history after all that the pass had seen before, and
 /// afterwards the pass has seen the call's own moment. A call that changes the map makes one change

@@ -19,6 +19,8 @@ pub enum Outcome {
     Answers,
     /// It is refused memory, all is kept, and with memory it answers.
     IsRefused,
+    /// It answers without that: the request was for what is written ahead.
+    Spares,
     /// Anything else.
     Fails,
 }
@@ -34,7 +36,8 @@ pub fn tries<T: Ready>(alloc: Global, ready: &mut T, number: usize) -> Outcome {
     let first = ready.is_made();
     let was_refused = relent(alloc);
     match first {
-        Ok(true) if !was_refused => Outcome::Answers,
+        Ok(true) if was_refused => Outcome::Spares,
+        Ok(true) => Outcome::Answers,
         Err(Refused::Memory) if was_refused && goes_on(ready) => Outcome::IsRefused,
         _ => Outcome::Fails,
     }
@@ -55,7 +58,7 @@ pub fn fails_at<T: Trial>(trial: &T) -> Result<Option<usize>, Refused> {
     for number in 1..MOST {
         match trial.with_refused(number)? {
             Outcome::Answers => return Ok(None),
-            Outcome::IsRefused => {}
+            Outcome::IsRefused | Outcome::Spares => {}
             Outcome::Fails => return Ok(Some(number)),
         }
     }

@@ -31,8 +31,8 @@ use std::sync::Wait;
 /// One thread's way to a map: the map, pinned, and a pass of it. Contracts see what of the map is
 /// fixed, the history that was seen, and the changes that were made by this session, oldest first.
 /// They see how many slots each table has that was seen to come; where the last change was refused
-/// for want of room, the number that a full log gave or the sum of the map's count; and how many
-/// numbers were taken for pairs, where the map has a limit on them.
+/// for want of room, the number that a full log of tables gave or the sum of the map's count; and
+/// how many numbers were taken for pairs, where the map has a limit on them.
 ///
 /// Each call stands in the history after all that the session had seen before, and afterwards the
 /// session has seen the call's own moment. So a thread reads its own writes: what it reads is the

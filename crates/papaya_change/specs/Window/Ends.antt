@@ -7,10 +7,10 @@ use Rattle.papaya_book.specs.declared.rule.own.CapacityCause.{CapacityCause}
 use Rattle.papaya_book.specs.declared.window.Window.{Window}
 use Rattle.papaya_book.specs.Logs.{Stored}
 use Rattle.papaya_book.specs.Limits.{HasNoRoom, IsSpent, tables_of}
-use Rattle.papaya_book.specs.Windows.{Does, IsLawful, Sees}
+use Rattle.papaya_book.specs.Windows.{Does, IsLawful, IsLoggedAs, Sees}
 use Rattle.papaya_lookup.specs.Drivers.{own, past}
 use Rattle.papaya_lookup.specs.History.{Makes}
-use Rattle.papaya_change.specs.Tries.{IsLoggedAs, is_put, pair_in}
+use Rattle.papaya_change.specs.Tries.{is_put, pair_in}
 use Rattle.papaya_change.specs.declared.fast_path.Tried.{Tried}
 
 module _ {K V S H : Type 0} {d : keyed.Ghosts S K H} where

@@ -10,6 +10,7 @@ use Rattle.papaya_book.specs.Parts.{begun_of}
 use Rattle.papaya_change.specs.Seeking.{Inserts, IsSeekingAt, at_live, turn_of}
 use Rattle.papaya_change.proofs.Seeking.{looked, matched, met_live, pair_there, place_there, turned}
 use Rattle.papaya_change.proofs.fast_path.read_at.Goals as goal
+use Rattle.papaya_change.proofs.fast_path.read_at.Goals.{in-On-Comparing+in-Some-false, in_default}
 
 pub slot_word-word-requires-clause-place : goal.slot_word-word-requires-clause-place
 slot_word-word-requires-clause-place g c =
@@ -43,30 +44,31 @@ returns-in-Some-true-clause-turns g c =
     s.ensures.sees.log c.args.at c.args.table.now r s.result.0 s.result.1.state s.ensures.slot
     c.in-On-Comparing.field-0-0 c.in-On-Comparing.field-0-1 looks p c.named_pair-stored.ensures true same refl live))
 
-pub returns-in-Some-false-clause-turns : goal.returns-in-Some-false-clause-turns
-returns-in-Some-false-clause-turns g c =
-    let w = c.args.window.now.book.now in let s = c.slot_word-word in
-    let looks : look c.args.at s.result.0 ≡ On (Comparing c.in-On-Comparing.field-0-0 c.in-On-Comparing.field-0-1) = search rules in
-    let met : c.has_key.result ≡ Some false = search rules in
-    let same = c.has_key.ensures false met ∙ ap (λ z. g.K.PartialEq.eq c.args.key.now z.key.value) c.pair-pair.ensures in
-    let to : c.without-passed.result ≡ turn_of (at_yes (Comparing c.args.at s.result.0) false) = c.without-passed.ensures
-    ∙ ap (λ z. turn_of z) c.at_yes.ensures.value in
-    rw (s.ensures.sees.book, to) (λ who begun state e r.
-    turned g.K.PartialEq.eq g.K.Hash.hash_input g.S.BuildHasher.build_hasher g.S.Hasher.Hasher.write g.S.Hasher.Hasher.finish g.met.K.Eq.laws
-    g.met.K.Hash.respects_eq (begun_of w.parts) w.begun.book c.args.key.now begun who s.new.self.sight.log
-    (at_yes (Comparing c.args.at s.result.0) false) c.args.table.now
-    (matched g.K.PartialEq.eq g.K.Hash.hash_input g.S.BuildHasher.build_hasher g.S.Hasher.Hasher.write g.S.Hasher.Hasher.finish g.met.K.Eq.laws
-    g.met.K.Hash.respects_eq (begun_of w.parts) w.begun.book c.args.key.now begun who c.args.window.now.sight.log s.new.self.sight.log
-    s.ensures.sees.log c.args.at c.args.table.now r s.result.0 s.result.1.state s.ensures.slot
-    c.in-On-Comparing.field-0-0 c.in-On-Comparing.field-0-1 looks c.named_pair-stored.result c.named_pair-stored.ensures false same) state e)
-
 pub returns-clause-turns : goal.returns-clause-turns
 returns-clause-turns g c =
     let w = c.args.window.now.book.now in let s = c.slot_word-word in
-    let to : c.without.result ≡ turn_of (look c.args.at s.result.0) = c.without.ensures ∙ ap (λ z. turn_of z) c.look-seen.ensures.value in
-    rw (s.ensures.sees.book, to) (λ who begun state e r.
-    turned g.K.PartialEq.eq g.K.Hash.hash_input g.S.BuildHasher.build_hasher g.S.Hasher.Hasher.write g.S.Hasher.Hasher.finish g.met.K.Eq.laws
-    g.met.K.Hash.respects_eq (begun_of w.parts) w.begun.book c.args.key.now begun who s.new.self.sight.log (look c.args.at s.result.0) c.args.table.now
-    (looked g.K.PartialEq.eq g.K.Hash.hash_input g.S.BuildHasher.build_hasher g.S.Hasher.Hasher.write g.S.Hasher.Hasher.finish g.met.K.Eq.laws
-    g.met.K.Hash.respects_eq (begun_of w.parts) w.begun.book c.args.key.now begun who c.args.window.now.sight.log s.new.self.sight.log
-    s.ensures.sees.log c.args.at c.args.table.now r s.result.0 s.result.1.state s.ensures.slot) state e)
+    elim c.match-seen.branch [
+      | in-On-Comparing+in-Some-false v ↦
+          let looks : look c.args.at s.result.0 ≡ On (Comparing v.in-On-Comparing.field-0-0 v.in-On-Comparing.field-0-1) = search rules in
+          let met : v.has_key.result ≡ Some false = search rules in
+          let same = v.has_key.ensures false met ∙ ap (λ z. g.K.PartialEq.eq c.args.key.now z.key.value) v.pair-pair.ensures in
+          let to : c.without.result ≡ turn_of (at_yes (Comparing c.args.at s.result.0) false) = c.without.ensures
+          ∙ ap (λ z. turn_of z) (v.seen-is ∙ v.at_yes-seen.ensures.value) in
+          rw (s.ensures.sees.book, to) (λ who begun state e r.
+          turned g.K.PartialEq.eq g.K.Hash.hash_input g.S.BuildHasher.build_hasher g.S.Hasher.Hasher.write g.S.Hasher.Hasher.finish g.met.K.Eq.laws
+          g.met.K.Hash.respects_eq (begun_of w.parts) w.begun.book c.args.key.now begun who s.new.self.sight.log
+          (at_yes (Comparing c.args.at s.result.0) false) c.args.table.now
+          (matched g.K.PartialEq.eq g.K.Hash.hash_input g.S.BuildHasher.build_hasher g.S.Hasher.Hasher.write g.S.Hasher.Hasher.finish g.met.K.Eq.laws
+          g.met.K.Hash.respects_eq (begun_of w.parts) w.begun.book c.args.key.now begun who c.args.window.now.sight.log s.new.self.sight.log
+          s.ensures.sees.log c.args.at c.args.table.now r s.result.0 s.result.1.state s.ensures.slot
+          v.in-On-Comparing.field-0-0 v.in-On-Comparing.field-0-1 looks v.named_pair-stored.result v.named_pair-stored.ensures false same) state e)
+      | in_default v ↦
+          let to : c.without.result ≡ turn_of (look c.args.at s.result.0) = c.without.ensures
+          ∙ ap (λ z. turn_of z) (v.seen-is ∙ c.look-seen.ensures.value) in
+          rw (s.ensures.sees.book, to) (λ who begun state e r.
+          turned g.K.PartialEq.eq g.K.Hash.hash_input g.S.BuildHasher.build_hasher g.S.Hasher.Hasher.write g.S.Hasher.Hasher.finish g.met.K.Eq.laws
+          g.met.K.Hash.respects_eq (begun_of w.parts) w.begun.book c.args.key.now begun who s.new.self.sight.log (look c.args.at s.result.0) c.args.table.now
+          (looked g.K.PartialEq.eq g.K.Hash.hash_input g.S.BuildHasher.build_hasher g.S.Hasher.Hasher.write g.S.Hasher.Hasher.finish g.met.K.Eq.laws
+          g.met.K.Hash.respects_eq (begun_of w.parts) w.begun.book c.args.key.now begun who c.args.window.now.sight.log s.new.self.sight.log
+          s.ensures.sees.log c.args.at c.args.table.now r s.result.0 s.result.1.state s.ensures.slot) state e)
+    ]

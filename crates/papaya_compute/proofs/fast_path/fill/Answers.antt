@@ -1,12 +1,11 @@
-use Rattle.std.proofs.Common.{◌≡◌, ◌<◌, ◌^◌, Option, None, Some, [], ◌∷◌, append-nil, refl, sym, ap, ◌∙◌, inl, inr, subst}
+use Rattle.std.proofs.Common.{◌≡◌, Option, None, Some, [], ◌∷◌, append-nil, refl, sym, ap, ◌∙◌, inl, inr, subst}
 use Rattle.std.specs.Prelude.{IfSome}
 use Rattle.papaya_words.specs.declared.probe.Refused.TheVariants.{Memory, RemoveNothing}
 use Rattle.papaya_call.specs.declared.answers.Operation.{Operation}
 use Rattle.papaya_call.specs.declared.answers.Operation.TheVariants as operation
 use Rattle.papaya_call.specs.declared.compute.Gap.TheVariants.{At}
 use Rattle.papaya_call.specs.declared.machine.State.TheVariants.{Offering, Writing}
-use Rattle.papaya_book.specs.declared.rule.entry.Named.TheVariants as names
-use Rattle.papaya_book.specs.Books.{IsIn}
+use Rattle.papaya_book.specs.Books.{IsLoggedAs}
 use Rattle.papaya_book.specs.Logs.{Stored}
 use Rattle.papaya_book.specs.Parts.{begun_of}
 use Rattle.papaya_book.specs.Windows.{Does}
@@ -115,11 +114,10 @@ returns-in-Some g c =
     let name = w.book.now.begun.book in let at = c.args.at in let write = Writing (record { place = at; old = 0 }) in
     let tried = c.claim.ensures.tried in let then = c.claim.new.window in
     let back = c.claim.ensures.back (c.in-Back.key, c.in-Back.value) c.in-Back.is in
-    let q = c.in-Some.pair in let by = c.log_by_waiting.ensures in
-    let placed = subst (λ (z : Option (Stored _ _)). IfSome z (λ p. IsIn then.book.now (names.Pair p))) c.in-Some.is by.placed in
-    let key_is = subst (λ (z : Option (Stored _ _)). IfSome z (λ p. key_of p ≡ c.in-Back.key)) c.in-Some.is by.key ∙ ap (λ z. z.0) back in
-    let value_is = subst (λ (z : Option (Stored _ _)). IfSome z (λ p. p.value.value ≡ c.in-Back.value)) c.in-Some.is by.value ∙ ap (λ z. z.1) back in
-    let number = subst (λ (z : Option (Stored _ _)). IfSome z (λ p. p.index < 2 ^ 48)) c.in-Some.is by.number in
+    let q = c.in-Some.pair in
+    let l = subst (λ (z : Option (Stored _ _)). IfSome z (IsLoggedAs then.book.now c.in-Back.key c.in-Back.value)) c.in-Some.is c.log_by_waiting.ensures in
+    let placed = l.placed in let number = l.number in
+    let key_is = l.key_is ∙ ap (λ z. z.0) back in let value_is = l.value_is ∙ ap (λ z. z.1) back in
     record {
       does = record {
         sees = tried.sees;

@@ -1,11 +1,11 @@
-use Rattle.std.proofs.Common.{◌≡◌, ◌<◌, ◌^◌, Bool, true, false, Option, Some, [], ◌∷◌, append-nil, inl, refl, sym, ap, ◌∙◌, rules, subst}
+use Rattle.std.proofs.Common.{◌≡◌, Bool, true, false, Option, Some, [], ◌∷◌, append-nil, inl, refl, sym, ap, ◌∙◌, rules, subst}
 use Rattle.std.specs.Prelude.{IfSome}
 use Rattle.papaya_words.specs.declared.probe.Refused.TheVariants.{Memory}
 use Rattle.papaya_call.specs.declared.answers.Operation.{Operation}
 use Rattle.papaya_call.specs.declared.answers.Operation.TheVariants as operation
 use Rattle.papaya_call.specs.declared.machine.State.TheVariants.{Showing, Writing}
 use Rattle.papaya_book.specs.declared.rule.entry.Named.TheVariants as names
-use Rattle.papaya_book.specs.Books.{IsIn}
+use Rattle.papaya_book.specs.Books.{IsIn, IsLoggedAs}
 use Rattle.papaya_book.specs.Logs.{Stored}
 use Rattle.papaya_book.specs.Parts.{begun_of}
 use Rattle.papaya_book.specs.Windows.{Does}
@@ -142,12 +142,12 @@ returns-in-Some g c =
     let table = c.args.table.now in
     let tried = c.replace.ensures.tried in let then = c.replace.new.window in
     let back = c.replace.ensures.back c.in-Back.value c.in-Back.is in
-    let q = c.in-Some.pair in let by = c.log_by_waiting.ensures in
-    let placed = subst (λ (z : Option (Stored _ _)). IfSome z (λ p. IsIn then.book.now (names.Pair p))) c.in-Some.is by.placed in
+    let q = c.in-Some.pair in
+    let l = subst (λ (z : Option (Stored _ _)). IfSome z (IsLoggedAs then.book.now (key_of c.again.result) c.in-Back.value)) c.in-Some.is
+    c.log_by_waiting.ensures in
     let of : key_of c.again.result ≡ key_of p = ap key_of (c.again.ensures ∙ ap (λ (z : Met _ _). z.stored) c.met.ensures) in
-    let key_is = subst (λ (z : Option (Stored _ _)). IfSome z (λ p. key_of p ≡ key_of c.again.result)) c.in-Some.is by.key ∙ of in
-    let value_is = subst (λ (z : Option (Stored _ _)). IfSome z (λ p. p.value.value ≡ c.in-Back.value)) c.in-Some.is by.value ∙ back in
-    let number = subst (λ (z : Option (Stored _ _)). IfSome z (λ p. p.index < 2 ^ 48)) c.in-Some.is by.number in
+    let placed = l.placed in let number = l.number in
+    let key_is = l.key_is ∙ of in let value_is = l.value_is ∙ back in
     record {
       does = record {
         sees = tried.sees;

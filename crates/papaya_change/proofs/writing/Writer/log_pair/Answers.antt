@@ -23,12 +23,12 @@ returns-in-Ok-clause-logs g c = record {
   pairs = λ key made begun r.
       let w = c.args.window.now.book.now in let b = begun_of w.parts in let log = c.args.window.now.sight.log in let x = c.args.self.now in
       let q = c.in-Ok.pair in
-      let placed = c.in-Ok.ensures.placed in
+      let placed = c.in-Ok.ensures.ok.placed in
       let has_part : x.key ≡ Some c.in-Some-take.key = search rules in
-      let key_is : key_of q ≡ key = c.in-Ok.ensures.key ∙ (subst (HasKey b w.begun.book key) has_part r.keyed).0 in
+      let key_is : key_of q ≡ key = c.in-Ok.ensures.ok.key_is ∙ (subst (HasKey b w.begun.book key) has_part r.keyed).0 in
       let going = pair_made g.K.PartialEq.eq g.K.Hash.hash_input g.S.BuildHasher.build_hasher g.S.Hasher.Hasher.write g.S.Hasher.Hasher.finish g.met.K.Eq.laws
       g.met.K.Hash.respects_eq b w.begun.book key made begun log x r (Some (keys.Of c.again.result)) (Some (values.Of q))
-      (subst (λ z. (key_of z ≡ key) × IsPlaced b (Some w.begun.book) (names.Pair z)) (sym c.again.ensures) (key_is, placed)) placed q c.in-Ok.ensures.number
+      (subst (λ z. (key_of z ≡ key) × IsPlaced b (Some w.begun.book) (names.Pair z)) (sym c.again.ensures) (key_is, placed)) placed q c.in-Ok.ensures.ok.number
       placed key_is c.requires.waits.asks in
       subst (λ z. IsWritingOn g.K.PartialEq.eq
       (hash_of g.K.Hash.hash_input g.S.BuildHasher.build_hasher g.S.Hasher.Hasher.write g.S.Hasher.Hasher.finish) b w.begun.book key (z ∷ made) begun

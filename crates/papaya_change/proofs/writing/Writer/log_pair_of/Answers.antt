@@ -20,10 +20,10 @@ returns-in-Ok-clause-logs g c = record {
   pairs = λ key made begun r.
       let w = c.args.window.now.book.now in let b = begun_of w.parts in let log = c.args.window.now.sight.log in let x = c.args.self.now in
       let q = c.in-Ok.pair in
-      let placed = c.in-Ok.ensures.placed in
+      let placed = c.in-Ok.ensures.ok.placed in
       let met : key_of q ≡ key_of c.in-Some-last.last = search rules in
       let going = of_made g.K.PartialEq.eq g.K.Hash.hash_input g.S.BuildHasher.build_hasher g.S.Hasher.Hasher.write g.S.Hasher.Hasher.finish g.met.K.Eq.laws
-      g.met.K.Hash.respects_eq b w.begun.book key made begun log x r x.key (Some (values.Of q)) r.keyed placed q c.in-Ok.ensures.number placed
+      g.met.K.Hash.respects_eq b w.begun.book key made begun log x r x.key (Some (values.Of q)) r.keyed placed q c.in-Ok.ensures.ok.number placed
       c.requires.waits.0 (λ p e. let one : c.in-Some-last.last ≡ p = cc (c.in-Some-last.is, e) in met ∙ ap key_of one) c.requires.waits.1.asks in
       subst (λ z. IsWritingOn g.K.PartialEq.eq
       (hash_of g.K.Hash.hash_input g.S.BuildHasher.build_hasher g.S.Hasher.Hasher.write g.S.Hasher.Hasher.finish) b w.begun.book key (z ∷ made) begun
