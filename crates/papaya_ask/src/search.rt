@@ -62,6 +62,13 @@ impl Place {
         }
     }
 
+    /// Did the search pass more than one in four of the places that it may look at? Then the table
+    /// has few empty places left, and its next one is not far.
+    #[inline(always)]
+    pub fn is_crowded(&self) -> bool {
+        self.probe.len > self.limit / 4
+    }
+
     /// The key is not at this place, so the next one is looked at, while there is one.
     #[inline(always)]
     fn go_on(mut self) -> Probed

@@ -3,10 +3,11 @@ ghost use Rattle.std.specs.Prelude.{◌≡◌, ◌<◌, ℕ, Some, length, map, 
 ghost use Rattle.papaya_ask.specs.Search.{IsSize};
 ghost use Rattle.papaya_book.specs.Sheets.{Sheet, sheet_coded, AllOf, word_named};
 
+use crate::count::Count;
 use crate::room::Room;
 use crate::rule::offer::Seen;
 use crate::slot::{Cell, HintCell, Slot};
-use papaya_words::limits::MAX_TABLE_LEN;
+use papaya_words::table::next_len;
 use std::hash::{BuildHasher, Hash};
 use std::marker::Model;
 use std::sync::{Mutex, MutexGuard, Wait};
@@ -102,19 +103,23 @@ impl<K: Hash + Eq, V, S: BuildHasher> Table<K, V, S> {
         self.making.lock(rt)
     }
 
-    /// Writes some slots of the next table ahead. It waits for nobody: where another thread does so,
-    /// or they were taken, it writes none.
+    /// Writes some slots of the next table ahead, which is as long as the count asks for by now. It
+    /// waits for nobody: where another thread does so, or they were taken, it writes none.
     #[cold]
     #[inline(never)]
-    pub fn write_ahead(&self, sight: &Seen<K, V, S>) {
+    pub fn write_ahead(&self, sight: &Seen<K, V, S>, count: &Count) {
+        // Maps seldom shrink, so none is written for a shorter table.
+        let len = self.slots.len();
+        let Ok(next) = next_len(len, count.sum(), len, false) else {
+            return;
+        };
         let Some(mut ahead) = self.ahead.try_lock() else {
             return;
         };
         let Some(room) = ahead.take() else {
             return;
         };
-        let len = self.slots.len().saturating_mul(2).min(MAX_TABLE_LEN);
-        *ahead = Some(room.with_more(len, sight));
+        *ahead = Some(room.with_more(next, sight));
     }
 
     /// The slots of the next table that were written ahead.

@@ -44,10 +44,6 @@ use std::hash::{BuildHasher, Hash};
 use std::marker::Model;
 use std::sync::Wait;
 
-/// An insertion that passes more than one in so many of the places that a search may look at finds
-/// its table crowded: the next table is not far.
-const CROWDED: usize = 4;
-
 /// A live pair of the key that a search has met, and where it lies in the arena of pairs.
 #[derive(Drop)]
 pub struct Live<'a, K, V> {
@@ -322,8 +318,8 @@ pub fn claim<K: Hash + Eq + Drop, V: Drop, S: BuildHasher>(
         (Empty at) q }
     ensures back { (back : _) → result ≡ Back back → back ≡ (key, value) }
 {
-    if at.probe.len > at.limit / CROWDED {
-        table.write_ahead(&window.sight);
+    if at.is_crowded() {
+        table.write_ahead(&window.sight, shard.count());
     }
     let pair = match window.book.log_fresh(key, value) {
         Ok(pair) => pair,

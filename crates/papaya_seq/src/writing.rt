@@ -62,6 +62,9 @@ pub(crate) fn write<K: Hash + Eq + Drop, V: Drop, S: BuildHasher>(
     if write.old == 0 {
         store.add_to_shard(0, 1);
         store.note(write.place.table, write.place.probe.i, hint(hash));
+        if write.place.is_crowded() {
+            store.write_ahead(alloc);
+        }
         return (Reply::Inserted(pair), None);
     }
     (Reply::Replaced { old, new: pair }, None)

@@ -31,7 +31,8 @@ use papaya_keys::sizes::{check_chunk, initial_len};
 use papaya_words::counter::Counter;
 use papaya_words::limits::{MAX_LOG_LEN, MAX_TABLE_LEN, MAX_TABLES};
 use papaya_words::probe::{Refused, ResizeMode, entries_for, limit};
-use papaya_words::table::{Table, table_len};
+use papaya_words::room::Room;
+use papaya_words::table::{Table, next_len, table_len};
 use std::alloc::Global;
 use std::hash::{BuildHasher, Hash, Hasher};
 use std::marker::Model;
@@ -156,7 +157,7 @@ fn keep_value<V: Drop>(operation: Operation<V, u64>, value: &mut Option<Part<V>>
     }
 }
 
-/// The words, the logs and the count.
+/// The words, the logs and the count, and what is written ahead of the next table.
 #[derive(Drop)]
 pub struct Store<K: Hash + Eq, V, S: BuildHasher> {
     root: u64,
@@ -165,6 +166,7 @@ pub struct Store<K: Hash + Eq, V, S: BuildHasher> {
     made: u64,
     counter: Counter,
     hasher: S,
+    ahead: Room,
 }
 
 impl<K: Hash + Eq, V, S: BuildHasher> Model for Store<K, V, S> {
@@ -197,6 +199,7 @@ impl<K: Hash + Eq, V, S: BuildHasher> Store<K, V, S> {
             made: 0,
             counter,
             hasher,
+            ahead: Room::new(alloc),
         }
     }
 
@@ -540,7 +543,7 @@ impl<K: Hash + Eq + Drop, V: Drop, S: BuildHasher + Drop> Store<K, V, S> {
             return Ok(());
         }
         let len = table_len(initial);
-        let table = Table::new(alloc, 1, len, limit(len), 0)?;
+        let table = Table::new(alloc, Room::new(alloc), 1, len, limit(len), 0)?;
         if self.tables.push(table).is_err() {
             return Err(Refused::Memory);
         }
@@ -561,6 +564,26 @@ impl<K: Hash + Eq + Drop, V: Drop, S: BuildHasher> Store<K, V, S> {
         self.tables = Vec::new(alloc);
         self.pairs = Vec::new(alloc);
         self.made = 0;
+        self.ahead = Room::new(alloc);
+    }
+
+    /// Writes some words of the next table ahead, which is as long as the count asks for by now, so
+    /// that the call that makes it does not pay for all of it. No contract relies on them.
+    #[cold]
+    #[inline(never)]
+    pub fn write_ahead(&mut self, alloc: Global)
+        ensures { self.new ≡ self.old }
+    {
+        let Some(root) = self.root() else {
+            return;
+        };
+        // Maps seldom shrink, so none is written for a shorter table.
+        let len = root.len();
+        let Ok(next) = next_len(len, self.count(), len, false) else {
+            return;
+        };
+        let room = mem::replace(&mut self.ahead, Room::new(alloc));
+        self.ahead = room.with_more(next);
     }
 
     /// Logs a pair of the call's key and its value, of which each goes into the log once.
@@ -626,7 +649,8 @@ impl<K: Hash + Eq + Drop, V: Drop, S: BuildHasher> Store<K, V, S> {
         if n >= MAX_TABLES {
             return Answer::Refused(Refused::Capacity);
         }
-        match Table::new(alloc, n + 1, len, limit, chunks) {
+        let room = mem::replace(&mut self.ahead, Room::new(alloc));
+        match Table::new(alloc, room, n + 1, len, limit, chunks) {
             Err(refused) => Answer::Refused(refused),
             Ok(table) => match self.tables.push(table) {
                 Ok(()) => Answer::Made(n + 1),

@@ -1,5 +1,5 @@
 -- Slots and their chunks.
-use Rattle.std.proofs.Common.{◌≡◌, ℕ, suc, ◌+◌, ◌-◌, ◌*◌, ◌/◌, ◌<◌, ◌≤◌, sym, subst, arith}
+use Rattle.std.proofs.Common.{◌≡◌, ℕ, ◌+◌, ◌-◌, ◌*◌, ◌/◌, ◌<◌, ◌≤◌, sym, subst, arith}
 use Rattle.std.proofs.Math.Nat.{div-lt_iff_lt-mul, div-mul-le_self, le-div_iff_mul-le, lt-div-mul-add, mul-div_cancel}
 use Rattle.papaya_words.specs.Chunks.{chunk_count, chunk_len, chunk_of}
 use Rattle.papaya_words.specs.declared.probe.ResizeMode.{ResizeMode}

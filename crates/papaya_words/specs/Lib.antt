@@ -3,5 +3,6 @@ pub mod Counter
 pub mod Mode
 pub mod Probe
 pub mod Refusals
+pub mod Room
 pub mod Table
 pub mod Word

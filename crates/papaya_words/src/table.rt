@@ -7,6 +7,7 @@ ghost use Rattle.papaya_words.specs.Table.{length_after, limit_after};
 
 use crate::limits::{LEAST_TABLE_LEN, MAX_TABLE_LEN};
 use crate::probe::{Refused, limit};
+use crate::room::Room;
 use std::alloc::Global;
 use std::marker::Model;
 
@@ -49,11 +50,12 @@ impl Table {
     ghost use Rattle.papaya_words.specs.Table.{new_table, noted};
 
     /// A table of this number, with `len` Empty slots, no hints and no next, to which a table of so
-    /// many chunks is copied.
+    /// many chunks is copied. What the room has for a table of so many slots becomes its own.
     ///
     /// `Refused::Memory` where the growth was refused.
     pub fn new(
         alloc: Global,
+        room: Room,
         number: u64,
         len: usize,
         limit: usize,
@@ -62,12 +64,8 @@ impl Table {
         ensures ok { IfOk result (λ table. table ≡ new_table number len limit chunks) }
         ensures err { IfErr result (λ refused. refused ≡ Refused.Memory) }
     {
-        match (
-            vec![in alloc; 0; len],
-            vec![in alloc; 0; len],
-            vec![in alloc; 0; chunks],
-        ) {
-            (Ok(slots), Ok(hints), Ok(done)) => Ok(Table {
+        match (room.into_slots(alloc, len), vec![in alloc; 0; chunks]) {
+            (Ok((slots, hints)), Ok(done)) => Ok(Table {
                 number,
                 limit,
                 slots,

@@ -38,10 +38,12 @@ returns-then-write-eq0-2 g c =
     let at = (goal.at.returns-then-write-eq0-2 g c).After-perform in
     let logged = pair_was_logged g.K.PartialEq.eq (said g) c.args.store.now c.args.key c.args.value (handed g at) refl refl c.perform.result
     c.perform.new.self c.perform.new.running c.args.write.old c.in-Made.pair (performs g at) c.in-Made.is in
-    was_inserted g.K.PartialEq.eq (said g) c.args.store.now c.args.key c.args.value (handed g at) refl refl c.perform.result c.perform.new.self
+    -- what is written ahead is not seen
+    let same : c.if-is_crowded.store ≡ c.note.new.self = search rules in
+    rw same (was_inserted g.K.PartialEq.eq (said g) c.args.store.now c.args.key c.args.value (handed g at) refl refl c.perform.result c.perform.new.self
     c.perform.new.running c.args.write c.in-Made.pair logged c.requires.stands
     c.live.result.0 c.live.ensures c.exchange.result c.exchange.new.self c.exchange.ensures (search rules) c.args.hash c.add_to_shard.new.self
-    c.note.new.self c.add_to_shard.ensures c.hint.result c.hint.ensures c.note.ensures
+    c.note.new.self c.add_to_shard.ensures c.hint.result c.hint.ensures c.note.ensures)
 
 pub returns : goal.returns
 returns g c =
