@@ -1,5 +1,5 @@
 -- A compute that has the pair removed which a search has met: its machine, which nothing runs, deletes it.
-use Rattle.std.proofs.Common.{◌≡◌, inl, inr, ℕ, ◌<◌, ◌==◌, Bool, true, MatchOption, Option, None}
+use Rattle.std.proofs.Common.{◌≡◌, inl, inr, ℕ, ◌<◌, ◌==◌, Bool, true, false, MatchOption, Option, None}
 use Rattle.std.proofs.Common.{Some, List, [], ◌∷◌, ◌++◌, append-nil, length, refl, sym, ap, ◌∙◌}
 use Rattle.std.proofs.Common.{subst}
 use Rattle.std.specs.Cmp.{IsEquivalence}
@@ -19,26 +19,31 @@ use Rattle.papaya_chain.specs.declared.ask.Answer.TheVariants as answers
 use Rattle.papaya_chain.specs.declared.machine.Machine.{Machine}
 use Rattle.papaya_chain.specs.Machine.{after}
 use Rattle.papaya_call_law.specs.Relies.{MayRemove, change_in}
-use Rattle.papaya_call_law.proofs.ReliesHeld.{machine_shows}
+use Rattle.papaya_book.specs.declared.keyed.Keyed as keyed
 use Rattle.papaya_book.specs.declared.rule.entry.Begun.{Begun}
 use Rattle.papaya_book.specs.declared.rule.entry.Event.{Event}
 use Rattle.papaya_book.specs.declared.rule.entry.Named.TheVariants as names
+use Rattle.papaya_book.specs.declared.window.Window.{Window}
 use Rattle.papaya_book.specs.Calls.{IsSlotTried, IsTable}
 use Rattle.papaya_book.specs.Hashes.{hash_of}
-use Rattle.papaya_book.specs.Logs.{Stored, exchanges_of, pair_named}
+use Rattle.papaya_book.specs.Logs.{Stored, exchanges_of}
 use Rattle.papaya_book.specs.Plays.{CanExchange}
-use Rattle.papaya_book.specs.Rule.{IsPlaced}
 use Rattle.papaya_book.specs.Sheets.{Sheet}
-use Rattle.papaya_lookup.specs.History.{Change, changes_of, history_of, key_of}
+use Rattle.papaya_book.specs.Windows.{Does}
+use Rattle.papaya_lookup.specs.Drivers.{own, past}
+use Rattle.papaya_lookup.specs.History.{Change, Makes, changes_of, history_of, key_of}
 use Rattle.papaya_lookup.specs.Lookups.{coding_for, setting_for}
 use Rattle.papaya_lookup.proofs.Driving.{can_delete}
 use Rattle.papaya_lookup.proofs.Histories.{changes-append, history_since}
-use Rattle.papaya_lookup.proofs.Readings.{IsQuery, hashed_with}
+use Rattle.papaya_lookup.proofs.Readings.{IsQuery}
 use Rattle.papaya_change.specs.Changes.{IsChangeOf}
 use Rattle.papaya_change.specs.Changing.{HasChanged, IsCalling, loaded_with}
+use Rattle.papaya_change.specs.Doing.{has_changed}
 use Rattle.papaya_change.specs.Seeking.{Computes, IsSeekingAt, seeker_at}
 use Rattle.papaya_change.proofs.Changing.{barren, call_loaded, call_relies, quiet, slot_table}
+use Rattle.papaya_change.proofs.Doing.{makes}
 use Rattle.papaya_change.proofs.Exchanging.{exchanged}
+use Rattle.papaya_change.proofs.Logged.{makes_none}
 use Rattle.papaya_change.proofs.Written.{own_query}
 
 module _ {K V S H : Type 0} (eq : K → K → Bool) (input : K → List (List ℕ)) (build : S → H) (write : H → List ℕ → H) (finish : H → ℕ)
@@ -75,10 +80,6 @@ module _ {K V S H : Type 0} (eq : K → K → Bool) (input : K → List (List �
     last_is : r.2 ≡ Some p
     last_is = r.3 p refl
 
-    -- the pair that was met lies in the logs
-    pub met_placed : IsPlaced b (Some name) (names.Pair p)
-    met_placed = subst (λ (o : Option (Stored K V)). IsPlaced b (Some name) (pair_named o)) last_is r.4.last_placed
-
     may : MayRemove (setting_for eq hash b (eq key) h log) (coding_for hash b.hasher h) (exchanges_of begun) r.4.since (Some key)
         (loaded_with r.2 None []).call (record { place = at; word = word })
     may = r.4.relies.call.stage.1
@@ -87,16 +88,6 @@ module _ {K V S H : Type 0} (eq : K → K → Bool) (input : K → List (List �
     met_same : eq key (key_of p) ≡ true
     met_same = let both : Some may.pair ≡ Some p = sym may.last ∙ last_is in let one : may.pair ≡ p = cc both in
         subst (λ (z : Stored K V). eq key (key_of z) ≡ true) one may.same
-
-    -- it has the number that the word names
-    met_number : p.index ≡ pair_of word
-    met_number =
-        let hashed = hashed_with eq input build write finish classes respects b (eq key) (input key) query log r.4.lawful in
-        let shown = machine_shows (setting_for eq hash b (eq key) h log) (coding_for hash b.hasher h) hashed (exchanges_of begun) r.4.since (Some key)
-        (loaded_with r.2 None []).call shows.call r.4.relies.call (pair_of word) refl in
-        let both : Some shown.0 ≡ Some p = sym shown.1 ∙ last_is in
-        let one : shown.0 ≡ p = cc both in
-        ap (λ (z : Stored K V). z.index) (sym one) ∙ shown.2
 
     said : IsCalling eq hash b name (eq key) h (Some key) begun log deletes (Some lent) r.2 None [] None None None
     said =
@@ -139,26 +130,10 @@ module _ {K V S H : Type 0} (eq : K → K → Bool) (input : K → List (List �
       changed : HasChanged eq (Some key) begun log' before None (Some (pair_of word), None)
       changed = ended.changed (Some (pair_of word), None) refl
 
-      some_there : (o : Option (Stored K V)) → MatchOption o (Some (pair_of word) ≡ None)
-          (λ z. (Some (pair_of word) ≡ Some z.index) × (changed.class ≡ key_of z)) → (z : Stored K V) × (o ≡ Some z)
-      some_there None e = absurd (cc e)
-      some_there (Some z) e = (z, refl)
-
-      -- a pair went
-      pub taken_some : (z : Stored K V) × (before ≡ Some z)
-      taken_some = some_there before changed.taken_is
-
-      pub taken_there : IsPlaced b (Some name) (pair_named before)
-      taken_there = ended.taken_placed
-
       module _ (taken : Stored K V) (took : before ≡ Some taken) where
         taken_at : (Some (pair_of word) ≡ Some taken.index) × (changed.class ≡ key_of taken)
         taken_at = subst (λ (w : Option (Stored K V)).
             MatchOption w (Some (pair_of word) ≡ None) (λ z. (Some (pair_of word) ≡ Some z.index) × (changed.class ≡ key_of z))) took changed.taken_is
-
-        -- it has the number of the one that was met
-        pub taken_number : p.index ≡ taken.index
-        taken_number = let same : pair_of word ≡ taken.index = let e = taken_at.0 in cc e in met_number ∙ same
 
         -- so the history ends with it, where it is that one
         pub delete_traded : p.value ≡ taken.value → IsChangeOf (eq key) (history_of begun) (history_of log') (Some taken) None
@@ -174,3 +149,12 @@ module _ {K V S H : Type 0} (eq : K → K → Bool) (input : K → List (List �
               put_is = refl;
               kept = λ z o e f. absurd (cc f);
             }
+
+-- A call whose machine ends with a change has made that one, or none where its exchange was lost.
+module _ {K V S H : Type 0} {d : keyed.Ghosts S K H} (eq : K → K → Bool) (k : Option K) (begun : List (Event K V S)) (taken put : Option (Stored K V))
+    (m : Machine) (changed : has_changed m ≡ true) (w w' : Window K V S H d) where
+  pub makes_if : (went : Bool) → (went ≡ true → (change : Option ℕ × Option ℕ) → change_in m.call.state ≡ Some change
+      → HasChanged eq k begun w'.sight.log taken put change) → Does went w w' → Makes went (own w) (own w') (past w')
+  makes_if true has does = subst (λ (z : Bool). Makes z (own w) (own w') (past w')) changed
+      (makes eq k begun taken put m w w' (has refl) (subst (λ (z : Bool). Does z w w') (sym changed) does))
+  makes_if false has does = makes_none w w' does

@@ -1,22 +1,24 @@
 //! Insertions whose search of the root ends where most do: their pair is logged and put in at once.
 //! The machine stands in the proof. Computes search so too, and put their pairs in so.
 ghost use Rattle.papaya_change.specs.Window.Ends.{Ends, HasTried, TellsWhy};
-ghost use Rattle.std.specs.Prelude.{◌≡◌, ◌<◌, true, is_ok, Ok, Err, IfErr, IfOk, None, Some};
+ghost use Rattle.std.specs.Prelude.{◌≡◌, ◌<◌, true, is_ok, length};
+ghost use Rattle.std.specs.Prelude.{Ok, Err, IfErr, IfOk, None, Some};
 ghost use Rattle.std.specs.Int.{IsPowerOfTwo};
 ghost use Rattle.papaya_ask.specs.Search.{IsWithin};
 ghost use Rattle.papaya_ask.specs.declared.search.Search.TheVariants.{Looking, Reading};
 ghost use Rattle.papaya_call.specs.declared.machine.State.TheVariants.{Searching};
-ghost use Rattle.papaya_words.specs.Word.{kind_of};
+ghost use Rattle.papaya_words.specs.Word.{kind_of, pair_of};
 ghost use Rattle.papaya_words.specs.declared.word.Kind.TheVariants.{Live};
+ghost use Rattle.papaya_book.specs.declared.rule.entry.Named.TheVariants.{Pair as PairNamed};
 ghost use Rattle.papaya_book.specs.Pairs.{IsKeyIn};
-ghost use Rattle.papaya_book.specs.Windows.{Does, IsLawful, Sees};
+ghost use Rattle.papaya_book.specs.Windows.{Does, IsIn, IsLawful, IsTable, Sees};
 ghost use Rattle.papaya_lookup.specs.Drivers.{own, past};
 ghost use Rattle.papaya_lookup.specs.History.{key_of};
 ghost use Rattle.papaya_change.specs.Changes.{IsPut};
 ghost use Rattle.papaya_change.specs.Seeking.{left_at, left_to, turn_of};
 ghost use Rattle.papaya_change.specs.Window.Seeking.{HasWritten, IsFoundFor, LooksAt, ReadsAt, StandsBy};
 ghost use Rattle.papaya_change.specs.Window.Seeking.{Turns};
-ghost use Rattle.papaya_change.specs.Tries.{Offers, ShowsMet, TakesOut};
+ghost use Rattle.papaya_change.specs.Tries.{CanDelete, Offers, ShowsMet, TakesOut, TriesDeletion};
 ghost use Rattle.papaya_change.specs.declared.fast_path.Tried.TheVariants.{Back, Put};
 ghost use Rattle.papaya_change.specs.declared.fast_path.Turn.TheVariants.{Empty, Next};
 ghost use Rattle.papaya_change.specs.declared.fast_path.Turn.TheVariants.{Met as MetPair};
@@ -321,7 +323,7 @@ pub fn claim<K: Hash + Eq + Drop, V: Drop, S: BuildHasher>(
     if at.is_crowded() {
         table.write_ahead(&window.sight, shard.count());
     }
-    let pair = match window.book.log_fresh(key, value) {
+    let pair = match window.book.log_fresh(hash, key, value) {
         Ok(pair) => pair,
         Err(back) => return Tried::Back(back),
     };
@@ -337,7 +339,8 @@ pub fn claim<K: Hash + Eq + Drop, V: Drop, S: BuildHasher>(
 }
 
 /// Logs a pair with the key that a search has met, and tries to put it in the place of the pair
-/// that has that.
+/// that has that. The number of that pair picks the lane, so that a key which is replaced often
+/// takes slots of all lanes.
 #[inline(always)]
 pub fn replace<K: Hash + Eq + Drop, V: Drop, S: BuildHasher>(
     window: &mut Window<'_, K, V, S>,
@@ -355,7 +358,8 @@ pub fn replace<K: Hash + Eq + Drop, V: Drop, S: BuildHasher>(
     let book = window.book;
     let met = &live.met;
     let (place, word) = (met.place, met.word);
-    let pair = match book.log_renewed(&met.stored, live.pair, value) {
+    let lane = Word(word).pair();
+    let pair = match book.log_renewed(lane, &met.stored, live.pair, value) {
         Ok(pair) => pair,
         Err(back) => return Tried::Back(back),
     };
@@ -370,18 +374,22 @@ pub fn replace<K: Hash + Eq + Drop, V: Drop, S: BuildHasher>(
     Tried::Put(pair)
 }
 
-/// Tries to delete the live pair that a search has met: whether its word stood there still.
+/// Tries to put the tombstone of a pair that a search has met in its place: whether its word stood
+/// there still. The count then has one pair less, and the pair that went is the one that was met.
 #[inline(always)]
-pub fn delete<K: Hash + Eq, V, S: BuildHasher>(
+pub(crate) fn exchange_for_tombstone<K: Hash + Eq, V, S: BuildHasher>(
     shard: &Shard<'_>,
     window: &mut Window<'_, K, V, S>,
     table: &Table<K, V, S>,
     met: &Met<K, V>,
 ) -> bool
-    requires shows { (key : K) × (begun : _) × ShowsMet window.old key begun table.now met.now }
-    ensures ends { Ends result window.old window.new }
-    ensures went { result ≡ true → (key : K) → TakesOut window.old window.new key table.now
-        met.now }
+    requires table { IsTable window.old met.now.place.table table.now }
+    requires place { met.now.place.probe.i < length table.now.slots }
+    requires can { CanDelete window.old met.now }
+    requires placed { IsIn window.old (PairNamed met.now.stored) }
+    requires number { met.now.stored.index ≡ pair_of met.now.word }
+    ensures sees { Sees window.old window.new }
+    ensures tried { TriesDeletion window.old window.new met.now result }
     ensures does { Does result window.old window.new }
 {
     let (place, word) = (met.place, met.word);
@@ -395,6 +403,24 @@ pub fn delete<K: Hash + Eq, V, S: BuildHasher>(
     let Some(taken) = before else { unreachable!() };
     window.book.parts.pairs.agrees(&met.stored, &taken);
     true
+}
+
+/// Tries to delete the live pair that a compute's search has met: whether its word stood there
+/// still.
+#[inline(always)]
+pub fn delete<K: Hash + Eq, V, S: BuildHasher>(
+    shard: &Shard<'_>,
+    window: &mut Window<'_, K, V, S>,
+    table: &Table<K, V, S>,
+    met: &Met<K, V>,
+) -> bool
+    requires shows { (key : K) × (begun : _) × ShowsMet window.old key begun table.now met.now }
+    ensures ends { Ends result window.old window.new }
+    ensures went { result ≡ true → (key : K) → TakesOut window.old window.new key table.now
+        met.now }
+    ensures does { Does result window.old window.new }
+{
+    exchange_for_tombstone(shard, window, table, met)
 }
 
 /// Inserts a pair at the empty place that a search has found for it. Where another word stands

@@ -7,13 +7,13 @@ ghost use Rattle.papaya_lookup.specs.Drivers.{past};
 ghost use Rattle.papaya_change.specs.RemovalAnswers.{IsTriedRemoval, went_fast};
 ghost use Rattle.papaya_change.specs.Showings.{Judges};
 
+use crate::fast_path::exchange_for_tombstone;
 use crate::means::Means;
 use crate::resizing::copy_chunk;
-use papaya_ask::ask::StepKind;
 use papaya_book::book::Book;
 use papaya_book::window::Window;
 use papaya_keys::guard::Equivalent;
-use papaya_lookup::lookup::{Hit, Met, find};
+use papaya_lookup::lookup::{Hit, find};
 use papaya_words::word::{Kind, Word};
 use std::hash::{BuildHasher, Hash};
 use std::sync::Wait;
@@ -84,20 +84,9 @@ pub fn remove_fast<
     if !agrees(stored_key, value) {
         return Some(Err((stored_key, value)));
     }
-    let Met {
-        place,
-        word,
-        stored,
-    } = met;
-    let (slot, kind) = (place.probe.i, Some(StepKind::Delete));
-    let grave = Word::tombstone(Word(word).pair());
-    let (found, before) = window.exchange_slot(table, place.table, slot, kind, (word, grave.0));
-    if found != word {
+    if !exchange_for_tombstone(means.shard, window, table, &met) {
         return None;
     }
-    means.shard.add(slot as u64, -1);
     help(means, window.book, later);
-    let Some(taken) = before else { unreachable!() };
-    window.book.parts.pairs.agrees(&stored, &taken);
     Some(Ok(Some((stored_key, value))))
 }

@@ -157,7 +157,8 @@ impl<'a, K: Hash + Eq + Drop, V: Drop, S: BuildHasher> Writer<'a, K, V, S> {
         let Some(key) = self.key.take() else {
             unreachable!()
         };
-        match window.book.log_pair(rt, key, value) {
+        let lane = self.call.machine.call.hash;
+        match window.book.log_pair(rt, lane, key, value) {
             Ok(pair) => {
                 self.key = Some(KeyPart::Of(pair.again()));
                 Ok(self.hold(pair))
@@ -189,7 +190,11 @@ impl<'a, K: Hash + Eq + Drop, V: Drop, S: BuildHasher> Writer<'a, K, V, S> {
         let Some(last) = &self.call.last else {
             unreachable!()
         };
-        match window.book.log_pair(rt, KeyPart::Of(last.again()), value) {
+        let lane = last.index() as u64;
+        match window
+            .book
+            .log_pair(rt, lane, KeyPart::Of(last.again()), value)
+        {
             Ok(pair) => Ok(self.hold(pair)),
             Err((_, value)) => {
                 self.value = Some(value);

@@ -121,13 +121,14 @@ pub fn machine_of<'a, K: Hash + Eq + Drop, V: Drop, S: BuildHasher, T: Drop>(
 fn log_by_waiting<R: Wait, K: Hash + Eq + Drop, V: Drop, S: BuildHasher>(
     rt: &R,
     book: &Book<K, V, S>,
+    lane: u64,
     key: KeyPart<K, V>,
     value: V,
 ) -> Option<Stored<K, V>>
     requires { IsKeyPartIn book.now key }
     ensures { IfSome result (IsLoggedAs book.now (key_in key) value) }
 {
-    book.log_pair(rt, key, ValuePart::Own(value)).ok()
+    book.log_pair(rt, lane, key, ValuePart::Own(value)).ok()
 }
 
 /// Does what the closure answered that was shown that there is none, at the empty place that a
@@ -154,7 +155,7 @@ pub fn fill<'a, R: Wait, K: Hash + Eq + Drop, V: Drop, S: BuildHasher, T: Drop>(
                 }
                 Tried::Lost(pair) => First::On(Start::Filled { hash, pair }),
                 Tried::Back((key, value)) => {
-                    match log_by_waiting(means.rt, window.book, KeyPart::Own(key), value) {
+                    match log_by_waiting(means.rt, window.book, hash, KeyPart::Own(key), value) {
                         Some(pair) => First::On(Start::Filled { hash, pair }),
                         None => First::Over(Err(Refused::Memory)),
                     }
@@ -198,8 +199,9 @@ pub fn renew<'a, R: Wait, K: Hash + Eq + Drop, V: Drop, S: BuildHasher, T: Drop>
                     pair,
                 }),
                 Tried::Back(value) => {
-                    let of = KeyPart::Of(live.met().stored.again());
-                    match log_by_waiting(means.rt, window.book, of, value) {
+                    let by = &live.met().stored;
+                    let (lane, of) = (by.index() as u64, KeyPart::Of(by.again()));
+                    match log_by_waiting(means.rt, window.book, lane, of, value) {
                         Some(pair) => First::On(Start::Replaced {
                             key,
                             hash,

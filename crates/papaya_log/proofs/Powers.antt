@@ -1,7 +1,7 @@
 -- Highest bits.
 use Rattle.std.proofs.Common.{◌≡◌, ℕ, suc, ◌*◌, ◌^◌, ◌<◌, ◌≤◌, arith, pow_mono, pow-suc, lt_of_not-le}
 
-pub small : (bits : ℕ) → bits ≤ 41 → 2 ^ bits ≤ 2199023255552
+pub small : (bits : ℕ) → bits ≤ 38 → 2 ^ bits ≤ 274877906944
 small bits h = pow_mono h
 
 module _ (n top : ℕ) (low : 2 ^ top ≤ n) (high : n < 2 * 2 ^ top) where

@@ -1,14 +1,13 @@
-//! The log: its rows, and the next number to give out.
-ghost use Rattle.std.specs.Prelude.{[], ◌≡◌, ◌≤◌, ◌<◌, ◌^◌, ◌+◌, ◌*◌, IfOk, IfErr, IfSome};
+//! The log: its rows, and where the next push of each lane goes.
+ghost use Rattle.std.specs.Prelude.{[], ◌≡◌, ◌≤◌, ◌<◌, ◌^◌, ◌+◌, ◌*◌, ◌/◌, ◌%◌, IfOk, IfErr, IfSome};
 ghost use Rattle.boxcar.specs.Table.{Shows, id_at};
-ghost use Rattle.papaya_log.specs.Rows.{AreRows, row_len, row_first, row_of, slot_of};
-ghost use Rattle.papaya_log.specs.Places.{IsPlace};
+ghost use Rattle.papaya_log.specs.Rows.{AreRows, part_first, part_len, row_of, slot_of};
+ghost use Rattle.papaya_log.specs.Places.{IsMade, IsPlace};
 
+use crate::lanes::{LANES, Lanes};
 use crate::row::{Blank, Row, RowSlot, new_row, no_row, write_some};
 use crate::token::Pushed;
 use boxcar::slot::Written;
-use crossbeam_utils::CachePadded;
-use papaya_slot::counter::Counter;
 use papaya_slot::slot::{Right, Slot};
 use std::alloc::{AllocError, Global};
 use std::marker::Model;
@@ -18,14 +17,17 @@ use std::sync::{Mutex, Wait};
 /// How far apart the numbers of two rows are: no row is longer.
 const ROW_SPAN: usize = 0x400_0000_0000;
 
+/// How many numbers a lane's counter gives out.
+const LANE_SPAN: usize = ROW_SPAN / LANES;
+
 /// How many rows a log has at most.
 const ROWS: usize = 38;
 
-/// The least length of a first row.
-const LEAST_FIRST: usize = 32;
+/// The least length of a part of a first row.
+const LEAST_FIRST: usize = 4;
 
-/// No row is longer than a 1 with so many zeros.
-const LAST_BITS: u32 = 41;
+/// No part of a row is longer than a 1 with so many zeros.
+const LAST_BITS: u32 = 38;
 
 /// A row is written ahead while the last of so many parts of the row before it is filled.
 const AHEAD_PARTS: usize = 32;
@@ -36,11 +38,12 @@ const AHEAD_PUSHES: usize = 8;
 /// It writes so many: a row has at most twice the slots of the one before.
 const AHEAD_SLOTS: usize = 2 * AHEAD_PARTS * AHEAD_PUSHES;
 
-/// A number of a log's counter, and the row and the slot of its value.
+/// A number of a lane's counter, and where its value goes: a row, and a slot of the lane's part.
 #[derive(Drop)]
 pub(crate) struct Place {
     push: u64,
     right: Right,
+    lane: usize,
     row: usize,
     slot: usize,
 }
@@ -48,19 +51,21 @@ pub(crate) struct Place {
 /// Values by number, which threads push and read with no lock. Row `r` has the numbers from
 /// `r * 2^42` on. The first row is as long as the capacity that was asked for, and each further one
 /// as long as all before it.
+///
+/// A row has a part for each of eight lanes, whose pushes take numbers of a counter of their own. The
+/// caller picks the lane by any number. The more these differ, the more evenly the parts fill.
 #[derive(Drop)]
 pub struct Log<T> {
     rows: Vec<RowSlot<T>>,
     first_bits: u32,
     making: Mutex<Vec<Slot<T>>>,
     alloc: Global,
-    next: CachePadded<Counter>,
+    lanes: Lanes,
 }
 
 impl<T> Model for Log<T> {
     ghost use Rattle.std.specs.Prelude.{[]};
     ghost use Rattle.boxcar.specs.Table.{Shelves, shelves_coded};
-    ghost use Rattle.crossbeam_utils.specs.Padded.{padded_value};
     ghost use Rattle.papaya_log.specs.Rows.{AreRows};
 
     ghost Value = { Shelves };
@@ -69,28 +74,28 @@ impl<T> Model for Log<T> {
 
     ghost view = { λ log. record { tag = []; buckets = log.rows.items } };
 
-    ghost invariant = { λ log. AreRows log.first_bits (padded_value log.next) log.rows.items };
+    ghost invariant = { λ log. AreRows log.first_bits log.lanes log.rows.items };
 }
 
-/// How many bits a place in the first row has, for this capacity.
+/// How many bits a place in a part of the first row has, for this capacity.
 fn first_bits(capacity: usize) -> u32
-    ensures { (5 ≤ result) × (result ≤ 41) }
+    ensures { (2 ≤ result) × (result ≤ 38) }
 {
-    let last = capacity.max(LEAST_FIRST).min(ROW_SPAN / 2) - 1;
-    last.ilog2() + 1
+    let part = capacity.div_ceil(LANES).max(LEAST_FIRST).min(LANE_SPAN / 2);
+    (part - 1).ilog2() + 1
 }
 
 fn power(bits: u32) -> usize
-    requires { bits ≤ 41 }
-    ensures { (result ≡ 2 ^ bits) × (result ≤ 2 ^ 41) }
+    requires { bits ≤ 38 }
+    ensures { (result ≡ 2 ^ bits) × (0 < result) × (result ≤ 2 ^ 38) }
 {
     1 << bits
 }
 
-/// The length of a row.
+/// The length of a part of a row.
 fn length_of(first_bits: u32, row: usize) -> usize
-    requires { (first_bits ≤ 41) × (row < 38) }
-    ensures { (result ≡ row_len first_bits row) × (result ≤ 2 ^ 41) }
+    requires { (first_bits ≤ 38) × (row < 38) }
+    ensures { (result ≡ part_len first_bits row) × (0 < result) × (result ≤ 2 ^ 38) }
 {
     if row == 0 {
         return power(first_bits);
@@ -98,20 +103,30 @@ fn length_of(first_bits: u32, row: usize) -> usize
     power((first_bits + row as u32 - 1).min(LAST_BITS))
 }
 
-/// Where the value of the push with this index goes: a row, and a slot of it.
+/// Where the value of a lane's push with this index goes: a row, and a slot of the lane's part.
 fn place_of(first_bits: u32, index: usize) -> (usize, usize)
-    requires bits { (5 ≤ first_bits) × (first_bits ≤ 41) }
-    requires index { index < 2 ^ 42 }
+    requires bits { (2 ≤ first_bits) × (first_bits ≤ 38) }
+    requires index { index < 2 ^ 39 }
     ensures row { result.0 < 38 }
-    ensures slot { result.1 < row_len first_bits result.0 }
-    ensures push { row_first first_bits result.0 + result.1 ≡ index }
-    ensures fits { result.1 < 2 ^ 42 }
+    ensures slot { result.1 < part_len first_bits result.0 }
+    ensures push { part_first first_bits result.0 + result.1 ≡ index }
+    ensures fits { part_len first_bits result.0 ≤ 2 ^ 38 }
 {
     if index < power(first_bits) {
         return (0, index);
     }
     let top = index.ilog2();
     ((top - first_bits) as usize + 1, index - power(top))
+}
+
+/// The slot of a row that a slot of a lane's part is.
+#[inline(always)]
+fn slot_in_row(lane: usize, part: usize, slot: usize) -> usize
+    requires { (lane < 8) × (slot < part) × (part ≤ 2 ^ 38) }
+    ensures part { (result / part ≡ lane) × (result % part ≡ slot) }
+    ensures fits { result < 8 * part }
+{
+    lane * part + slot
 }
 
 /// The number of a slot of a row.
@@ -123,10 +138,10 @@ fn number_of(row: usize, slot: usize) -> usize
     row * ROW_SPAN + slot
 }
 
-/// The push that the first slot of a row is for.
+/// The push of a lane that the first slot of its part of a row is for.
 fn first_of(first_bits: u32, row: usize) -> usize
-    requires { (first_bits ≤ 41) × (row < 38) }
-    ensures { (result ≡ row_first first_bits row) × (result ≤ 2 ^ 41) }
+    requires { (first_bits ≤ 38) × (row < 38) }
+    ensures { (result ≡ part_first first_bits row) × (result ≤ 2 ^ 38) }
 {
     if row == 0 {
         return 0;
@@ -138,15 +153,15 @@ fn first_of(first_bits: u32, row: usize) -> usize
 fn empty_rows<T: Drop>(
     alloc: Global,
     first_bits: u32,
-    counter: &Counter,
+    lanes: &Lanes,
 ) -> Result<Vec<RowSlot<T>>, AllocError>
-    requires { (5 ≤ first_bits) × (first_bits ≤ 41) }
-    ensures { IfOk result (λ rows. AreRows first_bits counter.now rows.items) }
+    requires { (2 ≤ first_bits) × (first_bits ≤ 38) }
+    ensures { IfOk result (λ rows. AreRows first_bits lanes.now rows.items) }
 {
     let mut rows = Vec::with_capacity(alloc, ROWS)?;
     for row in 0..ROWS {
         let first = first_of(first_bits, row);
-        rows.push(no_row(counter, first, length_of(first_bits, row)))?;
+        rows.push(no_row(lanes, first, length_of(first_bits, row)))?;
     }
     Ok(rows)
 }
@@ -158,13 +173,13 @@ impl<T: Drop> Log<T> {
         ensures { IfOk result (λ log. log.tag ≡ []) }
     {
         let first_bits = first_bits(capacity);
-        let next = Counter::new();
+        let lanes = Lanes::new(alloc)?;
         Ok(Log {
-            rows: empty_rows(alloc, first_bits, &next)?,
+            rows: empty_rows(alloc, first_bits, &lanes)?,
             first_bits,
             making: Mutex::new(Vec::new(alloc)),
             alloc,
-            next: CachePadded::new(next),
+            lanes,
         })
     }
 }
@@ -191,15 +206,38 @@ impl<T: Blank + Drop> Log<T> {
             length_of(self.first_bits, row),
         );
         let written = replace(&mut *ahead, Vec::new(self.alloc));
-        let slots = new_row(&self.next, first, len, written, value)?;
+        let slots = new_row(&self.lanes, first, len, written, value)?;
         let made = self.rows[row].set_written(slots).map_err(|_| AllocError);
         drop(ahead);
         made
     }
 
-    /// Writes some slots of a row that is not made yet, so that whoever makes it pays for few.
+    /// Has a lane slots left in a row, before the last of the parts in which slots are written ahead?
+    fn has_room(&self, lane: u64, row: usize) -> bool
+        requires { row < 38 }
+    {
+        let Some(place) = self.next_place(lane) else {
+            return false;
+        };
+        let part = length_of(self.first_bits, row);
+        let found = place.row == row && place.slot < part - part / AHEAD_PARTS;
+        self.give_back(place);
+        found
+    }
+
+    /// Writes some slots of a row that is not made yet, so that whoever makes it pays for few. It
+    /// writes none while most lanes have room in the row before, since few keys may fill one lane.
     fn write_ahead(&self, row: usize, value: &T) {
-        if row >= ROWS {
+        if row == 0 || row >= ROWS {
+            return;
+        }
+        let mut roomy: usize = 0;
+        for lane in 0..LANES as u64 {
+            if self.has_room(lane, row - 1) {
+                roomy = roomy.wrapping_add(1);
+            }
+        }
+        if roomy > LANES / 2 {
             return;
         }
         let Some(mut ahead) = self.making.try_lock() else {
@@ -208,8 +246,9 @@ impl<T: Blank + Drop> Log<T> {
         if self.rows[row].witness().is_some() {
             return;
         }
-        let len = length_of(self.first_bits, row);
-        write_some(&mut ahead, &self.next, len, AHEAD_SLOTS, value);
+        let len = LANES * length_of(self.first_bits, row);
+        let written = replace(&mut *ahead, Vec::new(self.alloc));
+        *ahead = write_some(written, &self.lanes, len, AHEAD_SLOTS, value);
     }
 
     /// What shows that a row is there. It is made where it is not.
@@ -223,100 +262,163 @@ impl<T: Blank + Drop> Log<T> {
         }
     }
 
-    /// The next number of the counter, and where its value goes. None where no number is left.
+    /// The next number of a lane, and where its value goes. None where no number is left.
     #[inline(always)]
-    fn next_place(&self) -> Option<Place>
+    fn next_place(&self, lane: u64) -> Option<Place>
         ensures { IfSome result (λ place. IsPlace self.now.buckets place) }
     {
-        let (push, right) = self.next.take()?;
+        let lane = (lane % LANES as u64) as usize;
+        let counter = self.lanes.counter(lane);
+        let (push, right) = counter.take()?;
         let index = push as usize;
-        if index >= ROW_SPAN {
-            self.next.give_back(right, push);
+        if index >= LANE_SPAN {
+            counter.give_back(right, push);
             return None;
         }
         let (row, slot) = place_of(self.first_bits, index);
         Some(Place {
             push,
             right,
+            lane,
             row,
             slot,
         })
+    }
+
+    /// Gives the number back, for the lane's next push. It is lost where another push came between.
+    #[cold]
+    fn give_back(&self, place: Place)
+        requires { IsPlace self.now.buckets place }
+    {
+        let counter = self.lanes.counter(place.lane);
+        counter.give_back(place.right, place.push);
+    }
+
+    /// The next place of a lane, where its row is made.
+    #[inline(always)]
+    fn made_place(&self, lane: u64) -> Option<(Place, Written<Row<T>>)>
+        ensures { IfSome result (λ made. IsMade self.now.buckets made.0 made.1.of) }
+    {
+        let place = self.next_place(lane)?;
+        match self.rows[place.row].witness() {
+            Some(row) => Some((place, row)),
+            None => {
+                self.give_back(place);
+                None
+            }
+        }
+    }
+
+    /// The same of the other lanes: the first that has one.
+    #[cold]
+    #[inline(never)]
+    fn other_place(&self, lane: u64) -> Option<(Place, Written<Row<T>>)>
+        ensures { IfSome result (λ made. IsMade self.now.buckets made.0 made.1.of) }
+    {
+        for step in 1..LANES as u64 {
+            let made = self.made_place(lane.wrapping_add(step));
+            if made.is_some() {
+                return made;
+            }
+        }
+        None
     }
 
     /// Is it this push that writes slots of the next row ahead? None does so in the first row, so that
     /// a log which holds what it was made for has no other.
     #[inline(always)]
     fn is_due(&self, place: &Place, row: &Written<Row<T>>) -> bool
-        requires place { IsPlace self.now.buckets place.now }
-        requires row { row.now.of ≡ id_at self.now.buckets place.now.row }
+        requires { IsMade self.now.buckets place.now row.now.of }
     {
         if !place.slot.is_multiple_of(AHEAD_PUSHES) || place.row == 0 {
             return false;
         }
-        let len = self.rows[place.row].value(row).len();
-        place.slot >= len - len / AHEAD_PARTS
+        let part = self.rows[place.row].value(row).len() / LANES;
+        place.slot >= part - part / AHEAD_PARTS
     }
 
     /// Writes a value into its slot, and shows its number.
     #[inline(always)]
     fn write(&self, place: Place, row: Written<Row<T>>, value: T) -> Pushed<T>
-        requires place { IsPlace self.now.buckets place }
-        requires row { row.of ≡ id_at self.now.buckets place.row }
+        requires { IsMade self.now.buckets place row.of }
         ensures shows { Shows self.now result × (result.value ≡ value) }
         ensures number { result.index < 2 ^ 48 }
     {
         let slots = self.rows[place.row].value(&row);
-        let (item, blank) = slots[place.slot].write(place.right, value);
+        let slot = slot_in_row(place.lane, slots.len() / LANES, place.slot);
+        let (item, blank) = slots[slot].write(place.right, value);
         forget(blank);
         Pushed {
-            number: number_of(place.row, place.slot),
+            number: number_of(place.row, slot),
             row,
             item,
         }
     }
 
-    /// The value, pushed: what shows its number. It comes back where there is no memory, or no
-    /// number is left; its number then goes to the next push, unless another push came between.
-    pub fn push_shown<R: Wait>(&self, rt: &R, value: T) -> Result<Pushed<T>, T>
-        ensures ok { IfOk result (λ p. Shows self.now p × (p.value ≡ value)) }
-        ensures number { IfOk result (λ p. p.index < 2 ^ 48) }
-        ensures err { IfErr result (λ back. back ≡ value) }
+    /// The value, pushed at a place whose row is made. Slots of the next row are written ahead where
+    /// that is due.
+    fn push_at(&self, place: Place, row: Written<Row<T>>, value: T) -> Pushed<T>
+        requires { IsMade self.now.buckets place row.of }
+        ensures shows { Shows self.now result × (result.value ≡ value) }
+        ensures number { result.index < 2 ^ 48 }
     {
-        let Some(place) = self.next_place() else {
-            return Err(value);
-        };
-        match self.row(rt, place.row, &value) {
-            Ok(row) => {
-                if self.is_due(&place, &row) {
-                    self.write_ahead(place.row + 1, &value);
-                }
-                Ok(self.write(place, row, value))
-            }
-            Err(_) => {
-                self.next.give_back(place.right, place.push);
-                Err(value)
-            }
+        if self.is_due(&place, &row) {
+            self.write_ahead(place.row + 1, &value);
         }
+        self.write(place, row, value)
     }
 
-    /// The value, pushed where the row of its slot is made, and no slots are due to be written ahead.
-    /// It waits for nobody and takes no memory. Else the value comes back, and its number goes to
-    /// the next push, unless another push came between. [`Log::push_shown`] does what is due.
-    #[inline(always)]
-    pub fn try_push(&self, value: T) -> Result<Pushed<T>, T>
+    /// The value, pushed by a lane: what shows its number. It comes back where there is no memory, or
+    /// no number is left. Where the lane has no slot in a row that is made, another lane's is taken,
+    /// and only where no lane has one a row is made.
+    pub fn push_shown<R: Wait>(&self, rt: &R, lane: u64, value: T) -> Result<Pushed<T>, T>
         ensures ok { IfOk result (λ p. Shows self.now p × (p.value ≡ value)) }
         ensures number { IfOk result (λ p. p.index < 2 ^ 48) }
         ensures err { IfErr result (λ back. back ≡ value) }
     {
-        let Some(place) = self.next_place() else {
+        if let Some((place, row)) = self.made_place(lane) {
+            return Ok(self.push_at(place, row, value));
+        }
+        if let Some((place, row)) = self.other_place(lane) {
+            return Ok(self.push_at(place, row, value));
+        }
+        let Some(place) = self.next_place(lane) else {
             return Err(value);
         };
-        match self.rows[place.row].witness() {
-            Some(row) if !self.is_due(&place, &row) => Ok(self.write(place, row, value)),
-            _ => {
-                self.next.give_back(place.right, place.push);
-                Err(value)
-            }
+        let Ok(row) = self.row(rt, place.row, &value) else {
+            self.give_back(place);
+            return Err(value);
+        };
+        Ok(self.push_at(place, row, value))
+    }
+
+    /// The place of a push that makes no row, where no slots are due to be written ahead.
+    #[inline(always)]
+    fn place_at_once(&self, lane: u64) -> Option<(Place, Written<Row<T>>)>
+        ensures { IfSome result (λ made. IsMade self.now.buckets made.0 made.1.of) }
+    {
+        let Some((place, row)) = self.made_place(lane) else {
+            return self.other_place(lane);
+        };
+        if self.is_due(&place, &row) {
+            self.give_back(place);
+            return None;
+        }
+        Some((place, row))
+    }
+
+    /// The value, pushed by a lane where a row is made that has a slot for it, and no slots are due to
+    /// be written ahead. It waits for nobody and takes no memory. Else the value comes back:
+    /// [`Log::push_shown`] does what is due.
+    #[inline(always)]
+    pub fn try_push(&self, lane: u64, value: T) -> Result<Pushed<T>, T>
+        ensures ok { IfOk result (λ p. Shows self.now p × (p.value ≡ value)) }
+        ensures number { IfOk result (λ p. p.index < 2 ^ 48) }
+        ensures err { IfErr result (λ back. back ≡ value) }
+    {
+        match self.place_at_once(lane) {
+            Some((place, row)) => Ok(self.write(place, row, value)),
+            None => Err(value),
         }
     }
 }

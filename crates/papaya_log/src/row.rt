@@ -1,8 +1,8 @@
 //! Rows of slots, each written once.
-ghost use Rattle.std.specs.Prelude.{◌≡◌, ◌+◌, ◌<◌, ◌≤◌, ◌^◌, [], ◌∷◌, IfOk};
-ghost use Rattle.std.specs.Vec.{vec_capacity};
+ghost use Rattle.std.specs.Prelude.{◌≡◌, ◌+◌, ◌<◌, ◌≤◌, ◌^◌, ◌∷◌, IfOk};
 ghost use Rattle.papaya_log.specs.Rows.{AreSlots};
 
+use crate::lanes::{LANES, Lanes};
 use boxcar::slot::{OnceSlot, SlotRule};
 use boxcar::tag::{Names, Tag};
 use core::mem::replace_with;
@@ -37,12 +37,12 @@ impl<T> SlotRule<Row<T>> for Numbered {
     ghost holds = { λ tag row. AreSlots tag row.items };
 }
 
-/// How many slots a row has, the number of its first slot, and whose numbers these are.
+/// How many slots a part of a row has, the number of its first slot, and whose numbers these are.
 #[derive(Drop)]
 pub(crate) struct Numbers {
-    pub(crate) len: usize,
+    pub(crate) part: usize,
     pub(crate) first: usize,
-    pub(crate) counter: Tag,
+    pub(crate) counters: Tag,
 }
 
 struct Told;
@@ -50,26 +50,17 @@ struct Told;
 impl Names<Numbers> for Told {
     ghost use Rattle.std.specs.Prelude.{◌∷◌};
 
-    ghost numbers = { λ row. row.len ∷ row.first ∷ row.counter.numbers };
-}
-
-struct Itself;
-
-impl Names<Counter> for Itself {
-    ghost use Rattle.std.specs.Prelude.{[], ◌∷◌};
-
-    ghost numbers = { λ counter. counter ∷ [] };
+    ghost numbers = { λ row. row.part ∷ row.first ∷ row.counters.numbers };
 }
 
 /// The slot of a row that is not made yet.
-pub(crate) fn no_row<T>(counter: &Counter, first: usize, len: usize) -> RowSlot<T>
-    ensures { result.tag ≡ len ∷ first ∷ counter.now ∷ [] }
+pub(crate) fn no_row<T>(lanes: &Lanes, first: usize, part: usize) -> RowSlot<T>
+    ensures { result.tag ≡ part ∷ first ∷ lanes.now }
 {
-    let counter = Tag::of::<Counter, Itself>(counter);
     OnceSlot::new(&Tag::of::<Numbers, Told>(&Numbers {
-        len,
+        part,
         first,
-        counter,
+        counters: lanes.tag(),
     }))
 }
 
@@ -81,48 +72,56 @@ fn with_number<T>(slot: Slot<T>, right: (&Counter, u64)) -> (Slot<T>, ())
     (Slot::new(slot.into_inner(), counter, number), ())
 }
 
-/// Writes up to so many more slots of a row of so many with blanks, made beside a value. No row
-/// has them yet, so they are nobody's to write. Where there is no memory for them it writes none.
+/// Up to so many more slots of a row of so many with blanks, made beside a value. No row has them
+/// yet, so they are nobody's to write. Where there is no memory for them they are as they were.
 pub(crate) fn write_some<T: Blank + Drop>(
-    slots: &mut Vec<Slot<T>>,
-    counter: &Counter,
+    ahead: Vec<Slot<T>>,
+    lanes: &Lanes,
     len: usize,
     more: usize,
     value: &T,
-) {
+) -> Vec<Slot<T>> {
+    let mut slots = ahead;
     let left = len.saturating_sub(slots.len());
     if slots.reserve_exact(left).is_ok() {
         for _ in 0..more.min(left) {
-            slots.push_reserved(Slot::new(value.blank(), counter, 0));
+            slots.push_reserved(Slot::new(value.blank(), lanes.counter(0), 0));
         }
     }
+    slots
 }
 
-/// A row of so many slots, of the numbers from `first` on. They hold blanks, made beside a value.
-/// Slots that were written ahead of it become its own in their places: that is no code.
+/// A row whose parts have so many slots each, of the numbers from `first` on. They hold blanks, made
+/// beside a value. Slots that were written ahead of it become its own in their places: that is no
+/// code.
 pub(crate) fn new_row<T: Blank + Drop>(
-    counter: &Counter,
+    lanes: &Lanes,
     first: usize,
-    len: usize,
+    part: usize,
     ahead: Vec<Slot<T>>,
     value: &T,
 ) -> Result<Row<T>, AllocError>
-    requires { first + len < 2 ^ 64 }
-    ensures { IfOk result (λ row. AreSlots (len ∷ first ∷ counter.now ∷ []) row.items) }
+    requires part { (0 < part) × (part ≤ 2 ^ 38) }
+    requires first { first ≤ 2 ^ 38 }
+    ensures { IfOk result (λ row. AreSlots (part ∷ first ∷ lanes.now) row.items) }
 {
     let mut row = ahead;
+    let len = LANES * part;
     row.truncate(len);
     let written = row.len();
     row.reserve_exact(len - written)?;
     for place in 0..written {
+        let number = first + place % part;
         replace_with(
             &mut row[place],
-            (counter, (first + place) as u64),
+            (lanes.counter(place / part), number as u64),
             with_number,
         );
     }
     for place in written..len {
-        row.push_reserved(Slot::new(value.blank(), counter, (first + place) as u64));
+        let number = first + place % part;
+        let counter = lanes.counter(place / part);
+        row.push_reserved(Slot::new(value.blank(), counter, number as u64));
     }
     Ok(row)
 }

@@ -12,18 +12,18 @@ use std::test::Fail;
 /// The numbers of two rows are so far apart.
 const ROW_SPAN: usize = 0x400_0000_0000;
 
-/// A value that is pushed, also where memory was refused for it at first.
+/// A value that is pushed by the first lane, also where memory was refused for it at first.
 fn push<R: Wait>(rt: &R, log: &Log<u64>, value: u64) -> Option<Pushed<u64>>
     ensures { IfSome result (λ p. Shows log.now p × (p.value ≡ value)) }
 {
-    match log.push_shown(rt, value) {
+    match log.push_shown(rt, 0, value) {
         Ok(pushed) => Some(pushed),
-        Err(back) => log.push_shown(rt, back).ok(),
+        Err(back) => log.push_shown(rt, 0, back).ok(),
     }
 }
 
-/// Pushes a value so many times: the numbers are those from `first` on, and what is read there is
-/// the value.
+/// Pushes a value so many times by the first lane: the numbers are those from `first` on, and what is
+/// read there is the value.
 fn pushes_from<R: Wait>(rt: &R, log: &Log<u64>, value: u64, first: usize, times: usize) -> bool {
     for place in 0..times {
         let Some(pushed) = push(rt, log, value) else {
@@ -36,10 +36,10 @@ fn pushes_from<R: Wait>(rt: &R, log: &Log<u64>, value: u64, first: usize, times:
     true
 }
 
-/// Pushes a value where a row is made for it: the number, and what is read there. Else the value
-/// comes back.
-fn tried(log: &Log<u64>, value: u64) -> Result<(usize, u64), u64> {
-    match log.try_push(value) {
+/// Pushes a value by a lane where a row is made for it: the number, and what is read there. Else the
+/// value comes back.
+fn tried(log: &Log<u64>, lane: u64, value: u64) -> Result<(usize, u64), u64> {
+    match log.try_push(lane, value) {
         Ok(pushed) => Ok((pushed.index(), *log.value(&pushed))),
         Err(back) => Err(back),
     }
@@ -81,11 +81,34 @@ fn a_value_stays_while_others_come(rt: HostRuntime) -> Result<(), Fail> {
 #[test]
 fn a_push_that_makes_no_row_needs_one(rt: HostRuntime) -> Result<(), Fail> {
     let log = Log::new(rt.alloc(), 0)?;
-    is(&rt, tried(&log, 5), Err(5));
+    is(&rt, tried(&log, 0, 5), Err(5));
     is(&rt, pushes_from(&rt, &log, 1, 0, 31), true);
-    is(&rt, tried(&log, 6), Ok((31, 6)));
-    is(&rt, tried(&log, 7), Err(7));
+    is(&rt, tried(&log, 0, 6), Ok((31, 6)));
+    is(&rt, tried(&log, 0, 7), Err(7));
     is(&rt, pushes_from(&rt, &log, 2, ROW_SPAN, 1), true);
-    is(&rt, tried(&log, 8), Ok((ROW_SPAN + 1, 8)));
+    is(&rt, tried(&log, 0, 8), Ok((ROW_SPAN + 1, 8)));
+    Ok(())
+}
+
+#[test]
+fn each_lane_has_a_part_of_a_row(rt: HostRuntime) -> Result<(), Fail> {
+    let log = Log::new(rt.alloc(), 0)?;
+    is(&rt, pushes_from(&rt, &log, 1, 0, 1), true);
+    is(&rt, tried(&log, 1, 2), Ok((4, 2)));
+    is(&rt, tried(&log, 7, 3), Ok((28, 3)));
+    is(&rt, tried(&log, 8, 4), Ok((1, 4)));
+    is(&rt, tried(&log, u64::MAX, 5), Ok((29, 5)));
+    Ok(())
+}
+
+#[test]
+fn a_lane_with_no_slot_takes_one_of_another(rt: HostRuntime) -> Result<(), Fail> {
+    let log = Log::new(rt.alloc(), 0)?;
+    is(&rt, pushes_from(&rt, &log, 1, 0, 3), true);
+    is(&rt, tried(&log, 0, 2), Ok((3, 2)));
+    is(&rt, tried(&log, 0, 3), Ok((4, 3)));
+    is(&rt, tried(&log, 1, 4), Ok((5, 4)));
+    is(&rt, tried(&log, 0, 5), Ok((6, 5)));
+    is(&rt, tried(&log, 7, 6), Ok((28, 6)));
     Ok(())
 }

@@ -11,7 +11,7 @@ fn numbers_of<R: Wait>(rt: &R, alloc: Global, log: &Log<u64>, from: u64) -> Opti
     let mut numbers = Vec::new(alloc);
     for place in 0..1000u64 {
         let value = from.wrapping_add(place);
-        let pushed = log.push_shown(rt, value).ok()?;
+        let pushed = log.push_shown(rt, value, value).ok()?;
         if *log.value(&pushed) != value {
             return None;
         }

@@ -185,25 +185,26 @@ impl<K: Hash + Eq, V, S: BuildHasher> Book<K, V, S> {
 }
 
 impl<K: Hash + Eq + Drop, V: Drop, S: BuildHasher> Book<K, V, S> {
-    /// A pair of a key and a value that are handed in, logged where the arena has a slot at hand.
-    /// Both come back where it has none.
+    /// A pair of a key and a value that are handed in, logged where a lane of the arena has a slot at
+    /// hand. Both come back where it has none. Any number names a lane to begin with.
     #[inline(always)]
-    pub fn log_fresh(&self, key: K, value: V) -> Result<Stored<K, V>, (K, V)>
+    pub fn log_fresh(&self, lane: u64, key: K, value: V) -> Result<Stored<K, V>, (K, V)>
         ensures ok { IfOk result (IsLoggedAs self.now key value) }
         ensures err { IfErr result (λ back. (back.0 ≡ key) × (back.1 ≡ value)) }
     {
         let held = Held::Own(key, value);
-        match self.parts.pairs.try_push(Pair { held }) {
+        match self.parts.pairs.try_push(lane, Pair { held }) {
             Ok(pair) => Ok(pair),
             Err(back) => Err(back.into_both()),
         }
     }
 
-    /// A pair with the key of a logged pair, logged where the arena has a slot at hand. The value
-    /// comes back where it has none.
+    /// A pair with the key of a logged pair, logged where a lane of the arena has a slot at hand. The
+    /// value comes back where it has none.
     #[inline(always)]
     pub fn log_renewed(
         &self,
+        lane: u64,
         stored: &Stored<K, V>,
         pair: &Pair<K, V>,
         value: V,
@@ -215,26 +216,27 @@ impl<K: Hash + Eq + Drop, V: Drop, S: BuildHasher> Book<K, V, S> {
     {
         let first = self.key_first(stored, pair);
         let held = Held::Keyed(first, value);
-        match self.parts.pairs.try_push(Pair { held }) {
+        match self.parts.pairs.try_push(lane, Pair { held }) {
             Ok(pair) => Ok(pair),
             Err(back) => Err(back.into_value()),
         }
     }
 
     /// What is held, logged. It comes back where there is no memory.
-    fn log<R: Wait>(&self, rt: &R, held: Held<K, V>) -> Result<Stored<K, V>, Pair<K, V>>
+    fn log<R: Wait>(&self, rt: &R, lane: u64, held: Held<K, V>) -> Result<Stored<K, V>, Pair<K, V>>
         requires brought { IsBrought held }
         ensures ok { IfOk result (λ p. Shows self.now.parts.pairs p × (p.value ≡ pair_held held)) }
         ensures number { IfOk result (λ p. p.index < 2 ^ 48) }
         ensures err { IfErr result (λ back. back ≡ pair_held held) }
     {
-        self.parts.pairs.push_shown(rt, Pair { held })
+        self.parts.pairs.push_shown(rt, lane, Pair { held })
     }
 
     /// The pair of this key and this value, logged. Both come back where there is no memory.
     pub fn log_pair<R: Wait>(
         &self,
         rt: &R,
+        lane: u64,
         key: KeyPart<K, V>,
         value: ValuePart<K, V>,
     ) -> Result<Stored<K, V>, (KeyPart<K, V>, ValuePart<K, V>)>
@@ -246,6 +248,7 @@ impl<K: Hash + Eq + Drop, V: Drop, S: BuildHasher> Book<K, V, S> {
         match (key, value) {
             (KeyPart::Own(key), ValuePart::Own(value)) => match self.log(
                 rt,
+                lane,
                 Held::Own(key, value),
             ) {
                 Ok(pair) => Ok(pair),
@@ -256,14 +259,14 @@ impl<K: Hash + Eq + Drop, V: Drop, S: BuildHasher> Book<K, V, S> {
             },
             (KeyPart::Of(by), ValuePart::Own(value)) => {
                 let first = self.key_first(&by, self.parts.pairs.value(&by));
-                match self.log(rt, Held::Keyed(first, value)) {
+                match self.log(rt, lane, Held::Keyed(first, value)) {
                     Ok(pair) => Ok(pair),
                     Err(back) => Err((KeyPart::Of(by), ValuePart::Own(back.into_value()))),
                 }
             }
             (KeyPart::Own(key), ValuePart::Of(of)) => {
                 let first = self.value_first(&of);
-                match self.log(rt, Held::Lent(key, first)) {
+                match self.log(rt, lane, Held::Lent(key, first)) {
                     Ok(pair) => Ok(pair),
                     Err(back) => Err((KeyPart::Own(back.into_key()), ValuePart::Of(of))),
                 }
@@ -271,7 +274,7 @@ impl<K: Hash + Eq + Drop, V: Drop, S: BuildHasher> Book<K, V, S> {
             (KeyPart::Of(by), ValuePart::Of(of)) => {
                 let first = self.key_first(&by, self.parts.pairs.value(&by));
                 let second = self.value_first(&of);
-                match self.log(rt, Held::Both(first, second)) {
+                match self.log(rt, lane, Held::Both(first, second)) {
                     Ok(pair) => Ok(pair),
                     Err(_) => Err((KeyPart::Of(by), ValuePart::Of(of))),
                 }

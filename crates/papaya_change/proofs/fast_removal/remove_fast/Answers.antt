@@ -1,11 +1,6 @@
-use Rattle.std.proofs.Common.{◌≡◌, ℕ, ◌==◌, Bool, true, false, Some, None, [], append-nil, refl, sym, ap, ◌∙◌, rules, subst}
-use Rattle.papaya_words.specs.Word.{kind_of, tombstone_word}
+use Rattle.std.proofs.Common.{◌≡◌, ◌==◌, Bool, true, false, Some, None, [], append-nil, refl, sym, ◌∙◌, rules, subst}
+use Rattle.papaya_words.specs.Word.{kind_of}
 use Rattle.papaya_words.specs.declared.word.Kind.TheVariants.{Live}
-use Rattle.papaya_ask.specs.declared.ask.StepKind.TheVariants as steps
-use Rattle.papaya_call.specs.Remove.{grave_word}
-use Rattle.papaya_book.specs.declared.rule.entry.Named.TheVariants as names
-use Rattle.papaya_book.specs.Calls.{IsSlotTried}
-use Rattle.papaya_book.specs.Hashes.{hash_of}
 use Rattle.papaya_book.specs.Parts.{begun_of}
 use Rattle.papaya_book.specs.Windows.{Does}
 use Rattle.papaya_lookup.specs.Answers.{IsHitAnsweredBetween}
@@ -42,8 +37,8 @@ returns-then-not-agrees-clause-removed g c =
     (g.Q.Hash.hash_input c.args.key.now) lawful (Judges g.F.FnMut) c.args.agrees.now h.0 log h.2.0 w.chunked c.fits.ensures hit.table met h.2.3 live
     c.agrees.new.self judged (hit.key, hit.value) (h.2.1, h.2.2))
 
-pub exchange_slot-found-requires-clause-place : goal.exchange_slot-found-requires-clause-place
-exchange_slot-found-requires-clause-place g c =
+pub exchange_for_tombstone-requires-clause-place : goal.exchange_for_tombstone-requires-clause-place
+exchange_for_tombstone-requires-clause-place g c =
     let lawful : IsQuery g.K.PartialEq.eq g.K.Hash.hash_input (g.Q.Equivalent.matches c.args.key.now)
     (g.Q.Hash.hash_input c.args.key.now) = record {
       feeds = g.met.Q.Equivalent.hashes_as_key c.args.key.now;
@@ -61,8 +56,8 @@ exchange_slot-found-requires-clause-place g c =
     g.met.K.Hash.respects_eq b w.begun.book (g.Q.Equivalent.matches c.args.key.now) (g.Q.Hash.hash_input c.args.key.now) lawful (Judges g.F.FnMut)
     c.args.agrees.now h.0 log h.2.0 w.chunked c.fits.ensures hit.table met h.2.3 live c.agrees.new.self judged).1
 
-pub exchange_slot-found-requires-clause-can : goal.exchange_slot-found-requires-clause-can
-exchange_slot-found-requires-clause-can g c =
+pub exchange_for_tombstone-requires-clause-can : goal.exchange_for_tombstone-requires-clause-can
+exchange_for_tombstone-requires-clause-can g c =
     let lawful : IsQuery g.K.PartialEq.eq g.K.Hash.hash_input (g.Q.Equivalent.matches c.args.key.now)
     (g.Q.Hash.hash_input c.args.key.now) = record {
       feeds = g.met.Q.Equivalent.hashes_as_key c.args.key.now;
@@ -76,13 +71,12 @@ exchange_slot-found-requires-clause-can g c =
     let judged : Judges g.F.FnMut c.args.agrees.now met.stored true
     c.agrees.new.self = subst (λ (z : Bool). Judges g.F.FnMut c.args.agrees.now met.stored z c.agrees.new.self) said
     (hit.key, hit.value, (h.2.1, h.2.2), c.agrees.ensures) in
-    let word : c.tombstone-grave.result.0 ≡ grave_word met.word = c.tombstone-grave.ensures ∙ ap tombstone_word c.pair.ensures in
-    rw word (hit_can g.K.PartialEq.eq g.K.Hash.hash_input g.S.BuildHasher.build_hasher g.S.Hasher.Hasher.write g.S.Hasher.Hasher.finish
+    (hit_can g.K.PartialEq.eq g.K.Hash.hash_input g.S.BuildHasher.build_hasher g.S.Hasher.Hasher.write g.S.Hasher.Hasher.finish
     g.met.K.Eq.laws g.met.K.Hash.respects_eq b w.begun.book (g.Q.Equivalent.matches c.args.key.now) (g.Q.Hash.hash_input c.args.key.now) lawful
     (Judges g.F.FnMut) c.args.agrees.now h.0 log h.2.0 w.chunked c.fits.ensures hit.table met h.2.3 live c.agrees.new.self judged)
 
-pub returns-then-found-word-clause-removed : goal.returns-then-found-word-clause-removed
-returns-then-found-word-clause-removed g c =
+pub returns-then-not-exchange_for_tombstone-clause-removed : goal.returns-then-not-exchange_for_tombstone-clause-removed
+returns-then-not-exchange_for_tombstone-clause-removed g c =
     let lawful : IsQuery g.K.PartialEq.eq g.K.Hash.hash_input (g.Q.Equivalent.matches c.args.key.now)
     (g.Q.Hash.hash_input c.args.key.now) = record {
       feeds = g.met.Q.Equivalent.hashes_as_key c.args.key.now;
@@ -96,9 +90,9 @@ returns-then-found-word-clause-removed g c =
     let judged : Judges g.F.FnMut c.args.agrees.now met.stored true
     c.agrees.new.self = subst (λ (z : Bool). Judges g.F.FnMut c.args.agrees.now met.stored z c.agrees.new.self) said
     (hit.key, hit.value, (h.2.1, h.2.2), c.agrees.ensures) in
-    let log' = c.exchange_slot-found.new.self.sight.log in
+    let log' = c.exchange_for_tombstone.new.window.sight.log in
     let was = held_wider g.K.PartialEq.eq (g.Q.Equivalent.matches c.args.key.now) (history_of h.0) (history_of h.0) (history_of log) (history_of log')
-    ([], append-nil (history_of h.0)) (history_since log log' c.exchange_slot-found.ensures.sees.log) (Some met.stored)
+    ([], append-nil (history_of h.0)) (history_since log log' c.exchange_for_tombstone.ensures.sees.log) (Some met.stored)
     (hit_was g.K.PartialEq.eq g.K.Hash.hash_input g.S.BuildHasher.build_hasher g.S.Hasher.Hasher.write g.S.Hasher.Hasher.finish g.met.K.Eq.laws
     g.met.K.Hash.respects_eq b w.begun.book (g.Q.Equivalent.matches c.args.key.now) (g.Q.Hash.hash_input c.args.key.now) lawful (Judges g.F.FnMut)
     c.args.agrees.now h.0 log h.2.0 w.chunked c.fits.ensures hit.table met h.2.3 live c.agrees.new.self judged) in
@@ -120,18 +114,16 @@ returns-clause-removed g c =
     let judged : Judges g.F.FnMut c.args.agrees.now met.stored true
     c.agrees.new.self = subst (λ (z : Bool). Judges g.F.FnMut c.args.agrees.now met.stored z c.agrees.new.self) said
     (hit.key, hit.value, (h.2.1, h.2.2), c.agrees.ensures) in
-    let word : c.tombstone-grave.result.0 ≡ grave_word met.word = c.tombstone-grave.ensures ∙ ap tombstone_word c.pair.ensures in
-    let put = c.exchange_slot-found in let log' = put.new.self.sight.log in
-    let hash = hash_of g.K.Hash.hash_input g.S.BuildHasher.build_hasher g.S.Hasher.Hasher.write g.S.Hasher.Hasher.finish in
-    let tried = subst (λ (n : ℕ). IsSlotTried g.K.PartialEq.eq hash b w.begun.book met.place.table met.place.probe.i (Some steps.Delete) met.word n
-    None names.Nothing log put.result.0 log' put.result.1) word put.ensures.tried in
-    let is : (put.result.0 == met.word) ≡ true = search rules in
+    let put = c.exchange_for_tombstone in let t = put.ensures.tried in
+    let went : put.result ≡ true = search rules in
+    let is : (t.found == met.word) ≡ true = sym t.went_is ∙ went in
+    let same = t.same went in
     removal_since g.K.PartialEq.eq (g.Q.Equivalent.matches c.args.key.now) _ _ _ (history_since c.args.window.now.sight.log h.0 h.1)
     (Judges g.F.FnMut) c.args.agrees.now _ (hit_went g.K.PartialEq.eq g.K.Hash.hash_input g.S.BuildHasher.build_hasher g.S.Hasher.Hasher.write
     g.S.Hasher.Hasher.finish g.met.K.Eq.laws g.met.K.Hash.respects_eq b w.begun.book (g.Q.Equivalent.matches c.args.key.now)
     (g.Q.Hash.hash_input c.args.key.now) lawful (Judges g.F.FnMut) c.args.agrees.now h.0 log h.2.0 w.chunked c.fits.ensures hit.table met h.2.3 live
-    c.agrees.new.self judged put.new.self.sight.log put.ensures.sees.log put.result.0 put.result.1 tried is c.in-Some-before.taken
-    c.in-Some-before.is c.agrees-2.ensures (hit.key, hit.value) (h.2.1, h.2.2))
+    c.agrees.new.self judged put.new.window.sight.log put.ensures.sees.log t.found t.before t.tried is same.0 same.1 same.2.1
+    (hit.key, hit.value) (h.2.1, h.2.2))
 
 pub returns-in_default-clause-removed : goal.returns-in_default-clause-removed
 returns-in_default-clause-removed g c =
@@ -148,7 +140,7 @@ returns-in_default-clause-removed g c =
 
 pub returns-clause-ends : goal.returns-clause-ends
 returns-clause-ends g c = record {
-  sees = sees_trans _ _ _ c.find.ensures.sees c.exchange_slot-found.ensures.sees;
+  sees = sees_trans _ _ _ c.find.ensures.sees c.exchange_for_tombstone.ensures.sees;
   lawful = search rules;
   made =
       let lawful : IsQuery g.K.PartialEq.eq g.K.Hash.hash_input (g.Q.Equivalent.matches c.args.key.now)
@@ -164,20 +156,17 @@ returns-clause-ends g c = record {
       let judged : Judges g.F.FnMut c.args.agrees.now met.stored true
       c.agrees.new.self = subst (λ (z : Bool). Judges g.F.FnMut c.args.agrees.now met.stored z c.agrees.new.self) said
       (hit.key, hit.value, (h.2.1, h.2.2), c.agrees.ensures) in
-      let word : c.tombstone-grave.result.0 ≡ grave_word met.word = c.tombstone-grave.ensures ∙ ap tombstone_word c.pair.ensures in
-      let put = c.exchange_slot-found in let log' = put.new.self.sight.log in
-      let hash = hash_of g.K.Hash.hash_input g.S.BuildHasher.build_hasher g.S.Hasher.Hasher.write g.S.Hasher.Hasher.finish in
-      let tried = subst (λ (n : ℕ). IsSlotTried g.K.PartialEq.eq hash b w.begun.book met.place.table met.place.probe.i (Some steps.Delete) met.word n
-      None names.Nothing log put.result.0 log' put.result.1) word put.ensures.tried in
-      let is : (put.result.0 == met.word) ≡ true = search rules in
-      let does = subst (λ (z : Bool). Does z c.find.new.window put.new.self) is put.ensures.does in
-      rw (sym c.find.ensures.own) (makes g.K.PartialEq.eq None h.0 put.result.1 None
+      let put = c.exchange_for_tombstone in let t = put.ensures.tried in
+      let went : put.result ≡ true = search rules in
+      let is : (t.found == met.word) ≡ true = sym t.went_is ∙ went in
+      let does = subst (λ (z : Bool). Does z c.find.new.window put.new.window) went put.ensures.does in
+      rw (sym c.find.ensures.own) (makes g.K.PartialEq.eq None h.0 t.before None
       (ended g.K.PartialEq.eq g.K.Hash.hash_input g.S.BuildHasher.build_hasher g.S.Hasher.Hasher.write g.S.Hasher.Hasher.finish g.met.K.Eq.laws
       g.met.K.Hash.respects_eq b w.begun.book (g.Q.Equivalent.matches c.args.key.now) (g.Q.Hash.hash_input c.args.key.now) lawful (Judges g.F.FnMut)
-      c.args.agrees.now h.0 log h.2.0 w.chunked c.fits.ensures hit.table met h.2.3 live c.agrees.new.self judged put.new.self.sight.log
-      put.ensures.sees.log put.result.0 put.result.1 tried is).call.machine c.find.new.window put.new.self
+      c.args.agrees.now h.0 log h.2.0 w.chunked c.fits.ensures hit.table met h.2.3 live c.agrees.new.self judged put.new.window.sight.log
+      put.ensures.sees.log t.found t.before t.tried is).call.machine c.find.new.window put.new.window
       (hit_changed g.K.PartialEq.eq g.K.Hash.hash_input g.S.BuildHasher.build_hasher g.S.Hasher.Hasher.write g.S.Hasher.Hasher.finish g.met.K.Eq.laws
       g.met.K.Hash.respects_eq b w.begun.book (g.Q.Equivalent.matches c.args.key.now) (g.Q.Hash.hash_input c.args.key.now) lawful (Judges g.F.FnMut)
-      c.args.agrees.now h.0 log h.2.0 w.chunked c.fits.ensures hit.table met h.2.3 live c.agrees.new.self judged put.new.self.sight.log
-      put.ensures.sees.log put.result.0 put.result.1 tried is) does);
+      c.args.agrees.now h.0 log h.2.0 w.chunked c.fits.ensures hit.table met h.2.3 live c.agrees.new.self judged put.new.window.sight.log
+      put.ensures.sees.log t.found t.before t.tried is) does);
 }

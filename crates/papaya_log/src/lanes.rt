@@ -1,0 +1,74 @@
+//! The counters of a log's lanes.
+ghost use Rattle.std.specs.Prelude.{◌≡◌, ◌<◌, IfOk, length, slice_index_or};
+
+use boxcar::tag::{Names, Tag};
+use papaya_slot::counter::Counter;
+use std::alloc::{AllocError, Global};
+use std::marker::Model;
+
+/// A log has so many lanes, so that threads seldom meet at one, and each row a part for each of
+/// them.
+pub(crate) const LANES: usize = 8;
+
+/// The counter of a lane, 128 bytes from the next one, so that it has cache lines of its own and is
+/// found by a shift.
+#[derive(Drop)]
+struct Lane {
+    counter: Counter,
+    apart: [u64; 15],
+}
+
+/// A counter for each lane. Contracts see the counters' names.
+#[derive(Drop)]
+pub(crate) struct Lanes {
+    lanes: Vec<Lane>,
+}
+
+impl Model for Lanes {
+    ghost use Rattle.std.specs.Prelude.{◌≡◌, ℕ, List, length, map};
+    ghost use base.Stored.{coded_ℕ, coded_list};
+
+    ghost Value = { List ℕ };
+
+    ghost coded = { coded_list coded_ℕ };
+
+    ghost view = { λ l. map (λ lane. lane.counter) l.lanes.items };
+
+    ghost invariant = { λ l. length l.lanes.items ≡ 8 };
+}
+
+struct All;
+
+impl Names<Lanes> for All {
+    ghost numbers = { λ lanes. lanes };
+}
+
+impl Lanes {
+    /// Lanes that have given out no number.
+    pub(crate) fn new(alloc: Global) -> Result<Lanes, AllocError> {
+        let mut lanes = Vec::with_capacity(alloc, LANES)?;
+        for _ in 0..LANES {
+            lanes.push(Lane {
+                counter: Counter::new(),
+                apart: [0; 15],
+            })?;
+        }
+        Ok(Lanes { lanes })
+    }
+
+    /// The counter of a lane.
+    #[inline(always)]
+    pub(crate) fn counter(&self, lane: usize) -> &Counter
+        requires { lane < 8 }
+        ensures { result.now ≡ slice_index_or self.now lane 0 }
+    {
+        &self.lanes[lane].counter
+    }
+
+    /// The names of the counters.
+    pub(crate) fn tag(&self) -> Tag
+        ensures { result.numbers ≡ self.now }
+    {
+        Tag::of::<Lanes, All>(self)
+    }
+}
