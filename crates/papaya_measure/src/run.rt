@@ -27,6 +27,9 @@ const CHECKED: (u32, u32) = (64, 2);
 /// How many keys a map has where it is timed, and in how many rounds.
 const TIMED: [(u32, u32); 2] = [(0x1000, 64), (0x1_0000, 4)];
 
+/// In how many rounds one key is written that is alone in its map.
+const ALONE: u32 = 0x4_0000;
+
 /// How many keys a map grows by that is filled from empty.
 const GROWN: u32 = 0x1_0000;
 
@@ -124,6 +127,14 @@ fn time<R: Clock + Threads + Wait + Sync, W: Write>(
             };
             time_workload(rt, alloc, plan, output)?;
         }
+    }
+    for workload in [Workload::InsertReplace, Workload::UpdateOrInsert] {
+        let plan = Plan {
+            workload,
+            keys: 1,
+            rounds: ALONE,
+        };
+        time_workload(rt, alloc, plan, output)?;
     }
     for mode in [ResizeMode::default(), ResizeMode::Blocking] {
         time_growth(rt, alloc, mode, GROWN, output)?;
