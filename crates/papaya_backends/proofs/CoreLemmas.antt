@@ -1,15 +1,16 @@
 -- A run of a script on a core, whose trace is told.
-use Rattle.std.proofs.Common.{◌≡◌, ◌==◌, ℕ, None, Some, Ok, Err, IfSome, List, length, reverse}
+use Rattle.std.proofs.Common.{◌≡◌, ◌==◌, ℕ, None, Some, Ok, Err, IfSome, List, length, reverse, inl, inr, sym, subst, ◌∙◌}
 use Rattle.std.specs.Option.{option_or}
-use Rattle.std.specs.Prelude.{Option}
+use Rattle.std.specs.Prelude.{IsErrAnd, Option, Result}
 use Rattle.papaya_timeline.specs.Core.{CoreState}
 use Rattle.papaya_timeline.specs.Runs.{TurnsRun}
 use Rattle.papaya_timeline.specs.declared.trace.Entry.{Entry}
 use Rattle.papaya_timeline.specs.declared.trace.Turn.{Turn}
+use Rattle.papaya_shell.specs.declared.failure.Failure.{Failure}
 use Rattle.papaya_shell.specs.declared.failure.Failure.TheVariants as failure
 use Rattle.papaya_lines.specs.Lines.{lines_of}
 use Rattle.papaya_lines.specs.Script.{IsScript}
-use Rattle.papaya_lines.specs.Told.{Tells, no_calls}
+use Rattle.papaya_lines.specs.Told.{IsPrintFailure, Tells, no_calls}
 use Rattle.papaya_lines.specs.declared.closures.Answering.{Answering}
 use Rattle.papaya_lines.specs.declared.script.Line.{Line}
 use Rattle.papaya_backends.specs.Core.{IsCoreRun, Ran, script_says}
@@ -45,3 +46,12 @@ module _ {S : Type 0} (hash : S → ℕ → ℕ) (first : CoreState ℕ ℕ S An
       → Some n ≡ option_or passed bad_line → IfSome known (λ text. IsCoreRun hash first (lines_of text) wrote (Err (failure.Line n)))
   ran_to None n script is = tt
   ran_to (Some text) n script is = ran (lines_of text) (Some n) script is
+
+-- a run that the writer or memory has ended says nothing of its lines
+module _ {S : Type 0} (hash : S → ℕ → ℕ) (first : CoreState ℕ ℕ S Answering → Type 0) (wrote : List ℕ → Type 0) where
+  pub failed : (known : Option (List ℕ)) (ended : Result (Unit {0}) Failure) (why : Failure) → IsErrAnd ended (λ told. told ≡ why)
+      → IsPrintFailure why → IfSome known (λ text. IsCoreRun hash first (lines_of text) wrote ended)
+  failed None ended why is print = tt
+  failed (Some text) (Ok done) why is print = absurd is
+  failed (Some text) (Err told) why is (inl out) = subst (λ (z : Failure). IsCoreRun hash first (lines_of text) wrote (Err z)) (sym (is ∙ out)) tt
+  failed (Some text) (Err told) why is (inr none) = subst (λ (z : Failure). IsCoreRun hash first (lines_of text) wrote (Err z)) (sym (is ∙ none)) tt

@@ -1,15 +1,16 @@
-use Rattle.std.proofs.Common.{◌==◌, ◌∙◌, List, length, refl, reverse, subst, sym}
+use Rattle.std.proofs.Common.{rules, ◌≡◌, ◌==◌, ◌∙◌, List, length, inl, refl, reverse, subst, sym}
 use Rattle.std.specs.Io.KnownBytes.{Appends}
 use Rattle.std.specs.Hash.{u64}
 use Rattle.papaya_keys.specs.Hashes.{hash_of}
 use Rattle.papaya_keys.specs.Sizes.{IsAllowed}
 use Rattle.papaya_timeline.specs.New.{IsNew}
 use Rattle.papaya_timeline.specs.Runs.{TurnsRun}
+use Rattle.papaya_shell.specs.declared.failure.Failure.TheVariants as failure
 use Rattle.papaya_lines.specs.Told.{Tells, no_calls}
 use Rattle.papaya_lines.specs.declared.script.Line.{Line}
 use Rattle.papaya_lines.proofs.WriteLemmas.{keeps_then}
 use Rattle.papaya_backends.specs.Core.{script_says}
-use Rattle.papaya_backends.proofs.CoreLemmas.{ran_all, ran_to}
+use Rattle.papaya_backends.proofs.CoreLemmas.{failed, ran_all, ran_to}
 use Rattle.papaya_backends.proofs.RunLemmas.{ok_kept}
 use Rattle.papaya_backends.proofs.schedule.run_core.Goals as goal
 
@@ -58,3 +59,16 @@ returns g c =
     ran_all hash (IsNew c.args.mode 0 1 c.args.hasher) (Appends first last) script.turns.items script.lines.items script.bad_line passed core after
     trace.entries.items new.1 runs (told.0, tells, keeps_then first printed last told.0 told.2 c.flush.ensures.bytes)
     (g.R.Read.remaining c.args.input.now) c.in_ok-turns.ensures.read (sym c.in-None.is ∙ c.or.ensures)
+
+pub returns-in_err-passed_over : goal.returns-in_err-passed_over
+returns-in_err-passed_over g c =
+    failed (hash_of u64 g.S.BuildHasher.build_hasher g.S.Hasher.Hasher.write g.S.Hasher.Hasher.finish) (IsNew c.args.mode 0 1 c.args.hasher) _
+    (g.R.Read.remaining c.args.input.now) c.from_residual-in_err-passed_over.result c.in_err-passed_over.field-0.0
+    c.from_residual-in_err-passed_over.ensures.1 c.in_err-passed_over.ensures.failed
+
+pub returns-in_err-map_err : goal.returns-in_err-map_err
+returns-in_err-map_err g c =
+    let is : c.in_err-map_err.field-0.0 ≡ failure.Output = search rules in
+    failed (hash_of u64 g.S.BuildHasher.build_hasher g.S.Hasher.Hasher.write g.S.Hasher.Hasher.finish) (IsNew c.args.mode 0 1 c.args.hasher) _
+    (g.R.Read.remaining c.args.input.now) c.from_residual-in_err-map_err.result c.in_err-map_err.field-0.0
+    c.from_residual-in_err-map_err.ensures.1 (inl is)
