@@ -1,6 +1,7 @@
-"""No sentence of the documents that a user reads first has more than 30 words. A sentence ends with its paragraph, item, cell or
+"""No sentence of README and the documents has more than 30 words. A sentence ends with its paragraph, item, cell or
 heading, or at a mark before a space. Code counts as one word, and blocks of code are passed over."""
 
+import glob
 import os
 import re
 import sys
@@ -36,7 +37,7 @@ def sentences(part):
 
 def main():
     passed = failed = 0
-    for name in ("README.md", "docs/CALLING.md", "docs/DIFFERENCES.md"):
+    for name in ("README.md", *sorted(glob.glob("docs/*.md", root_dir=TOP))):
         with open(f"{TOP}/{name}", encoding="utf-8") as it:
             found = [(at, it) for at, part in parts(it.read()) for it in sentences(part)]
         for at, sentence in found:
