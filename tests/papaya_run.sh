@@ -113,7 +113,7 @@ same 'a stopped build leaves no program' 'none' \
 # A first build says what it does, then each crate.
 same 'a first build ends as the program' 0 "$(run core block id)"
 same 'standard output is the program'\''s' 'ran core block id' "$(cat "$folder/output")"
-same 'a first build names each crate, as it begins and as it ends' 'papaya-run: first run: proving and building 3 crates, an hour or more, once
+same 'a first build names each crate, as it begins and as it ends' 'papaya-run: first run: proving and building 3 crates, half an hour to two, once
 papaya-run: for a first look without the proof: papaya-run --unproved core block id
 papaya-run: proving papaya_low
 papaya-run: papaya_low proved, 1 of 3
