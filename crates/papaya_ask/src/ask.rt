@@ -5,7 +5,7 @@ use papaya_words::probe::Refused;
 /// A word that callers share. Tables are named by number, from 1 on.
 ///
 /// In 0.2.5 these are the map's atomic root pointer, and the atomics of a table and of its state.
-#[derive(Clone, Copy, PartialEq)]
+#[derive(Clone, Copy, Debug, PartialEq)]
 pub enum At {
     /// The number of the root table, or 0.
     Root,
@@ -24,7 +24,7 @@ pub enum At {
 
 /// What a machine asks next: one atomic step on one word or hint at most. Each kind of ask has its
 /// own kinds of answer.
-#[derive(Clone, Copy, PartialEq)]
+#[derive(Clone, Copy, Debug, PartialEq)]
 pub enum Ask {
     /// The word that stands there. Answered by `Word`.
     Load(At),
@@ -68,7 +68,7 @@ pub enum Ask {
 }
 
 /// What a machine is answered.
-#[derive(Clone, Copy)]
+#[derive(Clone, Copy, Debug)]
 pub enum Answer {
     /// The word of a load, or the hint.
     Word(u64),
@@ -91,7 +91,7 @@ pub enum Answer {
 }
 
 /// What a closure that may insert, remove or abort has answered, without the value.
-#[derive(Clone, Copy)]
+#[derive(Clone, Copy, Debug, PartialEq)]
 pub enum OpKind {
     /// A new value is to be stored.
     Insert,
@@ -103,7 +103,7 @@ pub enum OpKind {
 
 /// The kinds of exchange. An empty slot is filled by a claim or by a copy, which the words alone
 /// do not tell apart, so a machine tells the kind of the exchange that it asks for.
-#[derive(Clone, Copy, PartialEq)]
+#[derive(Clone, Copy, Debug, PartialEq)]
 pub enum StepKind {
     /// The first table becomes the root.
     Open,

@@ -3,7 +3,7 @@ use papaya_words::probe::Refused;
 
 /// A call that a caller begins, with what it hands in. `A` gives the answers of the closure of a
 /// call that takes one, as `papaya_call::answers::Listed` does.
-#[derive(Drop)]
+#[derive(Debug, Drop)]
 pub enum Call<K, V, A> {
     /// Looks a key up: `get` of 0.2.5.
     Get(K),
@@ -31,7 +31,7 @@ pub enum Call<K, V, A> {
 }
 
 /// What a machine does: the call without what was handed in, which the backend keeps.
-#[derive(Clone, Copy, PartialEq)]
+#[derive(Clone, Copy, Debug, PartialEq)]
 pub enum Task {
     /// A lookup.
     Get,

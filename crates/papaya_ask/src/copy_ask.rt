@@ -1,5 +1,4 @@
-//! What the machines of a resize ask. They are made for the copy of tables alone, and no call asks
-//! so yet.
+//! What the machines of a resize ask, and each call that meets one on its way over tables.
 use crate::ask::At;
 
 /// What a copier asks next: one atomic step on one word or hint at most.

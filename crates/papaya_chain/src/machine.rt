@@ -97,6 +97,7 @@ pub struct Machine {
     pub number: u64,
     /// A call copies one chunk of slots, and was about to.
     pub helped: bool,
+    /// Who asks.
     pub phase: Phase,
 }
 

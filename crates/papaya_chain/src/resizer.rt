@@ -224,12 +224,15 @@ fn linked(root: u64, linked: Linked) -> State
 /// of all.
 #[derive(Clone, Copy)]
 pub struct Resizer {
+    /// How the map's tables are copied.
     pub mode: ResizeMode,
     /// The initial capacity of the map in slots: no table is made shorter.
     pub initial: usize,
+    /// What is wanted.
     pub resize: Resize,
     /// From which chunk on it copies a table, of as many as there are.
     pub number: u64,
+    /// Where it stands.
     pub state: State,
 }
 

@@ -34,6 +34,7 @@ pub enum Scan {
 /// A slot of the table that is scanned.
 #[derive(Clone, Copy)]
 pub struct Spot {
+    /// The table's number.
     pub table: u64,
     /// How many slots the table has.
     pub len: usize,
@@ -160,12 +161,15 @@ fn copied(from: Stage, to: Stage) -> State
 /// A scanner under way. It is plain data, as a call is.
 #[derive(Clone, Copy)]
 pub struct Scanner {
+    /// How the map's tables are copied.
     pub mode: ResizeMode,
     /// The initial capacity of the map in slots: no table is made shorter.
     pub initial: usize,
+    /// What is done with the pairs.
     pub scan: Scan,
     /// From which chunk on it copies a table, of as many as there are.
     pub number: u64,
+    /// Where it stands.
     pub state: State,
 }
 

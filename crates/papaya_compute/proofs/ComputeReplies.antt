@@ -385,6 +385,11 @@ module _ {K V T : Type 0} (eq : K → K → Bool) (key : K) (older old new : Lis
       let s = replied_since heard answer r in
       record { said = heard; left = left; has_said = has; held = s.held; none_once = s.none_once; operated = s.operated }
 
+  pub computed_since : {F : Type 0} (operates : F → Option (Stored K V) → Operation V T → F → Type 0) (first : F) (answer : Result (Computed K V T) Cause)
+      → IsComputeBy eq key old new operates first answer → IsComputeBy eq key older new operates first answer
+  computed_since operates first answer h = computed_by operates first h.left h.said h.has_said answer
+      (record { held = h.held; none_once = h.none_once; operated = h.operated })
+
 -- a compute that begins
 pub begins : {K V S T H : Type 0} (eq : K → K → Bool) (hash : S → K → ℕ) (b : Begun K V S) (name : Book) (key : K) (log : List (Event K V S))
     (x : Computing K V S T H) → IsLawfulLog eq hash b log → (initial : ℕ) → x.writer.call.machine ≡ started Compute (hash b.hasher key) b.mode initial 0 b.limit

@@ -1,86 +1,98 @@
--- What a call did that stores where its rule says so, by what its compute answers.
-use Rattle.std.proofs.Common.{◌≡◌, inl, ⊎_elim, Bool, Option, None, Some, Result, Ok, Err, List, [], ◌∷◌, append-nil, option_map, refl, sym, ap, ◌∙◌, subst}
-use mathlib.Core.List.{IsPrefix}
+-- What a call did that stores where its rule says so, by how its compute has ended.
+use Rattle.std.proofs.Common.{◌≡◌, inl, ⊎_elim, Bool, Option, None, Some, Result, Ok, Err, List, [], ◌∷◌, option_map, refl, sym, ap, subst}
 use denote.Bor.{Bor}
 use Rattle.papaya_words.specs.declared.probe.Refused.{Refused as Cause}
 use Rattle.papaya_call.specs.declared.answers.Operation.{Operation}
 use Rattle.papaya_call.specs.declared.answers.Operation.TheVariants as operation
 use Rattle.papaya_keys.specs.declared.compute.Compute.{Compute as Computed}
-use Rattle.papaya_keys.specs.declared.compute.Compute.TheVariants as computed
+use Rattle.papaya_keys.specs.declared.compute.Compute.TheVariants.{Inserted, Updated, Removed, Aborted}
 use Rattle.papaya_book.specs.Logs.{Member, Stored}
 use Rattle.papaya_lookup.specs.History.{Change}
-use Rattle.papaya_change.specs.Showings.{HasSaid, WasHeld, WasLast}
-use Rattle.papaya_change.proofs.Showings.{all_shown, held_wider, said_only}
-use Rattle.papaya_compute.specs.ComputeAnswers.{IsOperated}
-use Rattle.papaya_compute.specs.Computing.{IsReplied, IsSpared, value_in}
-use Rattle.papaya_compute.specs.Deciding.{HasNoRemoval, IsDecidedOf, IsDoneBy, Wishes}
-use Rattle.papaya_compute.specs.declared.deciding.Outcome.{Outcome}
-use Rattle.papaya_compute.specs.declared.deciding.Outcome.TheVariants.{Put, Replaced, Left}
-use Rattle.papaya_compute.proofs.ComputeReplies.{change_since}
+use Rattle.papaya_change.specs.Showings.{AreShown, HasSaid, WasLast}
+use Rattle.papaya_change.proofs.Showings.{said_only}
+use Rattle.papaya_compute.specs.ComputeAnswers.{IsOperated, changes}
+use Rattle.papaya_compute.specs.Computing.{value_in}
+use Rattle.papaya_compute.specs.Deciding.{AsksRule, HasNoRemoval, IsDecided, IsDecidedOf, Wishes, WishesOf, answer_of, puts}
+use Rattle.papaya_compute.specs.Operating.{HasEnded, Shows}
+use Rattle.papaya_compute.specs.declared.operating.Ended.{Ended}
 
--- a rule removes no pair
-pub none_removed : {K V F : Type 0} (decides : F → Option V → Option V → F → Type 0) (first left : F)
-    (heard : List (Option (Stored K V) × Operation V (Unit {0}))) → HasSaid (Wishes decides) first heard left → HasNoRemoval heard
-none_removed {K = K} {V = V} decides first left heard has held m = let e : operation.Remove ≡ operation.Remove
-    → ⊥ = said_only (Wishes decides) (λ op. op ≡ operation.Remove → ⊥) stays first heard left has held operation.Remove m in e refl
-  where
-    stays : (f : _) (x : Option (Stored K V)) (op : Operation V (Unit {0})) (g : _) → Wishes decides f x op g → op ≡ operation.Remove → ⊥
-    stays f x (operation.Insert v) g h e = cc e
-    stays f x operation.Remove g h e = h
-    stays f x (operation.Abort t) g h e = cc e
+module _ {K V F : Type 0} (decides : F → Option V → Option V → F → Type 0) where
+  -- behind the references to a pair there is its value
+  shown_value : (shown : Option (Bor K × Bor V)) (held : Option (Stored K V)) → AreShown shown held → option_map (λ e. e.1.now) shown ≡ value_in held
+  shown_value None None are = refl
+  shown_value (Some entry) (Some p) are = ap (λ v. Some v) are.1
+  shown_value None (Some p) are = absurd are
+  shown_value (Some entry) None are = absurd are
 
-module _ {K V : Type 0} (eq : K → K → Bool) (key : K) (old new : List (Change K (Stored K V)))
-    (heard : List (Option (Stored K V) × Operation V (Unit {0}))) (removes : HasNoRemoval heard) (answer : Result (Computed K V (Unit {0})) Cause)
-    (r : IsReplied eq key old new heard answer) where
-  operated_as : (a : Result (Computed K V (Unit {0})) Cause) → answer ≡ a → IsOperated eq key old new heard a
-  operated_as a is = subst (IsOperated eq key old new heard) is r.operated
+  wishes : (first : F) (heard : List (Option (Stored K V) × Operation V (Unit {0}))) (left : F) → HasSaid (Shows (AsksRule decides)) first heard left
+      → HasSaid (Wishes decides) first heard left
+  wishes first [] left has = has
+  wishes first ((held, done) ∷ before) left has = (
+    has.0,
+    wishes first before has.0 has.1,
+    subst (λ v. WishesOf decides has.0 v done left) (shown_value has.2.0 held has.2.1) has.2.2,
+  )
 
-  done : (o : Result (Outcome V) Cause) → IsDecidedOf eq key old new heard o → IsDoneBy eq key old new heard o
-  done o decided = record { held = r.held; none_once = r.none_once; decided = decided }
-
-  pub done_put : (k : Bor K) (v : Bor V) → answer ≡ Ok (computed.Inserted k v) → IsDoneBy eq key old new heard (Ok (Put v))
-  done_put k v is = let h = operated_as (Ok (computed.Inserted k v)) is in done (Ok (Put v)) (h.0, h.1, h.2, h.3, h.4.1)
-
-  pub done_replaced : (before after : Bor K × Bor V) → answer ≡ Ok (computed.Updated before after) → IsDoneBy eq key old new heard (Ok (Replaced after.1))
-  done_replaced before after is = let h = operated_as (Ok (computed.Updated before after)) is in done (Ok (Replaced after.1)) (h.0, h.1, h.2, h.3, h.4, h.6.1)
-
-  pub done_removed : (k : Bor K) (v : Bor V) → answer ≡ Ok (computed.Removed k v) → ⊥
-  done_removed k v is = let h = operated_as (Ok (computed.Removed k v)) is in removes (Some h.2.0) h.2.2
-
-  pub done_refused : (cause : Cause) → answer ≡ Err cause → IsDoneBy eq key old new heard (Err cause)
-  done_refused cause is = done (Err cause) (⊎_elim (λ h. h) (λ h. absurd (removes None (last_in heard h.1))) (operated_as (Err cause) is))
+  -- a rule removes no pair
+  none_removed : (first left : F) (heard : List (Option (Stored K V) × Operation V (Unit {0}))) → HasSaid (Wishes decides) first heard left
+      → HasNoRemoval heard
+  none_removed first left heard has held m = let e : operation.Remove ≡ operation.Remove
+      → ⊥ = said_only (Wishes decides) (λ op. op ≡ operation.Remove → ⊥) stays first heard left has held operation.Remove m in e refl
     where
-      last_in : (said : List (Option (Stored K V) × Operation V (Unit {0}))) → WasLast None operation.Remove said → Member (None, operation.Remove) said
-      last_in [] h = absurd h
-      last_in (last ∷ before) h = inl (sym h)
+      stays : (f : _) (x : Option (Stored K V)) (op : Operation V (Unit {0})) (g : _) → Wishes decides f x op g → op ≡ operation.Remove → ⊥
+      stays f x (operation.Insert v) g h e = cc e
+      stays f x operation.Remove g h e = h
+      stays f x (operation.Abort t) g h e = cc e
 
-  -- what was shown last, and the pair that would fill
-  module _ (shown fill : Option (Stored K V)) (last : WasLast shown (operation.Abort tt) heard) (spared : IsSpared fill heard)
-      (current spare : Option (Bor V)) (current_is : option_map (λ v. v.now) current ≡ value_in shown)
-      (spare_is : option_map (λ v. v.now) spare ≡ value_in fill) where
-    spare_for : (q : Stored K V) → fill ≡ Some q → (o : Option (Bor V)) → option_map (λ v. v.now) o ≡ value_in fill → (r : Bor V) × (o ≡ Some r)
-        × (r.now ≡ q.value.value)
-    spare_for q is None e = let f : None ≡ Some q.value.value = e ∙ ap value_in is in absurd (cc f)
-    spare_for q is (Some r) e = let f : Some r.now ≡ Some q.value.value = e ∙ ap value_in is in (r, refl, let same : r.now ≡ q.value.value = cc f in same)
+-- what it was refused for its compute was
+pub refused_as : {K V : Type 0} (answer : Result (Computed K V (Unit {0})) Cause) (current spare : Option (Bor V)) (cause : Cause)
+    → answer_of answer current spare ≡ Err cause → answer ≡ Err cause
+refused_as (Ok (Inserted k v)) current spare cause e = absurd (cc e)
+refused_as (Ok (Updated before after)) current spare cause e = absurd (cc e)
+refused_as (Ok (Removed k v)) current spare cause e = absurd (cc e)
+refused_as (Ok (Aborted t)) current spare cause e = absurd (cc e)
+refused_as (Err other) current spare cause e = let same : other ≡ cause = cc e in ap (λ (z : Cause). Err z) same
 
-    pub done_left : IsDoneBy eq key old new heard (Ok (Left current spare))
-    done_left = done (Ok (Left current spare))
-        (shown, last, current_is, λ v member. let q = spared v member in let r = spare_for q.0 q.1 spare spare_is in (r.0, r.1, r.2 ∙ q.2))
+module _ {K V F : Type 0} (eq : K → K → Bool) (key : K) (old new : List (Change K (Stored K V))) (decides : F → Option V → Option V → F → Type 0)
+    (first left : F) (ended : Ended K V (Unit {0})) (h : HasEnded eq key old new (Shows (AsksRule decides)) first left ended) where
+  said : HasSaid (Wishes decides) first h.heard left
+  said = wishes decides first h.heard left h.has_said
 
--- what was seen before a call began was seen before what it did
-module _ {K V : Type 0} (eq : K → K → Bool) (key : K) (older old new : List (Change K (Stored K V))) (pre : IsPrefix older old) where
-  decided_since : (heard : List (Option (Stored K V) × Operation V (Unit {0}))) (answer : Result (Outcome V) Cause)
-      → IsDecidedOf eq key old new heard answer → IsDecidedOf eq key older new heard answer
-  decided_since heard (Ok (Put v)) h = (h.0, change_since eq key older old new pre None (Some h.0) h.1, h.2, h.3, h.4)
-  decided_since heard (Ok (Replaced v)) h = (h.0, h.1, change_since eq key older old new pre (Some h.0) (Some h.1) h.2, h.3, h.4, h.5)
-  decided_since heard (Ok (Left current spare)) h = h
-  decided_since heard (Err cause) h = h
+  removes : HasNoRemoval h.heard
+  removes = none_removed decides first left h.heard said
 
-  pub done_since : (heard : List (Option (Stored K V) × Operation V (Unit {0}))) (answer : Result (Outcome V) Cause)
-      → IsDoneBy eq key old new heard answer → IsDoneBy eq key older new heard answer
-  done_since heard answer r = record {
-    held = all_shown (WasHeld eq (eq key) old new) (WasHeld eq (eq key) older new)
-        (λ held h. held_wider eq (eq key) older old new new pre ([], append-nil new) held h) heard r.held;
-    none_once = r.none_once;
-    decided = decided_since heard answer r.decided;
+  operated_as : (a : Result (Computed K V (Unit {0})) Cause) → ended.answer ≡ a → IsOperated eq key old new h.heard a
+  operated_as a is = subst (IsOperated eq key old new h.heard) is h.replied.operated
+
+  pub unremoved : (k : Bor K) (v : Bor V) → ended.answer ≡ Ok (Removed k v) → ⊥
+  unremoved k v is = let o = operated_as (Ok (Removed k v)) is in removes (Some o.2.0) o.2.2
+
+  last_in : (heard : List (Option (Stored K V) × Operation V (Unit {0}))) → WasLast None operation.Remove heard → Member (None, operation.Remove) heard
+  last_in [] last = absurd last
+  last_in (last ∷ before) is = inl (sym is)
+
+  decided_of : (a : Result (Computed K V (Unit {0})) Cause) → ended.answer ≡ a
+      → IsDecidedOf eq key old new h.heard (answer_of a ended.current ended.spare)
+  decided_of (Ok (Inserted k v)) is = let o = operated_as (Ok (Inserted k v)) is in (o.0, o.1, o.2, o.3, o.4.1)
+  decided_of (Ok (Updated before after)) is = let o = operated_as (Ok (Updated before after)) is in (o.0, o.1, o.2, o.3, o.4, o.6.1)
+  decided_of (Ok (Removed k v)) is = absurd (unremoved k v is)
+  decided_of (Ok (Aborted t)) is = h.is_left t is
+  decided_of (Err cause) is = ⊎_elim (λ o. o) (λ o. absurd (removes None (last_in h.heard o.1))) (operated_as (Err cause) is)
+
+  pub decided_by : IsDecided eq key old new decides first left (answer_of ended.answer ended.current ended.spare)
+  decided_by = record {
+    heard = h.heard;
+    has_said = said;
+    done = record { held = h.replied.held; none_once = h.replied.none_once; decided = decided_of ended.answer refl };
   }
+
+  -- it has stored a value where its compute has changed the map
+  puts_of : (a : Result (Computed K V (Unit {0})) Cause) → ended.answer ≡ a → changes a ≡ puts (answer_of a ended.current ended.spare)
+  puts_of (Ok (Inserted k v)) is = refl
+  puts_of (Ok (Updated before after)) is = refl
+  puts_of (Ok (Removed k v)) is = absurd (unremoved k v is)
+  puts_of (Ok (Aborted t)) is = refl
+  puts_of (Err cause) is = refl
+
+  pub puts_by : changes ended.answer ≡ puts (answer_of ended.answer ended.current ended.spare)
+  puts_by = puts_of ended.answer refl

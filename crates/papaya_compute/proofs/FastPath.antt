@@ -1,6 +1,6 @@
--- What a compute answers that its fast path made: its closure was shown once what there is, or its rule was.
-use Rattle.std.proofs.Common.{◌≡◌, inl, inr, ⊎_elim, Bool, false, Option, None, Some, Result, Ok}
-use Rattle.std.proofs.Common.{Err, List, [], ◌∷◌, ◌++◌, option_map, refl, sym, ap, ◌∙◌, subst}
+-- What a compute answers that its fast path made: what there is was shown once.
+use Rattle.std.proofs.Common.{◌≡◌, ℕ, inl, inr, ⊎_elim, Bool, false, Option, None, Some, Result, Ok}
+use Rattle.std.proofs.Common.{Err, List, [], ◌∷◌, ◌++◌, refl, sym, ap, ◌∙◌, subst}
 use denote.Bor.{Bor}
 use Rattle.papaya_words.specs.declared.probe.Refused.{Refused as Cause}
 use Rattle.papaya_words.specs.declared.probe.Refused.TheVariants.{Capacity, Limit, RemoveNothing}
@@ -12,23 +12,27 @@ use Rattle.papaya_book.specs.declared.keyed.Keyed as keyed
 use Rattle.papaya_book.specs.declared.window.Window.{Window}
 use Rattle.papaya_book.specs.Logs.{Stored, steps_of}
 use Rattle.papaya_book.specs.Own.{last_if}
-use Rattle.papaya_book.specs.Windows.{Does, IsLawful}
+use Rattle.papaya_book.specs.declared.rule.own.CapacityCause.{CapacityCause}
+use Rattle.papaya_book.specs.Sheets.{Sheet}
+use Rattle.papaya_book.specs.Windows.{Does, IsLawful, Sees}
 use Rattle.papaya_book.proofs.Windows.{sees_trans}
 use Rattle.papaya_lookup.specs.Drivers.{own, past}
 use Rattle.papaya_lookup.specs.History.{Change, Makes, changes_by, key_of}
 use Rattle.papaya_change.specs.Changes.{IsChangeOf}
-use Rattle.papaya_change.specs.Showings.{AreOf, HasSaid, IsNoneOnce, IsSamePair, WasHeld}
+use Rattle.papaya_change.specs.Showings.{AreOf, IsNoneOnce, IsSamePair, WasHeld}
 use Rattle.papaya_change.specs.Writing.{IsMemoryOrCapacity}
+use Rattle.papaya_change.specs.Seeking.{met_by}
+use Rattle.papaya_change.specs.Window.Ends.{Ends, TellsWhy}
+use Rattle.papaya_change.specs.declared.fast_path.Turn.{Turn}
 use Rattle.papaya_change.proofs.Doing.{idles}
-use Rattle.papaya_compute.specs.FastPath.{ComesTo, HasLooked, IfOn, IfOver, IsAtOnce}
+use Rattle.papaya_change.proofs.Logged.{makes_since}
+use Rattle.papaya_lookup.specs.declared.lookup.Met.{Met}
+use Rattle.papaya_compute.specs.FastPath.{ComesTo, DoesAtOnce, HasLooked, IfOn, IfOver, IsAtOnce, IsLed, IsOnItsWay}
 use Rattle.papaya_compute.specs.ComputeAnswers.{IsOperated, changes}
-use Rattle.papaya_compute.specs.Computing.{IsReplied, value_in}
-use Rattle.papaya_compute.specs.Deciding.{HasNoRemoval, IsDecided, IsDoneBy, Wishes, outcomes, puts}
+use Rattle.papaya_compute.specs.declared.fast_path.Start.{Start}
+use Rattle.papaya_compute.specs.Computing.{IsReplied}
 use Rattle.papaya_compute.specs.declared.fast_path.First.{First}
 use Rattle.papaya_compute.specs.declared.fast_path.First.TheVariants.{Over, On}
-use Rattle.papaya_compute.specs.declared.deciding.Outcome.{Outcome}
-use Rattle.papaya_compute.specs.declared.deciding.Outcome.TheVariants.{Left, Put, Replaced}
-use Rattle.papaya_compute.proofs.DoneBy.{done_put, done_refused, done_removed, done_replaced, none_removed}
 
 -- nothing was done since before what was seen with nothing done
 pub does_since : {K V S H : Type 0} {d : keyed.Ghosts S K H} (a w w' : Window K V S H d) → w.own ≡ a.own → Does false w w' → Does false a w'
@@ -103,93 +107,6 @@ module _ {K V T : Type 0} (eq : K → K → Bool) (key : K) (old new : List (Cha
   pub refuses : (cause : Cause) → IsMemoryOrCapacity cause → Replies (Err cause)
   refuses cause is = replies (Err cause) (inl (inl is))
 
--- a call that stores where its rule says so ends as its compute does
-abbrev Tried : (C K V : Type 0) → Type 0
-Tried C K V = First C (Result (Computed K V (Unit {0})) Cause)
-
-module _ {K V : Type 0} (current : Option (Bor V)) where
-  abbrev Unremoved : {C : Type 0} → Tried C K V → Type 0
-  Unremoved x = (k : Bor K) (v : Bor V) → x ≡ Over (Ok (Removed k v)) → ⊥
-
-  pub on_still : {C : Type 0} (P : C → Type 0) (x : Tried C K V) → IfOn x P → IfOn (outcomes x current) P
-  on_still P (Over (Ok (Inserted k v))) h = tt
-  on_still P (Over (Ok (Updated before after))) h = tt
-  on_still P (Over (Ok (Removed k v))) h = tt
-  on_still P (Over (Ok (Aborted t))) h = tt
-  on_still P (Over (Err cause)) h = tt
-  on_still P (On x) h = h
-
-  pub over_still : {C : Type 0} (P : Type 0) (x : Tried C K V) → IfOver x (λ a. P) → IfOver (outcomes x current) (λ a. P)
-  over_still P (Over (Ok (Inserted k v))) h = h
-  over_still P (Over (Ok (Updated before after))) h = h
-  over_still P (Over (Ok (Removed k v))) h = h
-  over_still P (Over (Ok (Aborted t))) h = h
-  over_still P (Over (Err cause)) h = h
-  over_still P (On x) h = tt
-
-  pub made_still : {C : Type 0} (M : Bool → Type 0) (x : Tried C K V) → Unremoved x → IfOver x (λ a. M (changes a))
-      → IfOver (outcomes x current) (λ a. M (puts a))
-  made_still M (Over (Ok (Inserted k v))) none h = h
-  made_still M (Over (Ok (Updated before after))) none h = h
-  made_still M (Over (Ok (Removed k v))) none h = absurd (none k v refl)
-  made_still M (Over (Ok (Aborted t))) none h = h
-  made_still M (Over (Err cause)) none h = h
-  made_still M (On x) none h = tt
-
-  pub refused_still : {C : Type 0} (x : Tried C K V) (cause : Cause) → outcomes x current ≡ Over (Err cause) → x ≡ Over (Err cause)
-  refused_still (Over (Ok (Inserted k v))) cause e = absurd (cc e)
-  refused_still (Over (Ok (Updated before after))) cause e = absurd (cc e)
-  refused_still (Over (Ok (Removed k v))) cause e = absurd (cc e)
-  refused_still (Over (Ok (Aborted t))) cause e = absurd (cc e)
-  refused_still (Over (Err other)) cause e = let same : other ≡ cause = cc e in ap (λ (z : Cause). Over (Err z)) same
-  refused_still (On x) cause e = absurd (cc e)
-
-  module _ {F : Type 0} (eq : K → K → Bool) (key : K) (old new : List (Change K (Stored K V))) (decides : F → Option V → Option V → F → Type 0)
-      (first left : F) (held : Option (Stored K V)) (done : Operation V (Unit {0})) (wished : Wishes decides first held done left) where
-    abbrev heard : List (Option (Stored K V) × Operation V (Unit {0}))
-    heard = (held, done) ∷ []
-
-    pub said_once : HasSaid (Wishes decides) first heard left
-    said_once = (first, refl, wished)
-
-    removes : HasNoRemoval heard
-    removes = none_removed decides first left heard said_once
-
-    abbrev Replies_so : Result (Computed K V (Unit {0})) Cause → Type 0
-    Replies_so answer = IsReplied eq key old new heard answer
-
-    pub unremoved : {C : Type 0} (x : Tried C K V) → IfOver x Replies_so → Unremoved x
-    unremoved (Over answer) r k v e = let is : answer ≡ Ok (Removed k v) = cc e in done_removed eq key old new heard removes answer r k v is
-    unremoved (On x) r k v e = absurd (cc e)
-
-    decided_by : (answer : Result (Outcome V) Cause) → IsDoneBy eq key old new heard answer → IsDecided eq key old new decides first left answer
-    decided_by answer d = record { heard = heard; has_said = said_once; done = d }
-
-    abbrev Decides : Result (Outcome V) Cause → Type 0
-    Decides answer = IsDecided eq key old new decides first left answer
-
-    pub decided_once : option_map (λ v. v.now) current ≡ value_in held → {C : Type 0} (x : Tried C K V) → IfOver x Replies_so
-        → IfOver (outcomes x current) Decides
-    decided_once is (Over (Ok (Inserted k v))) r = decided_by (Ok (Put v)) (done_put eq key old new heard removes (Ok (Inserted k v)) r k v refl)
-    decided_once is (Over (Ok (Updated before after))) r = decided_by (Ok (Replaced after.1))
-        (done_replaced eq key old new heard removes (Ok (Updated before after)) r before after refl)
-    decided_once is (Over (Ok (Removed k v))) r = absurd (done_removed eq key old new heard removes (Ok (Removed k v)) r k v refl)
-    decided_once is (Over (Ok (Aborted t))) r =
-        let o = r.operated in let ends : done ≡ operation.Abort t = ap (λ z. z.1) o.1 in
-        decided_by (Ok (Left current None)) (record {
-          held = r.held;
-          none_once = r.none_once;
-          decided = (
-            held,
-            (λ i. (held, ends i)),
-            is,
-            λ v member.
-                ⊎_elim (λ e. let f : operation.Insert v ≡ operation.Abort t = ap (λ z. z.1) e ∙ ends in absurd (cc f)) (λ none. absurd none) member,
-          );
-        })
-    decided_once is (Over (Err cause)) r = decided_by (Err cause) (done_refused eq key old new heard removes (Err cause) r cause refl)
-    decided_once is (On x) r = tt
-
 -- a call of which nothing was asked yet
 module _ {K V S H A C : Type 0} {d : keyed.Ghosts S K H} (changed : Result A Cause → Bool) (w : Window K V S H d) where
   pub comes_asked_nothing : (is_right : Result A Cause → Type 0) (may_start : C → Type 0) (w' : Window K V S H d) (x : C) → HasLooked w w' → may_start x
@@ -218,25 +135,48 @@ module _ {K V S H A C : Type 0} {d : keyed.Ghosts S K H} (changed : Result A Cau
     starts = if_on may_start may_start' x h c.starts;
   }
 
--- a call that stores where its rule says so comes to the same as its compute
-module _ {K V S H C F : Type 0} {d : keyed.Ghosts S K H} (w w' : Window K V S H d) (key : K) (decides : F → Option V → Option V → F → Type 0)
-    (first left : F) (held : Option (Stored K V)) (done : Operation V (Unit {0})) (wished : Wishes decides first held done left)
-    (may_start : C → Type 0) where
-  abbrev Answers_so : Result (Computed K V (Unit {0})) Cause → Type 0
-  Answers_so answer = IsReplied d.keys.eq key (past w) (past w') ((held, done) ∷ []) answer
+-- a call that has learned what there is, and then looked for its key
+module _ {K V S H A C : Type 0} {d : keyed.Ghosts S K H} (changed : Result A Cause → Bool) (before first w : Window K V S H d) (learned : Sees before first)
+    (same : first.own ≡ before.own) (is_right : Result A Cause → Type 0) (may_start : C → Type 0) (x : First C (Result A Cause))
+    (c : ComesTo changed is_right may_start first w x) where
+  -- it is over
+  module _ (answer : Result A Cause) (is : x ≡ Over answer) where
+    pub over_right : is_right answer
+    over_right = subst (λ (z : First C (Result A Cause)). IfOver z is_right) is c.right
 
-  pub comes_unremoved : (x : Tried C K V) → ComesTo changes Answers_so may_start w w' x → Unremoved None x
-  comes_unremoved x c = unremoved None d.keys.eq key (past w) (past w') decides first left held done wished x c.right
+    pub over_ends : Ends (changed answer) before w
+    over_ends = record {
+      sees = sees_trans _ _ _ learned c.sees;
+      lawful = subst (λ (z : First C (Result A Cause)). IfOver z (λ a. IsLawful w)) is c.lawful;
+      made = makes_since (changed answer) before first w (idles before first same)
+          (subst (λ (z : First C (Result A Cause)). IfOver z (λ a. Makes (changed a) (own first) (own w) (past w))) is c.made);
+    }
 
-  pub comes_decided : (current : Option (Bor V)) → option_map (λ v. v.now) current ≡ value_in held → (x : Tried C K V)
-      → ComesTo changes Answers_so may_start w w' x
-      → ComesTo puts (IsDecided d.keys.eq key (past w) (past w') decides first left) may_start w w' (outcomes x current)
-  comes_decided current is x c = record {
-    sees = c.sees;
-    lawful = over_still current (IsLawful w') x c.lawful;
-    made = made_still current (λ changed. Makes changed (own w) (own w') (past w')) x (comes_unremoved x c) c.made;
-    refused = λ cause e. c.refused cause (refused_still current x cause e);
-    right = decided_once current d.keys.eq key (past w) (past w') decides first left held done wished is x c.right;
-    idle = on_still current _ x c.idle;
-    starts = on_still current may_start x c.starts;
-  }
+    pub over_tells : (initial : ℕ) (given : List CapacityCause) → TellsWhy initial w given (λ cause. answer ≡ Err cause)
+    over_tells initial given = record {
+      crowded = λ e. no_room (c.refused Capacity (is ∙ ap (λ z. Over z) e));
+      spent = λ e. no_limit (c.refused Limit (is ∙ ap (λ z. Over z) e));
+    }
+
+  -- its machine goes on
+  module _ (start : C) (is : x ≡ On start) where
+    pub on_starts : may_start start
+    on_starts = subst (λ (z : First C (Result A Cause)). IfOn z may_start) is c.starts
+
+    pub on_ends : (b : Bool) (w' : Window K V S H d) → Ends b w w' → Ends b before w'
+    on_ends b w' e = record {
+      sees = sees_trans _ _ _ (sees_trans _ _ _ learned c.sees) e.sees;
+      lawful = e.lawful;
+      made = makes_since b before w w' (does_since before first w same (subst (λ (z : First C (Result A Cause)). IfOn z (λ s. Does false first w)) is c.idle)) e.made;
+    }
+
+-- A call that was shown once what the search found, and has answered: it is right where that follows of what it replies.
+module _ {K V S T H O : Type 0} {d : keyed.Ghosts S K H} (w mid then : Window K V S H d) (looked : HasLooked w mid) (key : K) (hash : ℕ) (table : Sheet)
+    (turn : Turn (Met K V)) (led : IsLed mid key hash w.sight.log table turn) (says : O → Option (Stored K V) → Operation V T → O → Type 0)
+    (first left : O) (done : Operation V T) (said : says first (met_by turn) done left) where
+  pub comes_once : (is_right : Result (Computed K V T) Cause → Type 0)
+      → ((answer : Result (Computed K V T) Cause) → IsReplied d.keys.eq key (past w) (past then) ((met_by turn, done) ∷ []) answer → is_right answer)
+      → (x : First (Start K V) (Result (Computed K V T) Cause)) → DoesAtOnce mid then key table turn done x
+      → ComesTo changes is_right (IsOnItsWay w then key says first left) w then x
+  comes_once is_right right x does = comes_since changes w _ _ _ _ mid then x looked (λ a h. right a (h w.sight.log led.found))
+      (λ y h. ((met_by turn, done) ∷ [], h w.sight.log led.found, (first, refl, said))) does

@@ -9,8 +9,11 @@ pub mod ComputeShows
 pub mod ComputePairs
 pub mod ComputePuts
 pub mod ComputeReplies
+pub mod Endings
 pub mod DoneBy
 -- computes at once
 pub mod Resumed
 pub mod Found
 pub mod FastPath
+-- while its machine runs
+pub mod Running

@@ -1,5 +1,5 @@
 -- What a compute on the shared map holds and relies on, by what it sees of the map.
-use Rattle.std.specs.Prelude.{◌≡◌, ℕ, List, Option, None, Some, Result, Ok, IfErr, []}
+use Rattle.std.specs.Prelude.{◌≡◌, ℕ, Option, None, Some, Result, Ok, IfErr, []}
 use Rattle.papaya_words.specs.declared.probe.Refused.{Refused}
 use Rattle.papaya_call.specs.declared.answers.Operation.{Operation}
 use Rattle.papaya_ask.specs.declared.ask.Answer.{Answer}
@@ -13,7 +13,6 @@ use Rattle.papaya_chain.specs.declared.machine.Phase.TheVariants.{Calling}
 use Rattle.papaya_keys.specs.declared.compute.Compute.{Compute as Computed}
 use Rattle.papaya_keys.specs.declared.compute.Compute.TheVariants.{Aborted}
 use Rattle.papaya_book.specs.declared.keyed.Keyed as keyed
-use Rattle.papaya_book.specs.declared.rule.entry.Event.{Event}
 use Rattle.papaya_book.specs.declared.window.Window.{Window}
 use Rattle.papaya_book.specs.Keys.{Keys}
 use Rattle.papaya_book.specs.Logs.{Stored}
@@ -25,9 +24,6 @@ use Rattle.papaya_compute.specs.declared.computing.Turn.TheVariants.{Answered, S
 use Rattle.papaya_compute.specs.Computing.{IsToShow}
 use Rattle.papaya_compute.specs.Computing as computing
 use Rattle.papaya_call.specs.Machine.{ask_of as call_ask_of}
-use Rattle.papaya_lookup.specs.History.{history_of}
-use Rattle.papaya_compute.specs.declared.deciding.Outcome.{Outcome}
-use Rattle.papaya_compute.specs.Deciding.{HasNoRemoval, IsDoneBy}
 use Rattle.papaya_change.specs.Doing.{Answers, has_changed}
 use Rattle.papaya_change.specs.Window.Driver.{Helps}
 use Rattle.papaya_compute.specs.ComputeAnswers.{changes}
@@ -107,20 +103,3 @@ module _ {K V S T H : Type 0} where
       → Answers (call_ask_of x.writer.call.machine.call) (Some answer) w w
       × computing.Hears keys.eq keys.hash (begun_of w.book.now.parts) w.book.now.begun.book
       w.sight.log x shown done x' answer
-
-module _ {K V S H : Type 0} {d : keyed.Ghosts S K H} where
-  -- a compute is under way whose rule removed nothing
-  abbrev pub CanDecide : Window K V S H d → Computing K V S (Unit {0}) H → Type 0
-  CanDecide w x = (key : K) × (begun : List (Event K V S))
-      × (heard : List (Option (Stored K V) × Operation V (Unit {0})))
-      × computing.IsComputing d.keys.eq d.keys.hash (begun_of w.book.now.parts)
-      w.book.now.begun.book key begun w.sight.log x heard × HasNoRemoval heard
-
-  -- and what each such has done that has replied
-  abbrev pub Decides : Window K V S H d → Computing K V S (Unit {0}) H → Result (Outcome V) Refused
-      → Type 0
-  Decides w x answer = (key : K) (begun : List (Event K V S))
-      (heard : List (Option (Stored K V) × Operation V (Unit {0})))
-      → computing.IsComputing d.keys.eq d.keys.hash (begun_of w.book.now.parts)
-      w.book.now.begun.book key begun w.sight.log x heard → HasNoRemoval heard
-      → IsDoneBy d.keys.eq key (history_of begun) (history_of w.sight.log) heard answer

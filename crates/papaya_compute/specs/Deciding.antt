@@ -13,9 +13,8 @@ use Rattle.papaya_change.specs.Writing.{IsMemoryCapacityOrLimit}
 use Rattle.papaya_keys.specs.declared.compute.Compute.{Compute as Computed}
 use Rattle.papaya_keys.specs.declared.compute.Compute.TheVariants.{Inserted, Updated, Removed, Aborted}
 use Rattle.papaya_compute.specs.ComputeAnswers.{WasOperated}
-use Rattle.papaya_compute.specs.declared.fast_path.First.{First}
-use Rattle.papaya_compute.specs.declared.fast_path.First.TheVariants.{Over, On}
 use Rattle.papaya_compute.specs.Computing.{value_in}
+use Rattle.papaya_compute.specs.Operating.{IsSpare}
 use Rattle.papaya_compute.specs.declared.deciding.Outcome.{Outcome}
 use Rattle.papaya_compute.specs.declared.deciding.Outcome.TheVariants.{Put, Replaced, Left}
 
@@ -26,23 +25,20 @@ puts (Ok (Replaced v)) = true
 puts (Ok (Left current spare)) = false
 puts (Err refused) = false
 
--- what a call that stores did, by what its compute did that removed nothing; the key had this value
-abbrev pub outcome_of : {K V : Type 0} → Computed K V (Unit {0}) → Option (Bor V) → Outcome V
-outcome_of (Inserted k v) current = Put v
-outcome_of (Updated before after) current = Replaced after.1
-outcome_of (Removed k v) current = Left current None
-outcome_of (Aborted t) current = Left current None
+-- what such a call did, by what its compute did that removed nothing: the key had this value, and
+-- this one was logged
+abbrev pub outcome_of : {K V : Type 0} → Computed K V (Unit {0}) → (current spare : Option (Bor V))
+    → Outcome V
+outcome_of (Inserted k v) current spare = Put v
+outcome_of (Updated before after) current spare = Replaced after.1
+outcome_of (Removed k v) current spare = Left current spare
+outcome_of (Aborted t) current spare = Left current spare
 
 -- what it answers
-abbrev pub answer_of : {K V : Type 0} → Result (Computed K V (Unit {0})) Refused → Option (Bor V)
-    → Result (Outcome V) Refused
-answer_of (Ok done) current = Ok (outcome_of done current)
-answer_of (Err refused) current = Err refused
-
-abbrev pub outcomes : {C K V : Type 0} → First C (Result (Computed K V (Unit {0})) Refused)
-    → Option (Bor V) → First C (Result (Outcome V) Refused)
-outcomes (Over answer) current = Over (answer_of answer current)
-outcomes (On x) current = On x
+abbrev pub answer_of : {K V : Type 0} → Result (Computed K V (Unit {0})) Refused
+    → (current spare : Option (Bor V)) → Result (Outcome V) Refused
+answer_of (Ok done) current spare = Ok (outcome_of done current spare)
+answer_of (Err refused) current spare = Err refused
 
 -- The rule is shown this value, or that there is none, and answers what is stored then, or that all
 -- is left as it is.
@@ -53,6 +49,11 @@ WishesOf decides f held operation.Remove g = ⊥
 WishesOf decides f held (operation.Abort t) g = decides f held None g
 
 module _ {K V : Type 0} where
+  -- The rule is shown the value behind the reference, or that there is none.
+  abbrev pub AsksRule : {F : Type 0} → (F → Option V → Option V → F → Type 0) → F
+      → Option (Bor K × Bor V) → Operation V (Unit {0}) → F → Type 0
+  AsksRule decides f shown done g = WishesOf decides f (option_map (λ e. e.1.now) shown) done g
+
   -- The rule is shown the value of this pair, or that there is none.
   abbrev pub Wishes : {F : Type 0} → (F → Option V → Option V → F → Type 0) → F
       → Option (Stored K V) → Operation V (Unit {0}) → F → Type 0
@@ -61,11 +62,6 @@ module _ {K V : Type 0} where
   -- no answer was that a pair is to go
   abbrev pub HasNoRemoval : List (Option (Stored K V) × Operation V (Unit {0})) → Type 0
   HasNoRemoval heard = (held : Option (Stored K V)) → Member (held, operation.Remove) heard → ⊥
-
-  -- what was answered where none was shown was logged, and is at hand
-  abbrev pub IsSpare : Option (Bor V) → List (Option (Stored K V) × Operation V (Unit {0})) → Type 0
-  IsSpare spare heard = (v : V) → Member (None, operation.Insert v) heard
-      → (r : Bor V) × (spare ≡ Some r) × (r.now ≡ v)
 
 module _ {K V : Type 0} (eq : K → K → Bool) (key : K)
     (old new : List (Change K (Stored K V))) where

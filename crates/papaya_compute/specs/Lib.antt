@@ -5,6 +5,8 @@ pub mod Putting
 -- one that goes on with a pair that was made
 pub mod Resuming
 pub mod FastPath
+-- how a compute asks, and how it has ended
+pub mod Operating
 -- what a call does that stores where its rule says so
 pub mod Deciding
 -- the same by what is seen of the map

@@ -2,151 +2,37 @@
 //! the closure's type names no lifetime, and such a call can be made in other crates for keys of
 //! any type.
 ghost use Rattle.papaya_change.specs.Window.Ends.{Ends, TellsWhy};
-ghost use Rattle.std.specs.Prelude.{◌≡◌, None, Err};
+ghost use Rattle.std.specs.Prelude.{◌≡◌, Err};
+ghost use Rattle.std.specs.Fn.{Called};
 ghost use Rattle.std.specs.Int.{IsPowerOfTwo};
-ghost use Rattle.papaya_book.specs.Books.{IsIn};
-ghost use Rattle.papaya_book.specs.Logs.{pair_named};
-ghost use Rattle.papaya_book.specs.Windows.{IsLawful};
 ghost use Rattle.papaya_change.specs.Showings.{Operates};
-ghost use Rattle.papaya_compute.specs.FastPath.{ComesTo, IsOnItsWay};
 ghost use Rattle.papaya_compute.specs.ComputeAnswers.{IsComputeBy, changes};
 ghost use Rattle.papaya_lookup.specs.Drivers.{past};
 
-use crate::computing::Turn as Next;
-use crate::fast_path::{First, Start, fill, look, machine_of, renew};
-use papaya_book::book::Book;
+use crate::operating::{Operator, compute};
 use papaya_book::count::Shard;
-use papaya_book::rule::entry::Stored;
 use papaya_book::rule::own::{CapacityCause, OwnSteps};
 use papaya_book::window::Window;
 use papaya_call::answers::Operation;
-use papaya_change::fast_path::Turn;
-use papaya_change::means::Means;
-use papaya_change::removal::entry;
 use papaya_keys::compute::Compute;
-use papaya_lookup::lookup::hash;
 use papaya_words::probe::Refused;
 use std::alloc::Global;
 use std::hash::{BuildHasher, Hash};
 use std::sync::Wait;
 
-/// What a closure is shown where there is no pair: a pair would be borrowed like the book.
-fn no_entry<K: Hash + Eq, V, S: BuildHasher>(_book: &Book<K, V, S>) -> Option<(&K, &V)>
-    ensures { result ≡ None }
-{
-    None
-}
+/// Asks a closure that is lent the pair.
+struct Lending;
 
-/// What the closure answers that is lent this pair, or shown that there is none.
-fn operate<K: Hash + Eq, V, S: BuildHasher, T, F: FnMut(Option<(&K, &V)>) -> Operation<V, T>>(
-    book: &Book<K, V, S>,
-    shown: &Option<Stored<K, V>>,
-    f: &mut F,
-) -> Operation<V, T>
-    requires callable { F.IsAlwaysCallable f.old }
-    requires placed { IsIn book.now (pair_named shown.now) }
-    ensures callable { F.IsAlwaysCallable f.new }
-    ensures operates { Operates F.FnMut f.old shown.now result f.new }
-{
-    match shown {
-        None => f(no_entry(book)),
-        Some(pair) => f(Some(entry(book, pair))),
-    }
-}
+impl<'a, K, V, T, F: FnMut(Option<(&K, &V)>) -> Operation<V, T>> Operator<'a, K, V, T, F>
+    for Lending {
+    ghost callable = { F.IsAlwaysCallable };
 
-/// Looks for the key in the root, and does at once what the closure answers where the search
-/// ends at an empty place or at a live pair. Else, and where another call was first, it tells where
-/// the machine starts.
-#[inline(always)]
-fn lend_fast<
-    'a,
-    R: Wait,
-    K: Hash + Eq + Drop,
-    V: Drop,
-    S: BuildHasher,
-    T: Drop,
-    F: FnMut(Option<(&K, &V)>) -> Operation<V, T>,
->(
-    means: &Means<'_, '_, R>,
-    window: &mut Window<'a, K, V, S>,
-    key: K,
-    f: &mut F,
-) -> First<Start<K, V>, Result<Compute<'a, K, V, T>, Refused>>
-    requires callable { F.IsAlwaysCallable f.old }
-    requires lawful { IsLawful window.old }
-    ensures callable { F.IsAlwaysCallable f.new }
-    ensures comes { ComesTo changes (IsComputeBy K.eq key (past window.old) (past window.new)
-        (Operates F.FnMut) f.old) (IsOnItsWay window.old window.new key (Operates F.FnMut) f.old
-        f.new) window.old window.new result }
-{
-    let book = window.book;
-    let hash = hash(&book.parts.hasher, &key);
-    let Some(spot) = look(window, &key, hash) else {
-        return First::On(Start::Anew(key));
-    };
-    let table = spot.table;
-    match spot.turn {
-        Turn::Empty(at) => {
-            let operation = operate(book, &None, f);
-            fill(means, window, key, hash, table, at, operation)
-        }
-        Turn::Met(live) => {
-            let old = book.entry(live.pair());
-            let again = f(Some(old));
-            renew(means, window, key, hash, table, live, old, again)
-        }
-        _ => First::On(Start::Anew(key)),
-    }
-}
+    ghost operates = { λ f shown done g. Called F.FnMut f (shown, tt) done g };
 
-/// Runs the machine to its end that starts so. It is a call of its own, since no frame of a fast
-/// path shall hold a machine.
-#[inline(never)]
-fn lend_slow<
-    'a,
-    R: Wait,
-    K: Hash + Eq + Drop,
-    V: Drop,
-    S: BuildHasher,
-    T: Drop,
-    F: FnMut(Option<(&K, &V)>) -> Operation<V, T>,
->(
-    means: &Means<'_, '_, R>,
-    window: &mut Window<'a, K, V, S>,
-    given: &mut OwnSteps<CapacityCause>,
-    start: Start<K, V>,
-    f: &mut F,
-) -> Result<Compute<'a, K, V, T>, Refused>
-    requires callable { F.IsAlwaysCallable f.old }
-    requires initial { IsPowerOfTwo means.now.initial }
-    requires can { (since : _) × (key : K) × (first : F) × IsOnItsWay since window.old key
-        (Operates F.FnMut) first f.old start }
-    ensures ends { Ends (changes result) window.old window.new }
-    ensures tells { TellsWhy means.now.initial window.new given.new.done
-        (λ cause. result ≡ Err cause) }
-    ensures computed { (since : _) (key : K) (first : F) → IsOnItsWay since window.old key
-        (Operates F.FnMut) first f.old start → IsComputeBy K.eq key (past since)
-        (past window.new) (Operates F.FnMut) first result }
-{
-    let book = window.book;
-    let mut computing = machine_of(window, means.initial, start);
-    for _ in means.rt.forever() {
-        match computing.turn(means.rt, means.alloc, means.shard, window) {
-            Next::Answered(answer) => {
-                computing.tell(means.rt, means.alloc, means.shard, answer, window)
-            }
-            Next::Shows(shown) => {
-                let operation = operate(book, &shown, f);
-                let answer = computing.hear(shown, operation);
-                computing.tell(means.rt, means.alloc, means.shard, answer, window);
-            }
-            Next::Replied => {
-                *given = computing.writer.call.given.again();
-                return computing.replied(window);
-            }
-        }
+    #[inline(always)]
+    fn operate(f: &mut F, shown: Option<(&'a K, &'a V)>) -> Operation<V, T> {
+        f(shown)
     }
-    unreachable!()
 }
 
 /// Does with a key's pair, or where it has none, what the closure answers that is lent it. Where it
@@ -177,15 +63,7 @@ pub fn compute_lent<
     ensures computed { IsComputeBy K.eq key (past window.old) (past window.new) (Operates F.FnMut) f
         result }
 {
-    window.learn();
-    let means = Means {
-        rt,
-        alloc,
-        initial,
-        shard,
-    };
-    match lend_fast(&means, window, key, &mut f) {
-        First::Over(answer) => answer,
-        First::On(start) => lend_slow(&means, window, given, start, &mut f),
-    }
+    compute::<Lending, R, K, V, S, T, F>(
+        rt, alloc, initial, shard, window, given, key, &mut f,
+    ).answer
 }

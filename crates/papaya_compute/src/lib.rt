@@ -1,14 +1,16 @@
 //! Computes on the shared map: their machine, answered by steps on the book, by what a closure or a
 //! rule said.
 //!
-//! [`computing`] has the steps, which name no closure: the loop of a compute whose closure may keep
-//! what it is shown stands in `papaya_map`. [`lending`] has that of one whose closure is lent it.
-//! [`deciding`] has the calls whose closure is a rule of a type of its own, with their loop, and
-//! [`rules`] these rules. Both first try at once what a search of the root allows (`fast_path`).
+//! [`operating`] has the one compute, generic over how it asks: its fast path, and the loop of its
+//! slow one. [`lending`] calls it with a closure that is lent the pair, and [`deciding`] with one of
+//! the [`rules`]. What both paths do names neither: what is done at once stands in [`fast_path`],
+//! the steps of the machine in [`computing`]. So a closure that may keep what it is shown has both
+//! paths in `papaya_map`.
 #![tactic(auto)]
 
 pub mod computing;
 pub mod deciding;
 pub mod fast_path;
 pub mod lending;
+pub mod operating;
 pub mod rules;

@@ -65,6 +65,15 @@ impl Lanes {
         &self.lanes[lane].counter
     }
 
+    /// Returns how many numbers the lanes have given out. It loads the counters one after the other.
+    pub(crate) fn given(&self) -> u64 {
+        let mut given: u64 = 0;
+        for lane in &self.lanes {
+            given = given.saturating_add(lane.counter.given());
+        }
+        given
+    }
+
     /// The names of the counters.
     pub(crate) fn tag(&self) -> Tag
         ensures { result.numbers ≡ self.now }

@@ -213,16 +213,16 @@ impl<T: Blank + Drop> Log<T> {
     }
 
     /// Has a lane slots left in a row, before the last of the parts in which slots are written ahead?
-    fn has_room(&self, lane: u64, row: usize) -> bool
-        requires { row < 38 }
+    fn has_room(&self, lane: usize, row: usize) -> bool
+        requires { (lane < 8) × (row < 38) }
     {
-        let Some(place) = self.next_place(lane) else {
+        let index = self.lanes.counter(lane).given() as usize;
+        if index >= LANE_SPAN {
             return false;
-        };
+        }
+        let (found, slot) = place_of(self.first_bits, index);
         let part = length_of(self.first_bits, row);
-        let found = place.row == row && place.slot < part - part / AHEAD_PARTS;
-        self.give_back(place);
-        found
+        found == row && slot < part - part / AHEAD_PARTS
     }
 
     /// Writes some slots of a row that is not made yet, so that whoever makes it pays for few. It
@@ -232,7 +232,7 @@ impl<T: Blank + Drop> Log<T> {
             return;
         }
         let mut roomy: usize = 0;
-        for lane in 0..LANES as u64 {
+        for lane in 0..LANES {
             if self.has_room(lane, row - 1) {
                 roomy = roomy.wrapping_add(1);
             }
@@ -424,6 +424,13 @@ impl<T: Blank + Drop> Log<T> {
 }
 
 impl<T> Log<T> {
+    /// Returns how many numbers the log has given out: for values that were pushed, for pushes that
+    /// are under way, and for pushes that failed while another one took a number. It loads the
+    /// lanes' counters one after the other, so it may miss pushes that other threads make meanwhile.
+    pub fn stored(&self) -> usize {
+        self.lanes.given() as usize
+    }
+
     /// The value that was pushed.
     #[inline(always)]
     pub fn value<'a>(&'a self, pushed: &Pushed<T>) -> &'a T

@@ -51,8 +51,8 @@ fn add_table<'a, K: Hash + Eq, V, S: BuildHasher, L: Listing<K, V>>(
 }
 
 /// Adds the pairs of a map, table by table from the root on. It loads words and nothing else:
-/// it waits for nobody and copies nothing. A pair that a refused copier left half copied is
-/// added twice.
+/// it waits for nobody and copies nothing. A pair that stands in two tables is added twice: its
+/// copier is still under way, or was refused.
 fn add_all<'a, K: Hash + Eq, V, S: BuildHasher, L: Listing<K, V>>(
     window: &mut Window<'a, K, V, S>,
     out: &mut L,

@@ -54,7 +54,7 @@ impl<'a, K: Hash + Eq, V, S: BuildHasher> Model for Iter<'a, K, V, S> {
 
 impl<'a, K: Hash + Eq, V, S: BuildHasher> Iter<'a, K, V, S> {
     /// A walk over a root that was taken, from its first slot on. `began` is what was seen
-    /// before that.
+    /// before that. `iter` of a map makes its walk by this; a caller has no need of it.
     pub fn over(
         book: &'a Book<K, V, S>,
         kept: &KeptRoot<'a, K, V, S>,
@@ -84,7 +84,7 @@ impl<'a, K: Hash + Eq, V, S: BuildHasher> Iter<'a, K, V, S> {
         }
     }
 
-    /// What the walk has seen by now.
+    /// What the walk has seen by now. By this a pass learns what a walk has seen.
     pub fn seen(&self) -> Seen<K, V, S>
         ensures book { result.book ≡ self.now.book }
         ensures history { history_of result.log ≡ self.now.history }

@@ -8,7 +8,8 @@ ghost use Rattle.papaya_timeline.specs.Core.{unlimited};
 ghost use Rattle.papaya_seq.specs.Clones.{HasFreeParts, HasParts, IsCloneRefusal, IsCopied, IsCopyCut};
 ghost use Rattle.papaya_seq.specs.Lengths.{IsAskedFor};
 ghost use Rattle.papaya_seq.specs.Clones.{IsRebuildRefusal, IsRebuilt};
-ghost use Rattle.papaya_seq.specs.Map.{entry_of};
+ghost use Rattle.papaya_seq.specs.Map.{Keeps, Unchanged, entry_of};
+ghost use Rattle.papaya_seq.specs.Resizes.{IsReserveCause};
 
 use crate::seq::HashMap;
 use papaya_ask::ask::At;
@@ -98,6 +99,20 @@ impl<K: Hash + Eq + Clone + Drop, V: Clone + Drop, S: BuildHasher + Clone + Drop
         self.mode.limit = limit;
     }
 
+    /// Makes room for so many pairs. A map that was given no capacity gets no table for no pairs.
+    #[tactic(auto, using(crate::proofs::Filled::keeps_itself))]
+    fn make_room(&mut self, pairs: usize) -> Result<(), Refused>
+        ensures err { IfErr result (λ e. IsReserveCause K.eq self.old pairs e self.new) }
+        ensures map { Unchanged K.eq self.old.store self.new.store }
+        ensures words { self.new.store ≡ record self.old.store { words = self.new.store.words } }
+        ensures keeps { Keeps self.old self.new }
+    {
+        if pairs == 0 && self.initial <= 1 {
+            return Ok(());
+        }
+        self.reserve(pairs)
+    }
+
     /// A map of clones with the parts of this one. It gets its limit once it has its pairs: no call
     /// that fills it takes a number.
     fn rebuilt(&self) -> Result<HashMap<K, V, S>, Refused>
@@ -125,7 +140,7 @@ impl<K: Hash + Eq + Clone + Drop, V: Clone + Drop, S: BuildHasher + Clone + Drop
         )?;
         fresh.initial = self.initial;
         let pairs = self.len();
-        match fresh.reserve(pairs) {
+        match fresh.make_room(pairs) {
             Ok(()) => {}
             Err(refused) => return Err(refused),
         }
@@ -140,9 +155,9 @@ impl<K: Hash + Eq + Clone + Drop, V: Clone + Drop, S: BuildHasher + Clone + Drop
 
     /// Builds the map anew from clones of its pairs, and gives back the memory of those that
     /// were replaced or removed. Pairs are numbered anew. Mode, limit, initial capacity and
-    /// number of shards stay, and there is room for the pairs. So many numbers are taken then as
-    /// there are pairs, and no limit refuses it. 0.2.5 frees pairs while the map is used, and
-    /// has no such call.
+    /// number of shards stay, and there is room for the pairs. A map that was given no capacity, and
+    /// has no pairs, has no table then. So many numbers are taken then as there are pairs, and no
+    /// limit refuses it. 0.2.5 frees pairs while the map is used, and has no such call.
     ///
     /// A clone of a key has to be equal to it. While the new map is filled both need memory. It is
     /// refused as [`HashMap::try_clone`] is, and then the map is as it was.

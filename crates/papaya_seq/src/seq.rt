@@ -214,6 +214,14 @@ impl<K: Hash + Eq, V, S: BuildHasher> HashMap<K, V, S> {
         self.len() == 0
     }
 
+    /// Returns how many pairs the log holds: those of the map, and those that were replaced or
+    /// removed since the map was made or reclaimed. A pair of two numbers takes 24 bytes.
+    pub fn stored(&self) -> usize
+        ensures { result ≡ length self.now.store.pairs }
+    {
+        self.store.stored()
+    }
+
     /// How many slots the root table has; 0 where there is none yet. It has as many as the initial
     /// capacity, or more.
     pub fn slots(&self) -> usize

@@ -3,7 +3,7 @@ ghost use Rattle.std.specs.Prelude.{◌≡◌, IfOk, IfErr, MatchBool, is_some};
 ghost use Rattle.papaya_seq.specs.Map.{Inserts, Removes, Unchanged};
 
 use crate::expect::is;
-use crate::numbers::{Usual, finds, has, inserts};
+use crate::numbers::{Fold, Making, Usual, Work, has, on_usual};
 use papaya_ask::call::{Call, Reply};
 use papaya_call::answers::Listed;
 use papaya_keys::guard::Equivalent;
@@ -14,23 +14,6 @@ use std::alloc::Global;
 use std::hash::{BuildHasher, Hash};
 use std::process::Abort;
 use std::test::Fail;
-
-/// A key is stored and looked up.
-fn stores_one(rt: &impl Abort, map: &mut Usual) {
-    inserts(rt, map, 65, 1, Ok(None));
-    finds(rt, map, 65, Some(&1));
-    has(rt, map, 1);
-}
-
-/// Key 37 is stored three times, and answers what it had.
-fn replaces_twice(rt: &impl Abort, map: &mut Usual) {
-    inserts(rt, map, 37, 1, Ok(None));
-    inserts(rt, map, 37, 2, Ok(Some(&1)));
-    inserts(rt, map, 37, 3, Ok(Some(&2)));
-    finds(rt, map, 37, Some(&3));
-    is(rt, map.get_key_value(&37), Some((&37, &3)));
-    has(rt, map, 1);
-}
 
 /// Stores a pair, and says whether it took the place of one. What the map is after it follows from
 /// the clause of `insert`.
@@ -65,7 +48,9 @@ fn removes<K: Hash + Eq + Drop, V: Drop, S: BuildHasher, Q: Equivalent<K>>(
 /// Key 5 is stored twice and removed twice.
 fn stores_and_removes(rt: &impl Abort, map: &mut Usual) {
     is(rt, stores(map, 5, 1), Ok(false));
+    has(rt, map, 1);
     is(rt, stores(map, 5, 2), Ok(true));
+    is(rt, map.get_key_value(&5), Some((&5, &2)));
     is(rt, removes(map, &5u64), Ok(true));
     is(rt, removes(map, &5u64), Ok(false));
     has(rt, map, 0);
@@ -130,27 +115,24 @@ fn runs_in_turn(rt: &impl Abort, alloc: Global, map: &mut Usual) -> Result<(), F
 /// What is done with a new map.
 #[derive(Clone, Copy)]
 enum Case {
-    StoresOne,
-    ReplacesTwice,
     StoresAndRemoves,
     RunsInTurn,
 }
 
+impl Work<Fold> for Case {
+    fn is_done<R: Abort>(self, rt: &R, alloc: Global, map: &mut Usual) -> Result<(), Fail> {
+        match self {
+            Case::StoresAndRemoves => stores_and_removes(rt, map),
+            Case::RunsInTurn => runs_in_turn(rt, alloc, map)?,
+        }
+        Ok(())
+    }
+}
+
 #[test]
 fn calls_on_new_maps(rt: HostRuntime) -> Result<(), Fail> {
-    for case in [
-        Case::StoresOne,
-        Case::ReplacesTwice,
-        Case::StoresAndRemoves,
-        Case::RunsInTurn,
-    ] {
-        let mut map: Usual = HashMap::default(rt.alloc())?;
-        match case {
-            Case::StoresOne => stores_one(&rt, &mut map),
-            Case::ReplacesTwice => replaces_twice(&rt, &mut map),
-            Case::StoresAndRemoves => stores_and_removes(&rt, &mut map),
-            Case::RunsInTurn => runs_in_turn(&rt, rt.alloc(), &mut map)?,
-        }
+    for case in [Case::StoresAndRemoves, Case::RunsInTurn] {
+        on_usual(&rt, rt.alloc(), Making::Default, case)?;
     }
     Ok(())
 }

@@ -1,52 +1,91 @@
 // Maps of clones, and maps that are built anew.
 use crate::expect::is;
-use crate::growth::made;
-use crate::numbers::Numbers;
-use papaya_hashers::times::TOGETHER;
+use crate::numbers::{Numbers, Parts, Work, on_made};
+use papaya_hashers::times::{TOGETHER, Times};
 use papaya_words::probe::{Refused, ResizeMode};
 use std::alloc::Global;
+use std::process::Abort;
 use std::test::Fail;
 
 /// The keys below this one are stored twice, and each is its own value then.
-fn stored_twice(alloc: Global, end: u64) -> Result<Numbers, Refused> {
-    let mut map = made(alloc, ResizeMode::Blocking, 0, TOGETHER)?;
+fn stores_twice(map: &mut Numbers, end: u64) -> Result<(), Refused> {
     for key in 0..end {
         let _ = map.put(key, 1000)?;
         let _ = map.put(key, key)?;
     }
-    Ok(map)
+    Ok(())
 }
+
+/// Both have twenty keys, and then one of them is changed.
+fn is_apart(rt: &impl Abort, map: &Numbers, clone: &mut Numbers) -> Result<(), Fail> {
+    is(rt, (clone.len(), map.eq(clone)), (20, true));
+    let _ = clone.put(7, 70)?;
+    is(rt, (map.get(&7), map.eq(clone)), (Some(&7), false));
+    Ok(())
+}
+
+/// The pairs are numbered anew, and those that were replaced are gone.
+fn is_reclaimed(rt: &impl Abort, map: &mut Numbers, clone: &Numbers) -> Result<(), Fail> {
+    is(rt, map.pair(199).is_some(), true);
+    map.reclaim()?;
+    is(rt, (map.len(), map.eq(clone)), (100, true));
+    let there = (map.pair(99).is_some(), map.pair(100).is_some());
+    is(rt, there, (true, false));
+    Ok(())
+}
+
+/// What is done with a map of some keys and its clone.
+#[derive(Clone, Copy)]
+enum Case {
+    /// One of them is changed.
+    IsApart,
+    /// There is no key.
+    IsEmpty,
+    /// The map is built anew.
+    IsReclaimed,
+}
+
+impl Case {
+    /// How many keys there are.
+    fn keys(self) -> u64 {
+        match self {
+            Case::IsApart => 20,
+            Case::IsEmpty => 0,
+            Case::IsReclaimed => 100,
+        }
+    }
+
+    fn is_so(self, rt: &impl Abort, map: &mut Numbers, clone: &mut Numbers) -> Result<(), Fail> {
+        match self {
+            Case::IsApart => is_apart(rt, map, clone)?,
+            Case::IsEmpty => is(rt, (clone.len(), map.eq(clone)), (0, true)),
+            Case::IsReclaimed => is_reclaimed(rt, map, clone)?,
+        }
+        Ok(())
+    }
+}
+
+impl Work<Times> for Case {
+    fn is_done<R: Abort>(self, rt: &R, alloc: Global, map: &mut Numbers) -> Result<(), Fail> {
+        stores_twice(map, self.keys())?;
+        let mut clone = map.try_clone(alloc)?;
+        self.is_so(rt, map, &mut clone)
+    }
+}
+
+const PARTS: Parts = Parts::All(ResizeMode::Blocking, 0, TOGETHER);
 
 #[test]
 fn clone_is_equal_and_apart(rt: HostRuntime) -> Result<(), Fail> {
-    let map = stored_twice(rt.alloc(), 20)?;
-    let mut clone = map.try_clone(rt.alloc())?;
-    is(&rt, (clone.len(), map.eq(&clone)), (20, true));
-    let _ = clone.put(7, 70)?;
-    is(&rt, (map.get(&7), map.eq(&clone)), (Some(&7), false));
-    Ok(())
+    on_made(&rt, rt.alloc(), PARTS, Case::IsApart)
 }
 
 #[test]
 fn clone_of_an_empty_map_is_empty(rt: HostRuntime) -> Result<(), Fail> {
-    let map = stored_twice(rt.alloc(), 0)?;
-    let clone = map.try_clone(rt.alloc())?;
-    is(&rt, (clone.len(), map.eq(&clone)), (0, true));
-    Ok(())
+    on_made(&rt, rt.alloc(), PARTS, Case::IsEmpty)
 }
 
 #[test]
 fn reclaimed_map_is_as_before(rt: HostRuntime) -> Result<(), Fail> {
-    let mut map = stored_twice(rt.alloc(), 100)?;
-    let clone = map.try_clone(rt.alloc())?;
-    is(&rt, map.pair(199).is_some(), true);
-    map.reclaim()?;
-    is(&rt, (map.len(), map.eq(&clone)), (100, true));
-    // The pairs are numbered anew, and those that were replaced are gone.
-    is(
-        &rt,
-        (map.pair(99).is_some(), map.pair(100).is_some()),
-        (true, false),
-    );
-    Ok(())
+    on_made(&rt, rt.alloc(), PARTS, Case::IsReclaimed)
 }

@@ -1,10 +1,10 @@
 // Computes that change nothing, that tell numbers, and that leave what they abort with.
 use crate::expect::is;
-use crate::numbers::{Usual, finds};
+use crate::numbers::{Fold, Making, Usual, Work, finds, on_usual};
 use papaya_call::answers::Operation;
 use papaya_keys::compute::{Compute, Computed};
-use papaya_seq::seq::HashMap;
 use papaya_words::probe::Refused;
+use std::alloc::Global;
 use std::process::Abort;
 use std::test::Fail;
 
@@ -51,6 +51,17 @@ enum Case {
     LeavesItsAbort,
 }
 
+impl Work<Fold> for Case {
+    fn is_done<R: Abort>(self, rt: &R, _alloc: Global, map: &mut Usual) -> Result<(), Fail> {
+        match self {
+            Case::ChangesNothing => changes_nothing(rt, map),
+            Case::TellsNumbers => tells_numbers(rt, map),
+            Case::LeavesItsAbort => leaves_its_abort(rt, map),
+        }
+        Ok(())
+    }
+}
+
 #[test]
 fn computes_of_new_maps(rt: HostRuntime) -> Result<(), Fail> {
     for case in [
@@ -58,12 +69,7 @@ fn computes_of_new_maps(rt: HostRuntime) -> Result<(), Fail> {
         Case::TellsNumbers,
         Case::LeavesItsAbort,
     ] {
-        let mut map: Usual = HashMap::new(rt.alloc())?;
-        match case {
-            Case::ChangesNothing => changes_nothing(&rt, &mut map),
-            Case::TellsNumbers => tells_numbers(&rt, &mut map),
-            Case::LeavesItsAbort => leaves_its_abort(&rt, &mut map),
-        }
+        on_usual(&rt, rt.alloc(), Making::New, case)?;
     }
     Ok(())
 }

@@ -1,23 +1,12 @@
 // Tables that grow while keys are stored, looked up, removed and updated.
 use crate::expect::{is, is_at};
-use crate::numbers::{Numbers, finds, has, inserts, removes, tries};
+use crate::numbers::{Numbers, Parts, Work, finds, has, inserts, made, on_made, removes, tries};
 use papaya_hashers::times::{APART, TOGETHER, Times};
 use papaya_keys::occupied::{NotInserted, OccupiedError};
-use papaya_seq::seq::HashMap;
-use papaya_words::probe::{Refused, ResizeMode};
+use papaya_words::probe::ResizeMode;
 use std::alloc::Global;
 use std::process::Abort;
 use std::test::Fail;
-
-/// A map of this mode, for so many pairs.
-pub fn made(
-    alloc: Global,
-    mode: ResizeMode,
-    capacity: usize,
-    hasher: Times,
-) -> Result<Numbers, Refused> {
-    HashMap::with_parts(alloc, mode, capacity, 1, hasher, None)
-}
 
 /// The keys from one to another are new, and each is its own value.
 pub fn stores(rt: &impl Abort, map: &mut Numbers, from: u64, to: u64) {
@@ -66,7 +55,7 @@ fn fills_new(
     hasher: Times,
     looks: &[(u64, usize, bool)],
 ) -> Result<(), Fail> {
-    let mut map = made(alloc, mode, capacity, hasher)?;
+    let mut map = made(alloc, Parts::All(mode, capacity, hasher))?;
     fills(rt, &mut map, looks);
     Ok(())
 }
@@ -134,19 +123,16 @@ fn one_call_moves_all(rt: HostRuntime) -> Result<(), Fail> {
 }
 
 /// A table in which pairs were removed everywhere makes room for a smaller one.
-#[test]
-fn removed_pairs_leave_a_smaller_table(rt: HostRuntime) -> Result<(), Fail> {
-    let mut map = made(rt.alloc(), ResizeMode::default(), 0, TOGETHER)?;
+fn gets_smaller(rt: &impl Abort, map: &mut Numbers) {
     for key in 0..26u64 {
-        stores(&rt, &mut map, key, key + 1);
-        removes(&rt, &mut map, key, Ok(Some(&key)));
+        stores(rt, map, key, key + 1);
+        removes(rt, map, key, Ok(Some(&key)));
     }
-    looks_so(&rt, &map, 26, 32, false);
-    has(&rt, &map, 0);
-    stores(&rt, &mut map, 26, 27);
-    looks_so(&rt, &map, 27, 16, false);
-    has(&rt, &map, 1);
-    Ok(())
+    looks_so(rt, map, 26, 32, false);
+    has(rt, map, 0);
+    stores(rt, map, 26, 27);
+    looks_so(rt, map, 27, 16, false);
+    has(rt, map, 1);
 }
 
 /// While pairs are being moved insertions do as they do at other times.
@@ -170,12 +156,36 @@ fn changes_while_moving(rt: &impl Abort, map: &mut Numbers) {
     removes(rt, map, 12, Ok(None));
 }
 
+/// What is done with a map.
+#[derive(Clone, Copy)]
+enum Case {
+    GetsSmaller,
+    GoesOn,
+}
+
+impl Work<Times> for Case {
+    fn is_done<R: Abort>(self, rt: &R, _alloc: Global, map: &mut Numbers) -> Result<(), Fail> {
+        match self {
+            Case::GetsSmaller => gets_smaller(rt, map),
+            Case::GoesOn => {
+                fills(rt, map, &[(9, 8, true)]);
+                insertions_while_moving(rt, map);
+                changes_while_moving(rt, map);
+                has(rt, map, 9);
+            }
+        }
+        Ok(())
+    }
+}
+
+#[test]
+fn removed_pairs_leave_a_smaller_table(rt: HostRuntime) -> Result<(), Fail> {
+    let parts = Parts::All(ResizeMode::default(), 0, TOGETHER);
+    on_made(&rt, rt.alloc(), parts, Case::GetsSmaller)
+}
+
 #[test]
 fn calls_go_on_while_pairs_are_moved(rt: HostRuntime) -> Result<(), Fail> {
-    let mut map = made(rt.alloc(), ResizeMode::Incremental(1), 6, APART)?;
-    fills(&rt, &mut map, &[(9, 8, true)]);
-    insertions_while_moving(&rt, &mut map);
-    changes_while_moving(&rt, &mut map);
-    has(&rt, &map, 9);
-    Ok(())
+    let parts = Parts::All(ResizeMode::Incremental(1), 6, APART);
+    on_made(&rt, rt.alloc(), parts, Case::GoesOn)
 }

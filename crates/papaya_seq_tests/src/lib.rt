@@ -24,6 +24,8 @@ mod removals;
 #[cfg(test)]
 mod resizing;
 #[cfg(test)]
+mod sizes;
+#[cfg(test)]
 mod stored_keys;
 #[cfg(test)]
 mod texts;

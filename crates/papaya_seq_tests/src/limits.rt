@@ -1,18 +1,10 @@
 // Maps with a limit on the pairs that they log.
 use crate::expect::is;
-use crate::numbers::{Usual, has, inserts, removes, tries};
-use papaya_seq::seq::HashMap;
-use papaya_words::probe::{Refused, ResizeMode};
+use crate::numbers::{Fold, Making, Usual, Work, has, inserts, on_usual, removes, tries};
+use papaya_words::probe::Refused;
 use std::alloc::Global;
-use std::hash::{BuildHasherDefault, FoldHasher};
 use std::process::Abort;
 use std::test::Fail;
-
-/// A map that logs so many pairs at most.
-fn limited(alloc: Global, pairs: u64) -> Result<Usual, Refused> {
-    let hasher = BuildHasherDefault::<FoldHasher>::new();
-    HashMap::with_parts(alloc, ResizeMode::default(), 0, 1, hasher, Some(pairs))
-}
 
 /// Three pairs are logged, of which one replaces another. No further one is, and what is
 /// there stays.
@@ -40,30 +32,59 @@ fn refuses(rt: &impl Abort, stored: Result<&u64, Refused>) {
     is(rt, stored, Err(Refused::Limit));
 }
 
+/// A clone has no limit.
+fn has_no_limit(rt: &impl Abort, clone: &mut Usual) {
+    for key in 10..14 {
+        is(rt, clone.put(key, key), Ok(true));
+    }
+}
+
+fn clones(rt: &impl Abort, alloc: Global, map: &Usual) -> Result<(), Fail> {
+    let mut clone = map.try_clone(alloc)?;
+    has_no_limit(rt, &mut clone);
+    Ok(())
+}
+
+/// With a limit of none nothing is stored, by whichever call.
+fn stores_none(rt: &impl Abort, map: &mut Usual) {
+    inserts(rt, map, 1, 10, Err(Refused::Limit));
+    is(rt, map.slots(), 32);
+    tries(rt, map, 1, 10, Err(Refused::Limit));
+    refuses(rt, map.get_or_insert(1, 10));
+    refuses(rt, map.update_or_insert(1, |v| *v, 10));
+    is(rt, map.update(1, |v| *v).is_ok(), true);
+    removes(rt, map, 1, Ok(None));
+    has(rt, map, 0);
+}
+
+/// How many pairs a map may log.
+#[derive(Clone, Copy)]
+enum Limit {
+    Three,
+    None,
+}
+
+impl Work<Fold> for Limit {
+    fn is_done<R: Abort>(self, rt: &R, alloc: Global, map: &mut Usual) -> Result<(), Fail> {
+        match self {
+            Limit::Three => {
+                logs_three(rt, map);
+                clones(rt, alloc, map)?;
+                map.reclaim()?;
+                logs_two_more(rt, map);
+            }
+            Limit::None => stores_none(rt, map),
+        }
+        Ok(())
+    }
+}
+
 #[test]
 fn limit_of_three(rt: HostRuntime) -> Result<(), Fail> {
-    let mut map = limited(rt.alloc(), 3)?;
-    logs_three(&rt, &mut map);
-    let mut clone = map.try_clone(rt.alloc())?;
-    map.reclaim()?;
-    logs_two_more(&rt, &mut map);
-    // A clone has no limit.
-    for key in 10..14 {
-        is(&rt, clone.put(key, key), Ok(true));
-    }
-    Ok(())
+    on_usual(&rt, rt.alloc(), Making::Limit(3), Limit::Three)
 }
 
 #[test]
 fn limit_of_none(rt: HostRuntime) -> Result<(), Fail> {
-    let mut map = limited(rt.alloc(), 0)?;
-    inserts(&rt, &mut map, 1, 10, Err(Refused::Limit));
-    is(&rt, map.slots(), 32);
-    tries(&rt, &mut map, 1, 10, Err(Refused::Limit));
-    refuses(&rt, map.get_or_insert(1, 10));
-    refuses(&rt, map.update_or_insert(1, |v| *v, 10));
-    assert!(&rt; map.update(1, |v| *v).is_ok());
-    removes(&rt, &mut map, 1, Ok(None));
-    has(&rt, &map, 0);
-    Ok(())
+    on_usual(&rt, rt.alloc(), Making::Limit(0), Limit::None)
 }

@@ -1,6 +1,6 @@
 // How maps are made, and what they are refused for.
 use crate::expect::is;
-use crate::numbers::{Numbers, Usual};
+use crate::numbers::{Making, Numbers, Usual, usual};
 use papaya_hashers::times::TOGETHER;
 use papaya_seq::seq::HashMap;
 use papaya_words::probe::{Refused, ResizeMode};
@@ -8,9 +8,9 @@ use std::alloc::Global;
 use std::hash::{BuildHasherDefault, FoldHasher};
 use std::test::Fail;
 
-/// The slots of a map for so many pairs, or why there is none.
-fn slots_for(alloc: Global, capacity: usize) -> Result<usize, Refused> {
-    let map: Usual = HashMap::with_capacity(alloc, capacity)?;
+/// The slots of a map that is made so, or why there is none.
+fn slots_of(alloc: Global, making: Making) -> Result<usize, Refused> {
+    let map = usual(alloc, making)?;
     Ok(map.slots())
 }
 
@@ -22,14 +22,14 @@ fn capacity_is_for_so_many_pairs(rt: HostRuntime) {
         (4_294_967_296, Err(Refused::Capacity)),
         (3_221_225_473, Err(Refused::Capacity)),
     ] {
-        is(&rt, slots_for(rt.alloc(), capacity), wanted);
+        let slots = slots_of(rt.alloc(), Making::Capacity(capacity));
+        is(&rt, slots, wanted);
     }
 }
 
 #[test]
 fn slots_of_new_maps(rt: HostRuntime) -> Result<(), Fail> {
-    let map: Usual = HashMap::new(rt.alloc())?;
-    is(&rt, map.slots(), 0);
+    is(&rt, slots_of(rt.alloc(), Making::New), Ok(0));
     let hasher = BuildHasherDefault::<FoldHasher>::new();
     let sized: Usual = HashMap::with_capacity_and_hasher(rt.alloc(), 10, hasher)?;
     is(&rt, (sized.slots(), sized.len()), (16, 0));

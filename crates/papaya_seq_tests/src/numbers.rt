@@ -1,17 +1,99 @@
-// Maps of numbers, and their calls with what they are to answer.
+// Maps of numbers, and their calls with what they are to answer. A function that owns a map makes it
+// and hands it on, since its proof looks at all that may become of the map.
 use crate::expect::is;
 use papaya_hashers::times::Times;
 use papaya_keys::occupied::OccupiedError;
 use papaya_seq::seq::HashMap;
-use papaya_words::probe::Refused;
-use std::hash::BuildHasher;
+use papaya_words::probe::{Refused, ResizeMode};
+use std::alloc::Global;
+use std::hash::{BuildHasher, BuildHasherDefault, FoldHasher};
 use std::process::Abort;
+use std::test::Fail;
 
-/// The maps of the tests whose hasher is as good as another.
-pub type Usual = HashMap<u64, u64>;
+/// A hasher that is as good as another.
+pub type Fold = BuildHasherDefault<FoldHasher>;
+
+/// The maps of the tests for which it is.
+pub type Usual = HashMap<u64, u64, Fold>;
 
 /// The maps of the tests that say which keys share a path.
 pub type Numbers = HashMap<u64, u64, Times>;
+
+/// How a map with the usual hasher is made.
+#[derive(Clone, Copy)]
+pub enum Making {
+    New,
+    Default,
+    /// For so many pairs.
+    Capacity(usize),
+    /// It logs so many pairs at most.
+    Limit(u64),
+}
+
+pub fn usual(alloc: Global, making: Making) -> Result<Usual, Refused> {
+    match making {
+        Making::New => HashMap::new(alloc),
+        Making::Default => HashMap::default(alloc),
+        Making::Capacity(capacity) => HashMap::with_capacity(alloc, capacity),
+        Making::Limit(pairs) => {
+            let hasher = BuildHasherDefault::<FoldHasher>::new();
+            HashMap::with_parts(alloc, ResizeMode::default(), 0, 1, hasher, Some(pairs))
+        }
+    }
+}
+
+/// How a map is made that says which keys share a path.
+#[derive(Clone, Copy)]
+pub enum Parts {
+    /// With this hasher alone.
+    Hasher(Times),
+    /// With this mode, and for so many pairs.
+    All(ResizeMode, usize, Times),
+}
+
+pub fn made(alloc: Global, parts: Parts) -> Result<Numbers, Refused> {
+    match parts {
+        Parts::Hasher(hasher) => HashMap::with_hasher(alloc, hasher),
+        Parts::All(mode, capacity, hasher) => {
+            HashMap::with_parts(alloc, mode, capacity, 1, hasher, None)
+        }
+    }
+}
+
+/// What is done with a map.
+pub trait Work<S: BuildHasher> {
+    fn is_done<R: Abort>(
+        self,
+        rt: &R,
+        alloc: Global,
+        map: &mut HashMap<u64, u64, S>,
+    ) -> Result<(), Fail>;
+}
+
+/// It is done with a map that is made so.
+pub fn on_usual<R: Abort, W: Work<Fold> + Copy>(
+    rt: &R,
+    alloc: Global,
+    making: Making,
+    work: W,
+) -> Result<(), Fail> {
+    let mut map = usual(alloc, making)?;
+    work.is_done(rt, alloc, &mut map)
+}
+
+/// The same, also where memory was refused for the map at first.
+pub fn on_made<R: Abort, W: Work<Times> + Copy>(
+    rt: &R,
+    alloc: Global,
+    parts: Parts,
+    work: W,
+) -> Result<(), Fail> {
+    let mut map = match made(alloc, parts) {
+        Err(Refused::Memory) => made(alloc, parts)?,
+        first => first?,
+    };
+    work.is_done(rt, alloc, &mut map)
+}
 
 /// An insertion answers so.
 pub fn inserts<S: BuildHasher>(

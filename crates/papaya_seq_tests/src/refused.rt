@@ -1,20 +1,13 @@
 // A growth that is refused leaves the map as it was. Where the tests run with a failing allocation,
 // as by `rt try --test --fail-alloc N`, a call here meets it.
-use crate::numbers::{Numbers, removes};
+use crate::expect::{is, is_at};
+use crate::numbers::{Numbers, Parts, Work, on_made, removes};
 use papaya_call::answers::Operation;
-use papaya_hashers::times::TOGETHER;
-use papaya_seq::seq::HashMap;
+use papaya_hashers::times::{TOGETHER, Times};
 use papaya_words::probe::Refused;
 use std::alloc::Global;
+use std::process::Abort;
 use std::test::Fail;
-
-/// A map, also where memory was refused for it at first.
-fn made(alloc: Global) -> Result<Numbers, Refused> {
-    match HashMap::with_hasher(alloc, TOGETHER) {
-        Err(Refused::Memory) => HashMap::with_hasher(alloc, TOGETHER),
-        made => made,
-    }
-}
 
 /// Has the map the keys below this one, each with ten times itself, and no other?
 fn has_below(map: &Numbers, end: u64) -> bool {
@@ -68,43 +61,39 @@ fn insert_again(map: &mut Numbers, key: u64, by: Insertion) -> Result<bool, Refu
     }
 }
 
-#[test]
-fn refused_growth_leaves_the_map(rt: HostRuntime) -> Result<(), Fail> {
-    let mut map = made(rt.alloc())?;
+/// Three calls fill a map in turn.
+fn grows(rt: &impl Abort, map: &mut Numbers) -> Result<(), Fail> {
     for key in 0..20u64 {
         let by = match key % 3 {
             0 => Insertion::Insert,
             1 => Insertion::TryInsert,
             _ => Insertion::GetOrInsert,
         };
-        assert!(rt; insert_again(&mut map, key, by)?, "at key {key}");
-        assert!(rt; has_below(&map, key + 1), "at key {key}");
+        let kept = insert_again(map, key, by)?;
+        is_at(
+            rt,
+            key as usize,
+            (kept, has_below(map, key + 1)),
+            (true, true),
+        );
     }
     // A removal takes no memory.
-    removes(&rt, &mut map, 19, Ok(Some(&190)));
-    assert!(rt; has_below(&map, 19));
+    removes(rt, map, 19, Ok(Some(&190)));
+    is(rt, has_below(map, 19), true);
     Ok(())
 }
 
-/// Fills a map by this call: was it as it should be after each key?
-fn fills(alloc: Global, by: Insertion) -> Result<bool, Refused> {
-    let mut map = made(alloc)?;
+/// One call fills a map.
+fn fills(rt: &impl Abort, map: &mut Numbers, by: Insertion) -> Result<(), Fail> {
     for key in 0..20u64 {
-        let kept = insert_again(&mut map, key, by)?;
-        if !kept || !has_below(&map, key + 1) {
-            return Ok(false);
-        }
+        let kept = insert_again(map, key, by)?;
+        is_at(
+            rt,
+            key as usize,
+            (kept, has_below(map, key + 1)),
+            (true, true),
+        );
     }
-    Ok(true)
-}
-
-#[test]
-fn refused_computes_leave_the_map(rt: HostRuntime) -> Result<(), Fail> {
-    assert!(rt; fills(rt.alloc(), Insertion::TryInsertWith)?);
-    assert!(rt; fills(rt.alloc(), Insertion::GetOrInsertWith)?);
-    assert!(rt; fills(rt.alloc(), Insertion::UpdateOrInsert)?);
-    assert!(rt; fills(rt.alloc(), Insertion::UpdateOrInsertWith)?);
-    assert!(rt; fills(rt.alloc(), Insertion::Compute)?);
     Ok(())
 }
 
@@ -115,16 +104,6 @@ fn updates(map: &mut Numbers, key: u64) -> Result<bool, Refused> {
         Ok(Some(_)) | Err(Refused::Memory) => Ok(has_below(map, 1)),
         Err(refused) => Err(refused),
     }
-}
-
-#[test]
-fn refused_update_leaves_the_map(rt: HostRuntime) -> Result<(), Fail> {
-    let mut map = made(rt.alloc())?;
-    assert!(rt; insert_again(&mut map, 0, Insertion::Insert)?);
-    for _ in 0..20u64 {
-        assert!(rt; updates(&mut map, 0)?);
-    }
-    Ok(())
 }
 
 /// Clones the map: were both as they should be, or this one where that was refused?
@@ -144,16 +123,67 @@ fn reclaims(map: &mut Numbers, end: u64) -> Result<bool, Refused> {
     }
 }
 
+/// What is done with a new map.
+#[derive(Clone, Copy)]
+enum Case {
+    Grows,
+    Fills(Insertion),
+    Updates,
+    Clones,
+}
+
+impl Work<Times> for Case {
+    fn is_done<R: Abort>(self, rt: &R, alloc: Global, map: &mut Numbers) -> Result<(), Fail> {
+        match self {
+            Case::Grows => grows(rt, map),
+            Case::Fills(by) => fills(rt, map, by),
+            Case::Updates => {
+                is(rt, insert_again(map, 0, Insertion::Insert)?, true);
+                for time in 0..20 {
+                    is_at(rt, time, updates(map, 0)?, true);
+                }
+                Ok(())
+            }
+            Case::Clones => {
+                for key in 0..9u64 {
+                    let kept = insert_again(map, key, Insertion::Insert)?;
+                    is_at(rt, key as usize, kept, true);
+                }
+                is(rt, clones(alloc, map, 9)?, true);
+                is(rt, reclaims(map, 9)?, true);
+                Ok(())
+            }
+        }
+    }
+}
+
+const PARTS: Parts = Parts::Hasher(TOGETHER);
+
+#[test]
+fn refused_growth_leaves_the_map(rt: HostRuntime) -> Result<(), Fail> {
+    on_made(&rt, rt.alloc(), PARTS, Case::Grows)
+}
+
+#[test]
+fn refused_computes_leave_the_map(rt: HostRuntime) -> Result<(), Fail> {
+    for by in [
+        Insertion::TryInsertWith,
+        Insertion::GetOrInsertWith,
+        Insertion::UpdateOrInsert,
+        Insertion::UpdateOrInsertWith,
+        Insertion::Compute,
+    ] {
+        on_made(&rt, rt.alloc(), PARTS, Case::Fills(by))?;
+    }
+    Ok(())
+}
+
+#[test]
+fn refused_update_leaves_the_map(rt: HostRuntime) -> Result<(), Fail> {
+    on_made(&rt, rt.alloc(), PARTS, Case::Updates)
+}
+
 #[test]
 fn refused_clones_leave_the_map(rt: HostRuntime) -> Result<(), Fail> {
-    let mut map = made(rt.alloc())?;
-    for key in 0..9u64 {
-        assert!(rt;
-            insert_again(&mut map, key, Insertion::Insert)?,
-            "at key {key}"
-        );
-    }
-    assert!(rt; clones(rt.alloc(), &map, 9)?);
-    assert!(rt; reclaims(&mut map, 9)?);
-    Ok(())
+    on_made(&rt, rt.alloc(), PARTS, Case::Clones)
 }

@@ -1,8 +1,7 @@
 // Removals: what they answer, and what is there after them.
 use crate::expect::is;
-use crate::numbers::{Numbers, finds, has, inserts, removes};
+use crate::numbers::{Numbers, Parts, finds, has, inserts, made, removes};
 use papaya_hashers::times::TOGETHER;
-use papaya_seq::seq::HashMap;
 use papaya_words::probe::Refused;
 use std::process::Abort;
 use std::test::Fail;
@@ -36,7 +35,7 @@ fn removes_two(rt: &impl Abort, map: &mut Numbers) {
 
 #[test]
 fn remove_answers_what_went(rt: HostRuntime) -> Result<(), Fail> {
-    let mut map: Numbers = HashMap::with_hasher(rt.alloc(), TOGETHER)?;
+    let mut map = made(rt.alloc(), Parts::Hasher(TOGETHER))?;
     removes_two(&rt, &mut map);
     Ok(())
 }

@@ -1,11 +1,13 @@
 // Room that is made ahead, and resizes that are ended. Where the tests run with a failing
 // allocation, as by `rt try --test --fail-alloc N`, a call here meets it.
 use crate::expect::{is, is_at};
-use crate::growth::{fills, has_below, looks_so, made};
-use crate::numbers::{Numbers, Usual, finds, has, inserts};
+use crate::growth::{fills, has_below, looks_so};
+use crate::numbers::{
+    Fold, Making, Numbers, Parts, Usual, Work, finds, has, inserts, on_made, on_usual,
+};
 use papaya_ask::call::{Call, Reply};
 use papaya_call::answers::Listed;
-use papaya_hashers::times::APART;
+use papaya_hashers::times::{APART, Times};
 use papaya_seq::outcome::Outcome;
 use papaya_seq::seq::HashMap;
 use papaya_words::probe::{Refused, ResizeMode};
@@ -28,14 +30,12 @@ fn reserves<S: BuildHasher>(
     is_at(rt, more, (map.slots(), map.resizing()), (slots, false));
 }
 
-#[test]
-fn a_new_map_gets_its_first_table(rt: HostRuntime) -> Result<(), Fail> {
-    let mut map: Usual = HashMap::new(rt.alloc())?;
-    reserves(&rt, &mut map, 0, 8);
-    reserves(&rt, &mut map, 6, 8);
-    reserves(&rt, &mut map, 1000, 2048);
-    has(&rt, &map, 0);
-    Ok(())
+/// A new map gets its first table.
+fn makes_room(rt: &impl Abort, map: &mut Usual) {
+    reserves(rt, map, 0, 8);
+    reserves(rt, map, 6, 8);
+    reserves(rt, map, 1000, 2048);
+    has(rt, map, 0);
 }
 
 /// Five pairs in sixteen slots, and room for twenty and then for five thousand more.
@@ -52,11 +52,50 @@ fn makes_room_beside_five(rt: &impl Abort, map: &mut Usual) {
     has(rt, map, 5);
 }
 
+/// A new map is emptied.
+fn empties_none(rt: &impl Abort, map: &mut Usual) {
+    is(rt, map.clear(), Ok(()));
+    is(rt, map.slots(), 0);
+    reserves(rt, map, 0, 8);
+}
+
+/// What is done with a new map.
+#[derive(Clone, Copy)]
+enum New {
+    MakesRoom,
+    MakesRoomBesideFive,
+    EmptiesNone,
+}
+
+impl Work<Fold> for New {
+    fn is_done<R: Abort>(self, rt: &R, _alloc: Global, map: &mut Usual) -> Result<(), Fail> {
+        match self {
+            New::MakesRoom => makes_room(rt, map),
+            New::MakesRoomBesideFive => makes_room_beside_five(rt, map),
+            New::EmptiesNone => empties_none(rt, map),
+        }
+        Ok(())
+    }
+}
+
+#[test]
+fn a_new_map_gets_its_first_table(rt: HostRuntime) -> Result<(), Fail> {
+    on_usual(&rt, rt.alloc(), Making::New, New::MakesRoom)
+}
+
 #[test]
 fn room_beside_pairs(rt: HostRuntime) -> Result<(), Fail> {
-    let mut map: Usual = HashMap::with_capacity(rt.alloc(), 10)?;
-    makes_room_beside_five(&rt, &mut map);
-    Ok(())
+    on_usual(
+        &rt,
+        rt.alloc(),
+        Making::Capacity(10),
+        New::MakesRoomBesideFive,
+    )
+}
+
+#[test]
+fn a_new_map_is_emptied(rt: HostRuntime) -> Result<(), Fail> {
+    on_usual(&rt, rt.alloc(), Making::New, New::EmptiesNone)
 }
 
 /// For so many pairs there is no table, and the map is as it was.
@@ -69,30 +108,13 @@ fn too_much(rt: &impl Abort, map: &mut Numbers) {
 }
 
 /// Eight full slots, and room for so many more.
-fn grows_ahead(
-    rt: &impl Abort,
-    alloc: Global,
-    mode: ResizeMode,
-    more: usize,
-    slots: usize,
-) -> Result<(), Fail> {
-    let mut map = made(alloc, mode, 6, APART)?;
-    fills(rt, &mut map, &[(8, 8, false)]);
+fn grows_ahead(rt: &impl Abort, map: &mut Numbers, more: usize, slots: usize) {
+    fills(rt, map, &[(8, 8, false)]);
     // Nothing is being moved, so nothing is copied.
     is(rt, map.copy_all(), Ok(()));
-    looks_so(rt, &map, 8, 8, false);
-    reserves(rt, &mut map, more, slots);
-    has_below(rt, &map, 8);
-    Ok(())
-}
-
-#[test]
-fn full_tables_grow_ahead(rt: HostRuntime) -> Result<(), Fail> {
-    for mode in MODES {
-        grows_ahead(&rt, rt.alloc(), mode, 4, 16)?;
-        grows_ahead(&rt, rt.alloc(), mode, 8, 32)?;
-    }
-    Ok(())
+    looks_so(rt, map, 8, 8, false);
+    reserves(rt, map, more, slots);
+    has_below(rt, map, 8);
 }
 
 /// A resize that is under way is ended.
@@ -123,25 +145,12 @@ fn fills_again(rt: &impl Abort, map: &mut Numbers) {
     has_below(rt, map, 1);
 }
 
-#[test]
-fn emptied_maps_are_filled_again(rt: HostRuntime) -> Result<(), Fail> {
-    for mode in MODES {
-        let mut map = made(rt.alloc(), mode, 6, APART)?;
-        fills(&rt, &mut map, &[(8, 8, false)]);
-        inserts(&rt, &mut map, 8, 8, Ok(None));
-        empties(&rt, &mut map);
-        fills_again(&rt, &mut map);
-    }
-    Ok(())
-}
-
-#[test]
-fn a_new_map_is_emptied(rt: HostRuntime) -> Result<(), Fail> {
-    let mut map: Usual = HashMap::new(rt.alloc())?;
-    is(&rt, map.clear(), Ok(()));
-    is(&rt, map.slots(), 0);
-    reserves(&rt, &mut map, 0, 8);
-    Ok(())
+/// A map whose next table has nine pairs is emptied.
+fn empties_nine(rt: &impl Abort, map: &mut Numbers) {
+    fills(rt, map, &[(8, 8, false)]);
+    inserts(rt, map, 8, 8, Ok(None));
+    empties(rt, map);
+    fills_again(rt, map);
 }
 
 /// Calls of which three resize the map.
@@ -174,28 +183,6 @@ fn runs_in_turn(rt: &impl Abort, alloc: Global, map: &mut Numbers) -> Result<(),
     is(rt, outcomes, six_outcomes(alloc)?);
     looks_so(rt, map, 10, 32, false);
     has_below(rt, map, 10);
-    Ok(())
-}
-
-/// What is done while nine pairs are being moved to sixteen slots.
-#[derive(Clone, Copy)]
-enum Midst {
-    TooMuch,
-    Ends,
-    RunsInTurn,
-}
-
-#[test]
-fn in_the_midst_of_a_resize(rt: HostRuntime) -> Result<(), Fail> {
-    for midst in [Midst::TooMuch, Midst::Ends, Midst::RunsInTurn] {
-        let mut map = made(rt.alloc(), ResizeMode::Incremental(1), 6, APART)?;
-        fills(&rt, &mut map, &[(9, 8, true)]);
-        match midst {
-            Midst::TooMuch => too_much(&rt, &mut map),
-            Midst::Ends => ends(&rt, &mut map),
-            Midst::RunsInTurn => runs_in_turn(&rt, rt.alloc(), &mut map)?,
-        }
-    }
     Ok(())
 }
 
@@ -245,14 +232,71 @@ fn refusals_keep(map: &mut Numbers) -> Result<bool, Refused> {
     kept(map, reserved, 9)
 }
 
+/// What is done with a map that is made for six pairs.
+#[derive(Clone, Copy)]
+enum Case {
+    /// Room is made for so many more pairs, and then there are so many slots.
+    GrowsAhead(usize, usize),
+    EmptiesNine,
+    RefusalsKeep,
+    /// Nine pairs are being moved to sixteen slots.
+    TooMuch,
+    Ends,
+    RunsInTurn,
+}
+
+/// Nine pairs are being moved to sixteen slots.
+fn in_the_midst(rt: &impl Abort, alloc: Global, map: &mut Numbers, case: Case) -> Result<(), Fail> {
+    fills(rt, map, &[(9, 8, true)]);
+    match case {
+        Case::TooMuch => too_much(rt, map),
+        Case::RunsInTurn => runs_in_turn(rt, alloc, map)?,
+        _ => ends(rt, map),
+    }
+    Ok(())
+}
+
+impl Work<Times> for Case {
+    fn is_done<R: Abort>(self, rt: &R, alloc: Global, map: &mut Numbers) -> Result<(), Fail> {
+        match self {
+            Case::GrowsAhead(more, slots) => grows_ahead(rt, map, more, slots),
+            Case::EmptiesNine => empties_nine(rt, map),
+            Case::RefusalsKeep => is(rt, refusals_keep(map)?, true),
+            Case::TooMuch | Case::Ends | Case::RunsInTurn => in_the_midst(rt, alloc, map, self)?,
+        }
+        Ok(())
+    }
+}
+
+/// It is done in either mode.
+fn in_modes(rt: &impl Abort, alloc: Global, case: Case) -> Result<(), Fail> {
+    for mode in MODES {
+        on_made(rt, alloc, Parts::All(mode, 6, APART), case)?;
+    }
+    Ok(())
+}
+
+#[test]
+fn full_tables_grow_ahead(rt: HostRuntime) -> Result<(), Fail> {
+    in_modes(&rt, rt.alloc(), Case::GrowsAhead(4, 16))?;
+    in_modes(&rt, rt.alloc(), Case::GrowsAhead(8, 32))
+}
+
+#[test]
+fn emptied_maps_are_filled_again(rt: HostRuntime) -> Result<(), Fail> {
+    in_modes(&rt, rt.alloc(), Case::EmptiesNine)
+}
+
 #[test]
 fn refused_resizes_leave_the_map(rt: HostRuntime) -> Result<(), Fail> {
-    for mode in MODES {
-        let mut map = match made(rt.alloc(), mode, 6, APART) {
-            Err(Refused::Memory) => made(rt.alloc(), mode, 6, APART)?,
-            first => first?,
-        };
-        assert!(rt; refusals_keep(&mut map)?);
+    in_modes(&rt, rt.alloc(), Case::RefusalsKeep)
+}
+
+#[test]
+fn in_the_midst_of_a_resize(rt: HostRuntime) -> Result<(), Fail> {
+    let parts = Parts::All(ResizeMode::Incremental(1), 6, APART);
+    for case in [Case::TooMuch, Case::Ends, Case::RunsInTurn] {
+        on_made(&rt, rt.alloc(), parts, case)?;
     }
     Ok(())
 }

@@ -10,6 +10,7 @@ use papaya_call::answers::Operation;
 use papaya_keys::compute::Compute;
 use papaya_seq::seq::HashMap;
 use papaya_words::probe::Refused;
+use std::alloc::Global;
 use std::hash::{Hash, Hasher};
 use std::process::Abort;
 use std::test::Fail;
@@ -78,24 +79,41 @@ fn updated(
     }
 }
 
-#[test]
-fn stored_key_stays(rt: HostRuntime) -> Result<(), Fail> {
-    let mut map: Keys = HashMap::new(rt.alloc())?;
-    stores(&rt, &mut map, 'x', 1, ('x', 1));
-    stores(&rt, &mut map, 'y', 2, ('x', 2));
-    is(&rt, map.remove(&seven('y')), Ok(Some(&2)));
-    stores(&rt, &mut map, 'y', 3, ('y', 3));
-    Ok(())
+/// It is replaced, removed and stored.
+fn stays(rt: &impl Abort, map: &mut Keys) {
+    stores(rt, map, 'x', 1, ('x', 1));
+    stores(rt, map, 'y', 2, ('x', 2));
+    is(rt, map.remove(&seven('y')), Ok(Some(&2)));
+    stores(rt, map, 'y', 3, ('y', 3));
 }
 
-#[test]
-fn stored_key_stays_in_a_compute(rt: HostRuntime) -> Result<(), Fail> {
-    let mut map: Keys = HashMap::new(rt.alloc())?;
-    stores(&rt, &mut map, 'x', 1, ('x', 1));
+/// A compute replaces it.
+fn stays_in_a_compute(rt: &impl Abort, map: &mut Keys) {
+    stores(rt, map, 'x', 1, ('x', 1));
     let computed = map.compute(seven('y'), |shown| match shown {
         Some((_, value)) => Operation::Insert(value.wrapping_add(1)),
         None => Operation::<u64, ()>::Remove,
     });
-    is(&rt, updated(computed), Some((('x', 1), ('x', 2))));
+    is(rt, updated(computed), Some((('x', 1), ('x', 2))));
+}
+
+/// Either is done with a new map.
+fn on_new(rt: &impl Abort, alloc: Global, computes: bool) -> Result<(), Fail> {
+    let mut map: Keys = HashMap::new(alloc)?;
+    if computes {
+        stays_in_a_compute(rt, &mut map);
+    } else {
+        stays(rt, &mut map);
+    }
     Ok(())
+}
+
+#[test]
+fn stored_key_stays(rt: HostRuntime) -> Result<(), Fail> {
+    on_new(&rt, rt.alloc(), false)
+}
+
+#[test]
+fn stored_key_stays_in_a_compute(rt: HostRuntime) -> Result<(), Fail> {
+    on_new(&rt, rt.alloc(), true)
 }

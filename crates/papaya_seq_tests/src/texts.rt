@@ -49,9 +49,13 @@ fn removes_red(rt: &impl Abort, alloc: Global, map: &mut Texts) -> Result<(), Fa
     Ok(())
 }
 
+fn goes(rt: &impl Abort, alloc: Global, map: &mut Texts) -> Result<(), Fail> {
+    finds_two(rt, alloc, map)?;
+    removes_red(rt, alloc, map)
+}
+
 #[test]
 fn texts_are_looked_up_and_removed_by_text(rt: HostRuntime) -> Result<(), Fail> {
     let mut map: Texts = HashMap::new(rt.alloc())?;
-    finds_two(&rt, rt.alloc(), &mut map)?;
-    removes_red(&rt, rt.alloc(), &mut map)
+    goes(&rt, rt.alloc(), &mut map)
 }

@@ -1,11 +1,12 @@
 // Walks of the map, and the call that keeps some of its pairs.
 use crate::expect::{is, is_at};
-use crate::growth::{looks_so, made, stores};
-use crate::numbers::{Numbers, Usual, has, inserts};
-use papaya_hashers::times::{APART, TOGETHER};
+use crate::growth::{looks_so, stores};
+use crate::numbers::{Fold, Making, Numbers, Parts, Usual, Work, has, inserts, on_made, on_usual};
+use papaya_hashers::times::{APART, TOGETHER, Times};
 use papaya_seq::seq::HashMap;
 use papaya_words::probe::ResizeMode;
 use std::alloc::{AllocError, Global};
+use std::fmt::Debug;
 use std::hash::BuildHasher;
 use std::process::Abort;
 use std::test::Fail;
@@ -35,15 +36,11 @@ fn walks_below(rt: &impl Abort, alloc: Global, map: &Numbers, end: u64) -> Resul
 
 /// A hundred keys on one path, of which each call moves some, or one call all: they are walked at
 /// each count.
-#[test]
-fn a_walk_gives_each_pair_once(rt: HostRuntime) -> Result<(), Fail> {
-    for mode in [ResizeMode::Incremental(1), ResizeMode::Blocking] {
-        let mut map = made(rt.alloc(), mode, 0, TOGETHER)?;
-        walks_below(&rt, rt.alloc(), &map, 0)?;
-        for key in 0..100u64 {
-            stores(&rt, &mut map, key, key + 1);
-            walks_below(&rt, rt.alloc(), &map, key + 1)?;
-        }
+fn gives_once(rt: &impl Abort, alloc: Global, map: &mut Numbers) -> Result<(), Fail> {
+    walks_below(rt, alloc, map, 0)?;
+    for key in 0..100u64 {
+        stores(rt, map, key, key + 1);
+        walks_below(rt, alloc, map, key + 1)?;
     }
     Ok(())
 }
@@ -57,31 +54,36 @@ fn keeps_five(rt: &impl Abort, map: &mut Usual) {
     has(rt, map, 5);
 }
 
-#[test]
-fn retain_keeps_small_values(rt: HostRuntime) -> Result<(), Fail> {
-    let mut map: Usual = HashMap::new(rt.alloc())?;
-    is(&rt, map.retain(|_, _| false), Ok(()));
-    keeps_five(&rt, &mut map);
-    let keys = keys_of(rt.alloc(), &map)?;
-    is(&rt, keys.as_slice(), &[0, 1, 2, 3, 4]);
+/// The map has just these keys.
+fn gives<S: BuildHasher>(
+    rt: &impl Abort,
+    alloc: Global,
+    map: &HashMap<u64, u64, S>,
+    wanted: &[u64],
+) -> Result<(), Fail> {
+    let keys = keys_of(alloc, map)?;
+    is(rt, keys.as_slice(), wanted);
+    Ok(())
+}
+
+fn keeps_small_values(rt: &impl Abort, alloc: Global, map: &mut Usual) -> Result<(), Fail> {
+    is(rt, map.retain(|_, _| false), Ok(()));
+    keeps_five(rt, map);
+    gives(rt, alloc, map, &[0, 1, 2, 3, 4])?;
     for value in map.values() {
-        is(&rt, *value < 5, true);
+        is(rt, *value < 5, true);
     }
     Ok(())
 }
 
 /// Nine keys are being moved when the even ones are kept, and none are afterwards.
-#[test]
-fn retain_ends_a_resize(rt: HostRuntime) -> Result<(), Fail> {
-    let mut map = made(rt.alloc(), ResizeMode::Incremental(1), 6, APART)?;
-    stores(&rt, &mut map, 0, 9);
-    looks_so(&rt, &map, 9, 8, true);
-    is(&rt, map.retain(|key, _| *key % 2 == 0), Ok(()));
-    looks_so(&rt, &map, 5, 16, false);
-    has(&rt, &map, 5);
-    let keys = keys_of(rt.alloc(), &map)?;
-    is(&rt, keys.as_slice(), &[0, 2, 4, 6, 8]);
-    Ok(())
+fn ends_a_resize(rt: &impl Abort, alloc: Global, map: &mut Numbers) -> Result<(), Fail> {
+    stores(rt, map, 0, 9);
+    looks_so(rt, map, 9, 8, true);
+    is(rt, map.retain(|key, _| *key % 2 == 0), Ok(()));
+    looks_so(rt, map, 5, 16, false);
+    has(rt, map, 5);
+    gives(rt, alloc, map, &[0, 2, 4, 6, 8])
 }
 
 /// This text is one of the two.
@@ -89,32 +91,100 @@ fn is_either(rt: &impl Abort, text: &str, one: &str, other: &str) {
     is(rt, text == one || text == other, true);
 }
 
-#[test]
-fn a_map_prints_its_pairs_and_its_walks_what_is_left(rt: HostRuntime) -> Result<(), Fail> {
-    let alloc = rt.alloc();
-    let mut map: Usual = HashMap::new(alloc)?;
-    is(&rt, format!(in alloc; "{map:?}")?.as_str(), "{}");
-    inserts(&rt, &mut map, 42, 0, Ok(None));
-    inserts(&rt, &mut map, 16, 8, Ok(None));
-    let text = format!(in alloc; "{map:?}")?;
-    is_either(&rt, text.as_str(), "{42: 0, 16: 8}", "{16: 8, 42: 0}");
-    let pairs = format!(in alloc; "{:?}", map.iter())?;
-    is_either(
-        &rt,
-        pairs.as_str(),
+/// This is printed, or that.
+fn prints<T: Debug>(
+    rt: &impl Abort,
+    alloc: Global,
+    shown: &T,
+    one: &str,
+    other: &str,
+) -> Result<(), Fail> {
+    let text = format!(in alloc; "{shown:?}")?;
+    is_either(rt, text.as_str(), one, other);
+    Ok(())
+}
+
+/// A map prints its pairs, and a walk what is left of it.
+fn prints_two(rt: &impl Abort, alloc: Global, map: &Usual) -> Result<(), Fail> {
+    prints(rt, alloc, map, "{42: 0, 16: 8}", "{16: 8, 42: 0}")?;
+    prints(
+        rt,
+        alloc,
+        &map.iter(),
         "[(42, 0), (16, 8)]",
         "[(16, 8), (42, 0)]",
-    );
-    let keys = format!(in alloc; "{:?}", map.keys())?;
-    is_either(
-        &rt,
-        keys.as_str(),
+    )?;
+    let keys = map.keys();
+    prints(
+        rt,
+        alloc,
+        &keys,
         "Keys([(42, 0), (16, 8)])",
         "Keys([(16, 8), (42, 0)])",
-    );
+    )?;
     let mut values = map.values();
     let _ = values.next();
-    let left = format!(in alloc; "{values:?}")?;
-    is_either(&rt, left.as_str(), "Values([(42, 0)])", "Values([(16, 8)])");
+    prints(rt, alloc, &values, "Values([(42, 0)])", "Values([(16, 8)])")
+}
+
+/// What is done with a new map.
+#[derive(Clone, Copy)]
+enum New {
+    KeepsSmallValues,
+    Prints,
+}
+
+impl Work<Fold> for New {
+    fn is_done<R: Abort>(self, rt: &R, alloc: Global, map: &mut Usual) -> Result<(), Fail> {
+        match self {
+            New::KeepsSmallValues => keeps_small_values(rt, alloc, map),
+            New::Prints => {
+                prints(rt, alloc, &*map, "{}", "{}")?;
+                inserts(rt, map, 42, 0, Ok(None));
+                inserts(rt, map, 16, 8, Ok(None));
+                prints_two(rt, alloc, map)
+            }
+        }
+    }
+}
+
+/// What is done with a map whose keys are moved.
+#[derive(Clone, Copy)]
+enum Moved {
+    GivesOnce,
+    EndsAResize,
+}
+
+impl Work<Times> for Moved {
+    fn is_done<R: Abort>(self, rt: &R, alloc: Global, map: &mut Numbers) -> Result<(), Fail> {
+        match self {
+            Moved::GivesOnce => gives_once(rt, alloc, map),
+            Moved::EndsAResize => ends_a_resize(rt, alloc, map),
+        }
+    }
+}
+
+#[test]
+fn a_walk_gives_each_pair_once(rt: HostRuntime) -> Result<(), Fail> {
+    for mode in [ResizeMode::Incremental(1), ResizeMode::Blocking] {
+        let parts = Parts::All(mode, 0, TOGETHER);
+        on_made(&rt, rt.alloc(), parts, Moved::GivesOnce)?;
+    }
     Ok(())
+}
+
+#[test]
+fn retain_keeps_small_values(rt: HostRuntime) -> Result<(), Fail> {
+    on_usual(&rt, rt.alloc(), Making::New, New::KeepsSmallValues)
+}
+
+#[test]
+fn retain_ends_a_resize(rt: HostRuntime) -> Result<(), Fail> {
+    let parts = Parts::All(ResizeMode::Incremental(1), 6, APART);
+    on_made(&rt, rt.alloc(), parts, Moved::EndsAResize)
+}
+
+#[test]
+fn a_map_prints_its_pairs_and_its_walks_what_is_left(rt: HostRuntime) -> Result<(), Fail> {
+    on_usual(&rt, rt.alloc(), Making::New, New::Prints)
 }

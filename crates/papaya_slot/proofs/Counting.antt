@@ -80,6 +80,17 @@ module _ {M : Type 1} {𝓤 : Ura M} (𝓛 : Logic 𝓤) (d : ℕ) where
         use1 𝓛 (‵ (left d (bump n)) ⊛ ‵ (gains d n)) (deals n (dec_le (2 ^ 63) (n + 1))) $ split ! $
         move ! (2 ∷ 0 ∷ []) $ fjoin ! $ fpack ! ℕ (counting d b o) (bump n) $ done !)))
 
+    -- a look leaves the counter as it is
+    pub counts_look : A.inv (fbor α I) ∗ (A.lft α q ∗ emp 𝓤)
+        ⊢ asks 𝓛 (block_ptr b o) (λ n. n) always (λ n. fsep (flft α q) ftrue)
+    counts_look = let f : ℕ → ℕ = λ n. n in let then : ℕ → Fml = λ _. ftrue in
+        let G : Pr = ex 𝓤 (Lies 𝓛 α q I b o f always then) in
+        borrowed 𝓛 α q I b o f always then (emp 𝓤) (qed 𝓛 (‵ I ∷ raw (emp 𝓤) ∷ []) ∵
+        suffices ! _ (upd_i 𝓤 G) $ fpick ! (λ n. let Z : Pr = ⟦ I ⟧ ∗ ⟦ ftrue ⟧ in fsplit ! $
+        show ! (Lies 𝓛 α q I b o f always then) n $ frame ! $ keep ! (0 ∷ []) $
+        each ! (λ (_ : Unit {0}). Again 𝓛 α q I b o f always then n) (λ _. assume ! (‵ (word b o n)) $
+        suffices ! _ (upd_i 𝓤 Z) $ fjoin ! $ fpack ! ℕ (counting d b o) n $ nothing ! $ move ! (1 ∷ 0 ∷ []) $ done !)))
+
     -- whoever has the ticket of the number may give it back
     pub counts_back : (k : ℕ) → A.inv (fbor α I) ∗ (A.lft α q ∗ ⟦ ticket d k ⟧)
         ⊢ asks 𝓛 (block_ptr b o) (returned k) always (λ n. fsep (flft α q) ftrue)

@@ -57,6 +57,13 @@ impl Counter {
         }
     }
 
+    /// Returns how many numbers the counter has given out, without those that came back.
+    #[inline]
+    pub fn given(&self) -> u64 {
+        let word = self as *const Self as *const u64;
+        unsafe { raw::load::<Brand>(word, SeqCst) }
+    }
+
     /// Takes the number back that was given out last, for the next caller. Where another was given
     /// out since, the number is lost.
     #[cold]

@@ -362,6 +362,13 @@ impl<K: Hash + Eq, V, S: BuildHasher> Store<K, V, S> {
         }
     }
 
+    /// Returns how many pairs are in the log.
+    pub fn stored(&self) -> usize
+        ensures { result ≡ length self.now.pairs }
+    {
+        self.pairs.len()
+    }
+
     /// How many pairs were counted.
     pub fn count(&self) -> usize
         ensures value { result ≡ count_of self.now.count.sum }

@@ -6,8 +6,8 @@ pub const MAX_TABLE_LEN: usize = 0x1_0000_0000;
 /// The most tables that a map makes in its life; their numbers begin at 1.
 pub const MAX_TABLES: u64 = 0x1_0000_0000;
 
-/// The most pairs that a map logs, and the most keys. A number is a place in
-/// its log, so it stands below this.
+/// The most pairs that the map for one caller logs, and the most keys. A number is a place in its
+/// log, so it stands below this. The log of a map that threads share is full at 2^42 pairs.
 pub const MAX_LOG_LEN: usize = 0x1_0000_0000_0000;
 
 /// The least length of a table, in slots.

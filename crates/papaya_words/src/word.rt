@@ -16,7 +16,7 @@ pub enum Kind {
     Marked,
     /// The pair was copied; it is looked for in the next table.
     Copied,
-    /// The pair was removed; its number stays.
+    /// The pair was removed, and its number stays: the field's tombstone.
     Tombstone,
     /// Was Empty, and was shut by a copier.
     Closed,

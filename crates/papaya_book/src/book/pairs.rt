@@ -29,6 +29,12 @@ pub enum ValuePart<K, V> {
 }
 
 impl<K: Hash + Eq, V, S: BuildHasher> Book<K, V, S> {
+    /// Returns how many numbers the arena has given out for pairs, as
+    /// [`papaya_log::log::Log::stored`] counts them.
+    pub fn stored(&self) -> usize {
+        self.parts.pairs.stored()
+    }
+
     /// The pair that a token shows.
     pub fn pair<'a>(&'a self, stored: &Stored<K, V>) -> &'a Pair<K, V>
         requires { IsIn self.now (PairNamed stored.now) }

@@ -6,10 +6,10 @@ pub unreachable-requires : goal.unreachable-requires
 unreachable-requires g c = c.requires c.in-Removed.field-0 c.in-Removed.field-1 c.in-Removed.is
 
 pub returns-in-Inserted : goal.returns-in-Inserted
-returns-in-Inserted g c = sym (ap (λ z. outcome_of z c.args.current) c.in-Inserted.is)
+returns-in-Inserted g c = sym (ap (λ z. outcome_of z c.args.current c.args.spare) c.in-Inserted.is)
 
 pub returns-in-Updated : goal.returns-in-Updated
-returns-in-Updated g c = sym (ap (λ z. outcome_of z c.args.current) c.in-Updated.is)
+returns-in-Updated g c = sym (ap (λ z. outcome_of z c.args.current c.args.spare) c.in-Updated.is)
 
 pub returns-in-Aborted : goal.returns-in-Aborted
-returns-in-Aborted g c = sym (ap (λ z. outcome_of z c.args.current) c.in-Aborted.is)
+returns-in-Aborted g c = sym (ap (λ z. outcome_of z c.args.current c.args.spare) c.in-Aborted.is)

@@ -1,0 +1,244 @@
+//! The one compute: its fast path, the loop of its slow one, and how it asks what becomes of a
+//! key's pair. A closure that is lent the pair is asked so (`lending`), and a rule (`deciding`).
+ghost use Rattle.std.specs.Prelude.{◌≡◌, Option, Err};
+ghost use Rattle.std.specs.Int.{IsPowerOfTwo};
+ghost use denote.Bor.{Bor};
+ghost use Rattle.papaya_book.specs.Books.{IsIn};
+ghost use Rattle.papaya_book.specs.Logs.{pair_named};
+ghost use Rattle.papaya_book.specs.Windows.{IsLawful};
+ghost use Rattle.papaya_call.specs.declared.answers.Operation.{Operation};
+ghost use Rattle.papaya_change.specs.Window.Ends.{Ends, TellsWhy};
+ghost use Rattle.papaya_compute.specs.ComputeAnswers.{changes};
+ghost use Rattle.papaya_compute.specs.FastPath.{ComesTo, IsOnItsWay};
+ghost use Rattle.papaya_compute.specs.Operating.{HasEnded, Shows, at_once};
+ghost use Rattle.papaya_lookup.specs.Drivers.{past};
+
+use crate::computing::Turn as Next;
+use crate::fast_path::{First, Start, fill, look, machine_of, renew};
+use papaya_book::book::Book;
+use papaya_book::count::Shard;
+use papaya_book::rule::entry::Stored;
+use papaya_book::rule::own::{CapacityCause, OwnSteps};
+use papaya_book::window::Window;
+use papaya_call::answers::Operation;
+use papaya_change::fast_path::Turn;
+use papaya_change::means::Means;
+use papaya_change::removal::entry;
+use papaya_keys::compute::Compute;
+use papaya_lookup::lookup::hash;
+use papaya_words::probe::Refused;
+use std::alloc::Global;
+use std::hash::{BuildHasher, Hash};
+use std::sync::Wait;
+
+/// How an `O` is asked what becomes of a key's pair. It may be asked again, where another call was
+/// first to change that pair.
+///
+/// An operator tells contracts what each asking may answer, and what the `O` is then.
+pub trait Operator<'a, K, V, T, O> {
+    ghost callable: { O → Type 0 };
+
+    ghost operates: { O → Option (Bor K × Bor V) → Operation V T → O → Type 0 };
+
+    /// What becomes of the pair that is shown, or, where none is, what is stored.
+    fn operate(op: &mut O, shown: Option<(&'a K, &'a V)>) -> Operation<V, T>
+        requires callable { callable op.old }
+        ensures callable { callable op.new }
+        ensures operates { operates op.old shown.entry result op.new };
+}
+
+/// How a compute has ended.
+#[derive(Drop)]
+pub struct Ended<'a, K, V, T> {
+    pub answer: Result<Compute<'a, K, V, T>, Refused>,
+    /// The value of the pair that was shown last.
+    pub current: Option<&'a V>,
+    /// The value of the pair that was logged where the key had none.
+    pub spare: Option<&'a V>,
+}
+
+/// What becomes of the pair that is shown by its token, or, where none is, what is stored.
+fn show<'a, A: Operator<'a, K, V, T, O>, K: Hash + Eq, V, S: BuildHasher, T, O>(
+    book: &'a Book<K, V, S>,
+    shown: &Option<Stored<K, V>>,
+    op: &mut O,
+) -> Operation<V, T>
+    requires callable { A.callable op.old }
+    requires placed { IsIn book.now (pair_named shown.now) }
+    ensures callable { A.callable op.new }
+    ensures shows { Shows A.operates op.old shown.now result op.new }
+{
+    match shown {
+        None => A::operate(op, None),
+        Some(pair) => A::operate(op, Some(entry(book, pair))),
+    }
+}
+
+/// Looks for the key in the root, and does at once what is answered where the search ends at an
+/// empty place or at a live pair, with the value of that pair. Else, and where another call was
+/// first, it tells where the machine starts.
+#[inline(always)]
+fn fast<
+    'a,
+    A: Operator<'a, K, V, T, O>,
+    R: Wait,
+    K: Hash + Eq + Drop,
+    V: Drop,
+    S: BuildHasher,
+    T: Drop,
+    O,
+>(
+    means: &Means<'_, '_, R>,
+    window: &mut Window<'a, K, V, S>,
+    key: K,
+    op: &mut O,
+) -> (
+    First<Start<K, V>, Result<Compute<'a, K, V, T>, Refused>>,
+    Option<&'a V>,
+)
+    requires callable { A.callable op.old }
+    requires lawful { IsLawful window.old }
+    ensures callable { A.callable op.new }
+    ensures comes { ComesTo changes (λ answer. HasEnded K.eq key (past window.old) (past window.new)
+        (Shows A.operates) op.old op.new (at_once answer result.1)) (IsOnItsWay window.old
+        window.new key (Shows A.operates) op.old op.new) window.old window.new result.0 }
+{
+    let book = window.book;
+    let hash = hash(&book.parts.hasher, &key);
+    let Some(spot) = look(window, &key, hash) else {
+        return (First::On(Start::Anew(key)), None);
+    };
+    let table = spot.table;
+    match spot.turn {
+        Turn::Empty(at) => {
+            let operation = A::operate(op, None);
+            let filled = fill(means, window, key, hash, table, at, operation);
+            (filled, None)
+        }
+        Turn::Met(live) => {
+            let old = book.entry(live.pair());
+            let again = A::operate(op, Some(old));
+            let renewed = renew(means, window, key, hash, table, live, old, again);
+            (renewed, Some(old.1))
+        }
+        _ => (First::On(Start::Anew(key)), None),
+    }
+}
+
+/// Runs the machine to its end that starts so. It is a call of its own, since no frame of a fast
+/// path shall hold a machine.
+#[inline(never)]
+fn slow<
+    'a,
+    A: Operator<'a, K, V, T, O>,
+    R: Wait,
+    K: Hash + Eq + Drop,
+    V: Drop,
+    S: BuildHasher,
+    T: Drop,
+    O,
+>(
+    means: &Means<'_, '_, R>,
+    window: &mut Window<'a, K, V, S>,
+    given: &mut OwnSteps<CapacityCause>,
+    start: Start<K, V>,
+    op: &mut O,
+) -> Ended<'a, K, V, T>
+    requires callable { A.callable op.old }
+    requires initial { IsPowerOfTwo means.now.initial }
+    requires can { (since : _) × (key : K) × (first : O) × IsOnItsWay since window.old key
+        (Shows A.operates) first op.old start }
+    ensures ends { Ends (changes result.answer) window.old window.new }
+    ensures tells { TellsWhy means.now.initial window.new given.new.done
+        (λ cause. result.answer ≡ Err cause) }
+    ensures ended { (since : _) (key : K) (first : O) → IsOnItsWay since window.old key
+        (Shows A.operates) first op.old start → HasEnded K.eq key (past since) (past window.new)
+        (Shows A.operates) first op.new result }
+{
+    let book = window.book;
+    let mut computing = machine_of(window, means.initial, start);
+    for _ in means.rt.forever() {
+        match computing.turn(means.rt, means.alloc, means.shard, window) {
+            Next::Answered(answer) => {
+                computing.tell(means.rt, means.alloc, means.shard, answer, window)
+            }
+            Next::Shows(shown) => {
+                let operation = show::<A, K, V, S, T, O>(book, &shown, op);
+                let answer = computing.hear(shown, operation);
+                computing.tell(means.rt, means.alloc, means.shard, answer, window);
+            }
+            Next::Replied => {
+                *given = computing.writer.call.given.again();
+                let (current, spare) = computing.left(window);
+                let answer = computing.replied(window);
+                return Ended {
+                    answer,
+                    current,
+                    spare,
+                };
+            }
+        }
+    }
+    unreachable!()
+}
+
+/// Does with a key's pair, or where it has none, what is answered by the operator's `O`. Where it
+/// is refused for want of room, `given` tells the number that a full log of tables gave, or the sum
+/// of the count that makes a next table too long.
+#[inline(always)]
+pub(crate) fn compute<
+    'a,
+    A: Operator<'a, K, V, T, O>,
+    R: Wait,
+    K: Hash + Eq + Drop,
+    V: Drop,
+    S: BuildHasher,
+    T: Drop,
+    O,
+>(
+    rt: &R,
+    alloc: Global,
+    initial: usize,
+    shard: &Shard<'_>,
+    window: &mut Window<'a, K, V, S>,
+    given: &mut OwnSteps<CapacityCause>,
+    key: K,
+    op: &mut O,
+) -> Ended<'a, K, V, T>
+    requires callable { A.callable op.old }
+    requires initial { IsPowerOfTwo initial }
+    ensures ends { Ends (changes result.answer) window.old window.new }
+    ensures tells { TellsWhy initial window.new given.new.done
+        (λ cause. result.answer ≡ Err cause) }
+    ensures ended { HasEnded K.eq key (past window.old) (past window.new) (Shows A.operates) op.old
+        op.new result }
+{
+    window.learn();
+    let means = Means {
+        rt,
+        alloc,
+        initial,
+        shard,
+    };
+    let (first, current) = fast::<A, R, K, V, S, T, O>(&means, window, key, op);
+    match first {
+        First::Over(answer) => Ended {
+            answer,
+            current,
+            spare: None,
+        },
+        First::On(start) => {
+            // taken apart, so that what a fast path answers lies in no memory that a call writes
+            let Ended {
+                answer,
+                current,
+                spare,
+            } = slow::<A, R, K, V, S, T, O>(&means, window, given, start, op);
+            Ended {
+                answer,
+                current,
+                spare,
+            }
+        }
+    }
+}
