@@ -1,5 +1,5 @@
 -- What of a map is fixed when it is made.
-use Rattle.std.specs.Prelude.{◌≡◌, ℕ, ◌<◌, List, Option}
+use Rattle.std.specs.Prelude.{◌≡◌, ℕ, ◌<◌, ◌≤◌, List, Option}
 use Rattle.std.specs.Int.{IsNextPowerOfTwo}
 use Rattle.logbook.specs.Pages.{Book}
 use Rattle.papaya_words.specs.Probe.{IsEntriesFor}
@@ -37,6 +37,15 @@ abbrev pub IsFor : {K V S : Type 0} → ResizeMode → (capacity shards : ℕ) �
 IsFor mode capacity shards limit map = (map.begun.mode ≡ mode) × IsEntriesFor capacity map.initial
     × IsNextPowerOfTwo shards map.shards × (0 < capacity → HasTableFrom map.initial map.opened)
     × (map.begun.limit ≡ limit)
+
+-- a first table for so many pairs is no shorter than the initial capacity, where that was asked for
+abbrev pub IsForInitial : (initial pairs : ℕ) → Type 0
+IsForInitial initial pairs = 1 < initial → (0 < pairs)
+    × ((entries : ℕ) → IsEntriesFor pairs entries → initial ≤ entries)
+
+-- it had a table of at least its initial capacity when it was made, if that is over one slot
+abbrev pub HasFirstTable : {K V S : Type 0} → Fixed K V S → Type 0
+HasFirstTable map = 1 < map.initial → HasTableFrom map.initial map.opened
 
 -- the second resizes as the first, has its limit and its initial capacity, counts over as many
 -- shards, and takes the same guards

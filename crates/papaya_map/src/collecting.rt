@@ -6,7 +6,7 @@ ghost use Rattle.std.specs.Prelude.{◌≡◌, ℕ, IfOk, IfErr, None};
 ghost use Rattle.std.specs.Iterator.{IsFiniteIterable};
 ghost use Rattle.papaya_words.specs.declared.limits.TheConstants.{DEFAULT_CHUNK, DEFAULT_SHARDS};
 ghost use Rattle.papaya_change.specs.Writing.{IsMemoryOrCapacity};
-ghost use Rattle.papaya_map.specs.Fixed.{HasSettingsOf, IsFor};
+ghost use Rattle.papaya_map.specs.Fixed.{HasFirstTable, HasSettingsOf, IsFor};
 ghost use Rattle.papaya_map.specs.Limited.{IsPlainRefusal};
 
 use crate::map::HashMap;
@@ -199,9 +199,10 @@ impl<K: Hash + Eq + Clone + Drop, V: Clone + Drop, S: BuildHasher + Clone + Drop
     /// Makes the map anew of clones of its pairs, and gives back the memory of all keys and pairs
     /// that it had before: of those that were replaced or removed, too. 0.2.5 frees those while the
     /// map is shared, and has no such call; here they stay until this one. Mode, limit, initial
-    /// capacity, collector and shards stay, and the hasher is a clone of what it was. Just the
-    /// pairs that are kept count against the limit then, so it is not met here: that is tested, and
-    /// no clause says it.
+    /// capacity, collector and shards stay, and the hasher is a clone of what it was. The map opens a
+    /// table with room for its pairs, which is no shorter than the initial capacity. It opens none if
+    /// it has no pairs and was given no capacity. Just the pairs that are kept count against the
+    /// limit, so it is not met here: that is tested, and no clause says it.
     ///
     /// The map takes `&mut self`, so no other thread, no pinned map and no reference to a key or a
     /// value outlasts the call. A [`Pass`](crate::map::Pass) of before is of no use after it, since
@@ -216,6 +217,7 @@ impl<K: Hash + Eq + Clone + Drop, V: Clone + Drop, S: BuildHasher + Clone + Drop
         ensures ok { IfOk result (λ _. HasSettingsOf self.old self.new) }
         ensures hasher { IfOk result (λ _. S.is_clone self.old.begun.hasher
             self.new.begun.hasher) }
+        ensures opened { IfOk result (λ _. HasFirstTable self.new) }
         ensures err { IfErr result (λ refused. IsPlainRefusal self.old.begun.limit refused
             × (self.new ≡ self.old)) }
     {

@@ -1,6 +1,6 @@
 //! Computes whose closure may keep what it is shown: their fast path, and the loop of their slow
-//! one. They stand here, and not with the steps of a compute, since a call of another crate's
-//! function that is generic over such a closure is not proved.
+//! one. The one compute of `papaya_compute` can't ask such a closure, whose bound names a lifetime.
+//! No call that needs an impl with that bound is proved, nor one of another crate's function.
 ghost use Rattle.std.specs.Prelude.{◌≡◌, None, Err};
 ghost use Rattle.std.specs.Int.{IsPowerOfTwo};
 ghost use Rattle.papaya_book.specs.Books.{IsIn};

@@ -20,6 +20,7 @@ pub mod making;
 mod removals;
 mod resizing;
 mod scans;
+mod sizes;
 mod updating;
 
 use crate::told::{Told, tell};
@@ -206,7 +207,8 @@ impl<K: Hash + Eq, V, S: BuildHasher> HashMap<K, V, S> {
         self.numbered(self.number())
     }
 
-    /// The number by which a pass picks a shard of the count, where no guard gives one.
+    /// Draws the number by which a pass picks a shard of the count, where no guard gives one. A
+    /// caller has no need of it: [`HashMap::pass`] calls it.
     pub fn number(&self) -> u64 {
         self.collector.enter().number()
     }
@@ -226,7 +228,7 @@ impl<K: Hash + Eq, V, S: BuildHasher> HashMap<K, V, S> {
     }
 
     /// A new pass of this map, whose calls pick the count's shard by this number, as that of
-    /// a guard.
+    /// a guard. A caller takes [`HashMap::pass`], which draws a number.
     pub fn numbered(&self, number: u64) -> Pass<K, V, S>
         ensures book { result.book ≡ self.now.book }
         ensures new { result.history ≡ [] }
@@ -245,7 +247,7 @@ impl<K: Hash + Eq, V, S: BuildHasher> HashMap<K, V, S> {
 
     /// A new pass of this map, which has seen what had been seen when the map was made. Its calls
     /// pick the count's shard by this number, if there is one, and else by the key. A call that
-    /// takes a guard makes its pass by this.
+    /// takes a guard makes its pass by this; a caller takes [`HashMap::pass`].
     #[inline(always)]
     pub fn begun(&self, number: Option<u64>) -> Pass<K, V, S>
         ensures book { result.book ≡ self.now.book }
@@ -282,7 +284,7 @@ impl<'a, K: Hash + Eq, V, S: BuildHasher> HashMapRef<'a, K, V, S> {
 
     /// A new pass of this map, which has seen what had been seen when the map was pinned. Its calls
     /// pick the count's shard by this number, if there is one, and else by the key. A call that
-    /// takes no pass makes its own by this.
+    /// takes no pass makes its own by this; a caller takes [`HashMap::pass`].
     #[inline(always)]
     pub fn begun(&self, number: Option<u64>) -> Pass<K, V, S>
         ensures book { result.book ≡ self.now.map.book }

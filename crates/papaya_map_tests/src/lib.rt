@@ -46,6 +46,8 @@ mod seen;
 #[cfg(test)]
 mod shared;
 #[cfg(test)]
+mod sizes;
+#[cfg(test)]
 mod steps;
 #[cfg(test)]
 mod stored_keys;

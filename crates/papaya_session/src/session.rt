@@ -5,7 +5,7 @@ ghost use Rattle.std.specs.Fn.{FnReturnsAt};
 ghost use mathlib.Core.List.{IsPrefix};
 ghost use Rattle.papaya_book.specs.Limits.{HasNoRoom};
 ghost use Rattle.papaya_change.specs.Changes.{IsPut};
-ghost use Rattle.papaya_change.specs.RemovalAnswers.{IsRemovalBy, IsRemoved, took, went};
+ghost use Rattle.papaya_change.specs.RemovalAnswers.{IsEntryRemoved, IsRemovalBy, IsRemoved, took, went};
 ghost use Rattle.papaya_change.specs.Resizing.{HasNoRoomAhead, HasRoomAhead};
 ghost use Rattle.papaya_change.specs.Showings.{Judges, Operates};
 ghost use Rattle.papaya_change.specs.Writing.{IsMemoryOrCapacity};
@@ -22,7 +22,7 @@ use papaya_keys::guard::Equivalent;
 use papaya_keys::occupied::OccupiedError;
 use papaya_map::map::{HashMap, HashMapRef, Pass};
 use papaya_map::told::Told;
-use papaya_scan::walk::Iter;
+use papaya_scan::walk::{Iter, Keys, Values};
 use papaya_words::probe::Refused;
 use std::hash::{BuildHasher, BuildHasherDefault, FoldHasher, Hash};
 use std::marker::Model;
@@ -63,7 +63,8 @@ impl<'a, K: Hash + Eq, V, S: BuildHasher> Model for Session<'a, K, V, S> {
 
 impl<'a, K: Hash + Eq, V, S: BuildHasher> Session<'a, K, V, S> {
     /// A session of this map, in the place of `pin` of 0.2.5. It has seen no change yet: each
-    /// history of a map begins as that of the empty one. It writes no word of the map.
+    /// history of a map begins as that of the empty one. The map's collector numbers its pass by
+    /// one addition; no word of a table is written.
     pub fn new(map: &'a HashMap<K, V, S>) -> Session<'a, K, V, S>
         ensures map { result.map ≡ map.now }
         ensures new { result.history ≡ [] }
@@ -75,6 +76,29 @@ impl<'a, K: Hash + Eq, V, S: BuildHasher> Session<'a, K, V, S> {
             map: map.pin(),
             pass: map.pass(),
         }
+    }
+
+    /// Returns how many pairs the map's arena holds, as [`HashMap::stored`] counts them.
+    pub fn stored(&self) -> usize {
+        self.map.stored()
+    }
+
+    /// Returns the map that this is a session of.
+    pub fn map(&self) -> &'a HashMap<K, V, S>
+        ensures { result.now ≡ self.now.map }
+    {
+        self.map.map()
+    }
+
+    /// Returns how many pairs were counted: `len` of 0.2.5. A change is counted a step after it
+    /// was made.
+    pub fn len(&self) -> usize {
+        self.map.len()
+    }
+
+    /// Were no pairs counted?
+    pub fn is_empty(&self) -> bool {
+        self.map.is_empty()
     }
 
     /// Does nothing. Its contract says that the history which was seen is legal: each change takes
@@ -182,6 +206,25 @@ impl<'a, K: Hash + Eq, V, S: BuildHasher> Session<'a, K, V, S> {
         self.map.remove_as(rt, key, &mut self.pass)
     }
 
+    /// Removes a key's pair, and returns it: `remove_entry` of 0.2.5. It is refused as
+    /// [`Session::remove`] is, and then it changes nothing.
+    pub fn remove_entry<R: Wait, Q: Equivalent<K>>(
+        &mut self,
+        rt: &R,
+        key: &Q,
+    ) -> Result<Option<(&'a K, &'a V)>, Refused>
+        ensures map { self.new.map ≡ self.old.map }
+        ensures seen { IsPrefix self.old.history self.new.history }
+        ensures tables { IsPrefix self.old.tables self.new.tables }
+        ensures made { Makes (took result) self.old.made self.new.made self.new.history }
+        ensures removed { IsEntryRemoved K.eq (Q.matches key.now) self.old.history
+            self.new.history result }
+        ensures crowded { result ≡ Err Refused.Capacity → HasNoRoom self.old.map.initial
+            self.new.tables self.new.given }
+    {
+        self.map.remove_entry_as(rt, key, &mut self.pass)
+    }
+
     /// Removes a key's pair if the closure, which is shown it, answers true: `remove_if` of 0.2.5.
     ///
     /// `Ok(None)` where the key is absent, `Ok(Some(pair))` where that very pair was removed, and
@@ -269,6 +312,39 @@ impl<'a, K: Hash + Eq, V, S: BuildHasher> Session<'a, K, V, S> {
             self.new.tables self.new.given }
     {
         self.map.iter_as(rt, &mut self.pass)
+    }
+
+    /// Returns the keys of the map, one by one: `keys` of 0.2.5. Refused as [`Session::iter`] is.
+    pub fn keys<R: Wait>(&mut self, rt: &R) -> Result<Keys<'a, K, V, S>, Refused>
+        ensures map { self.new.map ≡ self.old.map }
+        ensures seen { IsPrefix self.old.history self.new.history }
+        ensures tables { IsPrefix self.old.tables self.new.tables }
+        ensures made { self.new.made ≡ self.old.made }
+        ensures walk { IfOk result (λ keys. keys.pairs.book ≡ self.old.map.book) }
+        ensures began { IfOk result (λ keys. (keys.pairs.began ≡ self.old.history)
+            × (keys.pairs.history ≡ self.new.history)) }
+        ensures refused { IfErr result (λ refused. IsMemoryOrCapacity refused) }
+        ensures crowded { result ≡ Err Refused.Capacity → HasNoRoom self.old.map.initial
+            self.new.tables self.new.given }
+    {
+        Ok(Keys::of(self.iter(rt)?))
+    }
+
+    /// Returns the values of the map, one by one: `values` of 0.2.5. Refused as [`Session::iter`]
+    /// is.
+    pub fn values<R: Wait>(&mut self, rt: &R) -> Result<Values<'a, K, V, S>, Refused>
+        ensures map { self.new.map ≡ self.old.map }
+        ensures seen { IsPrefix self.old.history self.new.history }
+        ensures tables { IsPrefix self.old.tables self.new.tables }
+        ensures made { self.new.made ≡ self.old.made }
+        ensures walk { IfOk result (λ values. values.pairs.book ≡ self.old.map.book) }
+        ensures began { IfOk result (λ values. (values.pairs.began ≡ self.old.history)
+            × (values.pairs.history ≡ self.new.history)) }
+        ensures refused { IfErr result (λ refused. IsMemoryOrCapacity refused) }
+        ensures crowded { result ≡ Err Refused.Capacity → HasNoRoom self.old.map.initial
+            self.new.tables self.new.given }
+    {
+        Ok(Values::of(self.iter(rt)?))
     }
 
     /// Makes room for so many pairs more than the map counts: `reserve` of 0.2.5. `Refused::Memory`

@@ -3,3 +3,7 @@
 
 #[cfg(test)]
 mod calls;
+#[cfg(test)]
+mod entries;
+#[cfg(test)]
+mod sizes;

@@ -44,6 +44,21 @@ impl<'a, K: Hash + Eq, S: BuildHasher> HashSetRef<'a, K, S> {
         self.set.is_empty()
     }
 
+    /// Returns how many keys the arena holds, as [`HashSet::stored`] counts them.
+    pub fn stored(&self) -> usize {
+        self.set.stored()
+    }
+
+    /// Returns how many slots the root table has, and 0 if there is none yet.
+    pub fn slots(&self) -> usize {
+        self.keys.slots()
+    }
+
+    /// Returns whether keys are being moved to a next table.
+    pub fn resizing(&self) -> bool {
+        self.keys.resizing()
+    }
+
     /// The same, with what was seen.
     #[inline(always)]
     fn contains_told<Q: Equivalent<K>>(&self, key: &Q) -> Saying<bool, K, (), S>

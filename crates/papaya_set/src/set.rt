@@ -195,4 +195,20 @@ impl<K: Hash + Eq, S: BuildHasher> HashSet<K, S> {
     pub fn is_empty(&self) -> bool {
         self.map.is_empty()
     }
+
+    /// Returns how many keys the arena holds, also those that were removed or inserted again, as
+    /// [`HashMap::stored`] counts them.
+    pub fn stored(&self) -> usize {
+        self.map.stored()
+    }
+
+    /// Returns how many slots the root table has, and 0 if there is none yet.
+    pub fn slots(&self) -> usize {
+        self.map.slots()
+    }
+
+    /// Returns whether keys are being moved to a next table.
+    pub fn resizing(&self) -> bool {
+        self.map.resizing()
+    }
 }

@@ -14,6 +14,8 @@ mod refused;
 #[cfg(test)]
 mod shared;
 #[cfg(test)]
+mod sizes;
+#[cfg(test)]
 mod threads;
 #[cfg(test)]
 mod together;

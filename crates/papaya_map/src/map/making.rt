@@ -6,7 +6,7 @@ ghost use Rattle.papaya_keys.specs.Sizes.{IsAllowed, IsSizeRefusal};
 ghost use Rattle.papaya_book.specs.Limits.{HasTableFrom, tables_of};
 ghost use Rattle.papaya_change.specs.Writing.{IsMemoryOrCapacity};
 ghost use Rattle.papaya_lookup.specs.History.{IsLegalHistory, history_of, key_of};
-ghost use Rattle.papaya_map.specs.Fixed.{HasSettingsOf, IsFor};
+ghost use Rattle.papaya_map.specs.Fixed.{HasFirstTable, HasSettingsOf, IsFor, IsForInitial};
 
 use crate::map::HashMap;
 use papaya_book::book::Book;
@@ -41,6 +41,18 @@ fn first_table<R: Wait, K: Hash + Eq, V, S: BuildHasher>(
         return Ok(book.unseen());
     }
     book.open_first(rt, alloc, capacity, initial)
+}
+
+/// Returns for how many pairs `reclaim` makes the first table: for those of the map, and for no fewer
+/// than its initial capacity is for. It returns 0 for a map of no pairs that was given no capacity.
+#[tactic(auto, using(crate::proofs::FirstTable::none_asked, crate::proofs::FirstTable::long_enough))]
+fn pairs_for(initial: usize, pairs: usize) -> usize
+    ensures { IsForInitial initial result }
+{
+    if initial <= 1 {
+        return pairs;
+    }
+    pairs.max(initial - initial / 4)
 }
 
 impl<K: Hash + Eq + Drop, V: Drop, S: BuildHasher + Drop> HashMap<K, V, S> {
@@ -160,14 +172,18 @@ impl<K: Hash + Eq + Drop, V: Drop, S: BuildHasher + Drop> HashMap<K, V, S> {
 
 impl<K: Hash + Eq + Drop, V: Drop, S: BuildHasher + Clone + Drop> HashMap<K, V, S> {
     /// A map of no pairs with the settings of this one: its mode, its limit, its initial capacity,
-    /// the number of its collector, a clone of its hasher, and as many shards. It has room for as
-    /// many pairs as this one counts.
+    /// the number of its collector, a clone of its hasher, and as many shards. Its first table has
+    /// room for as many pairs as this one counts, and is no shorter than the initial capacity. It has
+    /// no table if this map has no pairs and was given no capacity.
     pub(crate) fn anew<R: Wait>(&self, rt: &R) -> Result<HashMap<K, V, S>, Refused>
         ensures settings { IfOk result (HasSettingsOf self.now) }
         ensures hasher { IfOk result (λ map. S.is_clone self.now.begun.hasher map.begun.hasher) }
+        ensures opened { IfOk result HasFirstTable }
         ensures refused { IfErr result IsMemoryOrCapacity }
     {
         let pairs = self.len();
+        let capacity = pairs_for(self.initial, pairs);
+        let initial = initial_len(capacity)?;
         let Ok(hasher) = self.book.parts.hasher.clone() else {
             return Err(Refused::Memory);
         };
@@ -182,17 +198,15 @@ impl<K: Hash + Eq + Drop, V: Drop, S: BuildHasher + Clone + Drop> HashMap<K, V, 
             return Err(Refused::Memory);
         };
         let book = Book::opened(rt, parts);
-        let opened = book.unseen();
-        let map = HashMap {
+        let opened = first_table(rt, self.alloc, &book, capacity, initial)?;
+        Ok(HashMap {
             alloc: self.alloc,
             initial: self.initial,
             count,
             collector: Collector::new(self.collector.number()),
             book,
             opened,
-        };
-        map.pin().reserve(rt, pairs)?;
-        Ok(map)
+        })
     }
 }
 

@@ -1,4 +1,4 @@
-use Rattle.std.proofs.Common.{◌≡◌, None, Some, [], ◌∷◌, append-nil, refl, sym, ap, ◌∙◌, subst}
+use Rattle.std.proofs.Common.{None, Some, [], ◌∷◌, append-nil, refl, sym, ap, ◌∙◌, subst}
 use Rattle.papaya_call.specs.declared.machine.State.TheVariants.{Showing}
 use Rattle.papaya_book.specs.declared.rule.entry.Named.TheVariants as names
 use Rattle.papaya_book.specs.Rule.{IsPlaced}
@@ -7,11 +7,11 @@ use Rattle.papaya_lookup.specs.Drivers.{past}
 use Rattle.papaya_lookup.specs.declared.lookup.Met.{Met}
 use Rattle.papaya_change.specs.declared.fast_path.Turn.{Turn}
 use Rattle.papaya_change.specs.Seeking.{Computes}
-use Rattle.papaya_change.specs.Showings.{AreOf, HasSaid, Operates}
+use Rattle.papaya_change.specs.Showings.{AreOf, Operates}
 use Rattle.papaya_change.specs.declared.fast_path.Turn.TheVariants.{Empty, Met as MetPair}
 use Rattle.papaya_compute.specs.ComputeAnswers.{changes}
 use Rattle.papaya_compute.specs.FastPath.{DoesAtOnce, IsLed}
-use Rattle.papaya_compute.proofs.FastPath.{comes_asked_nothing, comes_since}
+use Rattle.papaya_compute.proofs.FastPath.{comes_asked_nothing, comes_once}
 use Rattle.papaya_compute.proofs.ComputeReplies.{computed_by}
 use Rattle.papaya_compute.proofs.Found.{pair_placed}
 use Rattle.papaya_map.proofs.computing.compute_fast.Goals as goal
@@ -34,12 +34,10 @@ pub returns-in-Empty-clause-comes : goal.returns-in-Empty-clause-comes
 returns-in-Empty-clause-comes g c =
     let w = c.args.window.now in let log = w.sight.log in let key = c.args.key in let mid = c.look.new.window in let spot = c.in-Some.spot in
     let led = subst (λ (z : Turn _). IsLed mid key c.hash-hash.result log spot.table.now z) c.in-Empty.is (c.look.ensures.led spot c.in-Some.is) in
-    let tried = c.fill in let then = tried.new.window in let done = c.operate-operation.result in
-    let said : HasSaid (Operates g.F.FnMut) c.args.f.now ((None, done) ∷ []) c.operate-operation.new.f =
-    (c.args.f.now, refl, c.operate-operation.ensures.operates) in
-    comes_since changes w _ _ _ _ mid then tried.result c.look.ensures.looked
-    (λ a h. computed_by g.K.PartialEq.eq key _ _ _ ([], append-nil (past w)) (Operates g.F.FnMut) c.args.f.now c.operate-operation.new.f
-    ((None, done) ∷ []) said a (h log led.found)) (λ x h. ((None, done) ∷ [], h log led.found, said)) tried.ensures.does
+    let then = c.fill.new.window in let done = c.operate-operation.result in let left = c.operate-operation.new.f in let says = Operates g.F.FnMut in
+    comes_once w mid then c.look.ensures.looked key c.hash-hash.result spot.table.now _ led says c.args.f.now left done c.operate-operation.ensures.operates _
+    (computed_by g.K.PartialEq.eq key (past w) (past w) (past then) ([], append-nil (past w)) says c.args.f.now left ((None, done) ∷ [])
+    (c.args.f.now, refl, c.operate-operation.ensures.operates)) _ c.fill.ensures.does
 
 pub renew-requires-clause-led : goal.renew-requires-clause-led
 renew-requires-clause-led g c =
@@ -54,17 +52,16 @@ pub returns-in-Met-clause-comes : goal.returns-in-Met-clause-comes
 returns-in-Met-clause-comes g c =
     let w = c.args.window.now in let log = w.sight.log in let key = c.args.key in let mid = c.look.new.window in let spot = c.in-Some.spot in
     let led = subst (λ (z : Turn _). IsLed mid key c.hash-hash.result log spot.table.now z) c.in-Met.is (c.look.ensures.led spot c.in-Some.is) in
-    let tried = c.renew in let then = tried.new.window in let done = c.f-again.result in let held = Some c.in-Met.live.stored in
+    let then = c.renew.new.window in let done = c.f-again.result in let left = c.f-again.new.self in let held = Some c.in-Met.live.stored in
     let are : AreOf c.entry-old.result c.in-Met.live.stored = (
       c.entry-old.ensures.key ∙ (ap (λ p. p.key.value) c.pair.ensures ∙ ap (λ (z : Met _ _). z.stored.value.key.value) c.in-Met.live-is),
       c.entry-old.ensures.value ∙ (ap (λ p. p.value) c.pair.ensures ∙ ap (λ (z : Met _ _). z.stored.value.value) c.in-Met.live-is),
     ) in
-    let said : HasSaid (Operates g.F.FnMut) c.args.f.now ((held, done) ∷ []) c.f-again.new.self =
-    (c.args.f.now, refl, (Some c.entry-old.result, are, c.f-again.ensures)) in
-    comes_since changes w _ _ _ _ mid then tried.result c.look.ensures.looked
-    (λ a h. computed_by g.K.PartialEq.eq key _ _ _ ([], append-nil (past w)) (Operates g.F.FnMut) c.args.f.now c.f-again.new.self ((held, done) ∷ []) said a
-    (h log led.found)) (λ x h. ((held, done) ∷ [], h log led.found, said))
-    (subst (λ (z : Met _ _). DoesAtOnce mid then key spot.table.now (MetPair z) done tried.result) c.in-Met.live-is tried.ensures.does)
+    let says = Operates g.F.FnMut in let said : says c.args.f.now held done left = (Some c.entry-old.result, are, c.f-again.ensures) in
+    comes_once w mid then c.look.ensures.looked key c.hash-hash.result spot.table.now _ led says c.args.f.now left done said _
+    (computed_by g.K.PartialEq.eq key (past w) (past w) (past then) ([], append-nil (past w)) says c.args.f.now left ((held, done) ∷ [])
+    (c.args.f.now, refl, said)) _
+    (subst (λ (z : Met _ _). DoesAtOnce mid then key spot.table.now (MetPair z) done c.renew.result) c.in-Met.live-is c.renew.ensures.does)
 
 pub entry-old-requires : goal.entry-old-requires
 entry-old-requires g c =

@@ -1,151 +1,71 @@
-use Rattle.std.proofs.Common.{◌≡◌, Bool, Some, ◌∷◌, sym, ap, ◌∙◌, subst}
-use Rattle.std.specs.Prelude.{IfErr}
-use Rattle.papaya_ask.specs.declared.ask.Ask.TheVariants.{Done}
-use Rattle.papaya_ask.specs.declared.call.Reply.TheVariants.{Refused}
-use Rattle.papaya_chain.specs.declared.ask.Ask.TheVariants.{Call}
-use Rattle.papaya_chain.specs.declared.machine.Machine.{Machine}
-use Rattle.papaya_chain.specs.declared.ask.Answer.TheVariants as answers
-use Rattle.papaya_chain.specs.Machine.{after, ask_of}
-use Rattle.papaya_book.specs.Limits.{HasNoRoom, tables_of}
-use Rattle.papaya_book.specs.Windows.{Does}
-use Rattle.papaya_change.specs.Doing.{has_changed}
+use Rattle.std.proofs.Common.{◌∙◌}
 use Rattle.papaya_change.specs.Showings.{Operates}
-use Rattle.papaya_change.proofs.Doing.{does_on, does_still, idles, makes}
-use Rattle.papaya_change.proofs.Helped.{helped_does, helped_keeps}
-use Rattle.papaya_change.proofs.StepsOfOwn.{own_settings}
-use Rattle.papaya_lookup.proofs.Histories.{history_since}
-use Rattle.papaya_book.proofs.Windows.{sees_trans}
-use Rattle.papaya_compute.proofs.ComputeReplies.{computed_by}
+use Rattle.papaya_compute.proofs.Running.{answered_so, begins, can_reply, ends, goes_on, has_replied, heard_so, replied_by, shown_at, takes, tells}
 use Rattle.papaya_map.proofs.computing.compute_slow.Goals as goal
 
 pub loop-init : goal.loop-init
-loop-init g c =
-    let start = c.args.window.now in let at = c.machine_of-computing in let then = at.new.window in let ahead = at.ensures.starts.ahead in (
-      (λ since key first way. (way.0, at.ensures.starts.goes key since.sight.log way.0 way.1, way.2)),
-      ahead.standing,
-      ahead.calling,
-      ahead.initial_is,
-      at.ensures.looked.sees,
-      c.requires.callable,
-      subst (λ (changed : Bool). Does changed start then) (sym ahead.unchanged) (idles start then at.ensures.looked.own),
-      (let way = c.requires.can in let on = at.ensures.starts.goes way.1 way.0.sight.log way.3.0 way.3.1 in (way.1, on.0, way.3.0, on.2)),
-    )
+loop-init g c = let a = c.args in let m = c.machine_of-computing in
+    (begins (Operates g.F.FnMut) _ a.window.now a.f.now a.start c.requires.can _ _ m.ensures.looked m.ensures.starts, c.requires.callable)
 
 pub machine_of-computing-requires-clause-can : goal.machine_of-computing-requires-clause-can
 machine_of-computing-requires-clause-can g c = let way = c.requires.can in (way.1, way.0.sight.log, way.3.0, way.3.1)
 
 pub tell-requires-clause-can : goal.tell-requires-clause-can
-tell-requires-clause-can g c = let way = c.requires.can in let u = c.loop.invariant.0 way.0 way.1 way.2 way.3 in
-    (way.1, u.1.0, u.0, rw c.turn.ensures.turned.sees.book (c.in-Answered.ensures.turned.turns.0 way.1 u.1.0 u.0 u.1.2))
+tell-requires-clause-can g c =
+    let a = c.args in let says = Operates g.F.FnMut in let r = c.loop.invariant.0 in let way = c.requires.can in let t = c.turn.new in
+    let on = answered_so says _ a.window.now a.f.now a.start way _ _ c.loop.f r _ _ c.in-Answered.answer c.in-Answered.ensures.turned in
+    takes says _ a.window.now a.f.now a.start way _ _ c.loop.f r t.window t.self c.loop.f c.in-Answered.answer on
 
 pub loop-preserved-in-Answered : goal.loop-preserved-in-Answered
 loop-preserved-in-Answered g c =
-    let m = c.loop.computing.writer.call.machine in let then = c.tell.new.self.writer.call in let answer = c.in-Answered.answer in
-    let same : after c.turn.new.self.writer.call.machine (answers.Call answer) ≡ after m (answers.Call answer) = ap
-    (λ (z : Machine). after z (answers.Call answer)) c.turn.ensures.turned.machine in
-    let does = does_on m c.loop.invariant.2 answer c.args.window.now c.loop.window c.turn.new.window c.loop.invariant.6 c.in-Answered.ensures.turned.turns.1 in
-    let does_call = subst (λ (z : Machine). Does (has_changed z) c.args.window.now c.turn.new.window) (sym same) does in (
-      (λ since key first way. let u = c.loop.invariant.0 since key first way in
-          let on = c.in-Answered.ensures.turned.turns.0 key u.1.0 u.0 u.1.2 in
-          (u.0, (u.1.0, u.1.1, rw c.tell.ensures.told.helps.sees.book (c.tell.ensures.told.takes key u.1.0 u.0 (rw c.turn.ensures.turned.sees.book on))), u.2)),
-      c.tell.ensures.told.helps.standing,
-      c.tell.ensures.told.helps.calling,
-      (helped_keeps (after c.turn.new.self.writer.call.machine (answers.Call answer)) then.machine (tables_of c.tell.new.window.sight.log)
-          then.given.done c.tell.ensures.told.helps.helped).initial
-          ∙ (ap (λ (z : Machine). z.call.initial) same ∙ ((own_settings m c.loop.invariant.2 answer).0 ∙ c.loop.invariant.3)),
-      sees_trans _ _ _ (sees_trans _ _ _ c.loop.invariant.4 c.turn.ensures.turned.sees) c.tell.ensures.told.helps.sees,
-      c.loop.invariant.5,
-      helped_does (after c.turn.new.self.writer.call.machine (answers.Call answer)) then.machine (tables_of c.tell.new.window.sight.log)
-          then.given.done c.tell.ensures.told.helps.calling c.tell.ensures.told.helps.helped c.args.window.now c.turn.new.window c.tell.new.window c.tell.ensures.told.still
-          c.tell.ensures.told.helps.own does_call,
-      (let way = c.requires.can in let u = c.loop.invariant.0 way.0 way.1 way.2 way.3 in
-          let on = c.in-Answered.ensures.turned.turns.0 way.1 u.1.0 u.0 u.1.2 in
-          (way.1, u.1.0, u.0, rw c.tell.ensures.told.helps.sees.book (c.tell.ensures.told.takes way.1 u.1.0 u.0 (rw c.turn.ensures.turned.sees.book on)))),
+    let a = c.args in let says = Operates g.F.FnMut in let r = c.loop.invariant.0 in let way = c.requires.can in let t = c.turn.new in
+    let turned = c.in-Answered.ensures.turned in
+    let on = answered_so says _ a.window.now a.f.now a.start way _ _ c.loop.f r _ _ c.in-Answered.answer turned in (
+      goes_on says _ a.window.now a.f.now a.start way _ _ c.loop.f r t.window t.self c.loop.f c.in-Answered.answer on turned.sees turned.machine
+          turned.turns.1 _ _ c.tell.ensures.told,
+      c.loop.invariant.1,
     )
 
 pub tell-requires-in-Shows-clause-can : goal.tell-requires-in-Shows-clause-can
-tell-requires-in-Shows-clause-can g c = let way = c.requires.can in let u = c.loop.invariant.0 way.0 way.1 way.2 way.3 in
-    let same = c.in-Shows.ensures.turned.turns in (
-      way.1,
-      u.1.0,
-      (c.in-Shows.shown, c.operate-operation.result) ∷ u.0,
-      (c.hear-answer.ensures.hears c.turn.new.window).1 way.1 u.1.0 u.0
-          (rw (same.1, same.2) u.1.2),
-    )
+tell-requires-in-Shows-clause-can g c =
+    let a = c.args in let says = Operates g.F.FnMut in let r = c.loop.invariant.0 in let way = c.requires.can in let t = c.turn.new in
+    let done = c.operate-operation in let heard = c.hear-answer in
+    let on = heard_so says _ a.window.now a.f.now a.start way _ _ c.loop.f r t.window t.self c.in-Shows.shown c.in-Shows.ensures.turned done.result
+    done.new.f done.ensures.operates heard.new.self heard.result heard.ensures.hears in
+    takes says _ a.window.now a.f.now a.start way _ _ c.loop.f r t.window heard.new.self done.new.f heard.result on
 
 pub loop-preserved : goal.loop-preserved
 loop-preserved g c =
-    let same = c.in-Shows.ensures.turned.turns in
-    let m = c.loop.computing.writer.call.machine in let then = c.tell-in-Shows.new.self.writer.call in let answer = c.hear-answer.result in
-    let is : c.hear-answer.new.self.writer.call.machine ≡ m = c.hear-answer.ensures.machine ∙ c.turn.ensures.turned.machine in
-    let led : after c.hear-answer.new.self.writer.call.machine (answers.Call answer) ≡ after m (answers.Call answer) = ap
-    (λ (z : Machine). after z (answers.Call answer)) is in
-    let does = does_on m c.loop.invariant.2 answer c.args.window.now c.loop.window c.turn.new.window c.loop.invariant.6
-    (rw (sym same.1, sym same.2) (c.hear-answer.ensures.hears c.turn.new.window).0) in
-    let does_call = subst (λ (z : Machine). Does (has_changed z) c.args.window.now c.turn.new.window) (sym led) does in (
-      (λ since key first way. let u = c.loop.invariant.0 since key first way in
-          let heard = (c.in-Shows.shown, c.operate-operation.result) ∷ u.0 in
-          let on = (c.hear-answer.ensures.hears c.turn.new.window).1 key u.1.0 u.0 (rw (same.1, same.2) u.1.2) in (
-            heard,
-            (u.1.0, u.1.1, rw c.tell-in-Shows.ensures.told.helps.sees.book (c.tell-in-Shows.ensures.told.takes key u.1.0 heard on)),
-            (c.loop.f, u.2, c.operate-operation.ensures.operates),
-          )),
-      c.tell-in-Shows.ensures.told.helps.standing,
-      c.tell-in-Shows.ensures.told.helps.calling,
-      (helped_keeps (after c.hear-answer.new.self.writer.call.machine (answers.Call answer)) then.machine
-          (tables_of c.tell-in-Shows.new.window.sight.log) then.given.done c.tell-in-Shows.ensures.told.helps.helped).initial
-          ∙ (ap (λ (z : Machine). z.call.initial) led ∙ ((own_settings m c.loop.invariant.2 answer).0 ∙ c.loop.invariant.3)),
-      sees_trans _ _ _ (sees_trans _ _ _ c.loop.invariant.4 c.turn.ensures.turned.sees) c.tell-in-Shows.ensures.told.helps.sees,
-      c.operate-operation.ensures.callable,
-      helped_does (after c.hear-answer.new.self.writer.call.machine (answers.Call answer)) then.machine
-          (tables_of c.tell-in-Shows.new.window.sight.log) then.given.done c.tell-in-Shows.ensures.told.helps.calling c.tell-in-Shows.ensures.told.helps.helped
-          c.args.window.now c.turn.new.window c.tell-in-Shows.new.window c.tell-in-Shows.ensures.told.still c.tell-in-Shows.ensures.told.helps.own does_call,
-      (let way = c.requires.can in let u = c.loop.invariant.0 way.0 way.1 way.2 way.3 in
-          let heard = (c.in-Shows.shown, c.operate-operation.result) ∷ u.0 in
-          let on = (c.hear-answer.ensures.hears c.turn.new.window).1 way.1 u.1.0 u.0 (rw (same.1, same.2) u.1.2) in
-          (way.1, u.1.0, heard, rw c.tell-in-Shows.ensures.told.helps.sees.book (c.tell-in-Shows.ensures.told.takes way.1 u.1.0 heard on))),
+    let a = c.args in let says = Operates g.F.FnMut in let r = c.loop.invariant.0 in let way = c.requires.can in let t = c.turn.new in
+    let done = c.operate-operation in let heard = c.hear-answer in let turned = c.in-Shows.ensures.turned in
+    let on = heard_so says _ a.window.now a.f.now a.start way _ _ c.loop.f r t.window t.self c.in-Shows.shown turned done.result
+    done.new.f done.ensures.operates heard.new.self heard.result heard.ensures.hears in (
+      goes_on says _ a.window.now a.f.now a.start way _ _ c.loop.f r t.window heard.new.self done.new.f heard.result on turned.sees
+          (heard.ensures.machine ∙ turned.machine) (shown_at _ _ _ _ _ turned heard.result (heard.ensures.hears t.window).0) _ _ c.tell-in-Shows.ensures.told,
+      done.ensures.callable,
     )
 
 pub replied-requires-clause-can : goal.replied-requires-clause-can
-replied-requires-clause-can g c = let way = c.requires.can in let u = c.loop.invariant.0 way.0 way.1 way.2 way.3 in
-    rw c.turn.ensures.turned.sees.book (way.1, u.1.0, u.0, (c.in-Replied.ensures.turned.turns.0 way.1 u.1.0 u.0 u.1.2).0)
+replied-requires-clause-can g c = let a = c.args in
+    can_reply (Operates g.F.FnMut) _ a.window.now a.f.now a.start c.requires.can _ _ c.loop.f c.loop.invariant.0 _ _ c.in-Replied.ensures.turned
 
 pub replied-requires-clause-done : goal.replied-requires-clause-done
-replied-requires-clause-done g c = let way = c.requires.can in let u = c.loop.invariant.0 way.0 way.1 way.2 way.3 in
-    (c.in-Replied.ensures.turned.turns.0 way.1 u.1.0 u.0 u.1.2).1
+replied-requires-clause-done g c = let a = c.args in
+    has_replied (Operates g.F.FnMut) _ a.window.now a.f.now a.start c.requires.can _ _ c.loop.f c.loop.invariant.0 _ _ c.in-Replied.ensures.turned
 
 pub returns-in-Replied-clause-computed : goal.returns-in-Replied-clause-computed
 returns-in-Replied-clause-computed g c = λ since key first way.
-    let u = c.loop.invariant.0 since key first way in let r = (c.in-Replied.ensures.turned.turns.0 key u.1.0 u.0 u.1.2).0 in
-    computed_by g.K.PartialEq.eq key _ _ _ (history_since since.sight.log u.1.0 u.1.1) (Operates g.F.FnMut) first c.loop.f u.0
-    u.2 c.replied.result (c.replied.ensures.replied.replies key u.1.0 u.0 (rw c.turn.ensures.turned.sees.book r))
+    let a = c.args in
+    let u = replied_by (Operates g.F.FnMut) _ a.window.now a.f.now a.start c.requires.can _ _ c.loop.f c.loop.invariant.0 _ _ c.in-Replied.ensures.turned _
+    c.replied.ensures.replied since key first way in
+    record { said = u.0; left = c.loop.f; has_said = u.2; held = u.3.held; none_once = u.3.none_once; operated = u.3.operated }
 
 pub returns-in-Replied-clause-ends : goal.returns-in-Replied-clause-ends
-returns-in-Replied-clause-ends g c = record {
-  sees = sees_trans _ _ _ c.loop.invariant.4 c.turn.ensures.turned.sees;
-  lawful = let way = c.requires.can in let u = c.loop.invariant.0 way.0 way.1 way.2 way.3 in
-      rw c.turn.ensures.turned.sees.book (c.in-Replied.ensures.turned.turns.0 way.1 u.1.0 u.0 u.1.2).0.writing.calling.lawful;
-  made =
-      let way = c.requires.can in let u = c.loop.invariant.0 way.0 way.1 way.2 way.3 in
-      let r = (c.in-Replied.ensures.turned.turns.0 way.1 u.1.0 u.0 u.1.2).0 in let call = c.turn.new.self.writer.call in
-      let does = does_still c.loop.computing.writer.call.machine c.args.window.now c.loop.window c.turn.new.window c.loop.invariant.6
-      c.in-Replied.ensures.turned.turns.1 in
-      rw c.replied.ensures.replied.changed (makes g.K.PartialEq.eq (Some way.1) u.1.0 call.taken call.put call.machine c.args.window.now c.turn.new.window
-      r.writing.calling.changed (rw c.turn.ensures.turned.machine does));
-}
+returns-in-Replied-clause-ends g c = let a = c.args in
+    ends (Operates g.F.FnMut) _ a.window.now a.f.now a.start c.requires.can _ _ c.loop.f c.loop.invariant.0 _ _ c.in-Replied.ensures.turned _
+    c.replied.ensures.replied
 
 pub returns-in-Replied-clause-tells : goal.returns-in-Replied-clause-tells
-returns-in-Replied-clause-tells g c = record {
-  crowded = λ e.
-      let way = c.requires.can in let u = c.loop.invariant.0 way.0 way.1 way.2 way.3 in
-      let r = (c.in-Replied.ensures.turned.turns.0 way.1 u.1.0 u.0 u.1.2).0 in
-      let refused = subst (λ (z : _). IfErr z (λ cause. ask_of c.turn.new.self.writer.call.machine ≡ Call (Done (Refused cause)))) e c.replied.ensures.replied.refusal in
-      let initial : c.turn.new.self.writer.call.machine.call.initial ≡ c.args.means.now.initial = ap (λ (z : Machine). z.call.initial) c.turn.ensures.turned.machine
-      ∙ c.loop.invariant.3 in
-      rw c.again.ensures (subst (λ n. HasNoRoom n (tables_of c.turn.new.window.sight.log) c.turn.new.self.writer.call.given.done) initial (r.crowded refused));
-  spent = λ e.
-      let way = c.requires.can in let u = c.loop.invariant.0 way.0 way.1 way.2 way.3 in
-      let r = (c.in-Replied.ensures.turned.turns.0 way.1 u.1.0 u.0 u.1.2).0 in
-      let refused = subst (λ (z : _). IfErr z (λ cause. ask_of c.turn.new.self.writer.call.machine ≡ Call (Done (Refused cause)))) e c.replied.ensures.replied.refusal in
-      rw c.turn.ensures.turned.sees.book (r.spent refused);
-}
+returns-in-Replied-clause-tells g c = let a = c.args in
+    rw c.again.ensures (tells (Operates g.F.FnMut) _ a.window.now a.f.now a.start c.requires.can _ _ c.loop.f c.loop.invariant.0 _ _
+    c.in-Replied.ensures.turned _ c.replied.ensures.replied)
