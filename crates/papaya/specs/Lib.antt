@@ -2,3 +2,4 @@
 -- `use Rattle.papaya.specs.Threads.{IsPut}`.
 pub mod Seq
 pub mod Threads
+pub mod Types

@@ -1,17 +1,21 @@
 //! A hash map that threads share, and the same map for one caller: `papaya` 0.2.5, proved.
 //!
-//! This crate names the public items of the others again, and has no code of its own. Its `specs/`
-//! name the definitions again that a caller's contracts and proofs cite: `Threads` and `Seq`.
+//! This crate names again what the others promise to a caller, and has no code of its own. Its
+//! `specs/` name the definitions again that a caller's contracts and proofs cite: `Threads` and
+//! `Seq`, and in `Types` the types with their variants. So a caller's line of `crates.txt` names
+//! `papaya` alone.
 //!
 //! - [`HashMap`] is the map that threads share, and a [`Session`] one thread's way to it.
 //! - [`HashMap::pin`] gives a [`HashMapRef`], which has all calls, and [`HashMap::pass`] a [`Pass`], the
 //!   record of what one thread has seen.
 //! - [`HashMap::builder`] gives a [`HashMapBuilder`], by which a map's parts are asked for one by one.
+//! - [`ReclaimingMap`] and [`ReclaimingSet`] give back memory while threads go on.
 //! - [`HashSet`] is the set that threads share, with its [`HashSetRef`] and its [`HashSetBuilder`].
 //! - [`seq::HashMap`] is the map for one caller: changes take `&mut self`. [`seq::HashSet`] is the set.
 //! - [`json`] makes JSON of maps and sets, and reads it.
 //! - [`schedule`] runs the calls of many callers step by step, in any order that a test gives.
-//! - [`raw`] has the words, tables and machines that all three are made of.
+//! - [`raw`] has the words, tables and machines that all three are made of. [`raw::Machine`] is a
+//!   call on one table, and [`raw::chain`] has the machines that go on to further tables.
 #![tactic(auto)]
 
 pub use papaya_call::answers::Operation;
@@ -20,11 +24,18 @@ pub use papaya_keys::guard::{Collector, Equivalent, Guard, LocalGuard, OwnedGuar
 pub use papaya_keys::occupied::{NotInserted, OccupiedError};
 pub use papaya_map::builder::HashMapBuilder;
 pub use papaya_map::map::{HashMap, HashMapRef, Pass};
+pub use papaya_reclaiming::reclaiming::{Reclaiming, ReclaimingMap, ReclaimingSet};
 pub use papaya_scan::walk::{Iter, Keys, Values};
 pub use papaya_session::session::Session;
 pub use papaya_set::builder::HashSetBuilder;
 pub use papaya_set::set::{HashSet, HashSetRef};
 pub use papaya_words::probe::{Refused, ResizeMode};
+
+/// How a thread enters a map or set that is reclaimed while threads go on.
+pub mod reclaiming {
+    pub use papaya_reclaiming::reclaim::Reclaim;
+    pub use papaya_reclaiming::reclaiming::{Entered, Handle, LEAST_STORED};
+}
 
 /// The walk of the set that threads share.
 pub mod set {
@@ -56,6 +67,7 @@ pub mod json {
 
 /// Any number of callers under any schedule of their steps.
 pub mod schedule {
+    pub use papaya_ask::ask::{OpKind, StepKind};
     pub use papaya_ask::call::{Call, Reply};
     pub use papaya_call::answers::{Answers, Listed};
     pub use papaya_core::outcome::Outcome;
@@ -63,13 +75,29 @@ pub mod schedule {
     pub use papaya_core::trace::{Entry, Event, Trace, Turn};
 }
 
-/// What the maps are made of: words, places, tables and counts, and the calls as machines.
+/// What the maps are made of: words, places, tables and counts, and the calls on one table as
+/// machines.
 pub mod raw {
-    pub use papaya_ask::ask::{Answer, Ask, At};
-    pub use papaya_ask::call::Task;
-    pub use papaya_call::machine::Machine;
+    pub use papaya_ask::ask::{Answer, Ask, At, OpKind, StepKind};
+    pub use papaya_ask::call::{Reply, Task};
+    pub use papaya_ask::search::{Place, Probed, Search};
+    pub use papaya_call::machine::{Machine, State};
+    pub use papaya_words::chunks::{chunk_count, chunk_len};
     pub use papaya_words::counter::Counter;
-    pub use papaya_words::probe::Probe;
-    pub use papaya_words::table::Table;
-    pub use papaya_words::word::Word;
+    pub use papaya_words::limits;
+    pub use papaya_words::probe::{Probe, entries_for, limit};
+    pub use papaya_words::room::Room;
+    pub use papaya_words::table::{Table, next_len, next_limit, table_len};
+    pub use papaya_words::word::{Kind, SHUT, Word, h1, h2, hint, legal, may_hold};
+
+    /// The machines that [`super::schedule::Core`] and the maps run, over any number of tables: a
+    /// call on a key, a resize and a scan, each with what it asks and is answered.
+    pub mod chain {
+        pub use papaya_ask::copy_ask::CopyAsk;
+        pub use papaya_chain::ask::{Answer, Ask};
+        pub use papaya_chain::machine::{Machine, Phase};
+        pub use papaya_chain::resizer::{Resize, Resizer, State as ResizerState};
+        pub use papaya_chain::scan_ask::ScanAsk;
+        pub use papaya_chain::scanner::{Scan, Scanner, State as ScannerState};
+    }
 }

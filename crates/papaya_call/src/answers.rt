@@ -38,7 +38,9 @@ pub trait Answers<K, V> {
 /// Where they are used up, `op` answers `Abort(0)`, and `yes` answers false.
 #[derive(Drop)]
 pub struct Listed<V> {
+    /// What `op` answers, the first one first.
     pub ops: Vec<Operation<V, u64>>,
+    /// What `yes` answers, the first one first.
     pub yes: Vec<bool>,
 }
 

@@ -61,15 +61,19 @@ pub enum State {
 /// a backend does for it.
 #[derive(Clone, Copy)]
 pub struct Machine {
+    /// What the call does.
     pub task: Task,
     /// The hash of the call's key.
     pub hash: u64,
+    /// How the map's tables are copied.
     pub mode: ResizeMode,
     /// The initial capacity of the map in slots: no table is made shorter.
     pub initial: usize,
+    /// What the call has logged for its pair.
     pub made: Made,
     /// What a compute remembers.
     pub remembered: Remembered,
+    /// Where the call stands.
     pub state: State,
 }
 

@@ -16,7 +16,7 @@ pub enum Backend {
     Core,
     /// One caller, a whole call at a time.
     Seq,
-    /// The map that threads share, by one pass, a whole call at a time.
+    /// The map that threads share, by its plain calls, a whole call at a time.
     Shared,
 }
 

@@ -1,7 +1,7 @@
 //! The maps and sets that the workloads are run on.
 use crate::collections::{Collection, Shared, all, run, run_in_threads};
 use crate::idle::Idle;
-use crate::{rivals, seq, shared};
+use crate::{entered, rivals, seq, shared};
 use papaya_plan::plan::{Plan, Workload};
 use papaya_shell::failure::Failure;
 use std::alloc::Global;
@@ -25,6 +25,10 @@ pub enum Backend {
     Session,
     /// The shared map, pinned by one thread for each call.
     PinACall,
+    /// The shared map that is reclaimed between, which one thread enters for each call.
+    Entered,
+    /// The same, by several threads.
+    EnteredThreads,
     /// The kit's hash map.
     Std,
     /// That behind a lock of readers and a writer, by one thread.
@@ -59,6 +63,8 @@ impl Backend {
         Backend::Threads,
         Backend::Session,
         Backend::PinACall,
+        Backend::Entered,
+        Backend::EnteredThreads,
         Backend::Std,
         Backend::RwLock,
         Backend::RwLockThreads,
@@ -78,6 +84,8 @@ impl Backend {
             Backend::Threads => "threads",
             Backend::Session => "session",
             Backend::PinACall => "pin-a-call",
+            Backend::Entered => "entered",
+            Backend::EnteredThreads => "entered-threads",
             Backend::Std => "std",
             Backend::RwLock => "rwlock",
             Backend::RwLockThreads => "rwlock-threads",
@@ -102,6 +110,8 @@ impl Backend {
                     | Backend::Threads
                     | Backend::Session
                     | Backend::PinACall
+                    | Backend::Entered
+                    | Backend::EnteredThreads
             ),
             // a walk is one thread's, and needs one pin
             Workload::Iterate => matches!(
@@ -112,6 +122,11 @@ impl Backend {
                     | Backend::Std
                     | Backend::SeqSet
                     | Backend::Set
+            ),
+            // only a map that is reclaimed between is entered
+            Workload::Enter => matches!(
+                self,
+                Backend::Loop | Backend::Entered | Backend::EnteredThreads
             ),
             _ => true,
         }
@@ -131,6 +146,8 @@ impl Backend {
             Backend::Threads => by_several::<R, shared::Map>(rt, alloc, plan),
             Backend::Session => by_one::<R, shared::BySession>(rt, alloc, plan),
             Backend::PinACall => by_one::<R, shared::PinACall>(rt, alloc, plan),
+            Backend::Entered => by_one::<R, entered::Map>(rt, alloc, plan),
+            Backend::EnteredThreads => by_several::<R, entered::Map>(rt, alloc, plan),
             Backend::Std => by_one::<R, rivals::Map>(rt, alloc, plan),
             Backend::RwLock => by_one::<R, RwLock<rivals::Map>>(rt, alloc, plan),
             Backend::RwLockThreads => by_several::<R, RwLock<rivals::Map>>(rt, alloc, plan),

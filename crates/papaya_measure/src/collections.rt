@@ -23,6 +23,13 @@ pub(crate) trait Growing: Collection {
     fn empty_in<R: Wait>(rt: &R, alloc: Global, mode: ResizeMode) -> Result<Self, Failure>;
 }
 
+/// A map that threads share, and that is pinned anew for each of these calls.
+pub(crate) trait Pinned: Growing {
+    fn put_in_once<R: Wait>(&self, rt: &R, key: u64, value: u64) -> Result<u64, Failure>;
+
+    fn look_up_once<R: Wait>(&self, rt: &R, key: u64) -> u64;
+}
+
 /// One that threads share.
 pub(crate) trait Shared {
     /// Does the work of one of the threads.
@@ -56,7 +63,7 @@ pub(crate) fn run<R: Wait, C: Collection>(
     all: &mut [C],
     plan: Plan,
 ) -> Result<u64, Failure> {
-    let work = Work::Rounds(plan, Part::whole(plan));
+    let work = Work::Rounds(plan, Part::whole(plan.keys));
     let mut sum: u64 = 0;
     for one in all {
         sum = sum.wrapping_add(one.alone(rt, work)?);
@@ -84,7 +91,7 @@ pub(crate) fn run_in_threads<R: Threads + Wait + Sync, C: Shared + Sync>(
         rt,
         alloc,
         THREADS as usize,
-        &|thread| { run_part(rt, all, plan, Part::of_thread(plan, thread as u32)) },
+        &|thread| { run_part(rt, all, plan, Part::of_thread(plan.keys, thread as u32)) },
     )?;
     let mut sum: u64 = 0;
     for part in &sums {

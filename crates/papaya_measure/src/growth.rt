@@ -1,14 +1,16 @@
 //! The map for one caller while it grows: what its insertions take, and the greatest of them.
 use crate::backends::{elapsed, now};
+use crate::collections::Growing;
+use crate::lines::print_line;
 use crate::seq::Map;
+use crate::steps::Target;
 use papaya_plan::plan::key_of;
-use papaya_seq::seq::HashMap;
 use papaya_shell::failure::Failure;
 use papaya_words::probe::ResizeMode;
 use std::alloc::Global;
-use std::hash::BuildHasherDefault;
 use std::io::Write;
 use std::rt::Clock;
+use std::sync::Wait;
 
 /// What the insertions took that made a map grow.
 #[derive(Drop)]
@@ -22,13 +24,18 @@ struct Growth {
 }
 
 /// Inserts so many keys into an empty map of this mode, and looks at the clock round each.
-fn grow<R: Clock>(rt: &R, alloc: Global, mode: ResizeMode, keys: u32) -> Result<Growth, Failure> {
-    let mut map: Map = HashMap::with_parts(alloc, mode, 0, 1, BuildHasherDefault::new(), None)?;
+fn grow<R: Clock + Wait>(
+    rt: &R,
+    alloc: Global,
+    mode: ResizeMode,
+    keys: u32,
+) -> Result<Growth, Failure> {
+    let mut map = Map::empty_in(rt, alloc, mode)?;
     let mut greatest: u128 = 0;
     let first = now(rt)?;
     for number in 0..u64::from(keys) {
         let start = now(rt)?;
-        map.insert(key_of(number), number)?;
+        map.put_in(rt, key_of(number), number)?;
         greatest = greatest.max(elapsed(rt, start)?);
     }
     Ok(Growth {
@@ -48,7 +55,7 @@ pub(crate) fn name_of(mode: ResizeMode) -> &'static str {
 
 /// Prints a line for a map that grows by so many keys: their number, the time of all insertions,
 /// that of the greatest, and the slots at the end.
-pub fn time_growth<R: Clock, W: Write>(
+pub fn time_growth<R: Clock + Wait, W: Write>(
     rt: &R,
     alloc: Global,
     mode: ResizeMode,
@@ -56,12 +63,11 @@ pub fn time_growth<R: Clock, W: Write>(
     output: &mut W,
 ) -> Result<(), Failure> {
     let growth = grow(rt, alloc, mode, keys)?;
-    let name = name_of(mode);
-    writeln!(
-        output,
-        "{name}/seq/{keys} {keys} {} {} {}",
-        growth.nanoseconds, growth.greatest, growth.slots
-    )
-    .map_err(|_| Failure::Output)?;
-    output.flush().map_err(|_| Failure::Output)
+    let numbers = [
+        u128::from(keys),
+        growth.nanoseconds,
+        growth.greatest,
+        growth.slots as u128,
+    ];
+    print_line(name_of(mode), "seq", keys, &numbers, output)
 }

@@ -46,6 +46,11 @@ impl Target for Idle {
     fn work_out<R: Wait>(&mut self, _rt: &R, key: u64) -> Result<u64, Failure> {
         Ok(self.pass_on(key))
     }
+
+    #[inline(always)]
+    fn pass_through<R: Wait>(&mut self, _rt: &R) -> Result<u64, Failure> {
+        Ok(self.pass_on(1))
+    }
 }
 
 impl Collection for Idle {

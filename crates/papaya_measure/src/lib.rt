@@ -4,12 +4,16 @@
 
 mod backends;
 mod collections;
+mod entered;
 pub mod growth;
 mod idle;
+mod lines;
+mod memory;
 pub mod reclaim;
 mod rivals;
 pub mod run;
 mod seq;
 mod shared;
 pub mod shared_growth;
+pub mod soak;
 mod steps;

@@ -1,6 +1,7 @@
 //! Maps that are filled from empty, or with room and then reclaimed: what each of these takes.
 use crate::backends::{Backend, elapsed, now};
 use crate::collections::{Collection, Growing};
+use crate::lines::print_line;
 use crate::steps::Work;
 use crate::{rivals, seq, shared};
 use papaya_shell::failure::Failure;
@@ -15,21 +16,6 @@ pub(crate) trait Reclaimed: Collection {
     fn give_back<R: Wait>(&mut self, rt: &R) -> Result<(), Failure>;
 }
 
-/// Prints a line at once: what was done, the map, its keys, how many pairs were stored, and
-/// the nanoseconds.
-fn print<W: Write>(
-    done: &str,
-    backend: Backend,
-    keys: u32,
-    stored: u64,
-    nanoseconds: u128,
-    output: &mut W,
-) -> Result<(), Failure> {
-    let name = backend.name();
-    writeln!(output, "{done}/{name}/{keys} {stored} {nanoseconds}").map_err(|_| Failure::Output)?;
-    output.flush().map_err(|_| Failure::Output)
-}
-
 /// Makes a map without room, and fills it with so many keys, for which it grows.
 fn time_growing<R: Clock + Wait, C: Collection, W: Write>(
     rt: &R,
@@ -41,14 +27,8 @@ fn time_growing<R: Clock + Wait, C: Collection, W: Write>(
     let start = now(rt)?;
     let mut map = C::empty(rt, alloc, 0)?;
     map.alone(rt, Work::Fill(keys))?;
-    print(
-        "from-empty",
-        backend,
-        keys,
-        u64::from(keys),
-        elapsed(rt, start)?,
-        output,
-    )
+    let numbers = [u128::from(keys), elapsed(rt, start)?];
+    print_line("from-empty", backend.name(), keys, &numbers, output)
 }
 
 /// The same in `Blocking`.
@@ -62,12 +42,12 @@ fn time_blocking<R: Clock + Wait, M: Growing, W: Write>(
     let start = now(rt)?;
     let mut map = M::empty_in(rt, alloc, ResizeMode::Blocking)?;
     map.alone(rt, Work::Fill(keys))?;
-    print(
+    let numbers = [u128::from(keys), elapsed(rt, start)?];
+    print_line(
         "from-empty-blocking",
-        backend,
+        backend.name(),
         keys,
-        u64::from(keys),
-        elapsed(rt, start)?,
+        &numbers,
         output,
     )
 }
@@ -104,17 +84,12 @@ fn time_map<R: Clock + Wait, M: Reclaimed, W: Write>(
         map.alone(rt, Work::Fill(keys))?;
     }
     let stored = u64::from(keys) * u64::from(rounds);
-    print("fill", backend, keys, stored, elapsed(rt, start)?, output)?;
+    let numbers = [u128::from(stored), elapsed(rt, start)?];
+    print_line("fill", backend.name(), keys, &numbers, output)?;
     let start = now(rt)?;
     map.give_back(rt)?;
-    print(
-        "reclaim",
-        backend,
-        keys,
-        u64::from(keys),
-        elapsed(rt, start)?,
-        output,
-    )
+    let numbers = [u128::from(keys), elapsed(rt, start)?];
+    print_line("reclaim", backend.name(), keys, &numbers, output)
 }
 
 /// Prints lines of a map for one caller and of a shared one, each made for so many keys: what it

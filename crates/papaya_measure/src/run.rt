@@ -1,20 +1,23 @@
 //! The whole program, over any runtime and writers.
-ghost use Rattle.std.specs.Prelude.{◌≡◌, ◌≢◌, ◌≤◌, map, string_bytes};
+ghost use Rattle.std.specs.Prelude.{◌≡◌, ◌≤◌, map, string_bytes};
 ghost use Rattle.papaya_plan.specs.declared.arguments.Task.{Task};
-ghost use Rattle.papaya_plan.specs.Arguments.{words_of};
+ghost use Rattle.papaya_plan.specs.Arguments.{AskFor};
 
 use crate::backends::Backend;
 use crate::growth::time_growth;
+use crate::lines::{print_line, written};
 use crate::reclaim::{time_from_empty, time_reclaim};
 use crate::shared_growth::time_shared_growth;
+use crate::soak::time_soak;
 use papaya_plan::answers::compare;
 use papaya_plan::arguments::Task;
 use papaya_plan::plan::{Plan, Workload};
+use papaya_plan::soak::{Soak, Writes};
 use papaya_shell::failure::{Failure, ended};
 use papaya_words::probe::ResizeMode;
 use std::alloc::Global;
 use std::io::Write;
-use std::rt::Clock;
+use std::rt::{Clock, Files};
 use std::sync::Wait;
 use std::thread::Threads;
 
@@ -39,6 +42,16 @@ const GROWN_TO: [u32; 3] = [0x1000, 0x1_0000, 0x10_0000];
 /// How many keys a map has that is reclaimed, and in how many rounds they were inserted.
 const RECLAIMED: [(u32, u32); 2] = [(0x1_0000, 1), (1000, 1001)];
 
+/// How many operations each map does that is kept at work.
+const SOAKED: u32 = 100_000_000;
+
+/// How many of the calls write then, and how many keys a map has.
+const SOAKS: [(Writes, u32); 3] = [
+    (Writes::OneInTen, 1000),
+    (Writes::All, 1000),
+    (Writes::OneInTen, 0x10_0000),
+];
+
 /// Prints what the answers of these backends to one workload sum to, of those that do it. The sums
 /// are equal, or it fails.
 fn check_workload<R: Clock + Threads + Wait + Sync, W: Write>(
@@ -54,14 +67,16 @@ fn check_workload<R: Clock + Threads + Wait + Sync, W: Write>(
         keys,
         rounds,
     };
-    write!(output, "{}:", workload.name()).map_err(|_| Failure::Output)?;
+    written(write!(output, "{}:", workload.name()))?;
     let mut sums = Vec::new(alloc);
-    for backend in backends.iter().filter(|backend| backend.does(workload)) {
-        let sum = backend.measure(rt, alloc, plan)?.checksum;
-        write!(output, " {} {sum}", backend.name()).map_err(|_| Failure::Output)?;
-        sums.push(sum)?;
+    for backend in backends {
+        if backend.does(workload) {
+            let sum = backend.measure(rt, alloc, plan)?.checksum;
+            written(write!(output, " {} {sum}", backend.name()))?;
+            sums.push(sum)?;
+        }
     }
-    writeln!(output).map_err(|_| Failure::Output)?;
+    written(writeln!(output))?;
     match sums.as_slice() {
         [first, others @ ..] => compare(*first, others),
         [] => Ok(()),
@@ -80,7 +95,7 @@ fn check<R: Clock + Threads + Wait + Sync, W: Write>(
             check_workload(rt, alloc, Backend::SETS, workload, output)?;
         }
     }
-    output.flush().map_err(|_| Failure::Output)
+    written(output.flush())
 }
 
 /// Prints a line of the time that each backend takes for one workload, if it does it.
@@ -90,24 +105,24 @@ pub fn time_workload<R: Clock + Threads + Wait + Sync, W: Write>(
     plan: Plan,
     output: &mut W,
 ) -> Result<(), Failure> {
-    let all = Backend::LOOP
-        .iter()
-        .chain(Backend::MAPS)
-        .chain(Backend::SETS);
-    for backend in all.filter(|backend| backend.does(plan.workload)) {
-        let measure = backend.measure(rt, alloc, plan)?;
-        writeln!(
-            output,
-            "{}/{}/{} {} {} {}",
-            plan.workload.name(),
-            backend.name(),
-            plan.keys,
-            plan.steps(),
-            measure.nanoseconds,
-            measure.checksum
-        )
-        .map_err(|_| Failure::Output)?;
-        output.flush().map_err(|_| Failure::Output)?;
+    for backends in [Backend::LOOP, Backend::MAPS, Backend::SETS] {
+        for backend in backends {
+            if backend.does(plan.workload) {
+                let measure = backend.measure(rt, alloc, plan)?;
+                let numbers = [
+                    u128::from(plan.steps()),
+                    measure.nanoseconds,
+                    u128::from(measure.checksum),
+                ];
+                print_line(
+                    plan.workload.name(),
+                    backend.name(),
+                    plan.keys,
+                    &numbers,
+                    output,
+                )?;
+            }
+        }
     }
     Ok(())
 }
@@ -170,14 +185,32 @@ fn reclaim<R: Clock + Wait, W: Write>(
     Ok(())
 }
 
+/// Times maps that threads keep at work for so many operations, and says what they hold.
+fn soak<R: Clock + Files + Threads + Wait + Sync, W: Write>(
+    rt: &R,
+    alloc: Global,
+    operations: u32,
+    output: &mut W,
+) -> Result<(), Failure> {
+    for (writes, keys) in SOAKS {
+        let soak = Soak {
+            writes,
+            keys,
+            operations,
+        };
+        time_soak(rt, alloc, soak, output)?;
+    }
+    Ok(())
+}
+
 /// Does what the arguments ask for.
-fn run<R: Clock + Threads + Wait + Sync, W: Write>(
+fn run<R: Clock + Files + Threads + Wait + Sync, W: Write>(
     rt: &R,
     alloc: Global,
     args: &[String],
     output: &mut W,
 ) -> Result<(), Failure>
-    ensures { ((task : Task) → map string_bytes args.now ≢ words_of task)
+    ensures { ((task : Task) → ¬ (AskFor (map string_bytes args.now) task))
         → result ≡ Err Failure.Arguments }
 {
     match Task::from_words(args) {
@@ -186,19 +219,20 @@ fn run<R: Clock + Threads + Wait + Sync, W: Write>(
         Some(Task::Time) => time(rt, alloc, output),
         Some(Task::Grow) => grow(rt, alloc, output),
         Some(Task::Reclaim) => reclaim(rt, alloc, output),
+        Some(Task::Soak(operations)) => soak(rt, alloc, operations.unwrap_or(SOAKED), output),
     }
 }
 
 /// Runs the program on the arguments behind its name, and answers its exit status: 0, or the
 /// failure's that it has printed on `errors`.
-pub fn run_on<R: Clock + Threads + Wait + Sync, W: Write, E: Write>(
+pub fn run_on<R: Clock + Files + Threads + Wait + Sync, W: Write, E: Write>(
     rt: &R,
     alloc: Global,
     args: &[String],
     output: &mut W,
     errors: &mut E,
 ) -> u8
-    ensures bad_arguments { ((task : Task) → map string_bytes args.now ≢ words_of task)
+    ensures bad_arguments { ((task : Task) → ¬ (AskFor (map string_bytes args.now) task))
         → result ≡ 2 }
     ensures bound { result ≤ 2 }
 {

@@ -1,6 +1,6 @@
 //! The shared map, by the calls of a map that is pinned once or for each call, or of a session, and
 //! the shared set.
-use crate::collections::{Collection, Growing, Shared};
+use crate::collections::{Collection, Growing, Pinned, Shared};
 use crate::reclaim::Reclaimed;
 use crate::steps::{Target, Work, counted_up, one_more, stored};
 use papaya_map::map::{HashMap, HashMapRef};
@@ -102,18 +102,18 @@ impl Target for Session<'_, u64, u64> {
 
 impl Target for &PinACall {
     #[inline(always)]
-    fn look_up<R: Wait>(&mut self, _rt: &R, key: u64) -> u64 {
-        weight(self.0.pin().get(&key))
+    fn look_up<R: Wait>(&mut self, rt: &R, key: u64) -> u64 {
+        self.0.look_up_once(rt, key)
     }
 
     #[inline(always)]
     fn put_in<R: Wait>(&mut self, rt: &R, key: u64, value: u64) -> Result<u64, Failure> {
-        Ok(weight(self.0.pin().insert(rt, key, value)?))
+        self.0.put_in_once(rt, key, value)
     }
 
     #[inline(always)]
     fn take_out<R: Wait>(&mut self, rt: &R, key: u64) -> Result<u64, Failure> {
-        Ok(weight(self.0.pin().remove(rt, &key)?))
+        self.0.pin().take_out(rt, key)
     }
 
     #[inline(always)]
@@ -170,7 +170,7 @@ impl Shared for Map {
 
 impl Collection for BySession {
     fn empty<R: Wait>(rt: &R, alloc: Global, capacity: usize) -> Result<BySession, Failure> {
-        Ok(BySession(HashMap::with_capacity(rt, alloc, capacity)?))
+        Ok(BySession(Map::empty(rt, alloc, capacity)?))
     }
 
     fn alone<R: Wait>(&mut self, rt: &R, work: Work) -> Result<u64, Failure> {
@@ -180,7 +180,7 @@ impl Collection for BySession {
 
 impl Collection for PinACall {
     fn empty<R: Wait>(rt: &R, alloc: Global, capacity: usize) -> Result<PinACall, Failure> {
-        Ok(PinACall(HashMap::with_capacity(rt, alloc, capacity)?))
+        Ok(PinACall(Map::empty(rt, alloc, capacity)?))
     }
 
     fn alone<R: Wait>(&mut self, rt: &R, work: Work) -> Result<u64, Failure> {
@@ -204,6 +204,18 @@ impl Growing for Map {
         let hasher = BuildHasherDefault::new();
         let shards = DEFAULT_SHARDS;
         Ok(HashMap::with_parts(rt, alloc, mode, 0, shards, hasher, None)?)
+    }
+}
+
+impl Pinned for Map {
+    #[inline(always)]
+    fn put_in_once<R: Wait>(&self, rt: &R, key: u64, value: u64) -> Result<u64, Failure> {
+        self.pin().put_in(rt, key, value)
+    }
+
+    #[inline(always)]
+    fn look_up_once<R: Wait>(&self, rt: &R, key: u64) -> u64 {
+        self.pin().look_up(rt, key)
     }
 }
 

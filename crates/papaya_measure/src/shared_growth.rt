@@ -1,8 +1,9 @@
 //! The shared map while it grows: what its insertions take, by one thread and by several, and gets
 //! beside them.
 use crate::backends::{elapsed, now};
-use crate::collections::Growing;
+use crate::collections::Pinned;
 use crate::growth::name_of;
+use crate::lines::print_line;
 use crate::shared::Map;
 use papaya_plan::percentile::place_of;
 use papaya_plan::plan::{Part, Plan, THREADS, Workload, key_of};
@@ -33,17 +34,17 @@ fn plan_of(keys: u32) -> Plan {
 
 /// Inserts the keys of a part, and answers the nanoseconds of each insertion. The map is pinned for
 /// each, as a caller who inserts now and then would.
-fn insert_part<R: Clock + Wait>(
+fn insert_part<R: Clock + Wait, C: Pinned>(
     rt: &R,
     alloc: Global,
-    map: &Map,
+    map: &C,
     part: Part,
 ) -> Result<Vec<u128>, Failure> {
     let room = part.end.saturating_sub(part.start);
     let mut times = Vec::with_capacity(alloc, room as usize)?;
     for number in part.start..part.end {
         let start = now(rt)?;
-        map.pin().insert(rt, key_of(number), number)?;
+        map.put_in_once(rt, key_of(number), number)?;
         times.push(elapsed(rt, start)?)?;
     }
     Ok(times)
@@ -67,17 +68,17 @@ fn joined(alloc: Global, parts: &[Result<Vec<u128>, Failure>]) -> Result<Vec<u12
 
 /// Inserts so many keys by several threads, each its part, and answers the nanoseconds of
 /// each insertion.
-fn insert_in_threads<R: Clock + Threads + Wait + Sync>(
+fn insert_in_threads<R: Clock + Threads + Wait + Sync, C: Pinned + Sync>(
     rt: &R,
     alloc: Global,
-    map: &Map,
+    map: &C,
     plan: Plan,
 ) -> Result<Vec<u128>, Failure> {
     let parts = thread::map_indices(
         rt,
         alloc,
         THREADS as usize,
-        &|thread| { insert_part(rt, alloc, map, Part::of_thread(plan, thread as u32)) },
+        &|thread| { insert_part(rt, alloc, map, Part::of_thread(plan.keys, thread as u32)) },
     )?;
     joined(alloc, parts.as_slice())
 }
@@ -90,10 +91,10 @@ fn at(sorted: &[u128], keys: u32, thousandths: u16) -> u128 {
         .unwrap_or(0)
 }
 
-/// Prints a line: its name, the keys, the nanoseconds of all insertions, of the greatest one, and
-/// those at p50, p99 and p99.9.
+/// Prints a line of insertions: how many, the nanoseconds of all and of the greatest one, and those
+/// at p50, p99 and p99.9.
 fn print_times<W: Write>(
-    name: &str,
+    mode: ResizeMode,
     backend: &str,
     keys: u32,
     nanoseconds: u128,
@@ -103,46 +104,45 @@ fn print_times<W: Write>(
     let mut times = times;
     times.sort_unstable();
     let sorted = times.as_slice();
-    writeln!(
-        output,
-        "{name}/{backend}/{keys} {keys} {nanoseconds} {} {} {} {}",
+    let numbers = [
+        u128::from(keys),
+        nanoseconds,
         at(sorted, keys, 1000),
         at(sorted, keys, 500),
         at(sorted, keys, 990),
-        at(sorted, keys, 999)
-    )
-    .map_err(|_| Failure::Output)?;
-    output.flush().map_err(|_| Failure::Output)
+        at(sorted, keys, 999),
+    ];
+    print_line(name_of(mode), backend, keys, &numbers, output)
 }
 
 /// The growth of a map by one thread.
-fn by_one<R: Clock + Wait, W: Write>(
+fn by_one<R: Clock + Wait, C: Pinned, W: Write>(
     rt: &R,
     alloc: Global,
     mode: ResizeMode,
     keys: u32,
     output: &mut W,
 ) -> Result<(), Failure> {
-    let map = Map::empty_in(rt, alloc, mode)?;
+    let map = C::empty_in(rt, alloc, mode)?;
     let start = now(rt)?;
-    let times = insert_part(rt, alloc, &map, Part::whole(plan_of(keys)))?;
+    let times = insert_part(rt, alloc, &map, Part::whole(keys))?;
     let nanoseconds = elapsed(rt, start)?;
-    print_times(name_of(mode), "shared", keys, nanoseconds, times, output)
+    print_times(mode, "shared", keys, nanoseconds, times, output)
 }
 
 /// The growth of a map by several threads.
-fn by_threads<R: Clock + Threads + Wait + Sync, W: Write>(
+fn by_threads<R: Clock + Threads + Wait + Sync, C: Pinned + Sync, W: Write>(
     rt: &R,
     alloc: Global,
     mode: ResizeMode,
     keys: u32,
     output: &mut W,
 ) -> Result<(), Failure> {
-    let map = Map::empty_in(rt, alloc, mode)?;
+    let map = C::empty_in(rt, alloc, mode)?;
     let start = now(rt)?;
     let times = insert_in_threads(rt, alloc, &map, plan_of(keys))?;
     let nanoseconds = elapsed(rt, start)?;
-    print_times(name_of(mode), "threads", keys, nanoseconds, times, output)
+    print_times(mode, "threads", keys, nanoseconds, times, output)
 }
 
 /// What a writer and its readers tell each other.
@@ -164,7 +164,12 @@ struct Gets {
 
 /// Inserts all keys once the readers have begun, or have not in so many looks. It waits for none
 /// that could not be started.
-fn write<R: Clock + Wait>(rt: &R, map: &Map, gate: &Gate, keys: u32) -> Result<Gets, Failure> {
+fn write<R: Clock + Wait, C: Pinned>(
+    rt: &R,
+    map: &C,
+    gate: &Gate,
+    keys: u32,
+) -> Result<Gets, Failure> {
     for _ in 0..LOOKS {
         if gate.ready.load(Ordering::SeqCst) >= READERS {
             break;
@@ -173,7 +178,7 @@ fn write<R: Clock + Wait>(rt: &R, map: &Map, gate: &Gate, keys: u32) -> Result<G
     }
     let start = now(rt)?;
     for number in 0..u64::from(keys) {
-        map.pin().insert(rt, key_of(number), number)?;
+        map.put_in_once(rt, key_of(number), number)?;
     }
     Ok(Gets {
         count: 0,
@@ -182,7 +187,12 @@ fn write<R: Clock + Wait>(rt: &R, map: &Map, gate: &Gate, keys: u32) -> Result<G
 }
 
 /// Looks keys up until the writer has ended.
-fn read<R: Clock + Wait>(rt: &R, map: &Map, gate: &Gate, plan: Plan) -> Result<Gets, Failure> {
+fn read<R: Clock + Wait, C: Pinned>(
+    rt: &R,
+    map: &C,
+    gate: &Gate,
+    plan: Plan,
+) -> Result<Gets, Failure> {
     gate.ready.fetch_add(1, Ordering::SeqCst);
     let mut count: u64 = 0;
     let mut greatest: u128 = 0;
@@ -192,7 +202,7 @@ fn read<R: Clock + Wait>(rt: &R, map: &Map, gate: &Gate, plan: Plan) -> Result<G
         }
         let key = key_of(plan.number_at(count));
         let start = now(rt)?;
-        let _found = map.pin().get(&key);
+        let _weight = map.look_up_once(rt, key);
         greatest = greatest.max(elapsed(rt, start)?);
         count = count.wrapping_add(1);
     }
@@ -200,9 +210,9 @@ fn read<R: Clock + Wait>(rt: &R, map: &Map, gate: &Gate, plan: Plan) -> Result<G
 }
 
 /// The part of one thread: the first writes, and the others read.
-fn write_or_read<R: Clock + Wait>(
+fn write_or_read<R: Clock + Wait, C: Pinned>(
     rt: &R,
-    map: &Map,
+    map: &C,
     gate: &Gate,
     plan: Plan,
     thread: usize,
@@ -235,13 +245,13 @@ fn sum_of(parts: &[Result<Gets, Failure>]) -> Result<(Gets, u128), Failure> {
 }
 
 /// Three threads read while the fourth makes a map grow.
-fn read_beside<R: Clock + Threads + Wait + Sync>(
+fn read_beside<R: Clock + Threads + Wait + Sync, C: Pinned + Sync>(
     rt: &R,
     alloc: Global,
     mode: ResizeMode,
     keys: u32,
 ) -> Result<(Gets, u128), Failure> {
-    let map = Map::empty_in(rt, alloc, mode)?;
+    let map = C::empty_in(rt, alloc, mode)?;
     let gate = Gate {
         ready: AtomicU64::new(0),
         done: AtomicBool::new(false),
@@ -258,22 +268,16 @@ fn read_beside<R: Clock + Threads + Wait + Sync>(
 
 /// Prints a line of gets beside growth: its name, the gets of three threads, the nanoseconds in
 /// which the fourth made the map grow, and those of the greatest get.
-fn beside_gets<R: Clock + Threads + Wait + Sync, W: Write>(
+fn beside_gets<R: Clock + Threads + Wait + Sync, C: Pinned + Sync, W: Write>(
     rt: &R,
     alloc: Global,
     mode: ResizeMode,
     keys: u32,
     output: &mut W,
 ) -> Result<(), Failure> {
-    let (sum, written) = read_beside(rt, alloc, mode, keys)?;
-    let name = name_of(mode);
-    writeln!(
-        output,
-        "{name}/gets/{keys} {} {written} {}",
-        sum.count, sum.greatest
-    )
-    .map_err(|_| Failure::Output)?;
-    output.flush().map_err(|_| Failure::Output)
+    let (sum, written) = read_beside::<R, C>(rt, alloc, mode, keys)?;
+    let numbers = [u128::from(sum.count), written, sum.greatest];
+    print_line(name_of(mode), "gets", keys, &numbers, output)
 }
 
 /// Prints the lines of a shared map that grows from empty to so many keys: by one thread, by
@@ -285,7 +289,7 @@ pub fn time_shared_growth<R: Clock + Threads + Wait + Sync, W: Write>(
     keys: u32,
     output: &mut W,
 ) -> Result<(), Failure> {
-    by_one(rt, alloc, mode, keys, output)?;
-    by_threads(rt, alloc, mode, keys, output)?;
-    beside_gets(rt, alloc, mode, keys, output)
+    by_one::<R, Map, W>(rt, alloc, mode, keys, output)?;
+    by_threads::<R, Map, W>(rt, alloc, mode, keys, output)?;
+    beside_gets::<R, Map, W>(rt, alloc, mode, keys, output)
 }

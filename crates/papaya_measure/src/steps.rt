@@ -29,6 +29,11 @@ pub(crate) trait Target {
     fn walk<R: Wait>(&mut self, _rt: &R) -> Result<u64, Failure> {
         Err(Failure::Arguments)
     }
+
+    /// Enters the map and leaves it: 1.
+    fn pass_through<R: Wait>(&mut self, _rt: &R) -> Result<u64, Failure> {
+        Err(Failure::Arguments)
+    }
 }
 
 /// A count after one more.
@@ -70,6 +75,7 @@ impl Work {
             Work::Rounds(plan, part) => match plan.workload {
                 Workload::UpdateOrInsert | Workload::Compute => counts(rt, target, plan, part),
                 Workload::Iterate => walks(rt, target, plan),
+                Workload::Enter => entries(rt, target, plan, part),
                 _ => rounds(rt, target, plan, part),
             },
         }
@@ -103,7 +109,11 @@ fn rounds<R: Wait, T: Target>(
 
 /// One step: what it answers.
 #[inline(always)]
-fn step<R: Wait, T: Target>(rt: &R, target: &mut T, action: Action) -> Result<u64, Failure> {
+pub(crate) fn step<R: Wait, T: Target>(
+    rt: &R,
+    target: &mut T,
+    action: Action,
+) -> Result<u64, Failure> {
     match action {
         Action::Get(number) => Ok(target.look_up(rt, key_of(number))),
         Action::Insert(number, value) => target.put_in(rt, key_of(number), value),
@@ -146,6 +156,24 @@ fn walks<R: Wait, T: Target>(rt: &R, target: &mut T, plan: Plan) -> Result<u64, 
     let (_, rounds) = plan.maps();
     for _ in 0..rounds {
         sum = sum.wrapping_add(target.walk(rt)?);
+    }
+    Ok(sum)
+}
+
+/// Rounds in which no call is made.
+#[inline(never)]
+fn entries<R: Wait, T: Target>(
+    rt: &R,
+    target: &mut T,
+    plan: Plan,
+    part: Part,
+) -> Result<u64, Failure> {
+    let mut sum: u64 = 0;
+    let (_, rounds) = plan.maps();
+    for _ in 0..rounds {
+        for _ in part.start..part.end {
+            sum = sum.wrapping_add(target.pass_through(rt)?);
+        }
     }
     Ok(sum)
 }

@@ -14,3 +14,4 @@ uses_up workload.Mixed = false
 uses_up workload.UpdateOrInsert = false
 uses_up workload.Compute = false
 uses_up workload.Iterate = false
+uses_up workload.Enter = false

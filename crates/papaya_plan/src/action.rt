@@ -6,7 +6,7 @@ ghost use Rattle.papaya_plan.specs.declared.action.Action.TheVariants.{Get, Inse
 use crate::plan::{Plan, Workload};
 
 /// Of a mixed round, one number in so many is inserted.
-const MIXED: u64 = 10;
+pub(crate) const MIXED: u64 = 10;
 
 /// What one step does, at the key of a number.
 #[derive(Clone, Copy)]
@@ -38,9 +38,10 @@ impl Plan {
         ensures compute { self.workload ≡ workload.Compute
             → result ≡ Insert number ((number + (round + 1)) % 2 ^ 64) }
         ensures walk { self.workload ≡ workload.Iterate → result ≡ Get number }
+        ensures enter { self.workload ≡ workload.Enter → result ≡ Get number }
     {
         match self.workload {
-            Workload::GetHit | Workload::Iterate => Action::Get(number),
+            Workload::GetHit | Workload::Iterate | Workload::Enter => Action::Get(number),
             Workload::GetMiss => Action::Get(number.wrapping_add(u64::from(self.keys))),
             Workload::InsertFresh => Action::Insert(number, number),
             Workload::InsertReplace | Workload::UpdateOrInsert | Workload::Compute => {

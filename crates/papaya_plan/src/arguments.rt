@@ -1,7 +1,7 @@
 //! The program's arguments.
-ghost use Rattle.std.specs.Prelude.{◌≡◌, ◌≢◌, map, string_bytes, MatchOption};
+ghost use Rattle.std.specs.Prelude.{◌≡◌, ℕ, [], ◌∷◌, map, string_bytes, MatchOption};
 ghost use Rattle.papaya_plan.specs.declared.arguments.Task.{Task};
-ghost use Rattle.papaya_plan.specs.Arguments.{words_of};
+ghost use Rattle.papaya_plan.specs.Arguments.{AskFor, WritesCount};
 
 /// What the program is to do.
 #[derive(Clone, Copy)]
@@ -14,22 +14,53 @@ pub enum Task {
     Grow,
     /// Time maps that are filled and reclaimed: the argument `reclaim`.
     Reclaim,
+    /// Keep maps at work for as many operations as the argument behind `soak` says, or as a soak
+    /// has where there is none.
+    Soak(Option<u32>),
+}
+
+/// The number that a word writes, within 32 bits.
+fn count_of(word: &str) -> Option<u32>
+    ensures { MatchOption result ((n : ℕ) → ¬ (WritesCount word.now n)) (WritesCount word.now) }
+{
+    word.parse().ok()
+}
+
+/// The task of one word.
+fn task_of(word: &str) -> Option<Task>
+    ensures { MatchOption result ((task : Task) → ¬ (AskFor (word.now ∷ []) task))
+        (AskFor (word.now ∷ [])) }
+{
+    match word {
+        "time" => Some(Task::Time),
+        "grow" => Some(Task::Grow),
+        "reclaim" => Some(Task::Reclaim),
+        "soak" => Some(Task::Soak(None)),
+        _ => None,
+    }
+}
+
+/// The task of a word and a number behind it.
+fn counted_task_of(word: &str, count: &str) -> Option<Task>
+    ensures { MatchOption result ((task : Task) → ¬ (AskFor (word.now ∷ count.now ∷ []) task))
+        (AskFor (word.now ∷ count.now ∷ [])) }
+{
+    match word {
+        "soak" => Some(Task::Soak(Some(count_of(count)?))),
+        _ => None,
+    }
 }
 
 impl Task {
     /// The task of the arguments behind the program's name, or None where they are bad.
     pub fn from_words(words: &[String]) -> Option<Task>
-        ensures { MatchOption result ((task : Task) → map string_bytes words.now ≢ words_of task)
-            (λ task. map string_bytes words.now ≡ words_of task) }
+        ensures { MatchOption result ((task : Task) → ¬ (AskFor (map string_bytes words.now) task))
+            (AskFor (map string_bytes words.now)) }
     {
         match words {
             [] => Some(Task::Check),
-            [word] => match word.as_str() {
-                "time" => Some(Task::Time),
-                "grow" => Some(Task::Grow),
-                "reclaim" => Some(Task::Reclaim),
-                _ => None,
-            },
+            [word] => task_of(word.as_str()),
+            [word, count] => counted_task_of(word.as_str(), count.as_str()),
             _ => None,
         }
     }

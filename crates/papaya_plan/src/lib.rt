@@ -1,5 +1,5 @@
-//! What the maps are timed at: workloads, the plans of their rounds and what each step does, the
-//! sums by which answers are compared, and the program's arguments.
+//! What the maps are timed at: workloads, the plans of their rounds and what each step does, soaks,
+//! the sums by which answers are compared, and the program's arguments.
 #![tactic(auto)]
 
 pub mod action;
@@ -7,3 +7,4 @@ pub mod answers;
 pub mod arguments;
 pub mod percentile;
 pub mod plan;
+pub mod soak;

@@ -1,5 +1,5 @@
 //! What is done to the maps, and how often.
-ghost use Rattle.std.specs.Prelude.{◌≡◌, ◌≢◌, cond, ◌+◌, ◌*◌, ◌/◌, ◌%◌, ◌^◌, ◌<◌, ◌≤◌};
+ghost use Rattle.std.specs.Prelude.{◌≡◌, ◌≢◌, cond, ◌+◌, ◌*◌, ◌/◌, ◌%◌, ◌^◌, ◌<◌, ◌≤◌, ◌-◌, min};
 ghost use Rattle.std.specs.Int.{IsPowerOfTwo};
 ghost use Rattle.papaya_plan.specs.declared.plan.Workload.TheVariants.{InsertFresh};
 ghost use Rattle.papaya_plan.specs.Plan.{uses_up};
@@ -28,11 +28,13 @@ pub enum Workload {
     Compute,
     /// Finds all keys that it has, by a walk in each round.
     Iterate,
+    /// Enters the map and leaves it, and makes no call.
+    Enter,
 }
 
 impl Workload {
     /// All workloads, in the order in which they are run.
-    pub const ALL: [Workload; 9] = [
+    pub const ALL: [Workload; 10] = [
         Workload::GetHit,
         Workload::GetMiss,
         Workload::InsertFresh,
@@ -42,6 +44,7 @@ impl Workload {
         Workload::UpdateOrInsert,
         Workload::Compute,
         Workload::Iterate,
+        Workload::Enter,
     ];
 
     /// The name in what is printed.
@@ -56,6 +59,7 @@ impl Workload {
             Workload::UpdateOrInsert => "update-or-insert",
             Workload::Compute => "compute",
             Workload::Iterate => "iterate",
+            Workload::Enter => "enter",
         }
     }
 }
@@ -132,7 +136,7 @@ pub fn key_of(number: u64) -> u64
     number.wrapping_mul(3_787_392_781)
 }
 
-/// The turns of one of several parts of a round: from the first to below the second.
+/// The turns of one of several parts: from the first to below the second.
 #[derive(Clone, Copy)]
 pub struct Part {
     pub start: u64,
@@ -140,26 +144,50 @@ pub struct Part {
 }
 
 impl Part {
-    /// The whole round.
-    pub fn whole(plan: Plan) -> Part
-        ensures { (result.start ≡ 0) × (result.end ≡ plan.keys) }
+    /// All of so many turns.
+    pub fn whole(turns: u32) -> Part
+        ensures { (result.start ≡ 0) × (result.end ≡ turns) }
     {
         Part {
             start: 0,
-            end: u64::from(plan.keys),
+            end: u64::from(turns),
         }
     }
 
     /// The part of this number of as many as there are threads. They follow one another.
-    pub fn of_thread(plan: Plan, thread: u32) -> Part
-        ensures { (result.start ≡ plan.keys * thread / THREADS)
-            × (result.end ≡ plan.keys * (thread + 1) / THREADS) }
+    pub fn of_thread(turns: u32, thread: u32) -> Part
+        ensures { (result.start ≡ turns * thread / THREADS)
+            × (result.end ≡ turns * (thread + 1) / THREADS) }
     {
-        let keys = u64::from(plan.keys);
+        let turns = u64::from(turns);
         let thread = u64::from(thread);
         Part {
-            start: keys * thread / THREADS,
-            end: keys * (thread + 1) / THREADS,
+            start: turns * thread / THREADS,
+            end: turns * (thread + 1) / THREADS,
+        }
+    }
+
+    /// How many blocks it has, each of so many turns. The last may have fewer.
+    pub fn blocks(self, turns: u32) -> u64
+        requires { 0 < turns }
+        ensures { (self.end ≤ self.start + result * turns)
+            × (0 < result → self.start + (result - 1) * turns < self.end) }
+    {
+        self.end
+            .saturating_sub(self.start)
+            .div_ceil(u64::from(turns))
+    }
+
+    /// The block of this number, of so many turns.
+    pub fn block(self, turns: u32, number: u64) -> Part
+        ensures { (result.start ≡ min (self.start + number * turns) self.end)
+            × (result.end ≡ min (self.start + (number + 1) * turns) self.end) }
+    {
+        let turns = u64::from(turns);
+        let start = self.start.saturating_add(number.saturating_mul(turns));
+        Part {
+            start: start.min(self.end),
+            end: start.saturating_add(turns).min(self.end),
         }
     }
 }

@@ -3,7 +3,7 @@ use papaya_ask::ask::{OpKind, StepKind};
 use papaya_ask::call::{Call, Reply};
 
 /// A turn of a schedule.
-#[derive(Drop)]
+#[derive(Debug, Drop)]
 pub enum Turn<K, V, A> {
     /// This caller begins a call.
     Begin(usize, Call<K, V, A>),
@@ -14,7 +14,7 @@ pub enum Turn<K, V, A> {
 }
 
 /// What happened at one moment. Pairs are named by number.
-#[derive(Clone, Copy)]
+#[derive(Clone, Copy, Debug, PartialEq)]
 pub enum Event {
     /// A call began.
     Begun,
@@ -37,17 +37,20 @@ pub enum Event {
 }
 
 /// What happened at one moment to one caller.
-#[derive(Clone, Copy)]
+#[derive(Clone, Copy, Debug, PartialEq)]
 pub struct Entry {
     /// The turn's place in the schedule.
     pub turn: usize,
+    /// Whose turn it was.
     pub caller: usize,
+    /// What happened.
     pub event: Event,
 }
 
 /// What happened in a run, in order. A begin has one entry. A step has one for its ask, and a
 /// second where it gave the reply.
-#[derive(Drop)]
+#[derive(Debug, Drop)]
 pub struct Trace {
+    /// One for each moment, the first one first.
     pub entries: Vec<Entry>,
 }

@@ -4,7 +4,7 @@ use Rattle.std.specs.Prelude.{MatchOption, String, option_map, string_bytes}
 use Rattle.std.specs.Borrow.{Bor}
 use Rattle.std.specs.declared.alloc.Global.{Global}
 use Rattle.std.proofs.lemmas.Bool.{false≢true, ne_eqb}
-use Rattle.papaya_words.specs.declared.probe.Refused.{Refused}
+use Rattle.papaya.specs.Types.{Refused}
 use Rattle.papaya.specs.Seq.{IsCloned, IsPut, Stored, map_in, value_of}
 use Rattle.papaya_uses.specs.Cache.{Generations, StaysOrGoes, Texts, first_of, text_in, text_of}
 

@@ -3,11 +3,7 @@ use Rattle.std.proofs.Common.{◌≡◌, ◌==◌, ℕ, Option, None, Some, Ok, 
 use Rattle.std.specs.Prelude.{Result, option_map}
 use Rattle.std.specs.Borrow.{Bor}
 use Rattle.std.specs.Fn.{Called, Mut}
-use Rattle.papaya_words.specs.declared.probe.Refused.{Refused}
-use Rattle.papaya_call.specs.declared.answers.Operation.{Operation}
-use Rattle.papaya_call.specs.declared.answers.Operation.TheVariants.{Insert, Remove, Abort}
-use Rattle.papaya_keys.specs.declared.compute.Compute.{Compute}
-use Rattle.papaya_keys.specs.declared.compute.Compute.TheVariants.{Inserted, Updated, Removed, Aborted}
+use Rattle.papaya.specs.Types.{Compute, Inserted, Updated, Removed, Aborted, Operation, Insert, Remove, Abort, Refused}
 use Rattle.papaya.specs.Threads.{AreShown, IsComputeBy, IsLegalHistory, IsOperated, Member, Operates, Stored, WasLast, key_of}
 use Rattle.papaya_uses.specs.Counters.{HasAdded, Seen, next_count}
 use Rattle.papaya_uses.proofs.PutLemmas.{put_at}

@@ -3,7 +3,7 @@ use Rattle.std.proofs.Common.{◌≡◌, ◌==◌, ◌+◌, ◌-◌, ◌^◌, mi
 use Rattle.std.specs.Fn.{FnReturnsAt, Shared}
 use Rattle.std.specs.Prelude.{Result, IfOk}
 use Rattle.std.specs.Borrow.{Bor}
-use Rattle.papaya_words.specs.declared.probe.Refused.{Refused}
+use Rattle.papaya.specs.Types.{Refused}
 use Rattle.papaya.specs.Threads.{IsLegalHistory, IsUpserted, key_of}
 use Rattle.papaya_uses.specs.Hits.{HasCounted, Seen}
 use Rattle.papaya_uses.proofs.PutLemmas.{put_at}

@@ -2,6 +2,7 @@ mod CacheLemmas
 mod CounterLemmas
 mod HitLemmas
 mod LimitLemmas
+mod LoginLemmas
 mod MetricLemmas
 mod PutLemmas
 mod Said

@@ -1,6 +1,6 @@
 -- Why a map without a limit refuses to store a pair.
 use Rattle.std.proofs.Common.{◌≡◌, ◌⊎◌, ℕ, Option, None, Some, inl, inr, sym, ◌∙◌}
-use Rattle.papaya_words.specs.declared.probe.Refused.{Refused}
+use Rattle.papaya.specs.Types.{Refused}
 use Rattle.papaya.specs.Threads.{IsMemoryOrCapacity, IsWriteRefusal}
 
 pub unlimited : (limit : Option ℕ) (taken : ℕ) (refused : Refused) → limit ≡ None → IsWriteRefusal limit taken refused → IsMemoryOrCapacity refused

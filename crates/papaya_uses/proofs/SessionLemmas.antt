@@ -4,7 +4,7 @@ use Rattle.std.proofs.lemmas.Bool.{eqb-true}
 use Rattle.std.specs.Prelude.{Result, Option}
 use Rattle.std.specs.Borrow.{Bor}
 use Rattle.std.specs.Fn.{Called, Mut}
-use Rattle.papaya_words.specs.declared.probe.Refused.{Refused}
+use Rattle.papaya.specs.Types.{Refused}
 use Rattle.papaya.specs.Threads.{IsJudged, IsRemovalBy, Judges, Member, Stored}
 use Rattle.papaya_uses.specs.Sessions.{IsSignedOut, Seen}
 use Rattle.papaya_uses.proofs.Said.{said_each}

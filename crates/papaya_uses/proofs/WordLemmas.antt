@@ -9,7 +9,7 @@ use Rattle.std.proofs.lemmas.Bool.{cases_Bool}
 use Rattle.std.proofs.lemmas.List.Sums.{count_by_more_no, count_by_more_yes}
 use Rattle.std.specs.Cmp.{IsEquivalence}
 use Rattle.std.specs.List.{count_by}
-use Rattle.papaya_words.specs.declared.probe.Refused.{Refused}
+use Rattle.papaya.specs.Types.{Refused}
 use Rattle.papaya.specs.Seq.{Inserts, IsUpdatedOrInserted, MapState, Stored, content, lookup, value_answered, value_of}
 use Rattle.papaya_uses.specs.Words.{count_in, count_of}
 

@@ -1,6 +1,7 @@
 pub mod Cache
 pub mod Counters
 pub mod Hits
+pub mod Logins
 pub mod Routes
 pub mod Seen
 pub mod Sessions

@@ -1,6 +1,5 @@
 use Rattle.std.proofs.Common.{◌≡◌, ◌∙◌, Ok, option_map, rules, refl, ap}
-use Rattle.papaya_keys.specs.declared.compute.Compute.TheVariants.{Inserted, Updated, Removed, Aborted}
-use Rattle.papaya_call.specs.declared.answers.Operation.TheVariants.{Insert}
+use Rattle.papaya.specs.Types.{Insert, Inserted, Updated, Removed, Aborted}
 use Rattle.papaya_uses.specs.Counters.{next_count}
 use Rattle.papaya_uses.proofs.CounterLemmas.{added, begun, not_aborted, not_removed}
 use Rattle.papaya_uses.proofs.counters.add.Goals as goal

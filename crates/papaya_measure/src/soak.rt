@@ -1,0 +1,327 @@
+//! Maps that four threads keep at work: reclaimed between their calls, or never.
+use crate::backends::{elapsed, now};
+use crate::collections::{Collection, Pinned};
+use crate::lines::print_line;
+use crate::memory::resident;
+use crate::steps::{Work, step};
+use crate::{entered, shared};
+use papaya_plan::plan::{Part, THREADS};
+use papaya_plan::soak::Soak;
+use papaya_reclaiming::reclaiming::Handle;
+use papaya_shell::failure::Failure;
+use std::alloc::Global;
+use std::io::Write;
+use std::rt::{Clock, Files};
+use std::sync::Wait;
+use std::thread;
+use std::thread::Threads;
+
+/// How many calls a thread makes between two looks at the clock.
+const BLOCK: u32 = 64;
+
+/// In how many blocks a thread asks once whether the map is to be reclaimed.
+const TIDY: u64 = 64;
+
+/// How many calls all threads make between two looks at what the process holds, and one of them.
+const SLICE: u32 = 1_000_000;
+
+const SHARE_OF_SLICE: u32 = SLICE / THREADS as u32;
+
+/// How many times its pairs a map stores at most before it is reclaimed.
+const SHARE: usize = 2;
+
+/// How many pairs are copied at least to tell what it takes to reclaim a map.
+const COPIED: u32 = 0x4000;
+
+/// How a thread is in the map.
+#[derive(Clone, Copy)]
+enum Manner {
+    /// Always, since the map is never reclaimed.
+    Bare,
+    /// It enters for each call.
+    Enter,
+    /// It enters for a block of calls, and leaves between two of them where another waits.
+    Refresh,
+}
+
+impl Manner {
+    /// The name in what is printed.
+    fn name(self) -> &'static str {
+        match self {
+            Manner::Bare => "bare",
+            Manner::Enter => "enter",
+            Manner::Refresh => "refresh",
+        }
+    }
+}
+
+/// What a thread has of the map.
+trait Way {
+    /// Makes the calls of a block: the sum of their answers.
+    fn work<R: Wait>(
+        &mut self,
+        rt: &R,
+        soak: Soak,
+        manner: Manner,
+        block: Part,
+    ) -> Result<u64, Failure>;
+
+    /// Reclaims the map where it is due: was it reclaimed?
+    fn tidy<R: Wait>(&mut self, rt: &R) -> Result<bool, Failure>;
+}
+
+/// What the threads share.
+trait Soaked: Collection {
+    /// Does the work of one thread.
+    fn serve<R: Clock + Wait>(
+        &self,
+        rt: &R,
+        soak: Soak,
+        manner: Manner,
+        part: Part,
+    ) -> Result<Told, Failure>;
+
+    /// Reclaims the map once all threads have ended.
+    fn give_back<R: Wait>(&mut self, rt: &R) -> Result<(), Failure>;
+}
+
+/// What a thread tells of its work, or all of them.
+#[derive(Clone, Copy, Drop)]
+struct Told {
+    /// The sum of the answers.
+    sum: u64,
+    /// The nanoseconds of the block that took longest.
+    longest: u128,
+    /// How often the map was reclaimed.
+    reclaims: u64,
+}
+
+impl Told {
+    /// Nothing yet.
+    const NONE: Told = Told {
+        sum: 0,
+        longest: 0,
+        reclaims: 0,
+    };
+
+    /// What both tell.
+    fn and(self, other: Told) -> Told {
+        Told {
+            sum: self.sum.wrapping_add(other.sum),
+            longest: self.longest.max(other.longest),
+            reclaims: self.reclaims.wrapping_add(other.reclaims),
+        }
+    }
+}
+
+impl Way for &shared::Map {
+    fn work<R: Wait>(
+        &mut self,
+        rt: &R,
+        soak: Soak,
+        _manner: Manner,
+        block: Part,
+    ) -> Result<u64, Failure> {
+        let mut sum: u64 = 0;
+        let mut map = self.pin();
+        for turn in block.start..block.end {
+            sum = sum.wrapping_add(step(rt, &mut map, soak.action_at(turn))?);
+        }
+        Ok(sum)
+    }
+
+    fn tidy<R: Wait>(&mut self, _rt: &R) -> Result<bool, Failure> {
+        Ok(false)
+    }
+}
+
+impl Way for Handle<'_, shared::Map> {
+    fn work<R: Wait>(
+        &mut self,
+        rt: &R,
+        soak: Soak,
+        manner: Manner,
+        block: Part,
+    ) -> Result<u64, Failure> {
+        match manner {
+            Manner::Bare | Manner::Enter => enter_each(rt, self, soak, block),
+            Manner::Refresh => stay(rt, self, soak, block),
+        }
+    }
+
+    fn tidy<R: Wait>(&mut self, rt: &R) -> Result<bool, Failure> {
+        Ok(self.reclaim_if(rt, SHARE)?)
+    }
+}
+
+/// The calls of a block, for each of which the map is entered.
+fn enter_each<R: Wait>(
+    rt: &R,
+    handle: &mut Handle<'_, shared::Map>,
+    soak: Soak,
+    block: Part,
+) -> Result<u64, Failure> {
+    let mut sum: u64 = 0;
+    for turn in block.start..block.end {
+        let entered = handle.enter(rt);
+        sum = sum.wrapping_add(step(rt, &mut entered.pin(), soak.action_at(turn))?);
+    }
+    Ok(sum)
+}
+
+/// The calls of a block, for which the map is entered once.
+fn stay<R: Wait>(
+    rt: &R,
+    handle: &mut Handle<'_, shared::Map>,
+    soak: Soak,
+    block: Part,
+) -> Result<u64, Failure> {
+    let mut sum: u64 = 0;
+    let mut entered = handle.enter(rt);
+    for turn in block.start..block.end {
+        sum = sum.wrapping_add(step(rt, &mut entered.pin(), soak.action_at(turn))?);
+        entered = entered.refresh(rt);
+    }
+    Ok(sum)
+}
+
+/// The work of one thread, block by block.
+fn serve<R: Clock + Wait, W: Way>(
+    rt: &R,
+    way: &mut W,
+    soak: Soak,
+    manner: Manner,
+    part: Part,
+) -> Result<Told, Failure> {
+    let mut told = Told::NONE;
+    for number in 0..part.blocks(BLOCK) {
+        let start = now(rt)?;
+        let sum = way.work(rt, soak, manner, part.block(BLOCK, number))?;
+        let longest = elapsed(rt, start)?;
+        let reclaims = u64::from(number % TIDY == TIDY - 1 && way.tidy(rt)?);
+        told = told.and(Told {
+            sum,
+            longest,
+            reclaims,
+        });
+    }
+    Ok(told)
+}
+
+impl Soaked for shared::Map {
+    fn serve<R: Clock + Wait>(
+        &self,
+        rt: &R,
+        soak: Soak,
+        manner: Manner,
+        part: Part,
+    ) -> Result<Told, Failure> {
+        let mut map: &shared::Map = self;
+        serve(rt, &mut map, soak, manner, part)
+    }
+
+    fn give_back<R: Wait>(&mut self, rt: &R) -> Result<(), Failure> {
+        Ok(self.reclaim(rt)?)
+    }
+}
+
+impl Soaked for entered::Map {
+    fn serve<R: Clock + Wait>(
+        &self,
+        rt: &R,
+        soak: Soak,
+        manner: Manner,
+        part: Part,
+    ) -> Result<Told, Failure> {
+        serve(rt, &mut self.handle(), soak, manner, part)
+    }
+
+    fn give_back<R: Wait>(&mut self, rt: &R) -> Result<(), Failure> {
+        Ok(self.handle().reclaim(rt)?)
+    }
+}
+
+/// What all threads tell of a slice.
+fn serve_in_threads<R: Clock + Threads + Wait + Sync, C: Soaked + Sync>(
+    rt: &R,
+    alloc: Global,
+    map: &C,
+    soak: Soak,
+    manner: Manner,
+    slice: u64,
+) -> Result<Told, Failure> {
+    let parts = thread::map_indices(
+        rt,
+        alloc,
+        THREADS as usize,
+        &|thread| {
+            let part = Part::of_thread(soak.operations, thread as u32);
+            map.serve(rt, soak, manner, part.block(SHARE_OF_SLICE, slice))
+        },
+    )?;
+    let mut told = Told::NONE;
+    for part in &parts {
+        told = told.and((*part)?);
+    }
+    Ok(told)
+}
+
+/// The nanoseconds that it takes to reclaim a map of so many keys, in the mean of some times.
+fn pause_of<R: Clock + Wait, C: Soaked>(rt: &R, map: &mut C, keys: u32) -> Result<u128, Failure> {
+    // what was replaced goes first
+    map.give_back(rt)?;
+    let times = COPIED.checked_div(keys).unwrap_or(0).max(1);
+    let start = now(rt)?;
+    for _ in 0..times {
+        map.give_back(rt)?;
+    }
+    Ok(elapsed(rt, start)? / u128::from(times))
+}
+
+/// Prints the line of a soak: its name, its calls and the nanoseconds that they took; the bytes that
+/// the process held more than before, at most and at the end; how often the map was reclaimed; the
+/// nanoseconds of the longest block, and those of one reclaim.
+fn time_manner<R: Clock + Files + Threads + Wait + Sync, C: Soaked + Sync, W: Write>(
+    rt: &R,
+    alloc: Global,
+    soak: Soak,
+    manner: Manner,
+    output: &mut W,
+) -> Result<(), Failure> {
+    let before = resident(rt)?;
+    let mut map = C::empty(rt, alloc, soak.keys as usize)?;
+    map.alone(rt, Work::Fill(soak.keys))?;
+    let mut told = Told::NONE;
+    let mut most = resident(rt)?;
+    let start = now(rt)?;
+    for slice in 0..Part::whole(soak.operations).blocks(SLICE) {
+        told = told.and(serve_in_threads(rt, alloc, &map, soak, manner, slice)?);
+        most = most.max(resident(rt)?);
+    }
+    let nanoseconds = elapsed(rt, start)?;
+    let end = resident(rt)?;
+    let pause = pause_of(rt, &mut map, soak.keys)?;
+    let numbers = [
+        u128::from(soak.operations),
+        nanoseconds,
+        u128::from(most.max(end).saturating_sub(before)),
+        u128::from(end.saturating_sub(before)),
+        u128::from(told.reclaims),
+        told.longest,
+        pause,
+    ];
+    print_line(soak.name(), manner.name(), soak.keys, &numbers, output)
+}
+
+/// Prints the lines of a soak: of a map that threads enter for each call, of one that they stay in,
+/// and of one that is never reclaimed.
+pub fn time_soak<R: Clock + Files + Threads + Wait + Sync, W: Write>(
+    rt: &R,
+    alloc: Global,
+    soak: Soak,
+    output: &mut W,
+) -> Result<(), Failure> {
+    time_manner::<R, entered::Map, W>(rt, alloc, soak, Manner::Enter, output)?;
+    time_manner::<R, entered::Map, W>(rt, alloc, soak, Manner::Refresh, output)?;
+    time_manner::<R, shared::Map, W>(rt, alloc, soak, Manner::Bare, output)
+}

@@ -1,0 +1,59 @@
+//! What threads do that keep a map at work.
+ghost use Rattle.std.specs.Prelude.{◌≡◌, ◌≢◌, ◌*◌, ◌/◌, ◌%◌, ◌^◌, ◌<◌};
+ghost use Rattle.papaya_plan.specs.declared.soak.Writes.TheVariants.{OneInTen, All};
+ghost use Rattle.papaya_plan.specs.declared.action.Action.TheVariants.{Get, Insert};
+
+use crate::action::{Action, MIXED};
+
+/// How many of the calls write.
+#[derive(Clone, Copy)]
+pub enum Writes {
+    OneInTen,
+    All,
+}
+
+/// Threads look keys up that a map has, or store values at them, as often as this.
+#[derive(Clone, Copy)]
+pub struct Soak {
+    pub writes: Writes,
+    pub keys: u32,
+    pub operations: u32,
+}
+
+impl Soak {
+    /// The name in what is printed.
+    pub fn name(self) -> &'static str {
+        match self.writes {
+            Writes::OneInTen => "soak-mixed",
+            Writes::All => "soak-replace",
+        }
+    }
+
+    /// The number of the key whose turn it is, below `keys`, in an order in which neighbours are
+    /// far apart.
+    #[inline(always)]
+    pub fn number_at(self, turn: u64) -> u64
+        ensures value { result ≡ (turn * 2654435761) % 2 ^ 32 * self.keys / 2 ^ 32 }
+        ensures bound { 0 < self.keys → result < self.keys }
+    {
+        let spread = turn.wrapping_mul(2_654_435_761) % 0x1_0000_0000;
+        spread * u64::from(self.keys) / 0x1_0000_0000
+    }
+
+    /// What is done in this turn.
+    #[inline(always)]
+    pub fn action_at(self, turn: u64) -> Action
+        ensures read { self.writes ≡ OneInTen → turn % 10 ≢ 0
+            → result ≡ Get ((turn * 2654435761) % 2 ^ 32 * self.keys / 2 ^ 32) }
+        ensures write { self.writes ≡ OneInTen → turn % 10 ≡ 0
+            → result ≡ Insert ((turn * 2654435761) % 2 ^ 32 * self.keys / 2 ^ 32) turn }
+        ensures all { self.writes ≡ All
+            → result ≡ Insert ((turn * 2654435761) % 2 ^ 32 * self.keys / 2 ^ 32) turn }
+    {
+        let number = self.number_at(turn);
+        match self.writes {
+            Writes::OneInTen if turn % MIXED != 0 => Action::Get(number),
+            Writes::OneInTen | Writes::All => Action::Insert(number, turn),
+        }
+    }
+}

@@ -1,0 +1,62 @@
+//! What can be reclaimed.
+ghost use Rattle.std.specs.Prelude.{◌≡◌, IfErr, IfOk};
+ghost use Rattle.papaya_map.specs.Fixed.{HasFirstTable, HasSettingsOf};
+
+use papaya_map::map::HashMap;
+use papaya_set::set::HashSet;
+use papaya_words::probe::Refused;
+use std::hash::{BuildHasher, Hash};
+use std::sync::Wait;
+
+/// A collection that holds more than its entries, and can be built again from clones of these.
+pub trait Reclaim {
+    // The second has the settings of the first, a clone of its hasher, and a first table for them.
+    ghost keeps: { Self → Self → Type 0 };
+
+    /// Returns how many entries were counted.
+    fn entries(&self) -> usize;
+
+    /// Returns how many entries its arena holds, those that were replaced or removed included.
+    fn stored(&self) -> usize;
+
+    /// Builds the collection again from clones of its entries, and frees all else. On an error it
+    /// is as it was.
+    fn reclaim<R: Wait>(&mut self, rt: &R) -> Result<(), Refused>
+        ensures ok { IfOk result (λ _. keeps self.old self.new) }
+        ensures err { IfErr result (λ _. self.new ≡ self.old) };
+}
+
+impl<K: Hash + Eq + Clone + Drop, V: Clone + Drop, S: BuildHasher + Clone + Drop> Reclaim
+    for HashMap<K, V, S> {
+    ghost keeps = { λ old new. HasSettingsOf old new × HasFirstTable new
+        × S.is_clone old.begun.hasher new.begun.hasher };
+
+    fn entries(&self) -> usize {
+        self.len()
+    }
+
+    fn stored(&self) -> usize {
+        HashMap::stored(self)
+    }
+
+    fn reclaim<R: Wait>(&mut self, rt: &R) -> Result<(), Refused> {
+        HashMap::reclaim(self, rt)
+    }
+}
+
+impl<K: Hash + Eq + Clone + Drop, S: BuildHasher + Clone + Drop> Reclaim for HashSet<K, S> {
+    ghost keeps = { λ old new. HasSettingsOf old new × HasFirstTable new
+        × S.is_clone old.begun.hasher new.begun.hasher };
+
+    fn entries(&self) -> usize {
+        self.len()
+    }
+
+    fn stored(&self) -> usize {
+        HashSet::stored(self)
+    }
+
+    fn reclaim<R: Wait>(&mut self, rt: &R) -> Result<(), Refused> {
+        HashSet::reclaim(self, rt)
+    }
+}

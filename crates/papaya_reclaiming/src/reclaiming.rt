@@ -1,0 +1,226 @@
+//! A map or set that threads enter and leave, and that is reclaimed between.
+ghost use Rattle.std.specs.Prelude.{◌≡◌, IfErr};
+
+use crate::reclaim::Reclaim;
+use crossbeam_utils::CachePadded;
+use crossbeam_utils::sync::{ShardedLock, ShardedLockReadGuard, ShardedLockWriteGuard};
+use papaya_map::map::HashMap;
+use papaya_set::set::HashSet;
+use papaya_words::probe::Refused;
+use std::alloc::Global;
+use std::hash::{BuildHasherDefault, FoldHasher};
+use std::ops::Deref;
+use std::sync::Wait;
+use std::sync::atomic::{AtomicU64, Ordering};
+
+/// A map that threads share for months: a [`Reclaiming`] of a map.
+pub type ReclaimingMap<K, V, S = BuildHasherDefault<FoldHasher>> = Reclaiming<HashMap<K, V, S>>;
+
+/// A set that threads share for months: a [`Reclaiming`] of a set.
+pub type ReclaimingSet<K, S = BuildHasherDefault<FoldHasher>> = Reclaiming<HashSet<K, S>>;
+
+/// [`Handle::reclaim_if`] reclaims nothing while no more entries than these are stored, so that a
+/// map of few entries is not built again all the time. For two numbers they take 192 KiB.
+pub const LEAST_STORED: usize = 8192;
+
+/// A map or set that gives back memory while threads go on. 0.2.5 frees what was replaced by a
+/// collector, which runs beside the calls; here a thread asks for it, by [`Handle::reclaim`] or
+/// [`Handle::reclaim_if`].
+///
+/// Each thread makes a [`Handle`], and enters by it for one call or for many. Nobody who enters
+/// waits for another one who did. Whoever reclaims waits until each guard that is out has come
+/// back once, and holds new ones off until it is done. That pause is as long as it takes to copy
+/// the entries.
+///
+/// It is a lock of the kit's, in eight places on cache lines of their own: entering writes to one
+/// of them, and reclaiming takes all eight.
+#[derive(Drop)]
+pub struct Reclaiming<M> {
+    lock: ShardedLock<M>,
+    handles: AtomicU64,
+    waiting: CachePadded<AtomicU64>,
+}
+
+impl<M: Reclaim + Drop> Reclaiming<M> {
+    /// Takes a map or set that was made as ever, with all its settings: hasher, resize mode,
+    /// capacity, shards and limit stay whenever it is reclaimed.
+    ///
+    /// # Errors
+    /// `Refused::Memory` if there is no memory for the lock; the map is dropped then.
+    pub fn new(alloc: Global, map: M) -> Result<Reclaiming<M>, Refused>
+        ensures { IfErr result (λ refused. refused ≡ Refused.Memory) }
+    {
+        let Ok(lock) = ShardedLock::new(alloc, map) else {
+            return Err(Refused::Memory);
+        };
+        Ok(Reclaiming {
+            lock,
+            handles: AtomicU64::new(0),
+            waiting: CachePadded::new(AtomicU64::new(0)),
+        })
+    }
+
+    /// Returns a thread's way to the map. Each thread makes one, once: handles take the eight
+    /// places of the lock in turn, so that up to eight threads write to cache lines of their own.
+    pub fn handle(&self) -> Handle<'_, M> {
+        Handle {
+            shared: self,
+            place: self.handles.fetch_add(1, Ordering::SeqCst) as usize,
+        }
+    }
+
+    /// Waits until no guard is out, and keeps new ones off for as long as the guard is kept that it
+    /// returns.
+    fn alone<R: Wait>(&self, rt: &R) -> ShardedLockWriteGuard<'_, M> {
+        let waiting: &AtomicU64 = &self.waiting;
+        waiting.fetch_add(1, Ordering::SeqCst);
+        let map = self.lock.write(rt);
+        waiting.fetch_sub(1, Ordering::SeqCst);
+        map
+    }
+
+    /// Returns the map or set itself, when no thread has a handle any more. `None` is there for the
+    /// kit's lock, which returns it if a writer's guard was forgotten; no guard of a writer leaves
+    /// this module, and none is forgotten here.
+    pub fn into_inner(self) -> Option<M> {
+        let Self {
+            lock,
+            handles: _,
+            waiting: _,
+        } = self;
+        lock.into_inner()
+    }
+}
+
+/// One thread's way to a map or set that is reclaimed. While it has a guard out it can neither
+/// enter again nor reclaim, which the borrow checker sees to. A thread that has two handles could
+/// wait for itself, so make one a thread.
+#[derive(Drop)]
+pub struct Handle<'a, M> {
+    shared: &'a Reclaiming<M>,
+    place: usize,
+}
+
+impl<'a, M: Reclaim + Drop> Handle<'a, M> {
+    /// Enters the map: the guard lends it, for as many calls as the guard is kept for. Waits while
+    /// another thread reclaims the map, and while one waits to do so.
+    ///
+    /// A thread that keeps a guard for long calls [`Entered::refresh`] from time to time. As long
+    /// as it does not, the map cannot be reclaimed, and threads that want to enter may wait for
+    /// whoever waits to reclaim it.
+    #[inline(always)]
+    pub fn enter<R: Wait>(&mut self, rt: &R) -> Entered<'_, M> {
+        Entered {
+            shared: self.shared,
+            place: self.place,
+            guard: self.shared.lock.read(rt, self.place),
+        }
+    }
+
+    /// Reclaims the map: waits until each guard that is out has come back once, copies the entries
+    /// into a new map, and frees all that the old one held. Threads that come and go all the time
+    /// cannot hold it off; one that never comes back does.
+    ///
+    /// # Errors
+    /// As `reclaim` of the map itself: `Refused::Memory` if there is no memory for both maps, or an
+    /// entry was not cloned. The map is as it was then.
+    pub fn reclaim<R: Wait>(&mut self, rt: &R) -> Result<(), Refused> {
+        self.shared.alone(rt).reclaim(rt)
+    }
+
+    /// Reclaims the map if no guard is out, and else returns `false` at once: for a thread that must
+    /// not wait, or that may have another handle's guard.
+    ///
+    /// # Errors
+    /// As [`Handle::reclaim`].
+    pub fn try_reclaim<R: Wait>(&mut self, rt: &R) -> Result<bool, Refused> {
+        match self.shared.lock.try_write() {
+            Some(mut map) => {
+                map.reclaim(rt)?;
+                Ok(true)
+            }
+            None => Ok(false),
+        }
+    }
+
+    /// Reclaims the map if it stores more than `share` times its entries, and more than
+    /// [`LEAST_STORED`]. With a share of 2 it does so as soon as more than half of what is stored
+    /// was replaced or removed, and so copies an entry for each replacement; with a share of 4 it
+    /// copies one for three. Returns whether this thread reclaimed it: where several find it due,
+    /// one does.
+    ///
+    /// It costs some hundred instructions where nothing is due, so call it once in some thousand
+    /// changes, or from time to time.
+    ///
+    /// # Errors
+    /// As [`Handle::reclaim`].
+    pub fn reclaim_if<R: Wait>(&mut self, rt: &R, share: usize) -> Result<bool, Refused> {
+        if !is_due(&*self.enter(rt), share) {
+            return Ok(false);
+        }
+        let mut map = self.shared.alone(rt);
+        if !is_due(&*map, share) {
+            return Ok(false);
+        }
+        map.reclaim(rt)?;
+        Ok(true)
+    }
+}
+
+/// Does the map store more than `share` times its entries?
+fn is_due<M: Reclaim>(map: &M, share: usize) -> bool {
+    let stored = map.stored();
+    stored > LEAST_STORED && stored > map.entries().saturating_mul(share)
+}
+
+/// A map or set that a thread has entered. It derefs to the map, so `entered.pin()` and
+/// `Session::new(&entered)` work as ever, and no session, pinned map or reference to an entry
+/// outlives it.
+#[derive(Drop)]
+pub struct Entered<'a, M> {
+    shared: &'a Reclaiming<M>,
+    place: usize,
+    guard: ShardedLockReadGuard<'a, M>,
+}
+
+impl<'a, M> Deref for Entered<'a, M> {
+    type Target = M;
+
+    ghost deref_gives = { λ entered map. ⟦<ShardedLockReadGuard<'a, M> as Deref>⟧.deref_gives
+        entered.guard map };
+
+    fn deref(&self) -> &M {
+        &self.guard
+    }
+}
+
+impl<'a, M: Reclaim + Drop> Entered<'a, M> {
+    /// Leaves the map and enters it again if a thread waits to reclaim it, and else does nothing:
+    /// for a thread that stays in, between two requests. It costs one load of a word that seldom
+    /// changes.
+    #[inline(always)]
+    pub fn refresh<R: Wait>(self, rt: &R) -> Entered<'a, M> {
+        let waiting: &AtomicU64 = &self.shared.waiting;
+        if waiting.load(Ordering::SeqCst) == 0 {
+            return self;
+        }
+        self.enter_again(rt)
+    }
+
+    /// Leaves the map, lets it be reclaimed, and enters it again.
+    #[cold]
+    #[inline(never)]
+    fn enter_again<R: Wait>(self, rt: &R) -> Entered<'a, M> {
+        let Self {
+            shared,
+            place,
+            guard,
+        } = self;
+        drop(guard);
+        Entered {
+            shared,
+            place,
+            guard: shared.lock.read(rt, place),
+        }
+    }
+}

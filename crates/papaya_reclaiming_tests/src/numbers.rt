@@ -1,0 +1,42 @@
+// The map of these tests, and what it has.
+use papaya_map::map::HashMap;
+use papaya_reclaiming::reclaiming::{Handle, Reclaiming, ReclaimingMap};
+use papaya_words::probe::Refused;
+use std::alloc::Global;
+use std::hash::{BuildHasherDefault, FoldHasher};
+use std::process::Abort;
+use std::sync::Wait;
+
+/// The map of these tests, and a thread's way to it.
+pub type Numbers = HashMap<u64, u64, BuildHasherDefault<FoldHasher>>;
+
+pub type Way<'a> = Handle<'a, Numbers>;
+
+pub fn numbers(rt: &impl Wait, alloc: Global) -> Result<ReclaimingMap<u64, u64>, Refused> {
+    Reclaiming::new(alloc, Numbers::new(rt, alloc)?)
+}
+
+/// Gives keys 0 to 9 a value each, so often.
+pub fn write(rt: &impl Wait, way: &mut Way<'_>, times: u64) -> Result<(), Refused> {
+    let entered = way.enter(rt);
+    let map = entered.pin();
+    for time in 0..times {
+        for key in 0..10u64 {
+            map.insert(rt, key, time)?;
+        }
+    }
+    Ok(())
+}
+
+/// The map has so many pairs, stores so many, and key 3 has this value.
+pub fn has(
+    rt: &(impl Abort + Wait),
+    way: &mut Way<'_>,
+    pairs: usize,
+    stored: usize,
+    third: Option<u64>,
+) {
+    let entered = way.enter(rt);
+    assert_eq!(rt; (entered.len(), entered.stored()), (pairs, stored));
+    assert_eq!(rt; entered.pin().get(&3).copied(), third);
+}

@@ -1,0 +1,124 @@
+// Threads that come and go all the time while another one reclaims.
+use papaya_map::map::HashMap;
+use papaya_reclaiming::reclaiming::{Handle, Reclaiming, ReclaimingMap};
+use papaya_words::probe::Refused;
+use std::hash::{BuildHasherDefault, FoldHasher};
+use std::process::Abort;
+use std::sync::Wait;
+use std::sync::atomic::{AtomicBool, AtomicU64, Ordering};
+use std::test::Fail;
+use std::thread::{Threads, join, yield_now};
+
+type Numbers = HashMap<u64, u64, BuildHasherDefault<FoldHasher>>;
+
+/// A worker calls so often at the most while another thread reclaims: one that holds the other off
+/// for longer fails.
+const MOST_TURNS: u64 = 50_000_000;
+
+/// How often the map is reclaimed meanwhile.
+const RECLAIMS: u64 = 20;
+
+/// A map, how many workers have come, and whether the map was reclaimed so often by now.
+#[derive(Drop)]
+struct Shared {
+    map: ReclaimingMap<u64, u64>,
+    here: AtomicU64,
+    is_over: AtomicBool,
+}
+
+/// Counts up in one entry.
+fn count(rt: &impl Wait, map: &Numbers, key: u64) -> Result<(), Refused> {
+    map.pin()
+        .update_or_insert(rt, key, |count| count.wrapping_add(1), 1)?;
+    Ok(())
+}
+
+/// Enters the map for each call, until all is over: how often it counted.
+fn comes_and_goes(rt: &impl Wait, shared: &Shared) -> Result<u64, Refused> {
+    let mut handle = shared.map.handle();
+    shared.here.fetch_add(1, Ordering::SeqCst);
+    for turn in 0..MOST_TURNS {
+        if shared.is_over.load(Ordering::SeqCst) {
+            return Ok(turn);
+        }
+        count(rt, &handle.enter(rt), 1)?;
+    }
+    Ok(MOST_TURNS)
+}
+
+/// Stays in the map, and refreshes its guard between two calls, until all is over: how often it
+/// counted.
+fn stays_in(rt: &impl Wait, shared: &Shared) -> Result<u64, Refused> {
+    let mut handle = shared.map.handle();
+    let mut entered = handle.enter(rt);
+    shared.here.fetch_add(1, Ordering::SeqCst);
+    for turn in 0..MOST_TURNS {
+        if shared.is_over.load(Ordering::SeqCst) {
+            return Ok(turn);
+        }
+        count(rt, &entered, 2)?;
+        entered = entered.refresh(rt);
+    }
+    Ok(MOST_TURNS)
+}
+
+/// Reclaims the map once both workers have come.
+fn reclaims(rt: &impl Wait, shared: &Shared) -> Result<(), Refused> {
+    let mut handle = shared.map.handle();
+    for _ in 0..MOST_TURNS {
+        if shared.here.load(Ordering::SeqCst) == 2 {
+            break;
+        }
+        yield_now();
+    }
+    for _ in 0..RECLAIMS {
+        handle.reclaim(rt)?;
+    }
+    Ok(())
+}
+
+/// Two threads that work.
+fn workers(
+    rt: &(impl Threads + Wait + Sync),
+    shared: &Shared,
+) -> (Result<u64, Refused>, Result<u64, Refused>) {
+    join(rt, || comes_and_goes(rt, shared), || stays_in(rt, shared))
+}
+
+/// Reclaims, and tells the workers.
+fn reclaims_and_tells(rt: &impl Wait, shared: &Shared) -> Result<(), Refused> {
+    let reclaimed = reclaims(rt, shared);
+    shared.is_over.store(true, Ordering::SeqCst);
+    reclaimed
+}
+
+/// The worker of this key was done before its last turn, and each of its counts is in the map.
+fn is_whole(rt: &(impl Abort + Wait), map: &Numbers, key: u64, worked: Result<u64, Refused>) {
+    let Ok(turns) = worked else {
+        assert!(rt; false, "a worker was refused");
+        return;
+    };
+    assert!(rt; turns < MOST_TURNS, "reclaim was held off");
+    assert_eq!(rt; map.pin().get(&key).copied().unwrap_or(0), turns);
+}
+
+#[test]
+fn threads_that_come_and_go_hold_nobody_off(rt: HostRuntime) -> Result<(), Fail> {
+    let map = Numbers::new(&rt, rt.alloc())?;
+    let shared = Shared {
+        map: Reclaiming::new(rt.alloc(), map)?,
+        here: AtomicU64::new(0),
+        is_over: AtomicBool::new(false),
+    };
+    let ((visitor, inmate), reclaimed) = join(
+        &rt,
+        || workers(&rt, &shared),
+        || reclaims_and_tells(&rt, &shared),
+    );
+    assert!(rt; reclaimed == Ok(()));
+    let mut handle = shared.map.handle();
+    let entered = handle.enter(&rt);
+    is_whole(&rt, &entered, 1, visitor);
+    is_whole(&rt, &entered, 2, inmate);
+    Ok(())
+}

@@ -1,0 +1,42 @@
+-- What a retain leaves whose closure keeps the logins that have not ended.
+use Rattle.std.proofs.Common.{◌≡◌, ◌==◌, ◌<◌, ℕ, Bool, true, Ok, Err, List, [], ◌∷◌, inl, inr, ⊎_elim, ltb, ltb→lt, T, ◌∙◌, ap, subst, arith, refl}
+use Rattle.std.specs.Prelude.{Result, IfOk}
+use Rattle.std.specs.Borrow.{Bor}
+use Rattle.std.specs.Fn.{Called, Mut}
+use Rattle.papaya.specs.Types.{Refused}
+use Rattle.papaya.specs.Threads.{HasKept, IsLastAnswer, IsRetained, Judges, Member, Stored}
+use Rattle.papaya_uses.specs.Logins.{AreEndedGone, Seen}
+use Rattle.papaya_uses.specs.declared.logins.Login.{Login}
+use Rattle.papaya_uses.proofs.Said.{said_each}
+
+-- the last answer on a pair is one of the answers
+answered : {P : Type 0} (said : List (P × Bool)) (p : P) (stays : Bool) → IsLastAnswer said p stays → Member (p, stays) said
+answered [] p stays h = absurd h
+answered (one ∷ older) p stays (inl e) =
+    inl (subst (λ x. (x, stays) ≡ one) e.0 (subst (λ y. (one.0, y) ≡ one) e.1 refl))
+answered (one ∷ older) p stays (inr r) = inr (answered older p stays r.1)
+
+-- what follows of an answer that is Ok
+if_ok : {A P Q : Type 0} (answer : Result A Refused) → (P → Q) → IfOk answer (λ _. P) → IfOk answer (λ _. Q)
+if_ok (Ok done) f h = f h
+if_ok (Err refused) f h = tt
+
+module _ {F A : Type 0} (called : Mut F (Bor ℕ × (Bor Login × Unit {0})) Bool) (now : ℕ) (old new made made' : Seen) (first : F)
+    (answer : Result A Refused) (h : HasKept (λ a b. a == b) old new made made' (Judges called) first answer)
+    (holds : F → Type 0) (at_first : holds first)
+    (judges : (f : F) (key : Bor ℕ) (login : Bor Login) (stays : Bool) (g : F) → holds f → Called called f (key, (login, tt)) stays g → holds g
+    × (stays ≡ ltb now login.now.until)) where
+  -- it kept a login that has not ended
+  said_so : (p : Stored ℕ Login) (stays : Bool) → Member (p, stays) h.said → stays ≡ ltb now p.value.value.until
+  said_so = said_each (Judges called) holds (λ p stays. stays ≡ ltb now p.value.value.until)
+      (λ f p stays g is says. let next = judges f says.0 says.1 stays g is says.3 in (next.0, next.1 ∙ ap (λ v. ltb now v.until) says.2.1)) first at_first
+      h.said h.left h.shown.has_said
+
+  gone_of : IsRetained (λ a b. a == b) old new h.said → AreEndedGone now old new
+  gone_of retained token p there ended = ⊎_elim (λ gone. gone) (λ kept.
+      let on : now < p.value.value.until = ltb→lt now p.value.value.until (subst T (said_so p true (answered h.said p true kept)) tt) in
+      let no : ⊥ = omega (arith, ended, on) in absurd no) (retained token p there)
+
+  -- so those that had ended were taken out
+  pub ended_gone : IfOk answer (λ _. AreEndedGone now old new)
+  ended_gone = if_ok answer gone_of h.leaves

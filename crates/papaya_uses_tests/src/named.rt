@@ -1,0 +1,312 @@
+// Each enum that the facade shows, matched by the facade's names alone.
+use papaya::raw::chain::{self, CopyAsk, Phase, Resize, ResizerState, Scan, ScanAsk, ScannerState};
+use papaya::raw::{Answer, Ask, At, Kind, OpKind, Probed, Search, State, StepKind, Task, Word};
+use papaya::schedule::{Call, Event, Reply, Turn};
+use papaya::seq::{Computed, Outcome};
+use papaya::{Compute, Operation, Refused, ResizeMode};
+use std::test::Fail;
+
+/// The code of a word's kind.
+fn code_of(kind: Kind) -> u64 {
+    match kind {
+        Kind::Empty => 0,
+        Kind::Live => 1,
+        Kind::Marked => 2,
+        Kind::Copied => 3,
+        Kind::Tombstone => 4,
+        Kind::Closed => 5,
+    }
+}
+
+/// The table that a place is of; 0 for a place of the map.
+fn table_of(at: At) -> u64 {
+    match at {
+        At::Root | At::Made => 0,
+        At::Next(table) | At::Aborted(table) | At::Done(table, _) | At::Slot(table, _) => table,
+    }
+}
+
+/// Whether an exchange of this kind changes the map.
+fn changes_map(kind: StepKind) -> bool {
+    match kind {
+        StepKind::Claim | StepKind::Replace | StepKind::Delete => true,
+        StepKind::Open
+        | StepKind::Link
+        | StepKind::Mark
+        | StepKind::Close
+        | StepKind::Place
+        | StepKind::Finish
+        | StepKind::Advance
+        | StepKind::Promote
+        | StepKind::Abort
+        | StepKind::Take => false,
+    }
+}
+
+/// What a closure answers, as the machine of its call is told it.
+fn kind_of(operation: &Operation<u64, u64>) -> OpKind {
+    match operation {
+        Operation::Insert(_) => OpKind::Insert,
+        Operation::Remove => OpKind::Remove,
+        Operation::Abort(with) => OpKind::Abort(*with),
+    }
+}
+
+/// What a closure's call ends with, where it ends without a change.
+fn aborted_with(kind: OpKind) -> Option<u64> {
+    match kind {
+        OpKind::Insert | OpKind::Remove => None,
+        OpKind::Abort(with) => Some(with),
+    }
+}
+
+/// Whether a call on a table asks for memory.
+fn makes(ask: Ask) -> bool {
+    match ask {
+        Ask::MakeKey | Ask::MakeValue | Ask::MakePair | Ask::MakePairOf(_) => true,
+        Ask::MakeTable { len, .. } => len > 0,
+        Ask::Load(_) | Ask::Exchange(_, _, _) | Ask::LoadHint(_, _) | Ask::WriteHint(_, _, _) => {
+            false
+        }
+        Ask::SameKey(_) | Ask::ShowNone | Ask::ShowPair(_) | Ask::SizeOf(_) => false,
+        Ask::AddToShard(_) | Ask::Done(_) => false,
+    }
+}
+
+/// Whether a copier asks for memory.
+fn copier_makes(ask: CopyAsk) -> bool {
+    match ask {
+        CopyAsk::MakeTable { len, .. } => len > 0,
+        CopyAsk::Load(_) | CopyAsk::Exchange(_, _, _) => false,
+        CopyAsk::LoadHint(_, _) | CopyAsk::WriteHint(_, _, _) => false,
+        CopyAsk::SizeOf(_) | CopyAsk::HashOf(_) | CopyAsk::SamePair(_, _) | CopyAsk::Count => false,
+    }
+}
+
+/// Whether a call over any number of tables asks for memory.
+fn chain_makes(ask: chain::Ask) -> bool {
+    match ask {
+        chain::Ask::Call(ask) => makes(ask),
+        chain::Ask::Copy(ask) => copier_makes(ask),
+    }
+}
+
+/// The pair that a scan shows or gives.
+fn scanned(ask: ScanAsk) -> Option<u64> {
+    match ask {
+        ScanAsk::Show(pair) | ScanAsk::Give(pair) => Some(pair),
+        ScanAsk::Copy(_) | ScanAsk::AddToShard(_) => None,
+    }
+}
+
+/// Why what was asked for was refused.
+fn refused_by(answer: Answer) -> Option<Refused> {
+    match answer {
+        Answer::Refused(refused) => Some(refused),
+        Answer::Word(_) | Answer::Exchanged | Answer::Found(_) | Answer::Yes(_) => None,
+        Answer::Op(_) | Answer::Size { .. } | Answer::Made(_) | Answer::Ok => None,
+    }
+}
+
+/// The same over any number of tables.
+fn chain_refused_by(answer: chain::Answer) -> Option<Refused> {
+    match answer {
+        chain::Answer::Call(answer) => refused_by(answer),
+        chain::Answer::Hash(_) | chain::Answer::Count(_) => None,
+    }
+}
+
+/// What a machine on one table does.
+fn task_of<K, V, A>(call: &Call<K, V, A>) -> Option<Task> {
+    match call {
+        Call::Get(_) => Some(Task::Get),
+        Call::Insert(_, _) => Some(Task::Insert { replace: true }),
+        Call::TryInsert(_, _) => Some(Task::Insert { replace: false }),
+        Call::RemoveIf(_, _) => Some(Task::RemoveIf),
+        Call::Compute(_, _) => Some(Task::Compute),
+        Call::Reserve(_) | Call::CopyAll | Call::Clear | Call::Retain(_) | Call::Walk => None,
+    }
+}
+
+/// Whether a task may change the map.
+fn is_change(task: Task) -> bool {
+    match task {
+        Task::Get => false,
+        Task::Insert { replace } => replace,
+        Task::RemoveIf | Task::Compute => true,
+    }
+}
+
+/// The pair that a reply names first.
+fn first_pair(reply: Reply) -> Option<u64> {
+    match reply {
+        Reply::Found(pair) | Reply::Inserted(pair) | Reply::Occupied(pair) => Some(pair),
+        Reply::Removed(pair) | Reply::Kept(pair) => Some(pair),
+        Reply::Replaced { old, .. } => Some(old),
+        Reply::Absent | Reply::Aborted(_) | Reply::Done | Reply::Refused(_) => None,
+    }
+}
+
+/// Whether an event changed the map.
+fn is_changed(event: Event) -> bool {
+    match event {
+        Event::Changed(kind, _, _) | Event::Moved(kind) => changes_map(kind),
+        Event::Shown(_, kind) => aborted_with(kind).is_some(),
+        Event::Asked(_, agrees) => agrees,
+        Event::Replied(reply) => first_pair(reply).is_none(),
+        Event::Begun | Event::Gave(_) | Event::Other => false,
+    }
+}
+
+/// The caller of a turn.
+fn caller_of<K, V, A>(turn: &Turn<K, V, A>) -> usize {
+    match turn {
+        Turn::Begin(caller, _) | Turn::Step(caller, _) | Turn::Finish(caller, _) => *caller,
+    }
+}
+
+/// How many pairs a call's end tells.
+fn told(outcome: &Outcome) -> usize {
+    match outcome {
+        Outcome::Replied(reply) => usize::from(first_pair(*reply).is_some()),
+        Outcome::Walked(pairs) => pairs.len(),
+    }
+}
+
+/// The new value that a compute stored.
+fn stored(computed: &Compute<'_, u64, u64, u64>) -> Option<u64> {
+    match computed {
+        Compute::Inserted(_, value)
+        | Compute::Updated {
+            new: (_, value),
+            ..
+        } => Some(**value),
+        Compute::Removed(_, _) | Compute::Aborted(_) => None,
+    }
+}
+
+/// The number of the pair that a compute stored.
+fn stored_pair(computed: Computed<u64, u64>) -> Option<u64> {
+    match computed {
+        Computed::Inserted(pair) | Computed::Updated { new: pair, .. } => Some(pair),
+        Computed::Removed(_) | Computed::Aborted(_) => None,
+    }
+}
+
+/// How many slots a changing call copies.
+fn chunk(mode: ResizeMode) -> Option<usize> {
+    match mode {
+        ResizeMode::Incremental(chunk) => Some(chunk),
+        ResizeMode::Blocking => None,
+    }
+}
+
+/// Why a call on one table has not replied yet: `None` where it has.
+fn waits_for(state: State) -> Option<&'static str> {
+    match state {
+        State::Searching(search) => Some(search_waits_for(search)),
+        State::Ended(_) => None,
+        _ => Some("a step"),
+    }
+}
+
+/// What a search is to be told.
+fn search_waits_for(search: Search) -> &'static str {
+    match search {
+        Search::Sizing(_) => "a size",
+        Search::Looking(_) => "a hint",
+        Search::Reading(_) => "a word",
+        Search::Comparing(_, _) => "whether keys are equal",
+    }
+}
+
+/// Whether a search is over.
+fn is_over(probed: Probed) -> bool {
+    match probed {
+        Probed::On(_) => false,
+        Probed::Empty(_) | Probed::Here(_, _) | Probed::Over(_) => true,
+    }
+}
+
+/// Whether a call makes or copies tables.
+fn resizes(phase: Phase) -> bool {
+    match phase {
+        Phase::Calling => false,
+        Phase::Linking(_) | Phase::Copying(_) => true,
+    }
+}
+
+/// For how many pairs more there is to be room.
+fn more(resize: Resize) -> usize {
+    match resize {
+        Resize::Chunk | Resize::CopyAll => 0,
+        Resize::Reserve(more) => more,
+    }
+}
+
+/// Whether a scan may take pairs out.
+fn takes_out(scan: Scan) -> bool {
+    match scan {
+        Scan::Clear | Scan::Retain => true,
+        Scan::Walk => false,
+    }
+}
+
+/// Whether a resize begins.
+fn begins(state: ResizerState) -> bool {
+    match state {
+        ResizerState::AtRoot => true,
+        _ => false,
+    }
+}
+
+/// Whether a scan is done.
+fn is_done(state: ScannerState) -> bool {
+    match state {
+        ScannerState::Done => true,
+        _ => false,
+    }
+}
+
+#[test]
+fn enums_of_words_and_calls_are_matched_by_name(rt: HostRuntime) -> Result<(), Fail> {
+    assert_eq!(rt; code_of(Word::live(3).kind()), 1);
+    assert_eq!(rt; table_of(At::Slot(2, 5)), 2);
+    assert_eq!(rt; aborted_with(kind_of(&Operation::Abort(7))), Some(7));
+    assert_eq!(rt; chunk(ResizeMode::default()), Some(64));
+    assert_eq!(rt; stored(&Compute::Inserted(&1, &2)), Some(2));
+    assert_eq!(rt; stored_pair(Computed::Removed(1)), None);
+    assert_eq!(rt; told(&Outcome::Replied(Reply::Found(3))), 1);
+    assert_eq!(rt; caller_of::<u64, u64, u64>(&Turn::Step(4, false)), 4);
+    assert!(rt; is_changed(Event::Changed(StepKind::Claim, None, Some(0))));
+    assert!(rt; task_of::<u64, u64, u64>(&Call::Get(1)).is_some_and(|task| !is_change(task)));
+    Ok(())
+}
+
+#[test]
+fn enums_of_machines_are_matched_by_name(rt: HostRuntime) -> Result<(), Fail> {
+    assert!(rt;
+        chain_makes(chain::Ask::Copy(CopyAsk::MakeTable {
+            len: 8,
+            limit: 3,
+            chunks: 1
+        }))
+    );
+    assert!(rt; makes(Ask::MakePair));
+    assert_eq!(rt; scanned(ScanAsk::Show(6)), Some(6));
+    assert!(rt; chain_refused_by(chain::Answer::Count(2)).is_none());
+    assert_eq!(rt;
+        refused_by(Answer::Refused(Refused::Memory)),
+        Some(Refused::Memory)
+    );
+    assert_eq!(rt;
+        waits_for(State::Searching(Search::Sizing(1))),
+        Some("a size")
+    );
+    assert!(rt; is_over(Probed::Over(1)) && !resizes(Phase::Calling));
+    assert_eq!(rt; more(Resize::Reserve(9)), 9);
+    assert!(rt;
+        takes_out(Scan::Retain) && begins(ResizerState::AtRoot) && is_done(ScannerState::Done)
+    );
+    Ok(())
+}
