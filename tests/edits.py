@@ -1,123 +1,187 @@
-"""Tries the edits of crates/*/must-fail-together: wrong bodies that the check must refuse, several in one
-copy of their crate.
+"""Tries the edits of crates/*/must-fail-together: wrong bodies that the check must refuse, many in one copy
+of their crate.
 
     python3 tests/edits.py [CRATE..]
 
-An edit has the lines of those in must-fail/, and two before them: `fn:`, the function that it spoils, as a
-check names it below its crate, and `copy:`, the number of the copy in which it is made. No function of a
-copy may call another one that is spoiled there. A copy's check looks at these functions and at what they
-call, and at nothing else. Each of them has to be refused at a goal of its own, and all others be proved.
-Up to four copies of a crate are tried one after the other, so that what they call alike is proved once.
+An edit has the lines of those in must-fail/, and before them `fn:`, the function that it spoils, as a check names
+it below its crate. In the copy the spoiled function stands beside the right one, under a name of its own, with the
+same contract and the same answers by hand. So nothing calls it, and a function may have many edits. A method of a
+trait and a function whose whole proof is by hand can stand there but once: these are spoiled themselves, and no
+other function that is tried may call them. A copy's check looks at the spoiled functions and at what they call, and
+at nothing else. Each of them has to be refused at a goal of its own, and all others be proved. A copy whose edits an
+earlier run on this machine saw refused, over all that it reads, is not tried again.
 """
 
 import os
 import re
+import shutil
 import sys
 
+from kept import Try
 from prover import LOST, NAMED, TOP, Bad, Change, below, check, copy_of, digest, try_all, verdicts_of
 
 TOGETHER = "must-fail-together"
 
-# So many copies of a crate are tried one after the other: more would keep one processor long after all else.
-IN_TURN = 4
+# So many edits at most are made in one copy: a check of more would keep one processor long after all else.
+AT_ONCE = 30
 
 
-def place_of(edit, folder):
-    """The file and the lines of the copy in which the function stands that has the edit's first change."""
-    file, _, new = edit.pairs[0]
-    text = open(f"{folder}/{file}", encoding="utf-8").read()
-    at, lines = text[: text.index(new)].count("\n"), text.split("\n")
-    heads = [it for it, line in enumerate(lines) if re.match(r" *(pub(\(.*?\))? )?fn ", line)]
-    first = max(it for it in heads if it <= at)
-    last = min([it for it in heads if it > at], default=len(lines))
-    # (a function's own place is that of its first attribute)
-    while re.match(r" *(#\[|///)", lines[first - 1]):
-        first -= 1
-    return file, first + 1, last
+def extents(lines, name):
+    """From which line to which each function of this name stands, with its attributes."""
+    found = []
+    for head, line in enumerate(lines):
+        if re.match(rf" *(pub(\(.*?\))? )?(const )?fn {name}\b", line):
+            indent = line[: len(line) - len(line.lstrip())]
+            last = head if line.endswith("}") else lines.index(indent + "}", head)
+            while re.match(r" *(#\[|///)", lines[head - 1]):
+                head -= 1
+            found.append((head, last))
+    return found
 
 
-def is_told(edit, place, line):
-    """Does this line tell of a goal of the edit's function, or of a closure in it?"""
-    at = re.match(r"(?:note: )?(?:\./)?(\S+?):(\d+):\d+: (?!note: )", line)
-    if not at or LOST.search(line):
-        return False
-    file, first, last = place
-    answers = f"proofs/{edit.words['fn'].replace('::', '/')}/"
-    return at[1].replace("/fn/", "/", 1).startswith(answers) or at[1] == file and first <= int(at[2]) <= last
+def is_of_trait(lines, head):
+    """Does the function that begins here stand in a trait, or in an `impl` of one?"""
+    blocks = [it for it in lines[:head] if re.match(r"(impl|(pub(\(.*?\))? )?trait)\b", it)]
+    return lines[head].startswith(" ") and bool(re.match(r"impl\b.* for |.*\btrait ", blocks[-1]))
 
 
-def told_of(crate, edit, place, said):
-    """What the check tells of a goal of the edit's function: where it is, or else which one search did not prove."""
-    searched = f"fn {crate}::{edit.words['fn']}: no proof: "
-    lines = said.split("\n")
-    return [it for it in lines if is_told(edit, place, it)] + [it for it in lines if it.startswith(searched) and "did not prove" in it]
+class Edit(Change):
+    """A wrong body of a function of a crate."""
+
+    def __init__(self, crate, name):
+        super().__init__(f"{TOP}/crates/{crate}/{TOGETHER}/{name}")
+        if "fn" not in self.words or len({file for file, _, _ in self.pairs}) > 1:
+            raise Bad(f"{crate}/{self.name}: it has no `fn:`, or changes two files")
+        self.file = self.pairs[0][0]
+        # (as a check names it below the copy)
+        self.function = self.words["fn"]
+
+    def short(self):
+        """The last part of the function's name in the copy."""
+        return self.function.rpartition("::")[2]
+
+    def make(self, source, copy, number):
+        """Makes the change in a copy of these sources: in a function of its own with this number, where it can."""
+        text = open(f"{source}/{self.file}", encoding="utf-8").read()
+        lines, old = text.split("\n"), self.pairs[0][1]
+        line = text[: text.find(old)].count("\n")
+        stands = [it for it in extents(lines, self.short()) if it[0] <= line <= it[1]]
+        if text.count(old) != 1 or not stands:
+            raise Bad(f"{self.name}: {self.file} has this text {text.count(old)} times, and not once in its function: {old}")
+        first, last = stands[0]
+        by_hand = os.path.exists(f"{source}/proofs/{self.function.replace('::', '/')}/Proof.antt")
+        if by_hand or is_of_trait(lines, first):
+            return self.apply(copy)
+        return self.make_beside(copy, "\n".join(lines[first : last + 1]), number)
+
+    def make_beside(self, copy, right, number):
+        """Puts the spoiled function behind the right one."""
+        name, wrong = f"{self.short()}_spoiled_{number}", right
+        for _, old, new in self.pairs:
+            if wrong.count(old) != 1:
+                raise Bad(f"{self.name}: its function has this text {wrong.count(old)} times, and not once: {old}")
+            wrong = wrong.replace(old, new)
+        wrong = re.sub(rf"\bfn {self.short()}\b", f"fn {name}", wrong, count=1)
+        text = open(f"{copy}/{self.file}", encoding="utf-8").read()
+        with open(f"{copy}/{self.file}", "w", encoding="utf-8") as it:
+            it.write(text.replace(right, f"{right}\n\n{wrong}", 1))
+        self.copy_answers(f"{copy}/proofs", name)
+        self.function = self.function.rpartition("::")[0] + f"::{name}"
+
+    def copy_answers(self, proofs, name):
+        """Gives the spoiled function the answers by hand of the right one, and its closures theirs."""
+        parts = self.function.split("::")
+        # (those of closures lie below a folder `fn` of the module)
+        for own in [parts, *(parts[:at] + ["fn"] + parts[at:] for at in range(len(parts)))]:
+            folder, other = "/".join(own), "/".join([*own[:-1], name])
+            if os.path.isdir(f"{proofs}/{folder}"):
+                shutil.copytree(f"{proofs}/{folder}", f"{proofs}/{other}")
+                for at, _, names in os.walk(f"{proofs}/{other}"):
+                    for it in names:
+                        rename(f"{at}/{it}", folder.replace("/", "."), other.replace("/", "."))
+
+    def place(self, copy):
+        """The file and the lines of the copy in which the spoiled function stands."""
+        text = open(f"{copy}/{self.file}", encoding="utf-8").read()
+        stand = extents(text.split("\n"), self.short())
+        line = text[: text.find(self.pairs[0][2])].count("\n")
+        first, last = next((it for it in stand if it[0] <= line <= it[1]), stand[0])
+        return self.file, first + 1, last + 1
+
+    def is_told(self, place, line):
+        """Does this line tell of a goal of the spoiled function, or of a closure in it?"""
+        at = re.match(r"(?:note: )?(?:\./)?(\S+?):(\d+):\d+: (?!note: )", line)
+        if not at or LOST.search(line):
+            return False
+        file, first, last = place
+        answers = f"proofs/{self.function.replace('::', '/')}/"
+        return at[1].replace("/fn/", "/", 1).startswith(answers) or at[1] == file and first <= int(at[2]) <= last
+
+    def told(self, crate, place, said):
+        """What the check tells of a goal of the function: where it is, or else which one search did not prove."""
+        searched = f"fn {crate}::{self.function}: no proof: "
+        lines = said.split("\n")
+        return [it for it in lines if self.is_told(place, it)] + [it for it in lines if it.startswith(searched) and "did not prove" in it]
+
+    def is_of(self, name):
+        """Is this function, as a check names it below the crate, the spoiled one, or made for a closure in it?"""
+        return f"::{name}::".replace("::fn::", "::", 1).startswith(f"::{self.function}::")
 
 
-def is_of(function, name):
-    """Is this function, as a check names it, the spoiled one, or is it made for a closure in it?"""
-    return name == function or name.replace("::fn::", "::").startswith(f"{function}::")
+def rename(file, old, new):
+    """Has a file of proofs name the modules of another function."""
+    text = open(file, encoding="utf-8").read()
+    with open(file, "w", encoding="utf-8") as it:
+        it.write(re.sub(rf"\bproofs\.{re.escape(old)}\.", f"proofs.{new}.", text))
 
 
-def try_copy(room, kept, crate, edits):
-    """Makes these edits in one copy of the crate, checks their functions, and says how each was refused."""
-    functions = [it.words["fn"] for it in edits]
-    if len({*functions}) < len(edits):
-        raise Bad(f"{crate}: one function has two edits in one copy: {' '.join(it.name for it in edits)}")
+def make_copy(room, crate, edits):
+    """Makes these edits in one copy of the crate, and returns what an earlier run may have kept of it."""
     copy_of(crate, f"{room}/{crate}")
-    for edit in edits:
-        edit.apply(f"{room}/{crate}")
-    places = [place_of(it, f"{room}/{crate}") for it in edits]
-    said = check(room, crate, [], functions, kept)
-    verdicts = verdicts_of(said)
-    refused = [it for it, verdict in verdicts.items() if verdict != "proved"]
-    others = [it for it in refused if not any(is_of(f"{crate}::{function}", it) for function in functions)]
+    for number, edit in enumerate(edits):
+        edit.make(f"{TOP}/crates/{crate}", f"{room}/{crate}", number)
+    return Try("edits", room, crate, [], [(it.name, it.words, it.pairs) for it in edits])
+
+
+def try_copy(room, crate, edits):
+    """Makes these edits in one copy of the crate, checks their functions, and says how each was refused."""
+    kept = make_copy(room, crate, edits)
+    earlier = kept.refused_earlier()
+    if earlier:
+        return [it.replace(": refused, as it must be: ", ": refused by an earlier run: ", 1) for it in earlier]
+    places = [it.place(f"{room}/{crate}") for it in edits]
+    said = check(room, crate, [], [it.function for it in edits])
+    verdicts = {it.removeprefix(f"{crate}::"): verdict for it, verdict in verdicts_of(said).items()}
+    others = [it for it, verdict in verdicts.items() if verdict != "proved" and not any(edit.is_of(it) for edit in edits)]
     if others or not verdicts:
         raise Bad(f"{crate}: these are not proved beside the edits: {' '.join(others) or 'all'}\n{digest(said)}")
     told = []
     for edit, place in zip(edits, places):
-        verdict, lines = verdicts.get(f"{crate}::{edit.words['fn']}"), told_of(crate, edit, place, said)
+        verdict, lines = verdicts.get(edit.function), edit.told(crate, place, said)
         if verdict not in ("not proved", "no proof") or not lines:
             raise Bad(f"{crate}/{edit.name}: NOT REFUSED at a goal of its own ({verdict})\n{digest(said)}")
         told.append(f"{crate}/{edit.name}: refused, as it must be: {lines[0][:160]}")
-    print(f"edits: {crate}, copy {edits[0].words['copy']} with {len(edits)}: {said.splitlines()[-1]}", flush=True)
-    return told
-
-
-def try_some(room, crate, copies):
-    """Tries some copies of a crate, one after the other, over what the ones before proved."""
-    os.mkdir(f"{room}/kept")
-    told, why = [], []
-    for number, edits in enumerate(copies):
-        try:
-            told += try_copy(f"{room}/{number}", f"{room}/kept", crate, edits)
-        except Bad as it:
-            why.append(str(it))
-    if why:
-        raise Bad("\n".join(why))
+    print(f"edits: {crate}, {len(edits)} in one copy: {said.splitlines()[-1]}", flush=True)
+    kept.keep(told)
     return told
 
 
 def copies_of(crate):
-    """The edits of a crate, by their copies, so many together as are tried one after the other."""
-    folder, copies = f"{TOP}/crates/{crate}/{TOGETHER}", {}
-    for name in sorted(os.listdir(folder)):
-        edit = Change(f"{folder}/{name}")
-        if not {"fn", "copy"} <= edit.words.keys():
-            raise Bad(f"{crate}/{edit.name}: it has no `fn:` and `copy:`")
-        copies.setdefault(edit.words["copy"], []).append(edit)
-    every = [*copies.values()]
-    return [every[at : at + IN_TURN] for at in range(0, len(every), IN_TURN)]
+    """The edits of a crate, by the copies in which they are made."""
+    edits = [Edit(crate, it) for it in sorted(os.listdir(f"{TOP}/crates/{crate}/{TOGETHER}"))]
+    copies = -(-len(edits) // AT_ONCE)
+    return [edits[it::copies] for it in range(copies)]
 
 
 def main(names):
     # (as `rt ci` builds them: the lowest first)
     every = sorted((it for it in NAMED if os.path.isdir(f"{TOP}/crates/{it}/{TOGETHER}")), key=lambda it: len(below(it)))
     try:
-        tries = [(crate, copies) for crate in names or every for copies in copies_of(crate)]
+        tries = [(crate, edits) for crate in names or every for edits in copies_of(crate)]
     except Bad as why:
         print(f"edits: {why}", file=sys.stderr)
         return 1
-    return 0 if try_all("edits", tries, try_some) else 1
+    return 0 if try_all("edits", tries, lambda crate, _: below(crate), try_copy) else 1
 
 
 sys.exit(main(sys.argv[1:]))

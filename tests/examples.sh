@@ -1,6 +1,7 @@
 #!/usr/bin/env bash
 # The programs of examples/ on a text of some megabytes that is made here: what they print is what sort and
-# uniq make of it, and the times stand beside each other.
+# uniq make of it, and the times stand beside each other. Where a folder is given, what runs is its count_words and
+# unique_lines.
 set -euo pipefail
 top="$(cd "$(dirname "${BASH_SOURCE[0]}")/.." && pwd)"
 room="$(mktemp -d)"
@@ -34,15 +35,26 @@ commonest() {
     tr -s '[:space:]' '\n' | sort | uniq -c | sort -k1,1nr -k2 | head -10 | sed 's/^ *//' || true
 }
 
+programs="${1-}"
+
+# example NAME: runs a program on standard input.
+example() {
+    if [[ -n "$programs" ]]; then
+        "$programs/${1//-/_}"
+    else
+        "$top/examples/$1"
+    fi
+}
+
 for program in count-words unique-lines; do
-    "$top/examples/$program" </dev/null >"$room/none"
+    example "$program" </dev/null >"$room/none"
     same "$program on no text" '' "$(cat "$room/none")"
 done
-here="$(timed "$room/here" "$top/examples/count-words")"
+here="$(timed "$room/here" example count-words)"
 there="$(timed "$room/there" commonest)"
 same 'the commonest words' "$(cat "$room/there")" "$(cat "$room/here")"
 echo "count-words: $here ms, sort and uniq -c: $there ms, $(wc -c <"$room/text") bytes"
-here="$(timed "$room/here" "$top/examples/unique-lines")"
+here="$(timed "$room/here" example unique-lines)"
 there="$(timed "$room/there" sort -u)"
 same 'the different lines' "$(cksum <"$room/there")" "$(cksum <"$room/here")"
 echo "unique-lines: $here ms, sort -u: $there ms"

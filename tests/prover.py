@@ -16,6 +16,9 @@ from concurrent.futures import ThreadPoolExecutor
 
 TOP = os.path.dirname(os.path.dirname(os.path.abspath(__file__)))
 
+# What a check reads of a crate: its functions and its clauses' words, and the answers to what they leave to show.
+PARTS = ("src", "specs", "proofs")
+
 # What the prover says where a change took away a name that a proof uses: that shows nothing.
 LOST = re.compile(r"has no field|is not in scope|has no `|was not admitted|that depends? on|is no name")
 
@@ -81,15 +84,15 @@ def is_proving():
     return bool(number) and os.path.isdir(f"/proc/{number}")
 
 
-def why_not_built(crate, since):
-    """Why there is no library of the crate as it stands, made since that time."""
+def why_not_built(crate, since, parts=PARTS[:2]):
+    """Why there is no library of the crate as these parts of it stand, made since that time."""
     library = f"{TOP}/crates/{crate}/out/rlib/{crate}.rlib/format"
     try:
         # (rt may have linked it from what it keeps: then only this time is that of the link)
         made = os.stat(library).st_ctime
     except OSError:
         return "is not built here"
-    for part in ("src", "specs"):
+    for part in parts:
         for at, _, names in os.walk(f"{TOP}/crates/{crate}/{part}"):
             if any(os.path.getmtime(f"{at}/{name}") > made for name in names):
                 return f"was built before a change of its {part}/"
@@ -111,18 +114,16 @@ def wait_for(crates):
 
 def copy_of(crate, to):
     """Copies what a check reads of a crate."""
-    for part in ("src", "specs", "proofs"):
+    for part in PARTS:
         if os.path.isdir(f"{TOP}/crates/{crate}/{part}"):
             shutil.copytree(f"{TOP}/crates/{crate}/{part}", f"{to}/{part}")
 
 
-def check(folder, crate, changed, functions, kept=None):
+def check(folder, crate, changed, functions):
     """What a check of these functions of the crate says. The crate and those in `changed`, on which it
-    stands, are read from their copies below the folder. What is proved goes to the folder `kept`, and
-    what a check before this one left there is not proved again. The last line is the time that it took."""
+    stands, are read from their copies below the folder. The last line is the time that it took."""
     words = [f"{KIT}/bin/rattle", "check", "--crate-name", crate, "src/lib.rt", "--links", f"{crate}=", "--jobs", "1"]
     ours = below(crate)
-    wait_for(it for it in ours if it not in changed)
     # (a crate that is read as source names its libraries too)
     named = {it for name in [crate, *changed] for it in NAMED[name]}
     for name in ["std", *(["core"] if changed else []), *sorted(named - {*ours}), *(it for it in ours if it in named)]:
@@ -135,7 +136,6 @@ def check(folder, crate, changed, functions, kept=None):
     words += [word for it in folders for word in ("-L", f"dependency={it}")]
     words += ["--antt-project", f"{KIT}/rattle/logic/antt-project.json", "--logic-built", f"{KIT}/logic_built"]
     words += [word for it in functions for word in ("--only", it)]
-    words += ["--incremental", kept] if kept else []
     with tempfile.TemporaryFile("w+", encoding="utf-8") as said:
         how = {"stdin": subprocess.DEVNULL, "stdout": said, "stderr": subprocess.STDOUT}
         _, _, used = os.wait4(subprocess.Popen(words, cwd=f"{folder}/{crate}", **how).pid, 0)
@@ -159,46 +159,71 @@ def digest(said):
     return "\n".join(f"    {it[:200]}" for it in lines or said.split("\n")[-5:])
 
 
-def lanes():
-    """How many checks may run at once: one a processor, and each may take 3 GB. Beside `rt ci`, half as many."""
-    said = open("/proc/meminfo", encoding="utf-8").read()
-    free = int(re.search(r"MemAvailable: +(\d+) kB", said)[1])
-    processors = len(os.sched_getaffinity(0)) // (2 if is_proving() else 1)
-    return max(min(processors, free // 3_000_000), 1)
+def number_in(file, word):
+    """The number behind a word of a file of the system."""
+    with open(file, encoding="utf-8") as it:
+        return int(re.search(rf"^{word}:? +(\d+)", it.read(), re.M)[1])
+
+
+def lanes(each=3_000_000):
+    """How many tries may begin at once: one a processor, and each may take 3 GB."""
+    return max(min(len(os.sched_getaffinity(0)), number_in("/proc/meminfo", "MemAvailable") // each), 1)
+
+
+def idle():
+    """How many processors have nothing to do, by the least of some readings."""
+    found = []
+    for _ in range(5):
+        # (this process counts too)
+        found.append(len(os.sched_getaffinity(0)) + 1 - number_in("/proc/stat", "procs_running"))
+        time.sleep(0.2)
+    return min(found)
 
 
 class Turns:
-    """Lets as many checks go on at once as there are lanes then."""
+    """Lets as many tries go on at once as there are lanes. Beside `rt ci` these are half of the processors, and
+    more where some are idle."""
 
     def __init__(self):
-        self.free, self.running = threading.Lock(), 0
+        self.asking, self.free, self.running = threading.Lock(), threading.Lock(), 0
+
+    def has_room(self):
+        """May one more begin?"""
+        most, free = len(os.sched_getaffinity(0)), number_in("/proc/meminfo", "MemAvailable")
+        if is_proving():
+            most = min(most, max(most // 2, self.running + idle()))
+            # (so that all that runs takes some 16 GB at most)
+            free = min(free, free + 17_000_000 - number_in("/proc/meminfo", "MemTotal"))
+        return self.running < most and free > 3_000_000
 
     def __enter__(self):
-        while True:
+        with self.asking:
+            while self.running and not self.has_room():
+                time.sleep(3)
             with self.free:
-                if self.running < lanes() or not self.running:
-                    self.running += 1
-                    return
-            time.sleep(5)
+                self.running += 1
 
     def __exit__(self, *_):
         with self.free:
             self.running -= 1
 
 
-def try_all(what, tries, call):
-    """Makes each of these tries, some at once, and returns whether all went well."""
+def try_all(what, tries, needs, call):
+    """Makes each of these tries, some at once, each once the crates that it needs are built, and returns whether
+    all went well."""
     turns = Turns()
 
     def one(given):
-        with turns, tempfile.TemporaryDirectory(prefix=f"{what}-") as room:
-            try:
+        try:
+            wait_for(needs(*given))
+            with turns, tempfile.TemporaryDirectory(prefix=f"{what}-") as room:
                 return [print(f"{what}: {it}", flush=True) for it in call(room, *given)]
-            except Bad as why:
-                print(f"{what}: {why}", file=sys.stderr, flush=True)
-                return None
+        except Bad as why:
+            print(f"{what}: {why}", file=sys.stderr, flush=True)
+            return None
 
-    with ThreadPoolExecutor(len(os.sched_getaffinity(0))) as pool:
+    # (one that waits keeps no other from its turn)
+    with ThreadPoolExecutor(len(tries) or 1) as pool:
         results = list(pool.map(one, tries))
     lost = results.count(None)
     refused = sum(len(it) for it in results if it is not None)

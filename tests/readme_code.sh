@@ -1,6 +1,7 @@
 #!/usr/bin/env bash
 # What documents quote stands in the sources word for word: the Rust code of README.md in papaya_uses,
-# where it is proved, and the definitions of docs/DEFINITIONS.md in specs/.
+# where it is proved, the definitions of docs/DEFINITIONS.md in specs/, and the calls of docs/SIGNATURES.md. README and
+# CHANGELOG name the release and the kit of the file VERSION.
 set -euo pipefail
 cd "$(dirname "${BASH_SOURCE[0]}")/.."
 
@@ -31,9 +32,27 @@ quoted() {
     done <"$document"
 }
 
+# stands WHAT FOUND WANTED
+stands() {
+    if [[ "$2" == "$3" ]]; then
+        passed=$((passed + 1))
+    else
+        failed=$((failed + 1))
+        printf 'readme_code.sh: %s: %s, and not %s\n' "$1" "$2" "$3" >&2
+    fi
+}
+
 quoted README.md rust crates/papaya_uses/src/*.rt
 quoted docs/CALLING.md rust crates/papaya_uses/src/*.rt
 quoted docs/DEFINITIONS.md text crates/papaya_*/specs/*.antt
+
+stands 'docs/SIGNATURES.md' "$(tools/signatures --check)" 'signatures: 1 passed, 0 failed'
+version="$(sed -n 's/^version //p' VERSION)"
+date="$(sed -n 's/^date //p' VERSION)"
+stands 'the release of README.md' "$(grep -oE '[0-9.]+ of [0-9-]+, with the git tag `v[0-9.]+`' README.md)" \
+    "$version of $date, with the git tag \`v$version\`"
+stands 'the kit of README.md' "$(grep -o '`rattle-kit-[^`]*`' README.md)" "\`$(sed -n 's/^kit //p' VERSION)\`"
+stands 'the newest release of CHANGELOG.md' "$(grep -m 1 '^## [0-9]' CHANGELOG.md)" "## $version ($date)"
 
 echo "readme_code.sh: $passed passed, $failed failed"
 [[ "$failed" == 0 && "$passed" -gt 2 ]]

@@ -1,8 +1,8 @@
 """Runs tests with requests for memory refused to them.
 
-    python3 tests/refused.py [CRATE..]
+    python3 tests/refused.py [--programs FOLDER] [CRATE..]
 
-What runs is the program of the tests that `rt test` has proved and built. Tests of the first kind run once for
+What runs is the program of the tests that `rt test` has proved and built, or else that of the folder. Tests of the first kind run once for
 each request that they make, with just that one refused. Those of the second kind run once, and tell what is to
 be refused, while a call of theirs runs: a request for a number of bytes that no test needs is a word (crate
 papaya_refusals). Each has to pass, and of the second kind each has to be refused something. The requests are
@@ -90,9 +90,8 @@ def build(folder):
 class Tests:
     """The tests of a crate whose names have a word."""
 
-    def __init__(self, crate, word, folder, library):
-        self.crate, self.folder, self.library = crate, folder, library
-        self.program = f"{TOP}/crates/{crate}/out/{crate}_tests"
+    def __init__(self, program, crate, word, folder, library):
+        self.program, self.crate, self.folder, self.library = program, crate, folder, library
         lines = subprocess.run([self.program, "--list"], check=True, capture_output=True, text=True).stdout
         names = [it.removesuffix(": test") for it in lines.splitlines() if it.endswith(": test")]
         self.names = [it for it in names if word in it]
@@ -125,6 +124,7 @@ TOLERANT = [
     ("papaya_set_tests", "refused::"),
     ("papaya_map_tests", "refused::"),
     ("papaya_json_tests", "refused::"),
+    ("papaya_reclaiming_tests", "refused::"),
 ]
 
 # Those that tell what is to be refused.
@@ -137,35 +137,39 @@ TELLING = [
 
 
 def refuse_each(tests):
-    """Each request is refused in turn. Is there a test that does not pass then?"""
-    status = 0
+    """Each request is refused in turn. Which tests pass whichever it is?"""
     for name in tests.names:
         requests, failed = tests.refusals(name)
-        print(f"{tests.crate} {name}: {requests} requests refused in turn, {len(failed)} failed", *failed)
-        status |= bool(failed) or not requests
-    return status
+        print(f"{tests.crate} {name}: {requests} requests refused in turn, {len(failed)} failed", *failed, flush=True)
+        yield requests and not failed
 
 
 def refuse_told(tests):
-    """What a test tells is refused. Is there one that does not pass then, or to which nothing is?"""
-    status = 0
+    """What a test tells is refused. Which tests pass, and have something refused?"""
     with ThreadPoolExecutor(os.cpu_count()) as pool:
         for name, (refused, passed) in zip(tests.names, pool.map(tests.run, tests.names)):
-            print(f"{tests.crate} {name}: {refused} requests refused, {'passed' if passed else 'failed'}")
-            status |= not passed or not refused
-    return status
+            print(f"{tests.crate} {name}: {refused} requests refused, {'passed' if passed else 'failed'}", flush=True)
+            yield passed and refused
 
 
-def main(crates):
-    status = 0
+def program_of(crate, programs):
+    """The program of a crate's tests."""
+    return f"{programs}/{crate}" if programs else f"{TOP}/crates/{crate}/out/{crate}_tests"
+
+
+def main(words):
+    programs = words[1] if words[:1] == ["--programs"] else None
+    crates, results = words[2:] if programs else words, []
     with tempfile.TemporaryDirectory() as folder:
         library = build(folder)
         for kind, refuse in [(TOLERANT, refuse_each), (TELLING, refuse_told)]:
             for crate, word in kind:
                 if not crates or crate in crates:
-                    tests = Tests(crate, word, folder, library)
-                    status |= refuse(tests) or not tests.names
-    return status
+                    tests = Tests(program_of(crate, programs), crate, word, folder, library)
+                    results += refuse(tests) if tests.names else [False]
+    failed = sum(not it for it in results)
+    print(f"refused.py: {len(results) - failed} passed, {failed} failed")
+    return 1 if failed else 0
 
 
 if __name__ == "__main__":

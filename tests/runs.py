@@ -1,5 +1,6 @@
 """Runs papaya-run, and compares what it prints, what it says on standard error and its exit status:
-the runs of tests/runs.txt, and long ones whose replies a plain dictionary gives.
+the runs of tests/runs.txt, long ones whose replies a plain dictionary gives, and the scripts of
+tests/answers, with what papaya 0.2.5 answered. As many parts run at a time as there are processors.
 
     python3 tests/runs.py PROGRAM
 """
@@ -8,8 +9,11 @@ import os
 import random
 import subprocess
 import sys
+from concurrent.futures import ProcessPoolExecutor
 
 WRAP = 2**64
+
+HERE = os.path.dirname(os.path.abspath(__file__))
 
 
 class Runs:
@@ -43,16 +47,21 @@ class Runs:
         """A run on these lines, and the lines that it prints."""
         lines = [it if isinstance(it, bytes) else it.encode() for it in lines]
         script = b"\n".join(lines) + end if lines else b""
-        wanted = "".join(f"{it}\n" for it in printed)
+        self.run_script(args, script, "".join(f"{it}\n" for it in printed), script[-200:], said, status)
+
+    def run_script(self, args, script, printed, name, said="", status=0):
+        """A run on this input, which has a name, and the text that it prints."""
         got = self.printed_by(args, script)
-        if got == (wanted, said, status):
+        if got == (printed, said, status):
             self.passed += 1
             return
         self.failed += 1
-        print(f"runs.py: papaya-run {args} on {script[-200:]}", file=sys.stderr)
-        for name, one, other in zip(["output", "errors", "status"], (wanted, said, status), got):
+        print(f"runs.py: papaya-run {args} on {name}", file=sys.stderr)
+        for what, *both in zip(["output", "errors", "status"], (printed, said, status), got):
+            one, other = map(str, both)
             if one != other:
-                print(f"  {name}: wanted {str(one)[-200:]!r}, found {str(other)[-200:]!r}", file=sys.stderr)
+                at = max(len(os.path.commonprefix([one, other])) - 100, 0)
+                print(f"  {what}: wanted {one[at : at + 200]!r}, found {other[at : at + 200]!r}", file=sys.stderr)
 
 
 def bytes_of(text):
@@ -60,10 +69,10 @@ def bytes_of(text):
     return text.encode("latin-1", "backslashreplace").decode("unicode_escape").encode("latin-1")
 
 
-def stored(runs, path):
-    """The runs of a file, whose head tells its format."""
+def stored(runs):
+    """The runs of runs.txt, whose head tells its format."""
     blocks = []
-    for line in open(path, encoding="utf-8").read().split("\n"):
+    for line in open(os.path.join(HERE, "runs.txt"), encoding="utf-8").read().split("\n"):
         mark, text = line[:1], line[2:]
         if mark in ("", "#"):
             continue
@@ -86,6 +95,18 @@ def stored(runs, path):
             lines = [text for at, (in_turn, text) in enumerate(it["lines"]) if not in_turn or at == turn]
             for args in it["args"]:
                 runs.run(args, lines, it["printed"], it["said"], it["status"], it["end"])
+
+
+def answered(runs, backend):
+    """The scripts of tests/answers on a map in each mode: it answers what papaya 0.2.5 did. Where a script has few
+    keys, they share a path too."""
+    folder = os.path.join(HERE, "answers")
+    for name in sorted(it.removesuffix(".in") for it in os.listdir(folder) if it.endswith(".in")):
+        script, printed = (open(os.path.join(folder, name + end), "rb").read() for end in (".in", ".out"))
+        keys = {words[1] for words in map(bytes.split, script.splitlines()) if len(words) > 1}
+        for mode in ["inc:1", "inc:2", "inc:64", "block"]:
+            for hasher in ["id", "zero"] if len(keys) <= 15 else ["id"]:
+                runs.run_script(f"{backend} {mode} {hasher}", script, printed.decode(), f"answers/{name}.in")
 
 
 class Plain:
@@ -372,14 +393,13 @@ def orders_of(first, second):
     return [calls, calls[::-1], *between]
 
 
-def overlapping(runs):
+def overlapping(runs, args):
     """Caller 0 is stopped after some of its steps and caller 1 after some of its own; then caller 0 ends
     its call, and caller 1. What they answer, what is found and what a walk gives then comes of one call
     whole before the other, or of a clear on both sides of the other."""
-    for args in ["core inc:1 id", "core inc:3 zero", "core block id"]:
-        for keys, *calls in OVERLAPPING:
-            for first, second in [calls, calls[::-1]]:
-                overlap(runs, args, keys, first, second)
+    for keys, *calls in OVERLAPPING:
+        for first, second in [calls, calls[::-1]]:
+            overlap(runs, args, keys, first, second)
 
 
 def overlap(runs, args, keys, first, second):
@@ -402,17 +422,15 @@ def each_call(keys):
     return [f"i {keys} 20", "i 0 20", "g 0", "u 0", "r 0", "walk", "clear"]
 
 
-def each_pair(runs):
-    """For each two calls, in both modes and with both hashers: caller 0 is stopped after each number of its
-    steps, caller 1 makes its call whole, within 1,000,000 steps, and caller 0 goes on. What they answer, what
-    each key has and what a walk gives then comes of one call whole before the other, or of a clear on both
-    sides of the other; a walk beside a clear gives some of the pairs. The map has one key, or its first table
-    is full and an insertion has to go on in a longer one."""
-    for mode in ["inc:2", "block"]:
-        for hasher, full_at in [("id", FULL), ("zero", 26)]:
-            for keys in [1, full_at]:
-                for first in each_call(keys):
-                    stop_at_each(runs, f"core {mode} {hasher}", keys, first, each_call(keys))
+def each_pair(runs, args, full_at):
+    """For each two calls: caller 0 is stopped after each number of its steps, caller 1 makes its call whole,
+    within 1,000,000 steps, and caller 0 goes on. What they answer, what each key has and what a walk gives then
+    comes of one call whole before the other, or of a clear on both sides of the other; a walk beside a clear gives
+    some of the pairs. The map has one key, or its first table is full and an insertion has to go on in a longer
+    one."""
+    for keys in [1, full_at]:
+        for first in each_call(keys):
+            stop_at_each(runs, args, keys, first, each_call(keys))
 
 
 def stop_at_each(runs, args, keys, first, seconds):
@@ -696,29 +714,52 @@ def looking_up_beside_a_copy(runs):
         runs.run(args, lines, [*stored, "1: none", "2: some 5"])
 
 
+def held_up_by_claims(runs):
+    """In `Blocking` 17 callers that have claimed slots of a table of 32, and not counted them, keep an
+    insertion from ending until one of them makes a step. Beside 16 it ends, and in `Incremental`."""
+    unended = ["step 63"] * 3000 + ["step 0"]
+    for mode, callers, further in [("block", 17, unended), ("block", 16, []), ("inc:1", 17, []), ("inc:64", 17, [])]:
+        lines = [line for key in range(15) for line in (f"begin 62 i {key} 0", "finish 62")]
+        for caller in range(callers):
+            lines += [f"begin {caller} i {15 + caller} 0", *[f"step {caller}"] * 8]
+        lines += ["begin 63 i 32 0", *further, "finish 63"]
+        runs.run(f"core {mode} id", lines, ["62: none"] * 15 + ["63: none"])
+
+
+# What is run, each part with what it is called with, the longest first.
+PARTS = [
+    (two_copiers,),
+    *[(each_pair, f"core {mode} {it}", keys) for it, keys in [("zero", 26), ("id", FULL)] for mode in ["block", "inc:2"]],
+    (growing,),
+    *[(overlapping, args) for args in ["core inc:1 id", "core inc:3 zero", "core block id"]],
+    (each_without_memory,),
+    (removing_beside_a_refusal,),
+    (computed,),
+    (growing_without_memory,),
+    (as_upstream,),
+    (looking_up_beside_a_copy,),
+    (held_up_by_claims,),
+    (walked,),
+    *[(answered, backend) for backend in ["seq", "shared"]],
+    *[(it,) for it in [stored, full, stepping_in_turn, walking]],
+    *[(it, rest) for rest in ["inc:64 id", "block zero"] for it in [stopped, before_its_hint, without_memory]],
+]
+
+
+def passed_and_failed(program, number):
+    """Does one part, and counts what passed and what failed."""
+    runs, (part, *given) = Runs(program), PARTS[number]
+    part(runs, *given)
+    return runs.passed, runs.failed
+
+
 def main(program):
-    runs = Runs(program)
-    stored(runs, os.path.join(os.path.dirname(os.path.abspath(__file__)), "runs.txt"))
-    as_upstream(runs)
-    computed(runs)
-    walked(runs)
-    full(runs)
-    overlapping(runs)
-    each_pair(runs)
-    stepping_in_turn(runs)
-    growing(runs)
-    walking(runs)
-    growing_without_memory(runs)
-    each_without_memory(runs)
-    removing_beside_a_refusal(runs)
-    two_copiers(runs)
-    looking_up_beside_a_copy(runs)
-    for rest in ["inc:64 id", "block zero"]:
-        stopped(runs, rest)
-        before_its_hint(runs, rest)
-        without_memory(runs, rest)
-    print(f"runs.py: {runs.passed} passed, {runs.failed} failed")
-    return 0 if runs.passed and not runs.failed else 1
+    with ProcessPoolExecutor() as pool:
+        counts = list(pool.map(passed_and_failed, [program] * len(PARTS), range(len(PARTS))))
+    passed, failed = (sum(it) for it in zip(*counts))
+    print(f"runs.py: {passed} passed, {failed} failed")
+    return 0 if passed and not failed else 1
 
 
-sys.exit(main(sys.argv[1]))
+if __name__ == "__main__":
+    sys.exit(main(sys.argv[1]))

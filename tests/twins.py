@@ -7,7 +7,8 @@ papaya_chain_law or of papaya_alone that has to refuse it.
 A twin has the lines of an edit in must-fail/, with files below crates/, and two before them: `law:`, the law
 that refuses it, and `fn:`, the machine's function, or several. A twin of papaya_call goes with one of
 papaya_copy, where papaya_call_law has both laws: those of calls say nothing of copiers and those of copiers
-nothing of calls.
+nothing of calls. A copy whose twins an earlier run on this machine saw refused, over all that it reads, is not
+tried again.
 """
 
 import os
@@ -15,6 +16,7 @@ import re
 import sys
 from itertools import zip_longest
 
+from kept import Try
 from prover import LOST, TOP, Bad, Change, below, check, copy_of, digest, try_all, verdicts_of
 
 
@@ -24,16 +26,30 @@ def is_refused(said, law):
     return verdicts_of(said).get(law) == "not proved" and bool(errors)
 
 
+def crates_of(twins):
+    """The crate of these twins' laws, and those below it that are changed or stand on a changed one."""
+    top = twins[0].words["law"].split("::")[0]
+    changed = {file.split("/")[0] for it in twins for file, _, _ in it.pairs}
+    return top, [it for it in below(top) if changed & {it, *below(it)}]
+
+
+def needs(*twins):
+    """The crates whose libraries a copy of these twins needs."""
+    top, read = crates_of(twins)
+    return [it for it in below(top) if it not in read]
+
+
 def try_copy(room, *twins):
     """Makes these twins in one copy, and checks their machines and their laws."""
     laws = [it.words["law"] for it in twins]
-    top = laws[0].split("::")[0]
-    changed = {file.split("/")[0] for it in twins for file, _, _ in it.pairs}
-    read = [it for it in below(top) if changed & {it, *below(it)}]
+    top, read = crates_of(twins)
     for crate in [top, *read]:
         copy_of(crate, f"{room}/{crate}")
     for twin in twins:
         twin.apply(room)
+    kept = Try("twins", room, top, read, [(it.name, it.words, it.pairs) for it in twins])
+    if kept.refused_earlier():
+        return [f"{it}, by an earlier run" for it in kept.refused_earlier()]
     machines = [it.words["fn"].split() for it in twins]
     said = check(room, top, read, [*(it.partition("::")[2] for it in laws), *sum(machines, [])])
     for twin, law, of_twin in zip(twins, laws, machines):
@@ -41,7 +57,9 @@ def try_copy(room, *twins):
             raise Bad(f"{twin.name}: BAD TWIN: its machine is not proved\n{digest(said)}")
         if not is_refused(said, law):
             raise Bad(f"{twin.name}: NOT REFUSED by the law {law}\n{digest(said)}")
-    return [f"{it.name}: refused by the law {it.words['law']}" for it in twins]
+    told = [f"{it.name}: refused by the law {it.words['law']}" for it in twins]
+    kept.keep(told)
+    return told
 
 
 def copies_of(twins):
@@ -63,7 +81,7 @@ def main(names):
     except Bad as why:
         print(f"twins: {why}", file=sys.stderr)
         return 1
-    return 0 if try_all("twins", copies_of(twins), try_copy) else 1
+    return 0 if try_all("twins", copies_of(twins), needs, try_copy) else 1
 
 
 sys.exit(main(sys.argv[1:]))
