@@ -1,6 +1,6 @@
 """Tries the wrong machines of tests/twins: each changes a machine and the definition that its contract
 equals alike. So the machine's function is still proved, and it is a law of papaya_call_law, of
-papaya_chain_law or of papaya_alone that has to refuse it.
+papaya_chain_law or of papaya_alone that has to refuse it, or what a state of the machine may be.
 
     python3 tests/twins.py [TWIN..]
 
@@ -22,8 +22,9 @@ from prover import LOST, TOP, Bad, Change, below, check, copy_of, digest, try_al
 
 def is_refused(said, law):
     """Is the law refused, and for more than a name?"""
-    errors = [it for it in said.split("\n") if re.match(r"(\./)?proofs/\S+: error: ", it) and not LOST.search(it)]
-    return verdicts_of(said).get(law) == "not proved" and bool(errors)
+    told = r"(\./)?proofs/\S+: error: |note: (\./)?src/\S+: it is not proved that "
+    errors = [it for it in said.split("\n") if re.match(told, it) and not LOST.search(it)]
+    return verdicts_of(said).get(law) in ("not proved", "no proof") and bool(errors)
 
 
 def crates_of(twins):
@@ -51,7 +52,7 @@ def try_copy(room, *twins):
     if kept.refused_earlier():
         return [f"{it}, by an earlier run" for it in kept.refused_earlier()]
     machines = [it.words["fn"].split() for it in twins]
-    said = check(room, top, read, [*(it.partition("::")[2] for it in laws), *sum(machines, [])])
+    said = check(room, top, read, [it.removeprefix(f"{top}::") for it in [*laws, *sum(machines, [])]])
     for twin, law, of_twin in zip(twins, laws, machines):
         if any(verdicts_of(said).get(it) != "proved" for it in of_twin):
             raise Bad(f"{twin.name}: BAD TWIN: its machine is not proved\n{digest(said)}")
