@@ -1,7 +1,7 @@
 #!/usr/bin/env bash
-# What documents quote stands in the sources word for word: the Rust code of README.md in papaya_uses,
-# where it is proved, the definitions of docs/DEFINITIONS.md in specs/, and the calls of docs/SIGNATURES.md. README and
-# CHANGELOG name the release and the kit of the file VERSION.
+# The documents quote the sources word for word: the Rust code of README.md stands in papaya_uses, where it is
+# proved, that of docs/GUIDE.md in any crate, the definitions of docs/GUIDE.md and docs/DEFINITIONS.md in specs/,
+# and the calls of docs/SIGNATURES.md in the sources. README and CHANGELOG name the release and the kit of VERSION.
 set -euo pipefail
 cd "$(dirname "${BASH_SOURCE[0]}")/.."
 
@@ -43,7 +43,9 @@ stands() {
 }
 
 quoted README.md rust crates/papaya_uses/src/*.rt
-quoted docs/CALLING.md rust crates/papaya_uses/src/*.rt
+mapfile -t sources < <(find crates/*/src -name '*.rt')
+quoted docs/GUIDE.md rust "${sources[@]}"
+quoted docs/GUIDE.md antt crates/papaya_uses/specs/*.antt
 quoted docs/DEFINITIONS.md text crates/papaya_*/specs/*.antt
 
 stands 'docs/SIGNATURES.md' "$(tools/signatures --check)" 'signatures: 1 passed, 0 failed'
