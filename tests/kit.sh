@@ -51,10 +51,10 @@ same 'the error is shown' 'src/lib.rt:1:1: error: not proved' "$(grep error: "$r
 same 'nothing is made then' 'first from' "$(cd "$room" && ls -d first from kit* 2>/dev/null | xargs)"
 
 same 'a kit is made' 0 "$(run "$room/kit")"
-same 'each crate is named' 'kit: proving papaya_low
-kit: papaya_low proved, 1 of 2
+same 'each crate is named, with its time' 'kit: proving papaya_low
+kit: papaya_low proved in N s, 1 of 2
 kit: proving papaya
-kit: papaya proved, 2 of 2' "$(cat "$room/errors")"
+kit: papaya proved in N s, 2 of 2' "$(sed 's/ in [0-9]* s,/ in N s,/' "$room/errors")"
 same 'its libraries' 'papaya.rlib papaya_low.rlib std.rlib' "$(ls "$room/kit/rlibs" | xargs)"
 same 'their sources' 'papaya papaya_low std' "$(ls "$room/kit/rattle" | xargs)"
 same 'all else of the first kit' 'read me' "$(cat "$room/kit/START-HERE.md")"

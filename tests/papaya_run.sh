@@ -174,11 +174,11 @@ same 'standard output is the program'\''s' 'ran core block id' "$(cat "$folder/o
 same 'a first build names each crate, as it begins and as it ends' 'papaya-run: first run: proving and building 3 crates, half an hour to two, once
 papaya-run: for a first look without the proof: papaya-run --unproved core block id
 papaya-run: proving papaya_low
-papaya-run: papaya_low proved, 1 of 3
+papaya-run: papaya_low proved in N s, 1 of 3
 papaya-run: proving papaya_mid
-papaya-run: papaya_mid proved, 2 of 3
+papaya-run: papaya_mid proved in N s, 2 of 3
 papaya-run: proving papaya_run
-papaya-run: papaya_run proved, 3 of 3' "$(cat "$folder/errors")"
+papaya-run: papaya_run proved in N s, 3 of 3' "$(sed 's/ in [0-9]* s,/ in N s,/' "$folder/errors")"
 
 # A program that is fresh runs with no word.
 same 'a fresh program runs' 0 "$(run seq inc:8 zero)"
@@ -264,9 +264,9 @@ touch "$made/crates/papaya_low/src/lib.rt"
 same 'an example is built' 0 "$(count_words)"
 same 'it says so, and which crates are proved' 'count-words: proving and building 2 crates; without the proof: examples/count-words --unproved
 count-words: proving papaya_low
-count-words: papaya_low proved, 1 of 2
+count-words: papaya_low proved in N s, 1 of 2
 count-words: proving count_words
-count-words: count_words proved, 2 of 2' "$(cat "$folder/errors")"
+count-words: count_words proved in N s, 2 of 2' "$(sed 's/ in [0-9]* s,/ in N s,/' "$folder/errors")"
 same 'a fresh example runs' 0 "$(count_words)"
 same 'and says nothing' '' "$(cat "$folder/errors")"
 touch -d '+3 minutes' "$made/crates/papaya_low/src/lib.rt"

@@ -1,7 +1,8 @@
 #!/usr/bin/env bash
-# What documents quote stands in the sources word for word: the Rust code of README.md in papaya_uses,
-# where it is proved, the definitions of docs/DEFINITIONS.md in specs/, and the calls of docs/SIGNATURES.md. README and
-# CHANGELOG name the release and the kit of the file VERSION.
+# The documents quote the sources word for word: the Rust code of README.md stands in papaya_uses, where it is
+# proved, that of docs/GUIDE.md in any crate, the definitions of docs/GUIDE.md and docs/DEFINITIONS.md in specs/,
+# and the calls of docs/SIGNATURES.md in the sources. README and CHANGELOG name the release and the kit of VERSION.
+# Links between documents find their headings (links.py).
 set -euo pipefail
 cd "$(dirname "${BASH_SOURCE[0]}")/.."
 
@@ -43,10 +44,14 @@ stands() {
 }
 
 quoted README.md rust crates/papaya_uses/src/*.rt
-quoted docs/CALLING.md rust crates/papaya_uses/src/*.rt
+mapfile -t sources < <(find crates/*/src -name '*.rt')
+quoted docs/GUIDE.md rust "${sources[@]}"
+quoted docs/GUIDE.md antt crates/papaya_uses/specs/*.antt
 quoted docs/DEFINITIONS.md text crates/papaya_*/specs/*.antt
 
 stands 'docs/SIGNATURES.md' "$(tools/signatures --check)" 'signatures: 1 passed, 0 failed'
+stands 'links between documents' "$(python3 -B tests/links.py 2>&1 | sed 's/[0-9]* passed/all passed/')" \
+    'links.py: all passed, 0 failed'
 version="$(sed -n 's/^version //p' VERSION)"
 date="$(sed -n 's/^date //p' VERSION)"
 stands 'the release of README.md' "$(grep -oE '[0-9.]+ of [0-9-]+, with the git tag `v[0-9.]+`' README.md)" \

@@ -20,54 +20,13 @@ same 'README says what they print' 1 "$(grep -cF "prints \`${answers//$'\n'/\`, 
 same 'the first run' "$answers" "$(cd "$top" && bash -c "$(tail -1 <<<"$typed")")"
 same 'the kit of README' 1 "$(grep -cF "\`$(rt version)\`" "$top/README.md")"
 
-# A program of a user's, whose two threads share a map: sessions say what was there.
+# The program of docs/GUIDE.md, as a user's.
 shop() {
     git init -q "$1"
-    mkdir -p "$1/crates/shop/src"
+    mkdir -p "$1/crates/shop"
+    cp -a "$top/crates/shop/src" "$top/crates/shop/stdout" "$1/crates/shop"
     cp "$top/HANDLES" "$1/HANDLES"
     echo 'shop: papaya' >>"$1/crates.txt"
-    echo '1 7' >"$1/crates/shop/stdout"
-    cat >"$1/crates/shop/src/main.rt" <<'END'
-//! Two threads share settings.
-#![tactic(auto)]
-
-use papaya::{HashMap, Refused, Session};
-use std::hash::{BuildHasherDefault, FoldHasher};
-use std::io;
-use std::sync::Wait;
-use std::thread::join;
-
-/// The settings, by their numbers.
-type Settings = HashMap<u64, u64, BuildHasherDefault<FoldHasher>>;
-
-/// Gives a setting a value, by a session of this thread's own.
-fn set(rt: &impl Wait, settings: &Settings, setting: u64, value: u64) -> Result<(), Refused> {
-    let mut session = Session::new(settings);
-    session.insert(rt, setting, value)?;
-    Ok(())
-}
-
-/// The value of a setting, 0 where there is none.
-fn value_of(settings: &Settings, setting: u64) -> u64 {
-    Session::new(settings).get(&setting).copied().unwrap_or(0)
-}
-
-fn main(rt: HostRuntime) -> io::Result<()> {
-    let Ok(settings) = Settings::new(&rt, rt.alloc()) else {
-        return println!(rt; "no memory");
-    };
-    let both = join(
-        &rt,
-        || set(&rt, &settings, 1, 1),
-        || set(&rt, &settings, 2, 7),
-    );
-    if both.0.is_err() || both.1.is_err() {
-        return println!(rt; "refused");
-    }
-    let (first, second) = (value_of(&settings, 1), value_of(&settings, 2));
-    println!(rt; "{first} {second}")
-}
-END
 }
 
 if [[ "${1-}" == --all ]]; then

@@ -51,6 +51,8 @@ for time in first second; do
     same "the $time time, each crate is listed" "$(ls "$room/to/crates")" \
         "$(cut -d: -f1 "$room/to/crates.txt" | grep -v '^shop$' | sort)"
 done
+same 'it is said that a first check is long' 'take: a first rt check there proves papaya too, in far over an hour; with a kit of tools/kit it does not' \
+    "$(sed -n 2p "$room/output")"
 same 'no test, program or caller is taken' '' "$(ls "$room/to/crates" | grep -E '_tests$|_run$|_bench$|_uses$' || true)"
 same 'the handles go along' "$(cat "$top/HANDLES")" "$(cat "$room/to/HANDLES")"
 same "the user's own line stays" 'shop: papaya' "$(grep shop "$room/to/crates.txt")"

@@ -6,6 +6,7 @@ use papaya::{Refused, Session};
 use papaya_shell::failure::{Failure, ended};
 use papaya_uses::metrics::{Metrics, add};
 use std::alloc::Global;
+use std::cmp::Reverse;
 use std::io;
 use std::io::Read;
 use std::process::ExitCode;
@@ -46,17 +47,16 @@ fn count_all(
     Ok(())
 }
 
-/// The words with their counts, the commonest first, and of words that are as common the first one
-/// by the alphabet. A count is told by what it lacks to the greatest number.
-fn by_count(
+/// The words of the map with their counts, the commonest first, and of words that are as common the
+/// first one by the alphabet.
+fn by_count<'a>(
     rt: &impl Wait,
     alloc: Global,
-    counts: &Metrics,
-) -> Result<Vec<(u64, String)>, Failure> {
+    counts: &'a Metrics,
+) -> Result<Vec<(Reverse<u64>, &'a str)>, Failure> {
     let mut found = Vec::new(alloc);
     for (word, count) in counts.pin().iter(rt)? {
-        let lacks = u64::MAX - count.load(Ordering::SeqCst);
-        found.push((lacks, word.as_str().to_string(alloc)?))?;
+        found.push((Reverse(count.load(Ordering::SeqCst)), word.as_str()))?;
     }
     found.sort_unstable();
     Ok(found)
@@ -75,9 +75,8 @@ fn run<R: Threads + Wait + Sync + Print, I: Read + Drop>(
     }
     let counts: Metrics = Metrics::new(rt, alloc)?;
     count_all(rt, alloc, &counts, words.as_slice())?;
-    for (lacks, word) in by_count(rt, alloc, &counts)?.iter().take(SHOWN) {
-        let count = u64::MAX - *lacks;
-        println!(rt; "{count} {word}").map_err(|_| Failure::Output)?;
+    for (count, word) in by_count(rt, alloc, &counts)?.iter().take(SHOWN) {
+        println!(rt; "{} {word}", count.0).map_err(|_| Failure::Output)?;
     }
     Ok(())
 }

@@ -50,10 +50,10 @@ fn bring_all(
 }
 
 /// The lines of the set in the order of their bytes.
-fn in_order(rt: &impl Wait, alloc: Global, lines: &Lines) -> Result<Vec<String>, Failure> {
+fn in_order<'a>(rt: &impl Wait, alloc: Global, lines: &'a Lines) -> Result<Vec<&'a str>, Failure> {
     let mut found = Vec::new(alloc);
     for line in lines.pin().iter(rt)? {
-        found.push(line.as_str().to_string(alloc)?)?;
+        found.push(line.as_str())?;
     }
     found.sort_unstable();
     Ok(found)
