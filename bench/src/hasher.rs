@@ -1,4 +1,4 @@
-//! The hasher of all maps, Rattle's `FoldHasher`: each key has the hash that `papaya-bench` gives it.
+//! The hasher of all maps, Rattle's `FoldHasher`. A key has the hash that it has in `papaya-bench`.
 use std::hash::{BuildHasherDefault, Hasher};
 
 const MULTIPLIER: u64 = 0x9e37_79b9_7f4a_7c15;

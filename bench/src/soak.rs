@@ -26,7 +26,7 @@ fn resident() -> io::Result<u64> {
         .ok_or_else(|| io::Error::from(io::ErrorKind::InvalidData))
 }
 
-/// Makes one thread's calls of a slice. Returns their sum, and the nanoseconds of the longest block.
+/// Makes one thread's calls of a slice. Returns their sum and the longest block's nanoseconds.
 fn serve<M: Map>(map: &M, soak: Soak, part: Part) -> (u64, u128) {
     let (mut sum, mut longest) = (0u64, 0);
     for number in 0..part.blocks(BLOCK) {
