@@ -1,7 +1,7 @@
 //! Times other concurrent maps at the workloads of `papaya-bench`: papaya 0.2, dashmap, scc,
 //! flurry, and the standard library's map behind its lock. Keys, their order, hasher, capacities,
-//! rounds, threads and the timed part are those of `papaya-bench`, and so is the form of the printed
-//! lines. So the lines of both programs, run on one machine, compare one to one:
+//! rounds, threads and the timed part are those of `papaya-bench`, and so is the form of the
+//! printed lines. So the lines of both programs, run on one machine, compare one to one:
 //!
 //! ```text
 //! cargo run --release              # what the calls return: it sums up alike for all maps
