@@ -120,12 +120,15 @@ turn_of (On (Looking at)) = turns.Next at
 turn_of (Over t) = turns.Over t
 turn_of _ = turns.Absent
 
--- the turn that the search has made where it has looked at one place of a table, if it is known
-abbrev pub turn_near : {M E : Type 0} → Place → Near M E → Option (Turn M E)
-turn_near at nears.On = Some (turn_of (go_on at))
-turn_near at (nears.Found met entry) = Some (turns.Found met entry)
-turn_near at nears.Absent = Some turns.Absent
-turn_near at nears.Aside = None
+-- what the search has come to where it has looked at one place of a table: a turn that it made, or
+-- a pair that is set aside
+abbrev pub IsNear : {M E : Type 0} → (turned : Turn M E → Type 0) → (aside : M → Type 0) → Place
+    → Near M E → Type 0
+IsNear {M} turned aside at nears.On = turned (turn_of (go_on at))
+IsNear {M} turned aside at (nears.Found entry) = (met : M) × turned (turns.Found met entry)
+IsNear {M} turned aside at nears.Absent = turned turns.Absent
+IsNear {M} turned aside at (nears.Aside met) = aside met
+IsNear {M} turned aside at (nears.Over t) = turned (turns.Over t)
 
 -- where a turn leads the lookup's machine, with the number of the pair that was found
 abbrev pub led_to : {M E : Type 0} → ResizeMode → ℕ → Turn M E → Stage
@@ -166,3 +169,15 @@ pub record IsTurned {K V S : Type 0} (eq : K → K → Bool) (hash : S → K →
       → (pair ≡ Some met.stored) × (entry.0.now ≡ key_of met.stored)
       × (entry.1.now ≡ met.stored.value.value)
       × HasHit eq hash b name matches fed begun log table met
+
+-- A search has set a pair aside: the lookup's machine compares its key next.
+pub record IsAside {K V S : Type 0} (eq : K → K → Bool) (hash : S → K → ℕ) (b : Begun K V S)
+    (name : Book) (matches : K → Bool) (fed : ℕ) (begun : List (Exchange (Stored K V))) (h : ℕ)
+    (log : List (Event K V S)) (table : Sheet) (met : Met K V) : Type 0 where
+  pub lent : Bor Sheet
+  pub lent_is : lent.now ≡ table
+  pub within : IsWithin met.place
+  pub placed : IsPlaced b (Some name) (Pair met.stored)
+  pub reading : IsReading eq hash b matches fed begun log
+      (lookup_at h b.mode b.limit (Searching (Comparing met.place met.word))) (Some lent)
+      (Some met.stored)

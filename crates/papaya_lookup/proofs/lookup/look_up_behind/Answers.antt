@@ -1,0 +1,16 @@
+use Rattle.std.proofs.Common.{ap, option_map}
+use Rattle.papaya_lookup.proofs.LookupReplies.{hit_value}
+use Rattle.papaya_lookup.proofs.lookup.look_up_behind.Goals as goal
+
+pub find_behind-found-requires : goal.find_behind-found-requires
+find_behind-found-requires g c = let r = c.requires.turned in record { turned = (r.0, rw (c.new-window.ensures.book, c.new-window.ensures.sight) r.1) }
+
+pub returns-in-Some-clause-answered : goal.returns-in-Some-clause-answered
+returns-in-Some-clause-answered g c = λ began pre was.
+    let all = c.find_behind-found.ensures.answered began (rw c.new-window.ensures.sight pre) (rw (c.new-window.ensures.book, c.new-window.ensures.sight) was) in
+    hit_value _ _ _ _ _ _ (ap (option_map (λ hit. hit.value)) c.in-Some.is) all.0
+
+pub returns-clause-answered : goal.returns-clause-answered
+returns-clause-answered g c = λ began pre was.
+    let all = c.find_behind-found.ensures.answered began (rw c.new-window.ensures.sight pre) (rw (c.new-window.ensures.book, c.new-window.ensures.sight) was) in
+    hit_value _ _ _ _ _ _ (ap (option_map (λ hit. hit.value)) c.in-None.is) all.0
