@@ -3,8 +3,8 @@ use Rattle.papaya_set.proofs.Kept.{callable}
 use Rattle.papaya_set.proofs.KeptShared.{kept_since}
 use Rattle.papaya_set.proofs.set.HashSetRef.retain_told.Goals as goal
 
-pub retain-answer-requires-clause-callable : goal.retain-answer-requires-clause-callable
-retain-answer-requires-clause-callable g c = callable g.F.FnMut _ (λ w. w.0) (λ w w' key value agrees called. let met = called.met in search rules)
+pub retain-answer-requires : goal.retain-answer-requires
+retain-answer-requires g c = callable g.F.FnMut _ (λ w. w.0) (λ w w' key value agrees called. let met = called.met in search rules)
     (λ w key value always. search rules) _ c.requires
 
 pub returns-clause-kept : goal.returns-clause-kept
