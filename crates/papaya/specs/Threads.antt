@@ -13,4 +13,4 @@ pub use Rattle.papaya_compute.specs.ComputeAnswers.{IsComputeBy, IsOperated}
 pub use Rattle.papaya_map.specs.Storing.{IsCurrent, IsInPlace, IsStored, IsThereBy, IsTried, IsTriedWith, IsUpdated, IsUpserted}
 pub use Rattle.papaya_chain_law.specs.ScanTold.{IsLastAnswer}
 pub use Rattle.papaya_scan.specs.Leaving.{HasDropped, HasKept, IsCleared, IsRetained, WasTakenOut}
-pub use Rattle.papaya_session.specs.Known.{Known}
+pub use Rattle.papaya_map.specs.Known.{Known}

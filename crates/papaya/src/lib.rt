@@ -24,9 +24,9 @@ pub use papaya_keys::guard::{Collector, Equivalent, Guard, LocalGuard, OwnedGuar
 pub use papaya_keys::occupied::{NotInserted, OccupiedError};
 pub use papaya_map::builder::HashMapBuilder;
 pub use papaya_map::map::{HashMap, HashMapRef, Pass};
+pub use papaya_map::session::Session;
 pub use papaya_reclaiming::reclaiming::{Reclaiming, ReclaimingMap, ReclaimingSet};
 pub use papaya_scan::walk::{Iter, Keys, Values};
-pub use papaya_session::session::Session;
 pub use papaya_set::builder::HashSetBuilder;
 pub use papaya_set::set::{HashSet, HashSetRef};
 pub use papaya_words::probe::{Refused, ResizeMode};

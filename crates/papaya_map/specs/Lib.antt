@@ -9,3 +9,5 @@ pub mod Storing
 pub mod Wanted
 -- why a call is refused that makes a pair
 pub mod Limited
+-- what a session shows
+pub mod Known

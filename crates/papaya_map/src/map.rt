@@ -12,7 +12,6 @@ ghost use Rattle.papaya_map.specs.Fixed.{Fixed, Pinned};
 ghost use Rattle.papaya_map.specs.Powers.{IsPowerOfTwo-prop};
 
 mod computes;
-mod deciding;
 mod guards;
 mod inserting;
 mod lookups;
@@ -21,6 +20,7 @@ mod removals;
 mod resizing;
 mod scans;
 mod sizes;
+mod told;
 mod updating;
 
 use crate::told::{Told, tell};
@@ -33,7 +33,6 @@ use papaya_book::rule::offer::Seen;
 use papaya_book::rule::own::{CapacityCause, OwnSteps};
 use papaya_book::window::Window;
 use papaya_keys::guard::{Collector, Guard};
-use papaya_scan::walk::Iter;
 use std::alloc::Global;
 use std::hash::{BuildHasher, BuildHasherDefault, FoldHasher, Hash};
 use std::marker::Model;
@@ -44,9 +43,9 @@ use std::marker::Model;
 /// history then.
 #[derive(Drop)]
 pub struct HashMap<K: Hash + Eq, V, S: BuildHasher = BuildHasherDefault<FoldHasher>> {
-    alloc: Global,
-    initial: usize,
-    count: Count,
+    pub(crate) alloc: Global,
+    pub(crate) initial: usize,
+    pub(crate) count: Count,
     pub(crate) collector: Collector,
     pub(crate) book: Book<K, V, S>,
     opened: Seen<K, V, S>,
@@ -83,10 +82,10 @@ impl<K: Hash + Eq, V, S: BuildHasher> Model for HashMap<K, V, S> {
 /// by its pass, and any other call makes none.
 #[derive(Drop)]
 pub struct Pass<K: Hash + Eq, V, S: BuildHasher> {
-    number: Option<u64>,
-    sight: Seen<K, V, S>,
+    pub(crate) number: Option<u64>,
+    pub(crate) sight: Seen<K, V, S>,
     own: OwnSteps<Step<K, V>>,
-    given: OwnSteps<CapacityCause>,
+    pub(crate) given: OwnSteps<CapacityCause>,
 }
 
 impl<K: Hash + Eq, V, S: BuildHasher> Model for Pass<K, V, S> {
@@ -119,7 +118,7 @@ impl<K: Hash + Eq, V, S: BuildHasher> Pass<K, V, S> {
 
     /// Takes what a call saw and did through its window. Nothing is done when the program runs.
     #[inline(always)]
-    fn keep(&mut self, window: Window<'_, K, V, S>)
+    pub(crate) fn keep(&mut self, window: Window<'_, K, V, S>)
         requires { IsLawful window }
         ensures book { self.new.book ≡ window.entry.book.now.begun.book }
         ensures history { self.new.history ≡ past window.entry }
@@ -272,6 +271,18 @@ impl<'a, K: Hash + Eq, V, S: BuildHasher> HashMapRef<'a, K, V, S> {
         self.map
     }
 
+    /// The same.
+    #[inline(always)]
+    pub(crate) fn again(&self) -> HashMapRef<'a, K, V, S>
+        ensures { result ≡ self.now }
+    {
+        HashMapRef {
+            map: self.map,
+            kept: self.kept.again(),
+            seen: self.seen.again(),
+        }
+    }
+
     /// How many pairs were counted. A change is counted a step after it was made.
     pub fn len(&self) -> usize {
         self.map.len()
@@ -328,20 +339,5 @@ impl<'a, K: Hash + Eq, V, S: BuildHasher> HashMapRef<'a, K, V, S> {
     {
         a.sight.learn(&b.sight);
         b.sight = a.sight.again();
-    }
-
-    /// Tells a pass what a walk has seen. Afterwards the pass has seen a history that begins with
-    /// what each had seen, so its calls stand after all that the walk gave. Nothing is done when
-    /// the program runs, and the call is never refused.
-    pub fn learn_walk(&self, walk: &Iter<'_, K, V, S>, pass: &mut Pass<K, V, S>)
-        requires { walk.now.book ≡ pass.old.book }
-        ensures book { pass.new.book ≡ pass.old.book }
-        ensures seen { IsPrefix pass.old.history pass.new.history }
-        ensures walked { IsPrefix walk.now.history pass.new.history }
-        ensures tables { IsPrefix pass.old.tables pass.new.tables }
-        ensures made { pass.new.made ≡ pass.old.made }
-        ensures given { pass.new.given ≡ pass.old.given }
-    {
-        pass.sight.learn(&walk.seen());
     }
 }

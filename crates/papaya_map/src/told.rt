@@ -1,9 +1,10 @@
 //! An answer, and what was seen when it was given.
 //!
-//! A call that takes no pass makes one for itself, and is cut in two. Its first half
-//! answers a [`Told`] by [`Pass::tell`](crate::map::Pass::tell). Its second half answers
-//! the same, and its contract says, by what is told, that the answer is of a history of
-//! that very map (`of_its_history`).
+//! A call that takes no pass makes one for itself, or a session, and is cut in two. Its first half
+//! (in `map/told`) answers a [`Told`] by [`Pass::tell`](crate::map::Pass::tell) or
+//! [`Session::tell`](crate::session::Session::tell). Its second half answers the same, and its
+//! contract says, by what is told, that the answer is of a history of that very map
+//! (`of_its_history`).
 ghost use Rattle.std.specs.Prelude.{◌≡◌, ℕ, List};
 ghost use base.Stored.{coded_list};
 ghost use Rattle.logbook.specs.Pages.{Book, book_coded};

@@ -44,6 +44,12 @@ mod scarce;
 #[cfg(test)]
 mod seen;
 #[cfg(test)]
+mod session_calls;
+#[cfg(test)]
+mod session_entries;
+#[cfg(test)]
+mod session_sizes;
+#[cfg(test)]
 mod shared;
 #[cfg(test)]
 mod sizes;

@@ -11,6 +11,7 @@ use crate::steps::answers;
 use papaya_hashers::times::{APART, Times};
 use papaya_keys::guard::Collector;
 use papaya_map::map::HashMap;
+use papaya_map::session::Session;
 use papaya_words::probe::Refused;
 use std::alloc::Global;
 use std::hash::{Hash, Hasher};
@@ -71,7 +72,7 @@ trait Labels: Sized {
 
     fn get(&self) -> Answer;
 
-    fn get_by_pass(&self) -> Answer;
+    fn get_by_session(&self) -> Answer;
 
     fn get_with_own(&self) -> Answer;
 
@@ -93,9 +94,8 @@ impl Labels for HashMap<Labelled, u64, Times> {
         shown(Ok(self.pin().get_key_value(&seven(0))))
     }
 
-    fn get_by_pass(&self) -> Answer {
-        let mut pass = self.pass();
-        shown(Ok(self.pin().get_key_value_as(&seven(0), &mut pass)))
+    fn get_by_session(&self) -> Answer {
+        shown(Ok(Session::new(self).get_key_value(&seven(0))))
     }
 
     fn get_with_own(&self) -> Answer {
@@ -125,7 +125,7 @@ fn finds_the_stored<R: Wait + Abort, L: Labels>(rt: &R, map: &L) {
     answers(rt, 0, 6, map.get(), Absent);
     answers(rt, 0, 7, map.insert(rt, 3, 30), Absent);
     answers(rt, 0, 8, map.get(), Pair(3, 30));
-    answers(rt, 0, 9, map.get_by_pass(), Pair(3, 30));
+    answers(rt, 0, 9, map.get_by_session(), Pair(3, 30));
     answers(rt, 0, 10, map.get_with_own(), Pair(3, 30));
     answers(
         rt,

@@ -127,10 +127,10 @@ impl<K: Hash + Eq, S: BuildHasher> HashSet<K, S> {
         if let Err(refused) = self.verify(guard) {
             return self.tell_refused(refused);
         }
-        let mut pass = self.map.begun(None);
-        match self.map.pin().get_key_value_as(key, &mut pass) {
-            Some((stored, _)) => pass.tell(Ok(Some(stored))),
-            None => pass.tell(Ok(None)),
+        let mut session = self.map.begun_session(None);
+        match session.get_key_value(key) {
+            Some((stored, _)) => session.tell(Ok(Some(stored))),
+            None => session.tell(Ok(None)),
         }
     }
 
@@ -242,9 +242,9 @@ impl<K: Hash + Eq, S: BuildHasher> HashSet<K, S> {
         if let Err(refused) = self.verify(guard) {
             return self.tell_refused(refused);
         }
-        let mut pass = self.map.begun(Some(guard.number()));
-        let answer = self.map.pin().clear_as(rt, &mut pass);
-        pass.tell(answer)
+        let mut session = self.map.begun_session(Some(guard.number()));
+        let answer = session.clear(rt);
+        session.tell(answer)
     }
 
     /// Removes the keys that the set has: `clear` of 0.2.5. Refused for a wrong guard, and
@@ -285,12 +285,9 @@ impl<K: Hash + Eq, S: BuildHasher> HashSet<K, S> {
         if let Err(refused) = self.verify(guard) {
             return self.tell_refused(refused);
         }
-        let mut pass = self.map.begun(Some(guard.number()));
-        let answer = self
-            .map
-            .pin()
-            .retain_as(rt, move |key, _| stays(key), &mut pass);
-        pass.tell(answer)
+        let mut session = self.map.begun_session(Some(guard.number()));
+        let answer = session.retain(rt, move |key, _| stays(key));
+        session.tell(answer)
     }
 
     /// Removes the keys for which the closure, which is shown each, answers false: `retain` of

@@ -95,10 +95,10 @@ impl<'a, K: Hash + Eq, S: BuildHasher> HashSetRef<'a, K, S> {
         ensures found { IsKeyFoundBetween K.eq (Q.matches key.now) self.now.seen
             (history_of result.log) result.answer }
     {
-        let mut pass = self.keys.begun(None);
-        match self.keys.get_key_value_as(key, &mut pass) {
-            Some((stored, _)) => pass.tell(Some(stored)),
-            None => pass.tell(None),
+        let mut session = self.keys.begun_session(None);
+        match session.get_key_value(key) {
+            Some((stored, _)) => session.tell(Some(stored)),
+            None => session.tell(None),
         }
     }
 
@@ -172,9 +172,9 @@ impl<'a, K: Hash + Eq, S: BuildHasher> HashSetRef<'a, K, S> {
             (history_of result.log)) }
         ensures refused { IfErr result.answer IsMemoryOrCapacity }
     {
-        let mut pass = self.keys.begun(None);
-        let answer = self.keys.clear_as(rt, &mut pass);
-        pass.tell(answer)
+        let mut session = self.keys.begun_session(None);
+        let answer = session.clear(rt);
+        session.tell(answer)
     }
 
     /// Removes the keys that the set has: `clear` of 0.2.5. A key that is stored meanwhile may
@@ -204,9 +204,9 @@ impl<'a, K: Hash + Eq, S: BuildHasher> HashSetRef<'a, K, S> {
             (JudgesKey F.FnMut) stays result.answer }
         ensures refused { IfErr result.answer IsMemoryOrCapacity }
     {
-        let mut pass = self.keys.begun(None);
-        let answer = self.keys.retain_as(rt, move |key, _| stays(key), &mut pass);
-        pass.tell(answer)
+        let mut session = self.keys.begun_session(None);
+        let answer = session.retain(rt, move |key, _| stays(key));
+        session.tell(answer)
     }
 
     /// Removes the keys for which the closure, which is shown each, answers false: `retain` of

@@ -1,23 +1,22 @@
 //! The calls whose closure answers what becomes of a key's pair: by a pass, without one, and by
 //! a guard.
-ghost use Rattle.std.specs.Prelude.{◌≡◌, Err, IsSome, Some, []};
+ghost use Rattle.std.specs.Prelude.{◌≡◌, Err, Some, []};
 ghost use Rattle.std.specs.Borrow.{sem};
 ghost use mathlib.Core.List.{IsPrefix};
 ghost use Rattle.papaya_book.specs.Limits.{HasNoRoom};
-ghost use Rattle.papaya_book.specs.contracts.rule.entry.Event.{the_row as EventOf};
 ghost use Rattle.papaya_change.specs.Showings.{Operates};
 ghost use Rattle.papaya_compute.specs.ComputeAnswers.{IsComputeBy, changes};
-ghost use Rattle.papaya_lookup.specs.History.{IsLegalHistory, Makes, history_of, key_of};
+ghost use Rattle.papaya_lookup.specs.History.{Makes};
 ghost use Rattle.papaya_map.specs.Plain.{IsOfHistory, of_its_history, rule_of, unpinned};
+ghost use Rattle.papaya_book.specs.contracts.rule.entry.Event.{the_row as EventOf};
 
 use crate::computing::compute;
 use crate::map::{HashMap, HashMapRef, Pass};
-use crate::told::{Saying, Told};
+use crate::told::Told;
 use logbook::Rule;
 use papaya_book::rule::entry::{Event, Named};
 use papaya_book::rule::law::Law;
 use papaya_call::answers::Operation;
-use papaya_compute::lending::compute_lent;
 use papaya_keys::compute::Compute;
 use papaya_keys::guard::Guard;
 use papaya_words::probe::Refused;
@@ -73,67 +72,6 @@ impl<'a, K: Hash + Eq + Drop, V: Drop, S: BuildHasher> HashMapRef<'a, K, V, S> {
         computed
     }
 
-    /// The same with a closure that is lent the pair for the time of its call alone, so that
-    /// nothing which it answers may borrow of the pair. In return a function that is generic over
-    /// the keys may hand on a closure of its own caller.
-    pub fn compute_lent_as<R: Wait, T: Drop, F: FnMut(Option<(&K, &V)>) -> Operation<V, T>>(
-        &self,
-        rt: &R,
-        key: K,
-        f: F,
-        pass: &mut Pass<K, V, S>,
-    ) -> Result<Compute<'a, K, V, T>, Refused>
-        requires book { pass.old.book ≡ self.now.map.book }
-        requires callable { F.IsAlwaysCallable f }
-        ensures book { pass.new.book ≡ pass.old.book }
-        ensures seen { IsPrefix pass.old.history pass.new.history }
-        ensures tables { IsPrefix pass.old.tables pass.new.tables }
-        ensures made { Makes (changes result) pass.old.made pass.new.made pass.new.history }
-        ensures crowded { result ≡ Err Refused.Capacity → HasNoRoom self.now.map.initial
-            pass.new.tables pass.new.given }
-        ensures spent { result ≡ Err Refused.Limit → self.now.map.begun.limit
-            ≡ Some pass.new.taken }
-        ensures computed { IsComputeBy K.eq key pass.old.history pass.new.history (Operates F.FnMut)
-            f result }
-    {
-        let map = self.map;
-        let shard = map.count.shard(pass.number);
-        let mut window = self.window(pass);
-        let computed = compute_lent(
-            rt,
-            map.alloc,
-            map.initial,
-            &shard,
-            &mut window,
-            &mut pass.given,
-            key,
-            f,
-        );
-        pass.keep(window);
-        computed
-    }
-
-    /// The same, with what was seen.
-    #[inline(always)]
-    fn compute_told<R: Wait, T: Drop, F: FnMut(Option<(&'a K, &'a V)>) -> Operation<V, T>>(
-        &self,
-        rt: &R,
-        key: K,
-        f: F,
-    ) -> Saying<Result<Compute<'a, K, V, T>, Refused>, K, V, S>
-        requires { F.IsAlwaysCallable f }
-        ensures book { result.book ≡ self.now.map.book }
-        ensures legal { IsLegalHistory K.eq key_of (history_of result.log) }
-        ensures seen { IsPrefix self.now.seen (history_of result.log) }
-        ensures computed { IsComputeBy K.eq key self.now.seen (history_of result.log) (Operates
-            F.FnMut) f result.answer }
-        ensures limited { result.answer ≡ Err Refused.Limit → IsSome self.now.map.begun.limit }
-    {
-        let mut pass = self.begun(None);
-        let answer = self.compute_as(rt, key, f, &mut pass);
-        pass.tell(answer)
-    }
-
     /// What the closure makes of the key's pair, or of its absence: `compute` of 0.2.5.
     ///
     /// It shows, answers and is refused as [`HashMapRef::compute_as`] does.
@@ -157,40 +95,6 @@ impl<'a, K: Hash + Eq + Drop, V: Drop, S: BuildHasher> HashMapRef<'a, K, V, S> {
 }
 
 impl<K: Hash + Eq + Drop, V: Drop, S: BuildHasher> HashMap<K, V, S> {
-    /// The same, with what was seen.
-    #[inline(always)]
-    fn compute_told<
-        'g,
-        R: Wait,
-        T: Drop,
-        F: FnMut(Option<(&'g K, &'g V)>) -> Operation<V, T>,
-        G: Guard,
-    >(
-        &'g self,
-        rt: &R,
-        key: K,
-        f: F,
-        guard: &'g G,
-    ) -> Saying<Result<Compute<'g, K, V, T>, Refused>, K, V, S>
-        requires { F.IsAlwaysCallable f }
-        ensures book { result.book ≡ self.now.book }
-        ensures legal { IsLegalHistory K.eq key_of (history_of result.log) }
-        ensures seen { IsPrefix self.now.seen (history_of result.log) }
-        ensures right { G.collector_number guard.now ≡ self.now.collector
-            → IsComputeBy K.eq key self.now.seen (history_of result.log)
-            (Operates F.FnMut) f result.answer }
-        ensures limited { result.answer ≡ Err Refused.Limit → IsSome self.now.begun.limit }
-        ensures wrong { (G.collector_number guard.now ≡ self.now.collector → ⊥)
-            → result.answer ≡ Err Refused.WrongGuard }
-    {
-        if let Err(refused) = self.verify(guard) {
-            return self.tell_refused(refused);
-        }
-        let mut pass = self.begun(Some(guard.number()));
-        let answer = self.pin().compute_as(rt, key, f, &mut pass);
-        pass.tell(answer)
-    }
-
     /// What the closure makes of the key's pair, or of its absence: `compute` of 0.2.5. It shows
     /// and answers as [`HashMapRef::compute_as`], and is refused as that is and for a wrong guard.
     pub fn compute<

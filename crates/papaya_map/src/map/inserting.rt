@@ -1,43 +1,27 @@
 //! The calls that store a value, whether a key has one or where it has none: by a pass, without
 //! one, and by a guard.
-ghost use Rattle.std.specs.Prelude.{◌≡◌, Err, IfErr, IfOk, MatchOption, None, [], is_ok};
+ghost use Rattle.std.specs.Prelude.{◌≡◌, Err, IfErr, IfOk, [], is_ok};
 ghost use Rattle.std.specs.Borrow.{sem};
 ghost use mathlib.Core.List.{IsPrefix};
 ghost use Rattle.papaya_book.specs.Limits.{HasNoRoom};
-ghost use Rattle.papaya_book.specs.contracts.rule.entry.Event.{the_row as EventOf};
 ghost use Rattle.papaya_change.specs.Changes.{IsPut};
-ghost use Rattle.papaya_keys.specs.declared.occupied.NotInserted.TheVariants.{Logged, Value};
-ghost use Rattle.papaya_lookup.specs.History.{IsLegalHistory, Makes, history_of, key_of};
+ghost use Rattle.papaya_lookup.specs.History.{Makes};
 ghost use Rattle.papaya_map.specs.Limited.{IsPlainRefusal, IsWriteRefusal};
 ghost use Rattle.papaya_map.specs.Plain.{IsOfHistory, of_its_history, rule_of, unpinned};
-ghost use Rattle.papaya_map.specs.Storing.{IsThere, IsThereBy, IsTried, IsTriedWith, stored};
+ghost use Rattle.papaya_map.specs.Storing.{IsThere, IsTried, IsTriedWith};
+ghost use Rattle.papaya_book.specs.contracts.rule.entry.Event.{the_row as EventOf};
 
 use crate::map::{HashMap, HashMapRef, Pass};
-use crate::told::{Saying, Told};
+use crate::told::Told;
 use logbook::Rule;
 use papaya_book::rule::entry::{Event, Named};
 use papaya_book::rule::law::Law;
 use papaya_change::fast_path::insert;
-use papaya_compute::deciding::Outcome;
-use papaya_compute::rules::{Giving, Made, Ready};
 use papaya_keys::guard::Guard;
-use papaya_keys::occupied::{NotInserted, OccupiedError};
+use papaya_keys::occupied::OccupiedError;
 use papaya_words::probe::Refused;
 use std::hash::{BuildHasher, Hash};
 use std::sync::Wait;
-
-/// What became of a value that was not inserted: it is still at hand, or it was logged.
-fn not_inserted<V>(supply: Option<Ready<V>>, spare: Option<&V>) -> NotInserted<'_, V>
-    requires { supply ≡ None → MatchOption spare ⊥ (λ r. Unit {0}) }
-    ensures { MatchOption supply (MatchOption spare.entry ⊥ (λ r. result ≡ Logged r))
-        (λ s. result ≡ Value s.value) }
-{
-    match (supply, spare) {
-        (Some(supply), _) => NotInserted::Value(supply.value),
-        (None, Some(logged)) => NotInserted::Logged(logged),
-        (None, None) => unreachable!(),
-    }
-}
 
 impl<'a, K: Hash + Eq + Drop, V: Drop, S: BuildHasher> HashMapRef<'a, K, V, S> {
     /// Stores a pair, and answers the value that its key had: `insert` of 0.2.5. As its text
@@ -85,26 +69,6 @@ impl<'a, K: Hash + Eq + Drop, V: Drop, S: BuildHasher> HashMapRef<'a, K, V, S> {
         before
     }
 
-    /// The same, with what was seen.
-    #[inline(always)]
-    fn insert_told<R: Wait>(
-        &self,
-        rt: &R,
-        key: K,
-        value: V,
-    ) -> Saying<Result<Option<&'a V>, Refused>, K, V, S>
-        ensures book { result.book ≡ self.now.map.book }
-        ensures legal { IsLegalHistory K.eq key_of (history_of result.log) }
-        ensures seen { IsPrefix self.now.seen (history_of result.log) }
-        ensures put { IfOk result.answer (IsPut K.eq key value self.now.seen (history_of
-            result.log)) }
-        ensures refused { IfErr result.answer (IsPlainRefusal self.now.map.begun.limit) }
-    {
-        let mut pass = self.begun(None);
-        let answer = self.insert_as(rt, key, value, &mut pass);
-        pass.tell(answer)
-    }
-
     /// Stores a pair, and answers the value that its key had: `insert` of 0.2.5. As its text
     /// says, a key that is stored stays: the one that was handed in is dropped then.
     ///
@@ -119,162 +83,6 @@ impl<'a, K: Hash + Eq + Drop, V: Drop, S: BuildHasher> HashMapRef<'a, K, V, S> {
     {
         let Told { answer, marker: _ } = self.insert_told(rt, key, value);
         answer
-    }
-
-    /// Stores a pair where the key has none, and answers its value: `try_insert` of 0.2.5.
-    /// Where the key has a value, that stays, and what was handed in is given back, or it lies
-    /// in the log.
-    ///
-    /// Refused as [`HashMapRef::insert_as`]. The pass makes one change where the value was stored,
-    /// and else none.
-    pub fn try_insert_as<R: Wait>(
-        &self,
-        rt: &R,
-        key: K,
-        value: V,
-        pass: &mut Pass<K, V, S>,
-    ) -> Result<Result<&'a V, OccupiedError<'a, V>>, Refused>
-        requires { pass.old.book ≡ self.now.map.book }
-        ensures book { pass.new.book ≡ pass.old.book }
-        ensures seen { IsPrefix pass.old.history pass.new.history }
-        ensures tables { IsPrefix pass.old.tables pass.new.tables }
-        ensures made { Makes (stored result) pass.old.made pass.new.made pass.new.history }
-        ensures tried { IfOk result (IsTried K.eq key pass.old.history pass.new.history value) }
-        ensures refused { IfErr result (IsWriteRefusal self.now.map.begun.limit pass.new.taken) }
-        ensures crowded { result ≡ Err Refused.Capacity → HasNoRoom self.now.map.initial
-            pass.new.tables pass.new.given }
-    {
-        let mut rule = Giving {
-            supply: Some(Ready { value }),
-        };
-        match self.decide_as(rt, key, &mut rule, pass) {
-            Ok(Outcome::Put(stored)) => Ok(Ok(stored)),
-            Ok(
-                Outcome::Left {
-                    current: Some(current),
-                    spare,
-                },
-            ) => Ok(Err(OccupiedError {
-                current,
-                not_inserted: not_inserted(rule.supply, spare),
-            })),
-            Ok(Outcome::Left { current: None, .. }) => unreachable!(),
-            Ok(Outcome::Replaced(_)) => unreachable!(),
-            Err(refused) => Err(refused),
-        }
-    }
-
-    /// The same with a closure that makes the value where it is to be stored, and with the value
-    /// that is there for an answer: `try_insert_with` of 0.2.5. The closure is called once at most.
-    pub fn try_insert_with_as<R: Wait, F: FnOnce() -> V + Drop>(
-        &self,
-        rt: &R,
-        key: K,
-        f: F,
-        pass: &mut Pass<K, V, S>,
-    ) -> Result<Result<&'a V, &'a V>, Refused>
-        requires book { pass.old.book ≡ self.now.map.book }
-        requires callable { F.IsAlwaysCallable f }
-        ensures book { pass.new.book ≡ pass.old.book }
-        ensures seen { IsPrefix pass.old.history pass.new.history }
-        ensures tables { IsPrefix pass.old.tables pass.new.tables }
-        ensures made { Makes (stored result) pass.old.made pass.new.made pass.new.history }
-        ensures tried { IfOk result (IsTriedWith K.eq key pass.old.history pass.new.history
-            (F.post f)) }
-        ensures refused { IfErr result (IsWriteRefusal self.now.map.begun.limit pass.new.taken) }
-        ensures crowded { result ≡ Err Refused.Capacity → HasNoRoom self.now.map.initial
-            pass.new.tables pass.new.given }
-    {
-        let mut rule = Giving {
-            supply: Some(Made { make: f }),
-        };
-        match self.decide_as(rt, key, &mut rule, pass) {
-            Ok(Outcome::Put(stored)) => Ok(Ok(stored)),
-            Ok(
-                Outcome::Left {
-                    current: Some(current),
-                    ..
-                },
-            ) => Ok(Err(current)),
-            Ok(Outcome::Left { current: None, .. }) => unreachable!(),
-            Ok(Outcome::Replaced(_)) => unreachable!(),
-            Err(refused) => Err(refused),
-        }
-    }
-
-    /// The value of a key, which is stored where the key has none: `get_or_insert` of 0.2.5.
-    ///
-    /// Refused as [`HashMapRef::insert_as`]. The pass makes one change where the value was stored,
-    /// and else none.
-    pub fn get_or_insert_as<R: Wait>(
-        &self,
-        rt: &R,
-        key: K,
-        value: V,
-        pass: &mut Pass<K, V, S>,
-    ) -> Result<&'a V, Refused>
-        requires { pass.old.book ≡ self.now.map.book }
-        ensures book { pass.new.book ≡ pass.old.book }
-        ensures seen { IsPrefix pass.old.history pass.new.history }
-        ensures tables { IsPrefix pass.old.tables pass.new.tables }
-        ensures there { IsThereBy K.eq key pass.old.history pass.new.history (λ w. w ≡ value)
-            pass.old.made pass.new.made result }
-        ensures refused { IfErr result (IsWriteRefusal self.now.map.begun.limit pass.new.taken) }
-        ensures crowded { result ≡ Err Refused.Capacity → HasNoRoom self.now.map.initial
-            pass.new.tables pass.new.given }
-    {
-        match self.try_insert_as(rt, key, value, pass) {
-            Ok(Ok(stored)) => Ok(stored),
-            Ok(Err(occupied)) => Ok(occupied.current),
-            Err(refused) => Err(refused),
-        }
-    }
-
-    /// The same with a closure that makes the value where it is to be stored:
-    /// `get_or_insert_with` of 0.2.5. The closure is called once at most.
-    pub fn get_or_insert_with_as<R: Wait, F: FnOnce() -> V + Drop>(
-        &self,
-        rt: &R,
-        key: K,
-        f: F,
-        pass: &mut Pass<K, V, S>,
-    ) -> Result<&'a V, Refused>
-        requires book { pass.old.book ≡ self.now.map.book }
-        requires callable { F.IsAlwaysCallable f }
-        ensures book { pass.new.book ≡ pass.old.book }
-        ensures seen { IsPrefix pass.old.history pass.new.history }
-        ensures tables { IsPrefix pass.old.tables pass.new.tables }
-        ensures there { IsThereBy K.eq key pass.old.history pass.new.history (F.post f)
-            pass.old.made pass.new.made result }
-        ensures refused { IfErr result (IsWriteRefusal self.now.map.begun.limit pass.new.taken) }
-        ensures crowded { result ≡ Err Refused.Capacity → HasNoRoom self.now.map.initial
-            pass.new.tables pass.new.given }
-    {
-        match self.try_insert_with_as(rt, key, f, pass) {
-            Ok(Ok(stored)) => Ok(stored),
-            Ok(Err(current)) => Ok(current),
-            Err(refused) => Err(refused),
-        }
-    }
-
-    /// The same, with what was seen.
-    #[inline(always)]
-    fn try_insert_told<R: Wait>(
-        &self,
-        rt: &R,
-        key: K,
-        value: V,
-    ) -> Saying<Result<Result<&'a V, OccupiedError<'a, V>>, Refused>, K, V, S>
-        ensures book { result.book ≡ self.now.map.book }
-        ensures legal { IsLegalHistory K.eq key_of (history_of result.log) }
-        ensures seen { IsPrefix self.now.seen (history_of result.log) }
-        ensures tried { IfOk result.answer (IsTried K.eq key self.now.seen (history_of result.log)
-            value) }
-        ensures refused { IfErr result.answer (IsPlainRefusal self.now.map.begun.limit) }
-    {
-        let mut pass = self.begun(None);
-        let answer = self.try_insert_as(rt, key, value, &mut pass);
-        pass.tell(answer)
     }
 
     /// Stores a pair where the key has none, and answers its value: `try_insert` of 0.2.5.
@@ -299,27 +107,6 @@ impl<'a, K: Hash + Eq + Drop, V: Drop, S: BuildHasher> HashMapRef<'a, K, V, S> {
         answer
     }
 
-    /// The same, with what was seen.
-    #[inline(always)]
-    fn try_insert_with_told<R: Wait, F: FnOnce() -> V + Drop>(
-        &self,
-        rt: &R,
-        key: K,
-        f: F,
-    ) -> Saying<Result<Result<&'a V, &'a V>, Refused>, K, V, S>
-        requires { F.IsAlwaysCallable f }
-        ensures book { result.book ≡ self.now.map.book }
-        ensures legal { IsLegalHistory K.eq key_of (history_of result.log) }
-        ensures seen { IsPrefix self.now.seen (history_of result.log) }
-        ensures tried { IfOk result.answer (IsTriedWith K.eq key self.now.seen (history_of
-            result.log) (F.post f)) }
-        ensures refused { IfErr result.answer (IsPlainRefusal self.now.map.begun.limit) }
-    {
-        let mut pass = self.begun(None);
-        let answer = self.try_insert_with_as(rt, key, f, &mut pass);
-        pass.tell(answer)
-    }
-
     /// The same with a closure that makes the value where it is to be stored, and with the value
     /// that is there for an answer: `try_insert_with` of 0.2.5. The closure is called once at most.
     ///
@@ -342,26 +129,6 @@ impl<'a, K: Hash + Eq + Drop, V: Drop, S: BuildHasher> HashMapRef<'a, K, V, S> {
         answer
     }
 
-    /// The same, with what was seen.
-    #[inline(always)]
-    fn get_or_insert_told<R: Wait>(
-        &self,
-        rt: &R,
-        key: K,
-        value: V,
-    ) -> Saying<Result<&'a V, Refused>, K, V, S>
-        ensures book { result.book ≡ self.now.map.book }
-        ensures legal { IsLegalHistory K.eq key_of (history_of result.log) }
-        ensures seen { IsPrefix self.now.seen (history_of result.log) }
-        ensures there { IfOk result.answer (IsThere K.eq key self.now.seen (history_of result.log)
-            (λ w. w ≡ value)) }
-        ensures refused { IfErr result.answer (IsPlainRefusal self.now.map.begun.limit) }
-    {
-        let mut pass = self.begun(None);
-        let answer = self.get_or_insert_as(rt, key, value, &mut pass);
-        pass.tell(answer)
-    }
-
     /// The value of a key, which is stored where the key has none: `get_or_insert` of 0.2.5.
     ///
     /// Refused as [`HashMapRef::insert_as`] is, and then it changes nothing.
@@ -375,27 +142,6 @@ impl<'a, K: Hash + Eq + Drop, V: Drop, S: BuildHasher> HashMapRef<'a, K, V, S> {
     {
         let Told { answer, marker: _ } = self.get_or_insert_told(rt, key, value);
         answer
-    }
-
-    /// The same, with what was seen.
-    #[inline(always)]
-    fn get_or_insert_with_told<R: Wait, F: FnOnce() -> V + Drop>(
-        &self,
-        rt: &R,
-        key: K,
-        f: F,
-    ) -> Saying<Result<&'a V, Refused>, K, V, S>
-        requires { F.IsAlwaysCallable f }
-        ensures book { result.book ≡ self.now.map.book }
-        ensures legal { IsLegalHistory K.eq key_of (history_of result.log) }
-        ensures seen { IsPrefix self.now.seen (history_of result.log) }
-        ensures there { IfOk result.answer (IsThere K.eq key self.now.seen (history_of result.log)
-            (F.post f)) }
-        ensures refused { IfErr result.answer (IsPlainRefusal self.now.map.begun.limit) }
-    {
-        let mut pass = self.begun(None);
-        let answer = self.get_or_insert_with_as(rt, key, f, &mut pass);
-        pass.tell(answer)
     }
 
     /// The same with a closure that makes the value where it is to be stored:
@@ -422,34 +168,6 @@ impl<'a, K: Hash + Eq + Drop, V: Drop, S: BuildHasher> HashMapRef<'a, K, V, S> {
 }
 
 impl<K: Hash + Eq + Drop, V: Drop, S: BuildHasher> HashMap<K, V, S> {
-    /// The same, with what was seen.
-    #[inline(always)]
-    fn insert_told<'g, R: Wait, G: Guard>(
-        &'g self,
-        rt: &R,
-        key: K,
-        value: V,
-        guard: &'g G,
-    ) -> Saying<Result<Option<&'g V>, Refused>, K, V, S>
-        ensures book { result.book ≡ self.now.book }
-        ensures legal { IsLegalHistory K.eq key_of (history_of result.log) }
-        ensures seen { IsPrefix self.now.seen (history_of result.log) }
-        ensures put { IfOk result.answer (IsPut K.eq key value self.now.seen
-            (history_of result.log)) }
-        ensures right { G.collector_number guard.now ≡ self.now.collector
-            → IfErr result.answer (IsPlainRefusal self.now.begun.limit) }
-        ensures wrong { (G.collector_number guard.now ≡ self.now.collector → ⊥)
-            → result.answer ≡ Err Refused.WrongGuard }
-    {
-        match self.begun_by(guard) {
-            Ok(mut pass) => {
-                let answer = self.pin().insert_as(rt, key, value, &mut pass);
-                pass.tell(answer)
-            }
-            Err(refused) => self.tell_refused(refused),
-        }
-    }
-
     /// Stores a pair, and answers the value that its key had: `insert` of 0.2.5. As its text says,
     /// a key that is stored stays. Refused for a wrong guard, and as [`HashMapRef::insert_as`].
     pub fn insert<'g, R: Wait, G: Guard>(
@@ -473,34 +191,6 @@ impl<K: Hash + Eq + Drop, V: Drop, S: BuildHasher> HashMap<K, V, S> {
         answer
     }
 
-    /// The same, with what was seen.
-    #[inline(always)]
-    fn try_insert_told<'g, R: Wait, G: Guard>(
-        &'g self,
-        rt: &R,
-        key: K,
-        value: V,
-        guard: &'g G,
-    ) -> Saying<Result<Result<&'g V, OccupiedError<'g, V>>, Refused>, K, V, S>
-        ensures book { result.book ≡ self.now.book }
-        ensures legal { IsLegalHistory K.eq key_of (history_of result.log) }
-        ensures seen { IsPrefix self.now.seen (history_of result.log) }
-        ensures tried { IfOk result.answer (λ tried. IsTried K.eq key self.now.seen
-            (history_of result.log) value tried) }
-        ensures right { G.collector_number guard.now ≡ self.now.collector
-            → IfErr result.answer (IsPlainRefusal self.now.begun.limit) }
-        ensures wrong { (G.collector_number guard.now ≡ self.now.collector → ⊥)
-            → result.answer ≡ Err Refused.WrongGuard }
-    {
-        match self.begun_by(guard) {
-            Ok(mut pass) => {
-                let answer = self.pin().try_insert_as(rt, key, value, &mut pass);
-                pass.tell(answer)
-            }
-            Err(refused) => self.tell_refused(refused),
-        }
-    }
-
     /// Stores a pair where the key has none, and answers its value: `try_insert` of 0.2.5. It
     /// answers as [`HashMapRef::try_insert`], and is refused as that is and for a wrong guard.
     pub fn try_insert<'g, R: Wait, G: Guard>(
@@ -522,35 +212,6 @@ impl<K: Hash + Eq + Drop, V: Drop, S: BuildHasher> HashMap<K, V, S> {
     {
         let Told { answer, marker: _ } = self.try_insert_told(rt, key, value, guard);
         answer
-    }
-
-    /// The same, with what was seen.
-    #[inline(always)]
-    fn try_insert_with_told<'g, R: Wait, F: FnOnce() -> V + Drop, G: Guard>(
-        &'g self,
-        rt: &R,
-        key: K,
-        f: F,
-        guard: &'g G,
-    ) -> Saying<Result<Result<&'g V, &'g V>, Refused>, K, V, S>
-        requires { F.IsAlwaysCallable f }
-        ensures book { result.book ≡ self.now.book }
-        ensures legal { IsLegalHistory K.eq key_of (history_of result.log) }
-        ensures seen { IsPrefix self.now.seen (history_of result.log) }
-        ensures tried { IfOk result.answer (λ tried. IsTriedWith K.eq key self.now.seen
-            (history_of result.log) (F.post f) tried) }
-        ensures right { G.collector_number guard.now ≡ self.now.collector
-            → IfErr result.answer (IsPlainRefusal self.now.begun.limit) }
-        ensures wrong { (G.collector_number guard.now ≡ self.now.collector → ⊥)
-            → result.answer ≡ Err Refused.WrongGuard }
-    {
-        match self.begun_by(guard) {
-            Ok(mut pass) => {
-                let answer = self.pin().try_insert_with_as(rt, key, f, &mut pass);
-                pass.tell(answer)
-            }
-            Err(refused) => self.tell_refused(refused),
-        }
     }
 
     /// The same with a closure that makes the value where it is to be stored:
@@ -578,34 +239,6 @@ impl<K: Hash + Eq + Drop, V: Drop, S: BuildHasher> HashMap<K, V, S> {
         answer
     }
 
-    /// The same, with what was seen.
-    #[inline(always)]
-    fn get_or_insert_told<'g, R: Wait, G: Guard>(
-        &'g self,
-        rt: &R,
-        key: K,
-        value: V,
-        guard: &'g G,
-    ) -> Saying<Result<&'g V, Refused>, K, V, S>
-        ensures book { result.book ≡ self.now.book }
-        ensures legal { IsLegalHistory K.eq key_of (history_of result.log) }
-        ensures seen { IsPrefix self.now.seen (history_of result.log) }
-        ensures there { IfOk result.answer (IsThere K.eq key self.now.seen (history_of result.log)
-            (λ w. w ≡ value)) }
-        ensures right { G.collector_number guard.now ≡ self.now.collector
-            → IfErr result.answer (IsPlainRefusal self.now.begun.limit) }
-        ensures wrong { (G.collector_number guard.now ≡ self.now.collector → ⊥)
-            → result.answer ≡ Err Refused.WrongGuard }
-    {
-        match self.begun_by(guard) {
-            Ok(mut pass) => {
-                let answer = self.pin().get_or_insert_as(rt, key, value, &mut pass);
-                pass.tell(answer)
-            }
-            Err(refused) => self.tell_refused(refused),
-        }
-    }
-
     /// The value of a key, which is stored where the key has none: `get_or_insert` of 0.2.5.
     /// Refused as [`HashMap::try_insert`].
     pub fn get_or_insert<'g, R: Wait, G: Guard>(
@@ -627,35 +260,6 @@ impl<K: Hash + Eq + Drop, V: Drop, S: BuildHasher> HashMap<K, V, S> {
     {
         let Told { answer, marker: _ } = self.get_or_insert_told(rt, key, value, guard);
         answer
-    }
-
-    /// The same, with what was seen.
-    #[inline(always)]
-    fn get_or_insert_with_told<'g, R: Wait, F: FnOnce() -> V + Drop, G: Guard>(
-        &'g self,
-        rt: &R,
-        key: K,
-        f: F,
-        guard: &'g G,
-    ) -> Saying<Result<&'g V, Refused>, K, V, S>
-        requires { F.IsAlwaysCallable f }
-        ensures book { result.book ≡ self.now.book }
-        ensures legal { IsLegalHistory K.eq key_of (history_of result.log) }
-        ensures seen { IsPrefix self.now.seen (history_of result.log) }
-        ensures there { IfOk result.answer (IsThere K.eq key self.now.seen (history_of result.log)
-            (F.post f)) }
-        ensures right { G.collector_number guard.now ≡ self.now.collector
-            → IfErr result.answer (IsPlainRefusal self.now.begun.limit) }
-        ensures wrong { (G.collector_number guard.now ≡ self.now.collector → ⊥)
-            → result.answer ≡ Err Refused.WrongGuard }
-    {
-        match self.begun_by(guard) {
-            Ok(mut pass) => {
-                let answer = self.pin().get_or_insert_with_as(rt, key, f, &mut pass);
-                pass.tell(answer)
-            }
-            Err(refused) => self.tell_refused(refused),
-        }
     }
 
     /// The same with a closure that makes the value where it is to be stored:

@@ -1,20 +1,18 @@
 //! Lookups: by a pass, without one, and by a guard.
-ghost use Rattle.std.specs.Prelude.{◌≡◌, Err, IfOk, Option, [], is_ok, is_some, true};
+ghost use Rattle.std.specs.Prelude.{◌≡◌, Err, IfOk, Option, [], is_some};
 ghost use Rattle.std.specs.Borrow.{Bor, sem};
 ghost use mathlib.Core.List.{IsPrefix};
-ghost use Rattle.papaya_book.specs.contracts.rule.entry.Event.{the_row as EventOf};
 ghost use Rattle.papaya_lookup.specs.Answers.{IsAnsweredBetween, IsPairAnsweredBetween};
-ghost use Rattle.papaya_lookup.specs.History.{IsLegalHistory, history_of, key_of};
-ghost use Rattle.papaya_map.specs.Plain.{IsContained, IsDone, IsOfHistory};
-ghost use Rattle.papaya_map.specs.Plain.{of_its_history, rule_of, unpinned};
+ghost use Rattle.papaya_map.specs.Plain.{IsContained, IsDone, IsOfHistory, of_its_history, rule_of, unpinned};
+ghost use Rattle.papaya_book.specs.contracts.rule.entry.Event.{the_row as EventOf};
 
 use crate::map::{HashMap, HashMapRef, Pass};
-use crate::told::{Saying, Told};
+use crate::told::Told;
 use logbook::Rule;
 use papaya_book::rule::entry::{Event, Named};
 use papaya_book::rule::law::Law;
 use papaya_keys::guard::{Equivalent, Guard};
-use papaya_lookup::lookup::{look_up, look_up_pair};
+use papaya_lookup::lookup::look_up;
 use papaya_words::probe::Refused;
 use std::hash::{BuildHasher, Hash};
 
@@ -37,20 +35,6 @@ impl<'a, K: Hash + Eq, V, S: BuildHasher> HashMapRef<'a, K, V, S> {
         found
     }
 
-    /// The value of a key, with what was seen.
-    #[inline(always)]
-    fn get_told<Q: Equivalent<K>>(&self, key: &Q) -> Saying<Option<&'a V>, K, V, S>
-        ensures book { result.book ≡ self.now.map.book }
-        ensures legal { IsLegalHistory K.eq key_of (history_of result.log) }
-        ensures seen { IsPrefix self.now.seen (history_of result.log) }
-        ensures answered { IsAnsweredBetween K.eq (Q.matches key.now) self.now.seen
-            (history_of result.log) result.answer }
-    {
-        let mut pass = self.begun(None);
-        let found = self.get_as(key, &mut pass);
-        pass.tell(found)
-    }
-
     /// The value of a key: `get` of 0.2.5. It waits for nobody, and takes no lock and no memory.
     #[inline(always)]
     pub fn get<Q: Equivalent<K>>(&self, key: &Q) -> Option<&'a V>
@@ -62,45 +46,6 @@ impl<'a, K: Hash + Eq, V, S: BuildHasher> HashMapRef<'a, K, V, S> {
     {
         let Told { answer, marker: _ } = self.get_told(key);
         answer
-    }
-
-    /// The stored key and the value of a key: `get_key_value` of 0.2.5. As [`HashMapRef::get_as`],
-    /// it waits for nobody, and takes no lock and no memory.
-    #[inline]
-    pub fn get_key_value_as<Q: Equivalent<K>>(
-        &self,
-        key: &Q,
-        pass: &mut Pass<K, V, S>,
-    ) -> Option<(&'a K, &'a V)>
-        requires { pass.old.book ≡ self.now.map.book }
-        ensures book { pass.new.book ≡ pass.old.book }
-        ensures seen { IsPrefix pass.old.history pass.new.history }
-        ensures tables { IsPrefix pass.old.tables pass.new.tables }
-        ensures made { pass.new.made ≡ pass.old.made }
-        ensures answered { IsPairAnsweredBetween K.eq (Q.matches key.now) pass.old.history
-            pass.new.history result }
-    {
-        let mut window = self.window(pass);
-        let found = look_up_pair(&mut window, key);
-        pass.keep(window);
-        found
-    }
-
-    /// The same, with what was seen.
-    #[inline(always)]
-    fn get_key_value_told<Q: Equivalent<K>>(
-        &self,
-        key: &Q,
-    ) -> Saying<Option<(&'a K, &'a V)>, K, V, S>
-        ensures book { result.book ≡ self.now.map.book }
-        ensures legal { IsLegalHistory K.eq key_of (history_of result.log) }
-        ensures seen { IsPrefix self.now.seen (history_of result.log) }
-        ensures answered { IsPairAnsweredBetween K.eq (Q.matches key.now) self.now.seen (history_of
-            result.log) result.answer }
-    {
-        let mut pass = self.begun(None);
-        let found = self.get_key_value_as(key, &mut pass);
-        pass.tell(found)
     }
 
     /// The stored key and the value of a key: `get_key_value` of 0.2.5. As [`HashMapRef::get`], it
@@ -115,20 +60,6 @@ impl<'a, K: Hash + Eq, V, S: BuildHasher> HashMapRef<'a, K, V, S> {
     {
         let Told { answer, marker: _ } = self.get_key_value_told(key);
         answer
-    }
-
-    /// The same, with what was seen.
-    #[inline(always)]
-    fn contains_key_told<Q: Equivalent<K>>(&self, key: &Q) -> Saying<bool, K, V, S>
-        ensures book { result.book ≡ self.now.map.book }
-        ensures legal { IsLegalHistory K.eq key_of (history_of result.log) }
-        ensures seen { IsPrefix self.now.seen (history_of result.log) }
-        ensures answered { IsContained K.eq (Q.matches key.now) self.now.seen (history_of
-            result.log) result.answer }
-    {
-        let mut pass = self.begun(None);
-        let found = self.get_as(key, &mut pass).is_some();
-        pass.tell(found)
     }
 
     /// Has a key a value? `contains_key` of 0.2.5. It waits for nobody, as [`HashMapRef::get`].
@@ -146,33 +77,6 @@ impl<'a, K: Hash + Eq, V, S: BuildHasher> HashMapRef<'a, K, V, S> {
 }
 
 impl<K: Hash + Eq, V, S: BuildHasher> HashMap<K, V, S> {
-    /// The same, with what was seen.
-    #[inline(always)]
-    fn get_told<'g, Q: Equivalent<K>, G: Guard>(
-        &'g self,
-        key: &Q,
-        guard: &'g G,
-    ) -> Saying<Result<Option<&'g V>, Refused>, K, V, S>
-        ensures book { result.book ≡ self.now.book }
-        ensures legal { IsLegalHistory K.eq key_of (history_of result.log) }
-        ensures seen { IsPrefix self.now.seen (history_of result.log) }
-        ensures answered { IfOk result.answer (IsAnsweredBetween K.eq
-            (Q.matches key.now) self.now.seen (history_of result.log)) }
-        ensures right { G.collector_number guard.now ≡ self.now.collector
-            → is_ok result.answer ≡ true }
-        ensures wrong { (G.collector_number guard.now ≡ self.now.collector → ⊥)
-            → result.answer ≡ Err Refused.WrongGuard }
-    {
-        match self.verify(guard) {
-            Ok(()) => {
-                let mut pass = self.begun(None);
-                let answer = Ok(self.pin().get_as(key, &mut pass));
-                pass.tell(answer)
-            }
-            Err(refused) => self.tell_refused(refused),
-        }
-    }
-
     /// The value of a key: `get` of 0.2.5. It waits for nobody, and takes no lock and no memory.
     /// `Refused::WrongGuard` alone.
     #[inline]
@@ -194,33 +98,6 @@ impl<K: Hash + Eq, V, S: BuildHasher> HashMap<K, V, S> {
         answer
     }
 
-    /// The same, with what was seen.
-    #[inline(always)]
-    fn get_key_value_told<'g, Q: Equivalent<K>, G: Guard>(
-        &'g self,
-        key: &Q,
-        guard: &'g G,
-    ) -> Saying<Result<Option<(&'g K, &'g V)>, Refused>, K, V, S>
-        ensures book { result.book ≡ self.now.book }
-        ensures legal { IsLegalHistory K.eq key_of (history_of result.log) }
-        ensures seen { IsPrefix self.now.seen (history_of result.log) }
-        ensures answered { IfOk result.answer (IsPairAnsweredBetween K.eq
-            (Q.matches key.now) self.now.seen (history_of result.log)) }
-        ensures right { G.collector_number guard.now ≡ self.now.collector
-            → is_ok result.answer ≡ true }
-        ensures wrong { (G.collector_number guard.now ≡ self.now.collector → ⊥)
-            → result.answer ≡ Err Refused.WrongGuard }
-    {
-        match self.verify(guard) {
-            Ok(()) => {
-                let mut pass = self.begun(None);
-                let answer = Ok(self.pin().get_key_value_as(key, &mut pass));
-                pass.tell(answer)
-            }
-            Err(refused) => self.tell_refused(refused),
-        }
-    }
-
     /// The stored key and the value of a key: `get_key_value` of 0.2.5. As [`HashMap::get`], it
     /// waits for nobody, and takes no lock and no memory. `Refused::WrongGuard` alone.
     #[inline]
@@ -240,33 +117,6 @@ impl<K: Hash + Eq, V, S: BuildHasher> HashMap<K, V, S> {
     {
         let Told { answer, marker: _ } = self.get_key_value_told(key, guard);
         answer
-    }
-
-    /// The same, with what was seen.
-    #[inline(always)]
-    fn contains_key_told<Q: Equivalent<K>, G: Guard>(
-        &self,
-        key: &Q,
-        guard: &G,
-    ) -> Saying<Result<bool, Refused>, K, V, S>
-        ensures book { result.book ≡ self.now.book }
-        ensures legal { IsLegalHistory K.eq key_of (history_of result.log) }
-        ensures seen { IsPrefix self.now.seen (history_of result.log) }
-        ensures answered { IfOk result.answer (IsContained K.eq (Q.matches key.now) self.now.seen
-            (history_of result.log)) }
-        ensures right { G.collector_number guard.now ≡ self.now.collector
-            → is_ok result.answer ≡ true }
-        ensures wrong { (G.collector_number guard.now ≡ self.now.collector → ⊥)
-            → result.answer ≡ Err Refused.WrongGuard }
-    {
-        match self.verify(guard) {
-            Ok(()) => {
-                let mut pass = self.begun(None);
-                let answer = Ok(self.pin().get_as(key, &mut pass).is_some());
-                pass.tell(answer)
-            }
-            Err(refused) => self.tell_refused(refused),
-        }
     }
 
     /// Has a key a value? `contains_key` of 0.2.5. `Refused::WrongGuard` alone.

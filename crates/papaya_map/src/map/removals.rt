@@ -3,15 +3,14 @@ ghost use Rattle.std.specs.Prelude.{◌≡◌, Err, [], true};
 ghost use Rattle.std.specs.Borrow.{sem};
 ghost use mathlib.Core.List.{IsPrefix};
 ghost use Rattle.papaya_book.specs.Limits.{HasNoRoom};
-ghost use Rattle.papaya_book.specs.contracts.rule.entry.Event.{the_row as EventOf};
-ghost use Rattle.papaya_change.specs.RemovalAnswers.{IsEntryRemoved, IsRemovalBy, IsRemoved};
-ghost use Rattle.papaya_change.specs.RemovalAnswers.{took, went};
+ghost use Rattle.papaya_change.specs.RemovalAnswers.{IsEntryRemoved, IsRemovalBy, IsRemoved, took, went};
 ghost use Rattle.papaya_change.specs.Showings.{Judges};
-ghost use Rattle.papaya_lookup.specs.History.{IsLegalHistory, Makes, history_of, key_of};
+ghost use Rattle.papaya_lookup.specs.History.{Makes};
 ghost use Rattle.papaya_map.specs.Plain.{IsOfHistory, of_its_history, rule_of, unpinned};
+ghost use Rattle.papaya_book.specs.contracts.rule.entry.Event.{the_row as EventOf};
 
 use crate::map::{HashMap, HashMapRef, Pass};
-use crate::told::{Saying, Told};
+use crate::told::Told;
 use logbook::Rule;
 use papaya_book::rule::entry::{Event, Named};
 use papaya_book::rule::law::Law;
@@ -65,27 +64,6 @@ impl<'a, K: Hash + Eq, V, S: BuildHasher> HashMapRef<'a, K, V, S> {
         );
         pass.keep(window);
         removed
-    }
-
-    /// The same, with what was seen.
-    #[inline(always)]
-    fn remove_if_told<R: Wait, Q: Equivalent<K>, F: FnMut(&K, &V) -> bool>(
-        &self,
-        rt: &R,
-        key: &Q,
-        should_remove: F,
-    ) -> Saying<Result<Result<Option<(&'a K, &'a V)>, (&'a K, &'a V)>, Refused>, K, V, S>
-        requires { F.IsAlwaysCallable should_remove }
-        ensures book { result.book ≡ self.now.map.book }
-        ensures legal { IsLegalHistory K.eq key_of (history_of result.log) }
-        ensures seen { IsPrefix self.now.seen (history_of result.log) }
-        ensures removed { IsRemovalBy K.eq (Q.matches key.now) self.now.seen (history_of
-            result.log) (Judges F.FnMut)
-            should_remove result.answer }
-    {
-        let mut pass = self.begun(None);
-        let answer = self.remove_if_as(rt, key, should_remove, &mut pass);
-        pass.tell(answer)
     }
 
     /// Removes a key's pair if the closure, which is shown it, answers true: `remove_if` of 0.2.5.
@@ -143,24 +121,6 @@ impl<'a, K: Hash + Eq, V, S: BuildHasher> HashMapRef<'a, K, V, S> {
         }
     }
 
-    /// The same, with what was seen.
-    #[inline(always)]
-    fn remove_told<R: Wait, Q: Equivalent<K>>(
-        &self,
-        rt: &R,
-        key: &Q,
-    ) -> Saying<Result<Option<&'a V>, Refused>, K, V, S>
-        ensures book { result.book ≡ self.now.map.book }
-        ensures legal { IsLegalHistory K.eq key_of (history_of result.log) }
-        ensures seen { IsPrefix self.now.seen (history_of result.log) }
-        ensures removed { IsRemoved K.eq (Q.matches key.now) self.now.seen (history_of result.log)
-            result.answer }
-    {
-        let mut pass = self.begun(None);
-        let answer = self.remove_as(rt, key, &mut pass);
-        pass.tell(answer)
-    }
-
     /// Removes a key's pair, and answers its value: `remove` of 0.2.5.
     ///
     /// Refused as [`HashMapRef::remove_if_as`] is, and then it changes nothing.
@@ -176,58 +136,6 @@ impl<'a, K: Hash + Eq, V, S: BuildHasher> HashMapRef<'a, K, V, S> {
     {
         let Told { answer, marker: _ } = self.remove_told(rt, key);
         answer
-    }
-
-    /// Removes a key's pair, and answers it: `remove_entry` of 0.2.5. It is refused as
-    /// [`HashMapRef::remove_if_as`] is.
-    pub fn remove_entry_as<R: Wait, Q: Equivalent<K>>(
-        &self,
-        rt: &R,
-        key: &Q,
-        pass: &mut Pass<K, V, S>,
-    ) -> Result<Option<(&'a K, &'a V)>, Refused>
-        requires { pass.old.book ≡ self.now.map.book }
-        ensures book { pass.new.book ≡ pass.old.book }
-        ensures seen { IsPrefix pass.old.history pass.new.history }
-        ensures tables { IsPrefix pass.old.tables pass.new.tables }
-        ensures made { Makes (took result) pass.old.made pass.new.made pass.new.history }
-        ensures removed { IsEntryRemoved K.eq (Q.matches key.now) pass.old.history
-            pass.new.history result }
-        ensures crowded { result ≡ Err Refused.Capacity → HasNoRoom self.now.map.initial
-            pass.new.tables pass.new.given }
-    {
-        let removed = self.remove_if_as(
-            rt,
-            key,
-            |_, _|
-                ensures { result ≡ true }
-            { true },
-            pass,
-        );
-        match removed {
-            Ok(Ok(Some(entry))) => Ok(Some(entry)),
-            Ok(Ok(None)) => Ok(None),
-            Ok(Err(_)) => unreachable!(),
-            Err(refused) => Err(refused),
-        }
-    }
-
-    /// The same, with what was seen.
-    #[inline(always)]
-    fn remove_entry_told<R: Wait, Q: Equivalent<K>>(
-        &self,
-        rt: &R,
-        key: &Q,
-    ) -> Saying<Result<Option<(&'a K, &'a V)>, Refused>, K, V, S>
-        ensures book { result.book ≡ self.now.map.book }
-        ensures legal { IsLegalHistory K.eq key_of (history_of result.log) }
-        ensures seen { IsPrefix self.now.seen (history_of result.log) }
-        ensures removed { IsEntryRemoved K.eq (Q.matches key.now) self.now.seen (history_of
-            result.log) result.answer }
-    {
-        let mut pass = self.begun(None);
-        let answer = self.remove_entry_as(rt, key, &mut pass);
-        pass.tell(answer)
     }
 
     /// Removes a key's pair, and answers it: `remove_entry` of 0.2.5.
@@ -250,34 +158,6 @@ impl<'a, K: Hash + Eq, V, S: BuildHasher> HashMapRef<'a, K, V, S> {
 }
 
 impl<K: Hash + Eq, V, S: BuildHasher> HashMap<K, V, S> {
-    /// The same, with what was seen.
-    #[inline(always)]
-    fn remove_if_told<'g, R: Wait, Q: Equivalent<K>, F: FnMut(&K, &V) -> bool, G: Guard>(
-        &'g self,
-        rt: &R,
-        key: &Q,
-        should_remove: F,
-        guard: &'g G,
-    ) -> Saying<Result<Result<Option<(&'g K, &'g V)>, (&'g K, &'g V)>, Refused>, K, V, S>
-        requires { F.IsAlwaysCallable should_remove }
-        ensures book { result.book ≡ self.now.book }
-        ensures legal { IsLegalHistory K.eq key_of (history_of result.log) }
-        ensures seen { IsPrefix self.now.seen (history_of result.log) }
-        ensures right { G.collector_number guard.now ≡ self.now.collector
-            → IsRemovalBy K.eq (Q.matches key.now) self.now.seen (history_of result.log)
-            (Judges F.FnMut) should_remove result.answer }
-        ensures wrong { (G.collector_number guard.now ≡ self.now.collector → ⊥)
-            → result.answer ≡ Err Refused.WrongGuard }
-    {
-        match self.begun_by(guard) {
-            Ok(mut pass) => {
-                let answer = self.pin().remove_if_as(rt, key, should_remove, &mut pass);
-                pass.tell(answer)
-            }
-            Err(refused) => self.tell_refused(refused),
-        }
-    }
-
     /// Removes a key's pair if the closure, which is shown it, answers true: `remove_if` of 0.2.5.
     /// It answers as [`HashMapRef::remove_if_as`], and is refused as [`HashMap::remove`].
     pub fn remove_if<'g, R: Wait, Q: Equivalent<K>, F: FnMut(&K, &V) -> bool, G: Guard>(
@@ -303,32 +183,6 @@ impl<K: Hash + Eq, V, S: BuildHasher> HashMap<K, V, S> {
         answer
     }
 
-    /// The same, with what was seen.
-    #[inline(always)]
-    fn remove_told<'g, R: Wait, Q: Equivalent<K>, G: Guard>(
-        &'g self,
-        rt: &R,
-        key: &Q,
-        guard: &'g G,
-    ) -> Saying<Result<Option<&'g V>, Refused>, K, V, S>
-        ensures book { result.book ≡ self.now.book }
-        ensures legal { IsLegalHistory K.eq key_of (history_of result.log) }
-        ensures seen { IsPrefix self.now.seen (history_of result.log) }
-        ensures right { G.collector_number guard.now ≡ self.now.collector
-            → IsRemoved K.eq (Q.matches key.now) self.now.seen
-            (history_of result.log) result.answer }
-        ensures wrong { (G.collector_number guard.now ≡ self.now.collector → ⊥)
-            → result.answer ≡ Err Refused.WrongGuard }
-    {
-        match self.begun_by(guard) {
-            Ok(mut pass) => {
-                let answer = self.pin().remove_as(rt, key, &mut pass);
-                pass.tell(answer)
-            }
-            Err(refused) => self.tell_refused(refused),
-        }
-    }
-
     /// Removes a key's pair, and answers its value: `remove` of 0.2.5. Refused for a wrong guard,
     /// and as [`HashMapRef::remove_if_as`].
     pub fn remove<'g, R: Wait, Q: Equivalent<K>, G: Guard>(
@@ -349,32 +203,6 @@ impl<K: Hash + Eq, V, S: BuildHasher> HashMap<K, V, S> {
     {
         let Told { answer, marker: _ } = self.remove_told(rt, key, guard);
         answer
-    }
-
-    /// The same, with what was seen.
-    #[inline(always)]
-    fn remove_entry_told<'g, R: Wait, Q: Equivalent<K>, G: Guard>(
-        &'g self,
-        rt: &R,
-        key: &Q,
-        guard: &'g G,
-    ) -> Saying<Result<Option<(&'g K, &'g V)>, Refused>, K, V, S>
-        ensures book { result.book ≡ self.now.book }
-        ensures legal { IsLegalHistory K.eq key_of (history_of result.log) }
-        ensures seen { IsPrefix self.now.seen (history_of result.log) }
-        ensures right { G.collector_number guard.now ≡ self.now.collector
-            → IsEntryRemoved K.eq (Q.matches key.now) self.now.seen
-            (history_of result.log) result.answer }
-        ensures wrong { (G.collector_number guard.now ≡ self.now.collector → ⊥)
-            → result.answer ≡ Err Refused.WrongGuard }
-    {
-        match self.begun_by(guard) {
-            Ok(mut pass) => {
-                let answer = self.pin().remove_entry_as(rt, key, &mut pass);
-                pass.tell(answer)
-            }
-            Err(refused) => self.tell_refused(refused),
-        }
     }
 
     /// Removes a key's pair, and answers it: `remove_entry` of 0.2.5. Refused as

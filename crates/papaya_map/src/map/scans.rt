@@ -1,22 +1,20 @@
 //! The calls that scan the whole map: by a pass, without one, and by a guard.
-ghost use Rattle.std.specs.Prelude.{◌≡◌, Err, IfErr, IfOk, [], false};
+ghost use Rattle.std.specs.Prelude.{◌≡◌, Err, IfErr, IfOk, []};
 ghost use Rattle.std.specs.Borrow.{sem};
 ghost use mathlib.Core.List.{IsPrefix};
 ghost use Rattle.papaya_book.specs.Limits.{HasNoRoom};
-ghost use Rattle.papaya_book.specs.contracts.rule.entry.Event.{the_row as EventOf};
 ghost use Rattle.papaya_change.specs.Showings.{Judges};
 ghost use Rattle.papaya_change.specs.Writing.{IsMemoryOrCapacity};
-ghost use Rattle.papaya_lookup.specs.History.{IsLegalHistory, history_of, key_of};
 ghost use Rattle.papaya_map.specs.Plain.{IsOfHistory, of_its_history, rule_of, unpinned};
-ghost use Rattle.papaya_scan.specs.Leaving.{HasDropped, HasKept, IsCleared};
+ghost use Rattle.papaya_scan.specs.Leaving.{HasKept, IsCleared};
+ghost use Rattle.papaya_book.specs.contracts.rule.entry.Event.{the_row as EventOf};
 
 use crate::map::{HashMap, HashMapRef, Pass};
-use crate::told::{Saying, Told};
+use crate::told::Told;
 use logbook::Rule;
 use papaya_book::rule::entry::{Event, Named};
 use papaya_book::rule::law::Law;
 use papaya_keys::guard::Guard;
-use papaya_scan::retain::retain;
 use papaya_scan::root::take_root;
 use papaya_scan::walk::{Iter, Keys, Values};
 use papaya_words::probe::Refused;
@@ -24,73 +22,6 @@ use std::hash::{BuildHasher, Hash};
 use std::sync::Wait;
 
 impl<'a, K: Hash + Eq, V, S: BuildHasher> HashMapRef<'a, K, V, S> {
-    /// Removes the pairs for which the closure, which is shown each, answers false: `retain` of
-    /// 0.2.5. Each pair that it is shown the map had in a history that begins with what the pass
-    /// had seen. The closure is shown a key's pair again where another call replaced it meanwhile,
-    /// or where all is copied.
-    ///
-    /// Where it is not refused, each pair that the map had after what the pass had seen was removed
-    /// since, by this call or another, or the closure's last answer to it was true. A pair that is
-    /// stored meanwhile may be shown or not.
-    ///
-    /// Where it meets a copier's work it copies what is left to copy, and may be refused a table
-    /// then: `Refused::Memory` where a growth was refused, and `Refused::Capacity` where there is
-    /// no room, as at an insertion. What was removed stays so. Refused or not, the pass makes one
-    /// change for each pair that this call removed, right after the closure answered false to it.
-    pub fn retain_as<R: Wait, F: FnMut(&K, &V) -> bool>(
-        &self,
-        rt: &R,
-        stays: F,
-        pass: &mut Pass<K, V, S>,
-    ) -> Result<(), Refused>
-        requires book { pass.old.book ≡ self.now.map.book }
-        requires callable { F.IsAlwaysCallable stays }
-        ensures book { pass.new.book ≡ pass.old.book }
-        ensures seen { IsPrefix pass.old.history pass.new.history }
-        ensures tables { IsPrefix pass.old.tables pass.new.tables }
-        ensures kept { HasKept K.eq pass.old.history pass.new.history pass.old.made pass.new.made
-            (Judges F.FnMut) stays result }
-        ensures refused { IfErr result (λ refused. IsMemoryOrCapacity refused) }
-        ensures crowded { result ≡ Err Refused.Capacity → HasNoRoom self.now.map.initial
-            pass.new.tables pass.new.given }
-    {
-        let map = self.map;
-        let shard = map.count.shard(pass.number);
-        let mut window = self.window(pass);
-        let retained = retain(
-            rt,
-            map.alloc,
-            map.initial,
-            &shard,
-            &mut window,
-            &mut pass.given,
-            stays,
-        );
-        pass.keep(window);
-        retained
-    }
-
-    /// The same, with what was seen.
-    #[inline(always)]
-    fn retain_told<R: Wait, F: FnMut(&K, &V) -> bool>(
-        &self,
-        rt: &R,
-        stays: F,
-    ) -> Saying<Result<(), Refused>, K, V, S>
-        requires { F.IsAlwaysCallable stays }
-        ensures book { result.book ≡ self.now.map.book }
-        ensures legal { IsLegalHistory K.eq key_of (history_of result.log) }
-        ensures seen { IsPrefix self.now.seen (history_of result.log) }
-        ensures kept { (made : _) × HasKept K.eq self.now.seen (history_of result.log) [] made
-            (Judges F.FnMut) stays
-            result.answer }
-        ensures refused { IfErr result.answer IsMemoryOrCapacity }
-    {
-        let mut pass = self.begun(None);
-        let answer = self.retain_as(rt, stays, &mut pass);
-        pass.tell(answer)
-    }
-
     /// Removes the pairs for which the closure, which is shown each, answers false: `retain` of
     /// 0.2.5. The closure is shown a key's pair again where another call replaced it meanwhile, or
     /// where all is copied.
@@ -113,46 +44,6 @@ impl<'a, K: Hash + Eq, V, S: BuildHasher> HashMapRef<'a, K, V, S> {
         answer
     }
 
-    /// Removes the pairs that the map has: `clear` of 0.2.5. Where it is not refused, each pair
-    /// that the map had after what the pass had seen was removed since, by this call or another. A
-    /// pair that is stored meanwhile may stay. Refused as [`HashMapRef::retain_as`] is. Refused or
-    /// not, the pass makes one change for each pair that this call removed, and no other one.
-    pub fn clear_as<R: Wait>(&self, rt: &R, pass: &mut Pass<K, V, S>) -> Result<(), Refused>
-        requires { pass.old.book ≡ self.now.map.book }
-        ensures book { pass.new.book ≡ pass.old.book }
-        ensures seen { IsPrefix pass.old.history pass.new.history }
-        ensures tables { IsPrefix pass.old.tables pass.new.tables }
-        ensures made { HasDropped K.eq pass.old.history pass.new.history pass.old.made
-            pass.new.made }
-        ensures cleared { IfOk result (λ _. IsCleared K.eq pass.old.history pass.new.history) }
-        ensures refused { IfErr result (λ refused. IsMemoryOrCapacity refused) }
-        ensures crowded { result ≡ Err Refused.Capacity → HasNoRoom self.now.map.initial
-            pass.new.tables pass.new.given }
-    {
-        self.retain_as(
-            rt,
-            |_, _|
-                ensures { result ≡ false }
-            { false },
-            pass,
-        )
-    }
-
-    /// The same, with what was seen.
-    #[inline(always)]
-    fn clear_told<R: Wait>(&self, rt: &R) -> Saying<Result<(), Refused>, K, V, S>
-        ensures book { result.book ≡ self.now.map.book }
-        ensures legal { IsLegalHistory K.eq key_of (history_of result.log) }
-        ensures seen { IsPrefix self.now.seen (history_of result.log) }
-        ensures cleared { IfOk result.answer (λ _. IsCleared K.eq self.now.seen (history_of
-            result.log)) }
-        ensures refused { IfErr result.answer IsMemoryOrCapacity }
-    {
-        let mut pass = self.begun(None);
-        let answer = self.clear_as(rt, &mut pass);
-        pass.tell(answer)
-    }
-
     /// Removes the pairs that the map has: `clear` of 0.2.5. A pair that is stored meanwhile
     /// may stay.
     ///
@@ -169,7 +60,8 @@ impl<'a, K: Hash + Eq, V, S: BuildHasher> HashMapRef<'a, K, V, S> {
 
     /// The pairs of the map, one by one: `iter` of 0.2.5. Each that is given the map had in a
     /// history that begins with what the pass had seen. What the walk sees as it goes on the pass
-    /// learns by [`HashMapRef::learn_walk`].
+    /// does not learn; a session does by
+    /// [`Session::learn_walk`](crate::session::Session::learn_walk).
     ///
     /// With `Blocking` it takes the root as it is. Else it copies first what is left to copy, and
     /// may be refused a table then: `Refused::Memory` where a growth was refused, and
@@ -242,35 +134,6 @@ impl<'a, K: Hash + Eq, V, S: BuildHasher> HashMapRef<'a, K, V, S> {
 }
 
 impl<K: Hash + Eq, V, S: BuildHasher> HashMap<K, V, S> {
-    /// The same, with what was seen.
-    #[inline(always)]
-    fn retain_told<R: Wait, F: FnMut(&K, &V) -> bool, G: Guard>(
-        &self,
-        rt: &R,
-        stays: F,
-        guard: &G,
-    ) -> Saying<Result<(), Refused>, K, V, S>
-        requires { F.IsAlwaysCallable stays }
-        ensures book { result.book ≡ self.now.book }
-        ensures legal { IsLegalHistory K.eq key_of (history_of result.log) }
-        ensures seen { IsPrefix self.now.seen (history_of result.log) }
-        ensures kept { G.collector_number guard.now ≡ self.now.collector
-            → (made : _) × HasKept K.eq self.now.seen (history_of result.log) [] made
-            (Judges F.FnMut) stays result.answer }
-        ensures right { G.collector_number guard.now ≡ self.now.collector
-            → IfErr result.answer IsMemoryOrCapacity }
-        ensures wrong { (G.collector_number guard.now ≡ self.now.collector → ⊥)
-            → result.answer ≡ Err Refused.WrongGuard }
-    {
-        match self.begun_by(guard) {
-            Ok(mut pass) => {
-                let answer = self.pin().retain_as(rt, stays, &mut pass);
-                pass.tell(answer)
-            }
-            Err(refused) => self.tell_refused(refused),
-        }
-    }
-
     /// Removes the pairs for which the closure, which is shown each, answers false: `retain` of
     /// 0.2.5. Refused for a wrong guard, and as [`HashMapRef::retain`] is.
     pub fn retain<R: Wait, F: FnMut(&K, &V) -> bool, G: Guard>(
@@ -294,32 +157,6 @@ impl<K: Hash + Eq, V, S: BuildHasher> HashMap<K, V, S> {
     {
         let Told { answer, marker: _ } = self.retain_told(rt, stays, guard);
         answer
-    }
-
-    /// The same, with what was seen.
-    #[inline(always)]
-    fn clear_told<R: Wait, G: Guard>(
-        &self,
-        rt: &R,
-        guard: &G,
-    ) -> Saying<Result<(), Refused>, K, V, S>
-        ensures book { result.book ≡ self.now.book }
-        ensures legal { IsLegalHistory K.eq key_of (history_of result.log) }
-        ensures seen { IsPrefix self.now.seen (history_of result.log) }
-        ensures cleared { IfOk result.answer (λ _. IsCleared K.eq self.now.seen
-            (history_of result.log)) }
-        ensures right { G.collector_number guard.now ≡ self.now.collector
-            → IfErr result.answer IsMemoryOrCapacity }
-        ensures wrong { (G.collector_number guard.now ≡ self.now.collector → ⊥)
-            → result.answer ≡ Err Refused.WrongGuard }
-    {
-        match self.begun_by(guard) {
-            Ok(mut pass) => {
-                let answer = self.pin().clear_as(rt, &mut pass);
-                pass.tell(answer)
-            }
-            Err(refused) => self.tell_refused(refused),
-        }
     }
 
     /// Removes the pairs that the map has: `clear` of 0.2.5. Refused for a wrong guard, and as

@@ -1,0 +1,28 @@
+use Rattle.std.proofs.Common.{◌≡◌, Ok, Err, Some, ap, ◌∙◌, rules}
+use Rattle.papaya_words.specs.declared.probe.Refused.TheVariants.{Capacity}
+use Rattle.papaya_change.proofs.RemovingReplies.{none_stays, refused_removed, entry_removed}
+use Rattle.papaya_map.proofs.session.Session.remove_entry.Goals as goal
+
+pub unreachable-requires : goal.unreachable-requires
+unreachable-requires g c =
+    let is : c.remove_if-removed.result ≡ Ok (Err c.in-Ok-Err.field-0-0) = search rules in
+    none_stays g.K.PartialEq.eq (g.Q.Equivalent.matches c.args.key.now) c.args.self.now.history c.remove_if-removed.new.self.history _ _
+    c.remove_if-removed.result c.in-Ok-Err.field-0-0 c.remove_if-removed.ensures.removed (λ f p agrees h judged. judged.3.met) is
+
+pub returns-in-Ok-Ok-Some-clause-removed : goal.returns-in-Ok-Ok-Some-clause-removed
+returns-in-Ok-Ok-Some-clause-removed g c =
+    let is : c.remove_if-removed.result ≡ Ok (Ok (Some c.in-Ok-Ok-Some.entry)) = search rules in
+    entry_removed g.K.PartialEq.eq (g.Q.Equivalent.matches c.args.key.now) c.args.self.now.history c.remove_if-removed.new.self.history _ _
+    c.remove_if-removed.result c.in-Ok-Ok-Some.entry c.remove_if-removed.ensures.removed is
+
+pub returns-in-Err-clause-removed : goal.returns-in-Err-clause-removed
+returns-in-Err-clause-removed g c =
+    let is : c.remove_if-removed.result ≡ Err c.in-Err.refused = search rules in
+    refused_removed g.K.PartialEq.eq (g.Q.Equivalent.matches c.args.key.now) c.args.self.now.history c.remove_if-removed.new.self.history _ _
+    c.remove_if-removed.result c.remove_if-removed.ensures.removed c.in-Err.refused is
+
+pub returns-in-Err-clause-crowded : goal.returns-in-Err-clause-crowded
+returns-in-Err-clause-crowded g c = λ e.
+    let is : c.remove_if-removed.result ≡ Err c.in-Err.refused = search rules in
+    let full : c.in-Err.refused ≡ Capacity = cc e in
+    c.remove_if-removed.ensures.crowded (is ∙ ap (λ cause. Err cause) full)

@@ -1,0 +1,73 @@
+//! The first halves of the calls whose closure answers what becomes of a key's pair.
+ghost use Rattle.std.specs.Prelude.{◌≡◌, Err};
+ghost use mathlib.Core.List.{IsPrefix};
+ghost use Rattle.papaya_change.specs.Showings.{Operates};
+ghost use Rattle.papaya_compute.specs.ComputeAnswers.{IsComputeBy};
+ghost use Rattle.papaya_lookup.specs.History.{IsLegalHistory, history_of, key_of};
+
+use crate::map::{HashMap, HashMapRef};
+use crate::told::Saying;
+use papaya_call::answers::Operation;
+use papaya_keys::compute::Compute;
+use papaya_keys::guard::Guard;
+use papaya_words::probe::Refused;
+use std::hash::{BuildHasher, Hash};
+use std::sync::Wait;
+
+impl<'a, K: Hash + Eq + Drop, V: Drop, S: BuildHasher> HashMapRef<'a, K, V, S> {
+    /// The same, with what was seen.
+    #[inline(always)]
+    pub(crate) fn compute_told<
+        R: Wait,
+        T: Drop,
+        F: FnMut(Option<(&'a K, &'a V)>) -> Operation<V, T>,
+    >(&self, rt: &R, key: K, f: F) -> Saying<Result<Compute<'a, K, V, T>, Refused>, K, V, S>
+        requires { F.IsAlwaysCallable f }
+        ensures book { result.book ≡ self.now.map.book }
+        ensures legal { IsLegalHistory K.eq key_of (history_of result.log) }
+        ensures seen { IsPrefix self.now.seen (history_of result.log) }
+        ensures computed { IsComputeBy K.eq key self.now.seen (history_of result.log) (Operates
+            F.FnMut) f result.answer }
+        ensures limited { result.answer ≡ Err Refused.Limit → IsSome self.now.map.begun.limit }
+    {
+        let mut pass = self.begun(None);
+        let answer = self.compute_as(rt, key, f, &mut pass);
+        pass.tell(answer)
+    }
+}
+
+impl<K: Hash + Eq + Drop, V: Drop, S: BuildHasher> HashMap<K, V, S> {
+    /// The same, with what was seen.
+    #[inline(always)]
+    pub(crate) fn compute_told<
+        'g,
+        R: Wait,
+        T: Drop,
+        F: FnMut(Option<(&'g K, &'g V)>) -> Operation<V, T>,
+        G: Guard,
+    >(
+        &'g self,
+        rt: &R,
+        key: K,
+        f: F,
+        guard: &'g G,
+    ) -> Saying<Result<Compute<'g, K, V, T>, Refused>, K, V, S>
+        requires { F.IsAlwaysCallable f }
+        ensures book { result.book ≡ self.now.book }
+        ensures legal { IsLegalHistory K.eq key_of (history_of result.log) }
+        ensures seen { IsPrefix self.now.seen (history_of result.log) }
+        ensures right { G.collector_number guard.now ≡ self.now.collector
+            → IsComputeBy K.eq key self.now.seen (history_of result.log)
+            (Operates F.FnMut) f result.answer }
+        ensures limited { result.answer ≡ Err Refused.Limit → IsSome self.now.begun.limit }
+        ensures wrong { (G.collector_number guard.now ≡ self.now.collector → ⊥)
+            → result.answer ≡ Err Refused.WrongGuard }
+    {
+        if let Err(refused) = self.verify(guard) {
+            return self.tell_refused(refused);
+        }
+        let mut pass = self.begun(Some(guard.number()));
+        let answer = self.pin().compute_as(rt, key, f, &mut pass);
+        pass.tell(answer)
+    }
+}

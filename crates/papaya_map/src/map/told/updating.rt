@@ -1,0 +1,182 @@
+//! The first halves of the calls that put what a closure makes in the place of a key's value.
+ghost use Rattle.std.specs.Prelude.{◌≡◌, Err, IfErr, IfOk};
+ghost use Rattle.std.specs.Fn.{FnReturnsAt};
+ghost use mathlib.Core.List.{IsPrefix};
+ghost use Rattle.papaya_lookup.specs.History.{IsLegalHistory, history_of, key_of};
+ghost use Rattle.papaya_map.specs.Limited.{IsPlainRefusal};
+ghost use Rattle.papaya_map.specs.Storing.{IsUpdated, IsUpserted};
+
+use crate::map::{HashMap, HashMapRef};
+use crate::told::Saying;
+use papaya_keys::guard::Guard;
+use papaya_words::probe::Refused;
+use std::hash::{BuildHasher, Hash};
+use std::sync::Wait;
+
+impl<'a, K: Hash + Eq + Drop, V: Drop, S: BuildHasher> HashMapRef<'a, K, V, S> {
+    /// The same, with what was seen.
+    #[inline(always)]
+    pub(crate) fn update_told<R: Wait, F: Fn(&V) -> V>(
+        &self,
+        rt: &R,
+        key: K,
+        f: F,
+    ) -> Saying<Result<Option<&'a V>, Refused>, K, V, S>
+        requires { F.IsAlwaysCallable f }
+        ensures book { result.book ≡ self.now.map.book }
+        ensures legal { IsLegalHistory K.eq key_of (history_of result.log) }
+        ensures seen { IsPrefix self.now.seen (history_of result.log) }
+        ensures updated { IfOk result.answer (IsUpdated K.eq key self.now.seen (history_of
+            result.log) (FnReturnsAt F.Fn f)) }
+        ensures refused { IfErr result.answer (IsPlainRefusal self.now.map.begun.limit) }
+    {
+        let mut session = self.begun_session(None);
+        let answer = session.update(rt, key, f);
+        session.tell(answer)
+    }
+
+    /// The same, with what was seen.
+    #[inline(always)]
+    pub(crate) fn update_or_insert_told<R: Wait, F: Fn(&V) -> V>(
+        &self,
+        rt: &R,
+        key: K,
+        update: F,
+        value: V,
+    ) -> Saying<Result<&'a V, Refused>, K, V, S>
+        requires { F.IsAlwaysCallable update }
+        ensures book { result.book ≡ self.now.map.book }
+        ensures legal { IsLegalHistory K.eq key_of (history_of result.log) }
+        ensures seen { IsPrefix self.now.seen (history_of result.log) }
+        ensures upserted { IfOk result.answer (IsUpserted K.eq key self.now.seen (history_of
+            result.log) (FnReturnsAt F.Fn update)
+            (λ w. w ≡ value)) }
+        ensures refused { IfErr result.answer (IsPlainRefusal self.now.map.begun.limit) }
+    {
+        let mut session = self.begun_session(None);
+        let answer = session.update_or_insert(rt, key, update, value);
+        session.tell(answer)
+    }
+
+    /// The same, with what was seen.
+    #[inline(always)]
+    pub(crate) fn update_or_insert_with_told<R: Wait, U: Fn(&V) -> V, F: FnOnce() -> V + Drop>(
+        &self,
+        rt: &R,
+        key: K,
+        update: U,
+        f: F,
+    ) -> Saying<Result<&'a V, Refused>, K, V, S>
+        requires update { U.IsAlwaysCallable update }
+        requires make { F.IsAlwaysCallable f }
+        ensures book { result.book ≡ self.now.map.book }
+        ensures legal { IsLegalHistory K.eq key_of (history_of result.log) }
+        ensures seen { IsPrefix self.now.seen (history_of result.log) }
+        ensures upserted { IfOk result.answer (IsUpserted K.eq key self.now.seen (history_of
+            result.log) (FnReturnsAt U.Fn update)
+            (F.post f)) }
+        ensures refused { IfErr result.answer (IsPlainRefusal self.now.map.begun.limit) }
+    {
+        let mut session = self.begun_session(None);
+        let answer = session.update_or_insert_with(rt, key, update, f);
+        session.tell(answer)
+    }
+}
+
+impl<K: Hash + Eq + Drop, V: Drop, S: BuildHasher> HashMap<K, V, S> {
+    /// The same, with what was seen.
+    #[inline(always)]
+    pub(crate) fn update_told<'g, R: Wait, F: Fn(&V) -> V, G: Guard>(
+        &'g self,
+        rt: &R,
+        key: K,
+        f: F,
+        guard: &'g G,
+    ) -> Saying<Result<Option<&'g V>, Refused>, K, V, S>
+        requires { F.IsAlwaysCallable f }
+        ensures book { result.book ≡ self.now.book }
+        ensures legal { IsLegalHistory K.eq key_of (history_of result.log) }
+        ensures seen { IsPrefix self.now.seen (history_of result.log) }
+        ensures updated { IfOk result.answer (IsUpdated K.eq key self.now.seen
+            (history_of result.log) (FnReturnsAt F.Fn f)) }
+        ensures right { G.collector_number guard.now ≡ self.now.collector
+            → IfErr result.answer (IsPlainRefusal self.now.begun.limit) }
+        ensures wrong { (G.collector_number guard.now ≡ self.now.collector → ⊥)
+            → result.answer ≡ Err Refused.WrongGuard }
+    {
+        match self.session_by(guard) {
+            Ok(mut begun) => {
+                let answer = begun.update(rt, key, f);
+                begun.tell(answer)
+            }
+            Err(refused) => self.tell_refused(refused),
+        }
+    }
+
+    /// The same, with what was seen.
+    #[inline(always)]
+    pub(crate) fn update_or_insert_told<'g, R: Wait, F: Fn(&V) -> V, G: Guard>(
+        &'g self,
+        rt: &R,
+        key: K,
+        update: F,
+        value: V,
+        guard: &'g G,
+    ) -> Saying<Result<&'g V, Refused>, K, V, S>
+        requires { F.IsAlwaysCallable update }
+        ensures book { result.book ≡ self.now.book }
+        ensures legal { IsLegalHistory K.eq key_of (history_of result.log) }
+        ensures seen { IsPrefix self.now.seen (history_of result.log) }
+        ensures upserted { IfOk result.answer (IsUpserted K.eq key self.now.seen
+            (history_of result.log) (FnReturnsAt F.Fn update) (λ w. w ≡ value)) }
+        ensures right { G.collector_number guard.now ≡ self.now.collector
+            → IfErr result.answer (IsPlainRefusal self.now.begun.limit) }
+        ensures wrong { (G.collector_number guard.now ≡ self.now.collector → ⊥)
+            → result.answer ≡ Err Refused.WrongGuard }
+    {
+        match self.session_by(guard) {
+            Ok(mut begun) => {
+                let answer = begun.update_or_insert(rt, key, update, value);
+                begun.tell(answer)
+            }
+            Err(refused) => self.tell_refused(refused),
+        }
+    }
+
+    /// The same, with what was seen.
+    #[inline(always)]
+    pub(crate) fn update_or_insert_with_told<
+        'g,
+        R: Wait,
+        U: Fn(&V) -> V,
+        F: FnOnce() -> V + Drop,
+        G: Guard,
+    >(
+        &'g self,
+        rt: &R,
+        key: K,
+        update: U,
+        f: F,
+        guard: &'g G,
+    ) -> Saying<Result<&'g V, Refused>, K, V, S>
+        requires update { U.IsAlwaysCallable update }
+        requires make { F.IsAlwaysCallable f }
+        ensures book { result.book ≡ self.now.book }
+        ensures legal { IsLegalHistory K.eq key_of (history_of result.log) }
+        ensures seen { IsPrefix self.now.seen (history_of result.log) }
+        ensures upserted { IfOk result.answer (IsUpserted K.eq key self.now.seen
+            (history_of result.log) (FnReturnsAt U.Fn update) (F.post f)) }
+        ensures right { G.collector_number guard.now ≡ self.now.collector
+            → IfErr result.answer (IsPlainRefusal self.now.begun.limit) }
+        ensures wrong { (G.collector_number guard.now ≡ self.now.collector → ⊥)
+            → result.answer ≡ Err Refused.WrongGuard }
+    {
+        match self.session_by(guard) {
+            Ok(mut begun) => {
+                let answer = begun.update_or_insert_with(rt, key, update, f);
+                begun.tell(answer)
+            }
+            Err(refused) => self.tell_refused(refused),
+        }
+    }
+}

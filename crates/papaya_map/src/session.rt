@@ -1,0 +1,206 @@
+//! One thread's way to a map: the session, and its calls, a file for each kind.
+ghost use Rattle.std.specs.Prelude.{◌≡◌, IfOk, Err, [], is_ok, true};
+ghost use mathlib.Core.List.{IsPrefix};
+ghost use Rattle.papaya_lookup.specs.History.{IsLegalHistory, history_of, key_of};
+
+mod computes;
+mod deciding;
+mod inserting;
+mod lookups;
+mod removals;
+mod resizing;
+mod scans;
+mod updating;
+
+use crate::map::{HashMap, HashMapRef, Pass};
+use crate::told::{Saying, Told};
+use papaya_keys::guard::Guard;
+use papaya_scan::walk::Iter;
+use papaya_words::probe::Refused;
+use std::hash::{BuildHasher, BuildHasherDefault, FoldHasher, Hash};
+use std::marker::Model;
+
+/// One thread's way to a map: the map, pinned, and a pass of it. Contracts see what of the map is
+/// fixed, the history that was seen, and the changes that were made by this session, oldest first.
+/// They see how many slots each table has that was seen to come; where the last change was refused
+/// for want of room, the number that a full log of tables gave or the sum of the map's count; and
+/// how many numbers were taken for pairs, where the map has a limit on them.
+///
+/// Each call stands in the history after all that the session had seen before, and afterwards the
+/// session has seen the call's own moment. So a thread reads its own writes: what it reads is the
+/// map's after them.
+#[derive(Drop)]
+pub struct Session<'a, K: Hash + Eq, V, S: BuildHasher = BuildHasherDefault<FoldHasher>> {
+    map: HashMapRef<'a, K, V, S>,
+    pass: Pass<K, V, S>,
+}
+
+impl<'a, K: Hash + Eq, V, S: BuildHasher> Model for Session<'a, K, V, S> {
+    ghost use Rattle.std.specs.Prelude.{◌≡◌};
+    ghost use Rattle.papaya_map.specs.Known.{Known};
+
+    ghost Value = { Known K V S };
+
+    ghost view = { λ s. record {
+      map = s.map.map;
+      history = s.pass.history;
+      made = s.pass.made;
+      tables = s.pass.tables;
+      given = s.pass.given;
+      taken = s.pass.taken;
+    } };
+
+    ghost invariant = { λ s. s.pass.book ≡ s.map.map.book };
+}
+
+impl<'a, K: Hash + Eq, V, S: BuildHasher> Session<'a, K, V, S> {
+    /// A session of this map, in the place of `pin` of 0.2.5. It has seen no change yet: each
+    /// history of a map begins as that of the empty one. The map's collector numbers its pass by
+    /// one addition; no word of a table is written.
+    pub fn new(map: &'a HashMap<K, V, S>) -> Session<'a, K, V, S>
+        ensures map { result.map ≡ map.now }
+        ensures new { result.history ≡ [] }
+        ensures made { result.made ≡ [] }
+        ensures tables { result.tables ≡ [] }
+        ensures given { result.given ≡ [] }
+    {
+        Session {
+            map: map.pin(),
+            pass: map.pass(),
+        }
+    }
+
+    /// Returns how many pairs the map's arena holds, as [`HashMap::stored`] counts them.
+    pub fn stored(&self) -> usize {
+        self.map.stored()
+    }
+
+    /// Returns the map that this is a session of.
+    pub fn map(&self) -> &'a HashMap<K, V, S>
+        ensures { result.now ≡ self.now.map }
+    {
+        self.map.map()
+    }
+
+    /// Returns how many pairs were counted: `len` of 0.2.5. A change is counted a step after it
+    /// was made.
+    pub fn len(&self) -> usize {
+        self.map.len()
+    }
+
+    /// Were no pairs counted?
+    pub fn is_empty(&self) -> bool {
+        self.map.is_empty()
+    }
+
+    /// Does nothing. Its contract says that the history which was seen is legal: each change takes
+    /// out what the map has there, and puts in a pair of its class, with the key of the pair that
+    /// it replaces.
+    pub fn legal(&self)
+        ensures { IsLegalHistory K.eq key_of self.now.history }
+    {
+        let Told {
+            answer: _,
+            marker: _,
+        } = self.pass.tell(());
+    }
+
+    /// Returns an answer, with what shows the history that the session has seen. A call that makes
+    /// a session of its own tells by this which history its answer is of: see [`Told`].
+    #[inline(always)]
+    pub fn tell<B>(&self, answer: B) -> Saying<B, K, V, S>
+        ensures answer { result.answer ≡ answer }
+        ensures book { result.book ≡ self.now.map.book }
+        ensures history { history_of result.log ≡ self.now.history }
+        ensures legal { IsLegalHistory K.eq key_of (history_of result.log) }
+    {
+        self.pass.tell(answer)
+    }
+
+    /// Tells each of two sessions what the other has seen. Afterwards both have seen one history,
+    /// which begins with what each had seen. Nothing is done when the program runs, and the call is
+    /// never refused. A premise is left: that both are of one map, which no type says.
+    pub fn meet(&mut self, other: &mut Session<'_, K, V, S>)
+        requires { other.old.map.book ≡ self.old.map.book }
+        ensures maps { (self.new.map ≡ self.old.map) × (other.new.map ≡ other.old.map) }
+        ensures made { (self.new.made ≡ self.old.made) × (other.new.made ≡ other.old.made) }
+        ensures one { (self.new.history ≡ other.new.history)
+            × (self.new.tables ≡ other.new.tables) }
+        ensures first { IsPrefix self.old.history self.new.history
+            × IsPrefix self.old.tables self.new.tables }
+        ensures second { IsPrefix other.old.history other.new.history
+            × IsPrefix other.old.tables other.new.tables }
+    {
+        self.map.meet(&mut self.pass, &mut other.pass)
+    }
+
+    /// Tells the session what a walk has seen. Afterwards the session has seen a history that
+    /// begins with what each had seen, so its calls stand after all that the walk gave. Nothing is
+    /// done when the program runs, and the call is never refused. As at [`Session::meet`] a premise
+    /// is left: that the walk is of the session's map.
+    pub fn learn_walk(&mut self, walk: &Iter<'_, K, V, S>)
+        requires { walk.now.book ≡ self.old.map.book }
+        ensures map { self.new.map ≡ self.old.map }
+        ensures seen { IsPrefix self.old.history self.new.history }
+        ensures walked { IsPrefix walk.now.history self.new.history }
+        ensures tables { IsPrefix self.old.tables self.new.tables }
+        ensures made { self.new.made ≡ self.old.made }
+        ensures given { self.new.given ≡ self.old.given }
+    {
+        self.pass.sight.learn(&walk.seen());
+    }
+}
+
+impl<'a, K: Hash + Eq, V, S: BuildHasher> HashMapRef<'a, K, V, S> {
+    /// A session of this map, which has seen what had been seen when the map was pinned. Its calls
+    /// pick the count's shard by this number, if there is one, and else by the key. A call that
+    /// takes no session makes its own by this; a caller takes [`Session::new`].
+    #[inline(always)]
+    pub fn begun_session(&self, number: Option<u64>) -> Session<'a, K, V, S>
+        ensures map { result.map ≡ self.now.map }
+        ensures seen { result.history ≡ self.now.seen }
+        ensures made { result.made ≡ [] }
+        ensures given { result.given ≡ [] }
+    {
+        Session {
+            map: self.again(),
+            pass: self.begun(number),
+        }
+    }
+}
+
+impl<K: Hash + Eq, V, S: BuildHasher> HashMap<K, V, S> {
+    /// A session of this map, which has seen what had been seen when the map was made. Its calls
+    /// pick the count's shard by this number, if there is one, and else by the key. A call that
+    /// takes a guard makes its session by this; a caller takes [`Session::new`].
+    #[inline(always)]
+    pub fn begun_session(&self, number: Option<u64>) -> Session<'_, K, V, S>
+        ensures map { result.map ≡ self.now }
+        ensures seen { result.history ≡ self.now.seen }
+        ensures made { result.made ≡ [] }
+        ensures given { result.given ≡ [] }
+    {
+        Session {
+            map: self.pin(),
+            pass: self.begun(number),
+        }
+    }
+
+    /// A session for a call by this guard, by whose number it picks the count's shard. Refused as
+    /// [`HashMap::verify`] is.
+    #[inline(always)]
+    pub(crate) fn session_by<'g, G: Guard>(
+        &'g self,
+        guard: &G,
+    ) -> Result<Session<'g, K, V, S>, Refused>
+        ensures map { IfOk result (λ session. session.map ≡ self.now) }
+        ensures seen { IfOk result (λ session. session.history ≡ self.now.seen) }
+        ensures made { IfOk result (λ session. session.made ≡ []) }
+        ensures right { G.collector_number guard.now ≡ self.now.collector → is_ok result ≡ true }
+        ensures wrong { (G.collector_number guard.now ≡ self.now.collector → ⊥)
+            → result ≡ Err Refused.WrongGuard }
+    {
+        self.verify(guard)?;
+        Ok(self.begun_session(Some(guard.number())))
+    }
+}

@@ -1,0 +1,63 @@
+//! The call of a session whose closure answers what becomes of a key's pair.
+ghost use Rattle.std.specs.Prelude.{◌≡◌, Err, Some};
+ghost use mathlib.Core.List.{IsPrefix};
+ghost use Rattle.papaya_book.specs.Limits.{HasNoRoom};
+ghost use Rattle.papaya_change.specs.Showings.{Operates};
+ghost use Rattle.papaya_compute.specs.ComputeAnswers.{IsComputeBy, changes};
+ghost use Rattle.papaya_lookup.specs.History.{Makes};
+
+use crate::session::Session;
+use papaya_call::answers::Operation;
+use papaya_compute::lending::compute_lent;
+use papaya_keys::compute::Compute;
+use papaya_words::probe::Refused;
+use std::hash::{BuildHasher, Hash};
+use std::sync::Wait;
+
+impl<'a, K: Hash + Eq + Drop, V: Drop, S: BuildHasher> Session<'a, K, V, S> {
+    /// What the closure makes of the key's pair, or of its absence: `compute` of 0.2.5. It is lent
+    /// the pair, if there is one, and answers what is stored, that the pair is removed, or that
+    /// nothing is changed. Nothing that it answers may borrow of the pair, as in 0.2.5 it may.
+    ///
+    /// The closure may be asked again, where another thread was first to replace or remove the pair
+    /// that it was shown: what it answered of one pair is done to that pair alone. That there is
+    /// none it is shown once at most, since its insertion is remembered.
+    ///
+    /// Refused as [`Session::insert`], and with `Refused::RemoveNothing` where the closure would
+    /// remove and there is no pair.
+    pub fn compute<R: Wait, T: Drop, F: FnMut(Option<(&K, &V)>) -> Operation<V, T>>(
+        &mut self,
+        rt: &R,
+        key: K,
+        f: F,
+    ) -> Result<Compute<'a, K, V, T>, Refused>
+        requires { F.IsAlwaysCallable f }
+        ensures map { self.new.map ≡ self.old.map }
+        ensures seen { IsPrefix self.old.history self.new.history }
+        ensures tables { IsPrefix self.old.tables self.new.tables }
+        ensures made { Makes (changes result) self.old.made self.new.made self.new.history }
+        ensures crowded { result ≡ Err Refused.Capacity → HasNoRoom self.old.map.initial
+            self.new.tables self.new.given }
+        ensures spent { result ≡ Err Refused.Limit → self.old.map.begun.limit
+            ≡ Some self.new.taken }
+        ensures computed { IsComputeBy K.eq key self.old.history self.new.history
+            (Operates F.FnMut) f result }
+    {
+        let Session { map: pinned, pass } = self;
+        let map = pinned.map;
+        let shard = map.count.shard(pass.number);
+        let mut window = pinned.window(pass);
+        let computed = compute_lent(
+            rt,
+            map.alloc,
+            map.initial,
+            &shard,
+            &mut window,
+            &mut pass.given,
+            key,
+            f,
+        );
+        pass.keep(window);
+        computed
+    }
+}

@@ -1,0 +1,93 @@
+//! The calls of a session that remove a key's pair.
+ghost use Rattle.std.specs.Prelude.{◌≡◌, Err, true};
+ghost use mathlib.Core.List.{IsPrefix};
+ghost use Rattle.papaya_book.specs.Limits.{HasNoRoom};
+ghost use Rattle.papaya_change.specs.RemovalAnswers.{IsEntryRemoved, IsRemovalBy, IsRemoved, took, went};
+ghost use Rattle.papaya_change.specs.Showings.{Judges};
+ghost use Rattle.papaya_lookup.specs.History.{Makes};
+
+use crate::session::Session;
+use papaya_keys::guard::Equivalent;
+use papaya_words::probe::Refused;
+use std::hash::{BuildHasher, Hash};
+use std::sync::Wait;
+
+impl<'a, K: Hash + Eq, V, S: BuildHasher> Session<'a, K, V, S> {
+    /// Removes a key's pair if the closure, which is shown it, answers true: `remove_if` of 0.2.5.
+    ///
+    /// `Ok(None)` where the key is absent, `Ok(Some(pair))` where that very pair was removed, and
+    /// `Err(pair)` where the closure answered false for it. The closure may be asked again, where
+    /// another thread was first to replace or remove the pair that it was shown.
+    ///
+    /// A removal makes nothing for itself. But where it helps to copy the table it may be refused
+    /// as [`Session::insert`] is, and then it changes nothing.
+    pub fn remove_if<R: Wait, Q: Equivalent<K>, F: FnMut(&K, &V) -> bool>(
+        &mut self,
+        rt: &R,
+        key: &Q,
+        should_remove: F,
+    ) -> Result<Result<Option<(&'a K, &'a V)>, (&'a K, &'a V)>, Refused>
+        requires { F.IsAlwaysCallable should_remove }
+        ensures map { self.new.map ≡ self.old.map }
+        ensures seen { IsPrefix self.old.history self.new.history }
+        ensures tables { IsPrefix self.old.tables self.new.tables }
+        ensures made { Makes (went result) self.old.made self.new.made self.new.history }
+        ensures removed { IsRemovalBy K.eq (Q.matches key.now) self.old.history self.new.history
+            (Judges F.FnMut) should_remove result }
+        ensures crowded { result ≡ Err Refused.Capacity → HasNoRoom self.old.map.initial
+            self.new.tables self.new.given }
+    {
+        self.map
+            .remove_if_as(rt, key, should_remove, &mut self.pass)
+    }
+
+    /// Removes a key's pair, and answers its value: `remove` of 0.2.5. It is refused as
+    /// [`Session::remove_if`] is.
+    pub fn remove<R: Wait, Q: Equivalent<K>>(
+        &mut self,
+        rt: &R,
+        key: &Q,
+    ) -> Result<Option<&'a V>, Refused>
+        ensures map { self.new.map ≡ self.old.map }
+        ensures seen { IsPrefix self.old.history self.new.history }
+        ensures tables { IsPrefix self.old.tables self.new.tables }
+        ensures made { Makes (took result) self.old.made self.new.made self.new.history }
+        ensures removed { IsRemoved K.eq (Q.matches key.now) self.old.history self.new.history
+            result }
+        ensures crowded { result ≡ Err Refused.Capacity → HasNoRoom self.old.map.initial
+            self.new.tables self.new.given }
+    {
+        self.map.remove_as(rt, key, &mut self.pass)
+    }
+
+    /// Removes a key's pair, and answers it: `remove_entry` of 0.2.5. It is refused as
+    /// [`Session::remove_if`] is.
+    pub fn remove_entry<R: Wait, Q: Equivalent<K>>(
+        &mut self,
+        rt: &R,
+        key: &Q,
+    ) -> Result<Option<(&'a K, &'a V)>, Refused>
+        ensures map { self.new.map ≡ self.old.map }
+        ensures seen { IsPrefix self.old.history self.new.history }
+        ensures tables { IsPrefix self.old.tables self.new.tables }
+        ensures made { Makes (took result) self.old.made self.new.made self.new.history }
+        ensures removed { IsEntryRemoved K.eq (Q.matches key.now) self.old.history
+            self.new.history result }
+        ensures crowded { result ≡ Err Refused.Capacity → HasNoRoom self.old.map.initial
+            self.new.tables self.new.given }
+    {
+        let removed = self.remove_if(
+            rt,
+            key,
+            |_, _|
+                ensures { result ≡ true }
+            { true },
+        );
+        match removed {
+            Ok(Ok(Some(entry))) => Ok(Some(entry)),
+            Ok(Ok(None)) => Ok(None),
+            Ok(Err(_)) => unreachable!(),
+            Err(refused) => Err(refused),
+        }
+    }
+}

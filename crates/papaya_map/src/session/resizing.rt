@@ -1,0 +1,50 @@
+//! The call of a session that makes room ahead.
+ghost use Rattle.std.specs.Prelude.{◌≡◌, Err, IfErr, IfOk};
+ghost use mathlib.Core.List.{IsPrefix};
+ghost use Rattle.papaya_change.specs.Resizing.{HasNoRoomAhead, HasRoomAhead};
+ghost use Rattle.papaya_change.specs.Writing.{IsMemoryOrCapacity};
+
+use crate::session::Session;
+use papaya_chain::resizer::Resize;
+use papaya_change::resizing::resize;
+use papaya_words::probe::Refused;
+use std::hash::{BuildHasher, Hash};
+use std::sync::Wait;
+
+impl<'a, K: Hash + Eq, V, S: BuildHasher> Session<'a, K, V, S> {
+    /// Makes room for so many pairs more than the map counts: `reserve` of 0.2.5. Where it is not
+    /// refused, the session has seen a table with slots for them beside as many pairs as were
+    /// counted, and where no other call changes the map meanwhile, that is its table. Calls of
+    /// others go on as before.
+    ///
+    /// `Refused::Memory` where a growth was refused. `Refused::Capacity` where the log of tables is
+    /// full, or a table would be longer than [`papaya_words::limits::MAX_TABLE_LEN`]: that for so
+    /// many pairs, or one that a copy needs. 0.2.5 panics or aborts there. Refused or not, the
+    /// session makes no change.
+    pub fn reserve<R: Wait>(&mut self, rt: &R, additional: usize) -> Result<(), Refused>
+        ensures map { self.new.map ≡ self.old.map }
+        ensures seen { IsPrefix self.old.history self.new.history }
+        ensures tables { IsPrefix self.old.tables self.new.tables }
+        ensures made { self.new.made ≡ self.old.made }
+        ensures room { IfOk result (λ _. HasRoomAhead additional self.new.tables self.new.given) }
+        ensures refused { IfErr result (λ refused. IsMemoryOrCapacity refused) }
+        ensures crowded { result ≡ Err Refused.Capacity → HasNoRoomAhead self.old.map.initial
+            additional self.new.tables self.new.given }
+    {
+        let Session { map: pinned, pass } = self;
+        let map = pinned.map;
+        let shard = map.count.shard(pass.number);
+        let mut window = pinned.window(pass);
+        let reserved = resize(
+            rt,
+            map.alloc,
+            map.initial,
+            &shard,
+            &mut window,
+            &mut pass.given,
+            Resize::Reserve(additional),
+        );
+        pass.keep(window);
+        reserved
+    }
+}

@@ -1,0 +1,130 @@
+//! The calls of a session that put what a closure makes in the place of a key's value.
+ghost use Rattle.std.specs.Prelude.{◌≡◌, Err, IfErr, IfOk, is_ok};
+ghost use Rattle.std.specs.Fn.{FnReturnsAt};
+ghost use mathlib.Core.List.{IsPrefix};
+ghost use Rattle.papaya_book.specs.Limits.{HasNoRoom};
+ghost use Rattle.papaya_change.specs.RemovalAnswers.{took};
+ghost use Rattle.papaya_lookup.specs.History.{Makes};
+ghost use Rattle.papaya_map.specs.Limited.{IsWriteRefusal};
+ghost use Rattle.papaya_map.specs.Storing.{IsUpdated, IsUpserted};
+
+use crate::session::Session;
+use papaya_compute::deciding::Outcome;
+use papaya_compute::rules::{Made, Ready, Supply, Updating, Upserting};
+use papaya_words::probe::Refused;
+use std::hash::{BuildHasher, Hash};
+use std::sync::Wait;
+
+impl<'a, K: Hash + Eq + Drop, V: Drop, S: BuildHasher> Session<'a, K, V, S> {
+    /// Puts what the closure makes of the key's value in its place, and answers it: `update` of
+    /// 0.2.5. `Ok(None)` where the key has none. The closure may be called again, where another
+    /// call was first to replace the value that it was shown.
+    ///
+    /// Refused as [`Session::insert`]. The session makes one change where a value was replaced,
+    /// and else none.
+    pub fn update<R: Wait, F: Fn(&V) -> V>(
+        &mut self,
+        rt: &R,
+        key: K,
+        f: F,
+    ) -> Result<Option<&'a V>, Refused>
+        requires { F.IsAlwaysCallable f }
+        ensures map { self.new.map ≡ self.old.map }
+        ensures seen { IsPrefix self.old.history self.new.history }
+        ensures tables { IsPrefix self.old.tables self.new.tables }
+        ensures made { Makes (took result) self.old.made self.new.made self.new.history }
+        ensures updated { IfOk result (IsUpdated K.eq key self.old.history self.new.history
+            (FnReturnsAt F.Fn f)) }
+        ensures refused { IfErr result (IsWriteRefusal self.old.map.begun.limit self.new.taken) }
+        ensures crowded { result ≡ Err Refused.Capacity → HasNoRoom self.old.map.initial
+            self.new.tables self.new.given }
+    {
+        let mut rule = Updating { update: f };
+        match self.decide(rt, key, &mut rule) {
+            Ok(Outcome::Replaced(value)) => Ok(Some(value)),
+            Ok(Outcome::Left { .. }) => Ok(None),
+            Ok(Outcome::Put(_)) => unreachable!(),
+            Err(refused) => Err(refused),
+        }
+    }
+
+    /// Stores what the closure makes of the key's value in its place, or a value from the supply
+    /// where the key has none.
+    fn upsert<R: Wait, F: Fn(&V) -> V, G: Supply<V> + Drop>(
+        &mut self,
+        rt: &R,
+        key: K,
+        update: F,
+        supply: G,
+    ) -> Result<&'a V, Refused>
+        requires callable { F.IsAlwaysCallable update }
+        requires gives { G.can_give supply }
+        ensures map { self.new.map ≡ self.old.map }
+        ensures seen { IsPrefix self.old.history self.new.history }
+        ensures tables { IsPrefix self.old.tables self.new.tables }
+        ensures made { Makes (is_ok result) self.old.made self.new.made self.new.history }
+        ensures upserted { IfOk result (IsUpserted K.eq key self.old.history self.new.history
+            (FnReturnsAt F.Fn update) (G.gives supply)) }
+        ensures refused { IfErr result (IsWriteRefusal self.old.map.begun.limit self.new.taken) }
+        ensures crowded { result ≡ Err Refused.Capacity → HasNoRoom self.old.map.initial
+            self.new.tables self.new.given }
+    {
+        let mut rule = Upserting {
+            update,
+            supply: Some(supply),
+        };
+        match self.decide(rt, key, &mut rule) {
+            Ok(Outcome::Replaced(value)) => Ok(value),
+            Ok(Outcome::Put(value)) => Ok(value),
+            Ok(Outcome::Left { .. }) => unreachable!(),
+            Err(refused) => Err(refused),
+        }
+    }
+
+    /// As [`Session::update`], and where the key has no value this one is stored:
+    /// `update_or_insert` of 0.2.5. The session makes one change, and none where it is refused.
+    pub fn update_or_insert<R: Wait, F: Fn(&V) -> V>(
+        &mut self,
+        rt: &R,
+        key: K,
+        update: F,
+        value: V,
+    ) -> Result<&'a V, Refused>
+        requires { F.IsAlwaysCallable update }
+        ensures map { self.new.map ≡ self.old.map }
+        ensures seen { IsPrefix self.old.history self.new.history }
+        ensures tables { IsPrefix self.old.tables self.new.tables }
+        ensures made { Makes (is_ok result) self.old.made self.new.made self.new.history }
+        ensures upserted { IfOk result (IsUpserted K.eq key self.old.history self.new.history
+            (FnReturnsAt F.Fn update) (λ w. w ≡ value)) }
+        ensures refused { IfErr result (IsWriteRefusal self.old.map.begun.limit self.new.taken) }
+        ensures crowded { result ≡ Err Refused.Capacity → HasNoRoom self.old.map.initial
+            self.new.tables self.new.given }
+    {
+        self.upsert(rt, key, update, Ready { value })
+    }
+
+    /// The same with a closure that makes the value where the key has none:
+    /// `update_or_insert_with` of 0.2.5. That closure is called once at most.
+    pub fn update_or_insert_with<R: Wait, U: Fn(&V) -> V, F: FnOnce() -> V + Drop>(
+        &mut self,
+        rt: &R,
+        key: K,
+        update: U,
+        f: F,
+    ) -> Result<&'a V, Refused>
+        requires update { U.IsAlwaysCallable update }
+        requires make { F.IsAlwaysCallable f }
+        ensures map { self.new.map ≡ self.old.map }
+        ensures seen { IsPrefix self.old.history self.new.history }
+        ensures tables { IsPrefix self.old.tables self.new.tables }
+        ensures made { Makes (is_ok result) self.old.made self.new.made self.new.history }
+        ensures upserted { IfOk result (IsUpserted K.eq key self.old.history self.new.history
+            (FnReturnsAt U.Fn update) (F.post f)) }
+        ensures refused { IfErr result (IsWriteRefusal self.old.map.begun.limit self.new.taken) }
+        ensures crowded { result ≡ Err Refused.Capacity → HasNoRoom self.old.map.initial
+            self.new.tables self.new.given }
+    {
+        self.upsert(rt, key, update, Made { make: f })
+    }
+}

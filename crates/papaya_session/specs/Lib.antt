@@ -1,2 +1,0 @@
--- what a session shows
-pub mod Known
