@@ -1,5 +1,5 @@
 -- A search of a table and the lookup around it: where each turn leads the machine that nothing runs.
-use Rattle.std.proofs.Common.{◌≡◌, ℕ, ◌<◌, ◌==◌, nat_lt, if◌then◌else◌, Bool, true, false}
+use Rattle.std.proofs.Common.{◌≡◌, ℕ, ◌+◌, ◌<◌, ◌==◌, nat_lt, if◌then◌else◌, Bool, true, false}
 use Rattle.std.proofs.Common.{MatchOption, Option, None, Some, List, length, refl, sym, ap, ◌∙◌}
 use Rattle.std.proofs.Common.{subst, arith}
 use Rattle.std.proofs.lemmas.Bool.{ne_eqb}
@@ -41,10 +41,11 @@ use Rattle.papaya_book.specs.Rule.{IsLawfulLog, IsPlaced}
 use Rattle.papaya_book.specs.Sheets.{Sheet}
 use Rattle.papaya_book.proofs.Loaded.{told_pair}
 use Rattle.papaya_book.proofs.Logs.{table_came}
+use Rattle.papaya_book.proofs.TableSizes.{sizes}
 use Rattle.papaya_lookup.specs.Answers.{IsHitAnsweredBetween}
 use Rattle.papaya_lookup.specs.History.{history_of, key_of}
 use Rattle.papaya_call_law.specs.Relies.{HasMet}
-use Rattle.papaya_lookup.specs.Lookups.{HasHit, HoldsPair, IsAside, IsReading, IsReadingAt, IsTurned, coding_for, led_to, left_of, lookup_at, setting_for, turn_of}
+use Rattle.papaya_lookup.specs.Lookups.{HasHit, HoldsPair, IsAside, IsReading, IsReadingAt, IsTurned, coding_for, led_to, left_of, lookup_at, met_in, setting_for, turn_of}
 use Rattle.papaya_lookup.specs.declared.lookup.Met.{Met}
 use Rattle.papaya_lookup.specs.declared.lookup.Turn.{Turn}
 use Rattle.papaya_lookup.specs.declared.lookup.Turn.TheVariants as turns
@@ -383,6 +384,23 @@ module _ {K V S H : Type 0} (eq : K → K → Bool) (input : K → List (List �
                 → entry.1.now ≡ p.value.value → IsTurned eq hash b name matches fed_to begun h log' table (turns.Found met entry)
             pair_found a' w' here entry key_is value_is =
                 same_key log' table r.0 r.1 at within word p pair_placed comparing.0 same same_is a' w' here entry key_is value_is
+
+-- a pair that was set aside was met at a place of its table's size
+pub met_there : {K V S : Type 0} (eq : K → K → Bool) (hash : S → K → ℕ) (b : Begun K V S) (name : Name) (matches : K → Bool) (fed : ℕ)
+    (begun : List (Exchange (Stored K V))) (h : ℕ) (log : List (Event K V S)) (table : Sheet) (met : Met K V)
+    → IsAside eq hash b name matches fed begun h log table met
+    → met ≡ met_in table met.place.table met.place.probe.i met.place.probe.len met.word met.stored
+met_there eq hash b name matches fed begun h log table met a =
+    let at = met.place in
+    let stands = a.reading.relies.stage.2.stands in
+    let came : IsTable log at.table table = subst (IsTable log at.table) a.lent_is a.reading.holds_table in
+    let all = sizes (steps_of log) at.table came.0 came.1 in
+    let is : came.0.value ≡ table = came.2 in
+    let len : at.len ≡ length table.slots = stands.len ∙ (all.0 ∙ ap (λ (z : Sheet). length z.slots) is) in
+    let places : at.limit + 1 ≡ table.limit + 1 = stands.limit ∙ (all.1 ∙ ap (λ (z : Sheet). z.limit + 1) is) in
+    let limit : at.limit ≡ table.limit = omega (arith, places) in
+    ap (λ (n : ℕ). record met { place = record at { len = n } }) len
+    ∙ ap (λ (n : ℕ). record met { place = record at { len = length table.slots; limit = n } }) limit
 
 module _ {K V S H : Type 0} (eq : K → K → Bool) (input : K → List (List ℕ)) (build : S → H) (write : H → List ℕ → H) (finish : H → ℕ)
     (classes : IsEquivalence eq) (respects : (x y : K) → eq x y ≡ true → input x ≡ input y)

@@ -1,5 +1,5 @@
 -- What a lookup on the shared map holds and relies on, and what it answers.
-use Rattle.std.specs.Prelude.{◌≡◌, ℕ, ◌+◌, ◌*◌, ◌-◌, ◌^◌, Bool, true, Option, None, Some, List, ◌++◌, slice_get}
+use Rattle.std.specs.Prelude.{◌≡◌, ℕ, ◌+◌, ◌*◌, ◌-◌, ◌^◌, Bool, true, Option, None, Some, List, ◌++◌, length, slice_get}
 use denote.Bor.{Bor}
 use Rattle.logbook.specs.Pages.{Book, Named as Word}
 use Rattle.papaya_ask.specs.declared.call.Reply.TheVariants.{Absent, Found}
@@ -169,6 +169,19 @@ pub record IsTurned {K V S : Type 0} (eq : K → K → Bool) (hash : S → K →
       → (pair ≡ Some met.stored) × (entry.0.now ≡ key_of met.stored)
       × (entry.1.now ≡ met.stored.value.value)
       × HasHit eq hash b name matches fed begun log table met
+
+-- a pair that was met at slot i of this table, where so many places came before
+abbrev pub met_in : {K V : Type 0} → Sheet → (number i passed word : ℕ) → Stored K V → Met K V
+met_in table number i passed word stored = record {
+  place = record {
+    table = number;
+    len = length table.slots;
+    limit = table.limit;
+    probe = record { i = i; len = passed };
+  };
+  word = word;
+  stored = stored;
+}
 
 -- A search has set a pair aside: the lookup's machine compares its key next.
 pub record IsAside {K V S : Type 0} (eq : K → K → Bool) (hash : S → K → ℕ) (b : Begun K V S)

@@ -14,7 +14,7 @@ ghost use Rattle.papaya_lookup.specs.History.{history_of};
 ghost use Rattle.papaya_lookup.specs.Drivers.{HasSetAside, HasTurned, Hits, IsAnswer, IsAside};
 ghost use Rattle.papaya_lookup.specs.Drivers.{IsTurned};
 ghost use Rattle.papaya_lookup.specs.Drivers.{Leads, Reads, left_after, past};
-ghost use Rattle.papaya_lookup.specs.Lookups.{left_of, turn_of};
+ghost use Rattle.papaya_lookup.specs.Lookups.{left_of, met_in, turn_of};
 ghost use Rattle.papaya_lookup.specs.declared.lookup.Turn.TheVariants.{Next, Over};
 
 use crate::near::{Near, search_slots};
@@ -28,7 +28,7 @@ use papaya_book::rule::own::OwnSteps;
 use papaya_book::table::Table;
 use papaya_book::window::Window;
 use papaya_keys::guard::Equivalent;
-use papaya_words::probe::ResizeMode;
+use papaya_words::probe::{Probe, ResizeMode};
 use std::hash::{BuildHasher, Hash, Hasher};
 
 /// What a search has met: a place and the word that stood there, and the pair that it names.
@@ -365,8 +365,9 @@ fn go_on<'a, K: Hash + Eq, V, S: BuildHasher, Q: Equivalent<K>>(
     }
 }
 
-/// The value of what `key` matches, where the search of the root has set a pair aside. It takes no
-/// window, so that those who call it keep theirs in registers.
+/// The value of what `key` matches, where the search of the root has set a pair aside: the word at
+/// slot `i` named it, and `passed` places came before. It takes no window and no place, so that
+/// those who call it keep theirs in registers.
 #[cold]
 #[inline(never)]
 fn look_up_aside<'a, K: Hash + Eq, V, S: BuildHasher, Q: Equivalent<K>>(
@@ -375,19 +376,37 @@ fn look_up_aside<'a, K: Hash + Eq, V, S: BuildHasher, Q: Equivalent<K>>(
     sight: &mut Seen<K, V, S>,
     hash: u64,
     root: &'a Table<K, V, S>,
-    met: Met<K, V>,
+    number: u64,
+    i: usize,
+    passed: usize,
+    word: u64,
+    stored: Stored<K, V>,
 ) -> Option<&'a V>
     requires book { sight.old.book ≡ book.now.begun.book }
     requires aside { (began : _) × HasSetAside ⟦<S as Keyed<K>>⟧.keys
-        (⟦<S as Asked<K, Q>>⟧.query key.now) book.now began sight.old.log hash root.now met }
+        (⟦<S as Asked<K, Q>>⟧.query key.now) book.now began sight.old.log hash root.now
+        (met_in root.now number i passed word stored) }
     ensures book { sight.new.book ≡ sight.old.book }
     ensures seen { IsPrefix sight.old.log sight.new.log }
     ensures lawful { IsLawfulLog ⟦<S as Keyed<K>>⟧.keys book.now sight.new.log }
     ensures answered { (began : _) → IsPrefix began sight.old.log
         → HasSetAside ⟦<S as Keyed<K>>⟧.keys (⟦<S as Asked<K, Q>>⟧.query key.now) book.now began
-        sight.old.log hash root.now met → IsAnsweredBetween K.eq (Q.matches key.now)
-        (history_of began) (history_of sight.new.log) result }
+        sight.old.log hash root.now (met_in root.now number i passed word stored)
+        → IsAnsweredBetween K.eq (Q.matches key.now) (history_of began) (history_of sight.new.log)
+        result }
 {
+    let (len, limit) = root.size();
+    let place = Place {
+        table: number,
+        len,
+        limit,
+        probe: Probe { i, len: passed },
+    };
+    let met = Met {
+        place,
+        word,
+        stored,
+    };
     let kept = book.keep_root();
     let own = OwnSteps::nothing();
     let mut window = Window::new(book, &kept, sight, &own);
@@ -459,7 +478,23 @@ pub fn look_up<'a, K: Hash + Eq, V, S: BuildHasher, Q: Equivalent<K>>(
         Near::Found(entry) => Some(entry.1),
         Near::Aside(met) => {
             let mut sight = window.sight.again();
-            let found = look_up_aside(window.book, key, &mut sight, hash, table, met);
+            let Met {
+                place,
+                word,
+                stored,
+            } = met;
+            let found = look_up_aside(
+                window.book,
+                key,
+                &mut sight,
+                hash,
+                table,
+                place.table,
+                place.probe.i,
+                place.probe.len,
+                word,
+                stored,
+            );
             window.sight = sight;
             found
         }

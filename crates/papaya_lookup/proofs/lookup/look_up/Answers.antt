@@ -7,7 +7,7 @@ use Rattle.papaya_book.proofs.Logs.{prefix_trans}
 use Rattle.papaya_lookup.specs.Answers.{IsAnsweredBetween}
 use Rattle.papaya_lookup.specs.Drivers.{IsAside, IsTurned}
 use Rattle.papaya_lookup.specs.History.{history_of}
-use Rattle.papaya_lookup.specs.Lookups.{IsNear}
+use Rattle.papaya_lookup.specs.Lookups.{IsNear, met_in}
 use Rattle.papaya_lookup.specs.declared.lookup.Met.{Met}
 use Rattle.papaya_lookup.specs.declared.near.Near.{Near}
 use Rattle.papaya_lookup.specs.declared.lookup.Turn.{Turn}
@@ -15,7 +15,7 @@ use Rattle.papaya_lookup.specs.declared.lookup.Turn.TheVariants as turns
 use Rattle.papaya_lookup.proofs.Histories.{history_since}
 use Rattle.papaya_lookup.proofs.LookupReplies.{answered_since, pair_answer, value_answer}
 use Rattle.papaya_lookup.proofs.Readings.{IsQuery}
-use Rattle.papaya_lookup.proofs.Turning.{answers_absent, answers_found, answers_none, first_looked, root_held}
+use Rattle.papaya_lookup.proofs.Turning.{answers_absent, answers_found, answers_none, first_looked, met_there, root_held}
 use Rattle.papaya_lookup.proofs.lookup.look_up.Goals as goal
 use Rattle.papaya_lookup.proofs.lookup.look_up.Goals.{After-search_slots, In-Absent, In-Aside, In-Found, In-Over}
 use Rattle.papaya_lookup.proofs.lookup.look_up.Given.{Over}
@@ -84,9 +84,16 @@ led_absent : (g : Over) (c : In-Absent g) → TurnedTo g (goal.at.In-Absent g c)
 led_absent g c = let at = (goal.at.In-Absent g c).After-search_slots in
     subst (λ (z : Near _ _). IsNear (TurnedTo g at) (AsideTo g at) at.first-first.result z) c.in-Absent.is (led g at)
 
-led_aside : (g : Over) (c : In-Aside g) → AsideTo g (goal.at.In-Aside g c).After-search_slots c.in-Aside.met
+-- the pair that was set aside, as it is handed over
+abbrev handed : (g : Over) (c : In-Aside g) → Met g.row.K.Denot g.row.V.Denot
+handed g c = met_in c.in-Some.table.now c.in-Aside.met.place.table c.in-Aside.met.place.probe.i c.in-Aside.met.place.probe.len
+    c.in-Aside.met.word c.in-Aside.met.stored
+
+led_aside : (g : Over) (c : In-Aside g) → AsideTo g (goal.at.In-Aside g c).After-search_slots (handed g c)
 led_aside g c = let at = (goal.at.In-Aside g c).After-search_slots in
-    subst (λ (z : Near _ _). IsNear (TurnedTo g at) (AsideTo g at) at.first-first.result z) c.in-Aside.is (led g at)
+    let all : AsideTo g at c.in-Aside.met =
+    subst (λ (z : Near _ _). IsNear (TurnedTo g at) (AsideTo g at) at.first-first.result z) c.in-Aside.is (led g at) in
+    subst (AsideTo g at) (met_there _ _ _ _ _ _ _ _ _ _ _ all) all
 
 led_over : (g : Over) (c : In-Over g) → TurnedTo g (goal.at.In-Over g c).After-search_slots (turns.Over c.in-Over.passed)
 led_over g c = let at = (goal.at.In-Over g c).After-search_slots in
