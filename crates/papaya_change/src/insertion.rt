@@ -220,7 +220,7 @@ fn drive<'a, R: Wait, K: Hash + Eq + Drop, V: Drop, S: BuildHasher>(
                 insertion.writer.look_on(window);
             }
             None => {
-                *given = insertion.writer.call.given.again();
+                *given = insertion.writer.call.copier.given.again();
                 return insertion.replied(window);
             }
         }

@@ -28,9 +28,9 @@ drive-requires-clause-can g c =
       c.args.value,
       st.2.0,
       begins_onward g.K.PartialEq.eq hash b w.begun.book key st.2.0 log c.args.number c.args.table r c.args.value _
-          c.args.means.now.initial (ap (λ z. z.table) stood) (ap (λ z. z.fresh) stood ∙ c.new-call.ensures.empty.table.1) (
-            ap (λ z. z.last) stood ∙ c.new-call.ensures.empty.pairs.0,
-            ap (λ z. z.kept) stood ∙ c.new-call.ensures.empty.pairs.1,
+          c.args.means.now.initial (ap (λ z. z.table) stood) (ap (λ z. z.copier.fresh) stood ∙ c.new-call.ensures.empty.table.1) (
+            ap (λ z. z.copier.last) stood ∙ c.new-call.ensures.empty.pairs.0,
+            ap (λ z. z.copier.kept) stood ∙ c.new-call.ensures.empty.pairs.1,
             ap (λ z. z.taken) stood
                 ∙ c.new-call.ensures.empty.pairs.2,
             ap (λ z. z.put) stood ∙ c.new-call.ensures.empty.pairs.3,
@@ -50,9 +50,9 @@ returns-clause-put g c =
     let is : to ≡ state = cc led in
     let r = subst (λ (z : State). IsInsertingAt g.K.PartialEq.eq hash b w.begun.book key begun log z None c.args.table.now) (sym is) r0 in
     h key c.args.value begun (begins_onward g.K.PartialEq.eq hash b w.begun.book key begun log c.args.number c.args.table r c.args.value _
-    c.args.means.now.initial (ap (λ z. z.table) stood) (ap (λ z. z.fresh) stood ∙ c.new-call.ensures.empty.table.1) (
-      ap (λ z. z.last) stood ∙ c.new-call.ensures.empty.pairs.0,
-      ap (λ z. z.kept) stood ∙ c.new-call.ensures.empty.pairs.1,
+    c.args.means.now.initial (ap (λ z. z.table) stood) (ap (λ z. z.copier.fresh) stood ∙ c.new-call.ensures.empty.table.1) (
+      ap (λ z. z.copier.last) stood ∙ c.new-call.ensures.empty.pairs.0,
+      ap (λ z. z.copier.kept) stood ∙ c.new-call.ensures.empty.pairs.1,
       ap (λ z. z.taken) stood
           ∙ c.new-call.ensures.empty.pairs.2,
       ap (λ z. z.put) stood ∙ c.new-call.ensures.empty.pairs.3,
