@@ -24,6 +24,7 @@ use papaya_book::rule::entry::Stored;
 use papaya_book::table::Table;
 use papaya_book::window::Window;
 use papaya_call::machine::State;
+use papaya_call::made::Made;
 use papaya_chain::ask::Answer;
 use papaya_chain::machine::Machine;
 use papaya_words::probe::ResizeMode;
@@ -78,6 +79,18 @@ impl<'a, K: Hash + Eq, V, S: BuildHasher> Driver<'a, K, V, S> {
     {
         self.machine.call.state = state;
         self.table = Some(table);
+    }
+
+    /// Has the call have made these pairs.
+    #[inline(always)]
+    pub fn set_made(&mut self, made: Made)
+        ensures { self.new ≡ record self.old {
+          machine = record self.old.machine {
+            call = record self.old.machine.call { made = made };
+          };
+        } }
+    {
+        self.machine.call.made = made;
     }
 
     /// Where the call looks for this key in the table that it holds, has it go over the places that
