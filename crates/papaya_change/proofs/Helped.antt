@@ -150,15 +150,15 @@ module _ (m m' : Machine) (tables : List ℕ) (given : List CapacityCause) where
 
 -- why a call is refused that was led on so
 module _ {K V S H : Type 0} (c c' : Driver K V S H) (tables : List ℕ) (calling : c'.machine.phase ≡ Calling)
-    (still : c.machine.phase ≡ Calling → c' ≡ c) (helped : HasHelped c.machine c'.machine tables c'.given.done) where
+    (still : c.machine.phase ≡ Calling → c' ≡ c) (helped : HasHelped c.machine c'.machine tables c'.copier.given.done) where
   -- it was refused before, or by its copy
   ends_so : (P : Driver K V S H → Type 0) (cause : Cause) → (ask_of c.machine ≡ Call (Done (Refused cause)) → P c)
-      → (IsCopyEnd c'.machine.call.initial tables c'.given.done cause → P c') → ask_of c'.machine ≡ Call (Done (Refused cause)) → P c'
+      → (IsCopyEnd c'.machine.call.initial tables c'.copier.given.done cause → P c') → ask_of c'.machine ≡ Call (Done (Refused cause)) → P c'
   ends_so P cause before copied e =
       ⊎_elim
       (λ same. subst P (sym (still (ap (λ (z : Machine). z.phase) (sym same) ∙ calling))) (before (ap ask_of (sym same) ∙ e)))
       copied
-      ((helped_keeps c.machine c'.machine tables c'.given.done helped).ends cause e)
+      ((helped_keeps c.machine c'.machine tables c'.copier.given.done helped).ends cause e)
 
   pub refuses_kept : ((cause : Cause) → ask_of c.machine ≡ Call (Done (Refused cause)) → IsMemoryOrCapacity cause) → (cause : Cause)
       → ask_of c'.machine ≡ Call (Done (Refused cause)) → IsMemoryOrCapacity cause
@@ -174,10 +174,10 @@ module _ {K V S H : Type 0} (c c' : Driver K V S H) (tables : List ℕ) (calling
   spent_kept Holds was e = ends_so (λ d. Holds) Limit was (λ h. ⊎_elim (λ memory. absurd (cc memory)) (λ full. absurd (let f = full.0 in cc f)) h) e
 
   pub room_kept : (before : List ℕ) → IsPrefix before tables
-      → (ask_of c.machine ≡ Call (Done (Refused Capacity)) → HasNoRoom c.machine.call.initial before c.given.done)
-      → ask_of c'.machine ≡ Call (Done (Refused Capacity)) → HasNoRoom c'.machine.call.initial tables c'.given.done
-  room_kept before pre was e = ends_so (λ d. HasNoRoom d.machine.call.initial tables d.given.done) Capacity
-      (λ h. room_since c.machine.call.initial before tables c.given.done pre (was h)) (λ h. ⊎_elim (λ memory. absurd (cc memory)) (λ full. full.1) h) e
+      → (ask_of c.machine ≡ Call (Done (Refused Capacity)) → HasNoRoom c.machine.call.initial before c.copier.given.done)
+      → ask_of c'.machine ≡ Call (Done (Refused Capacity)) → HasNoRoom c'.machine.call.initial tables c'.copier.given.done
+  room_kept before pre was e = ends_so (λ d. HasNoRoom d.machine.call.initial tables d.copier.given.done) Capacity
+      (λ h. room_since c.machine.call.initial before tables c.copier.given.done pre (was h)) (λ h. ⊎_elim (λ memory. absurd (cc memory)) (λ full. full.1) h) e
 
 -- what a call did goes on while it is set aside
 module _ {K V S H : Type 0} {d : keyed.Ghosts S K H} (m m' : Machine) (tables : List ℕ) (given : List CapacityCause) (calling : m'.phase ≡ Calling)

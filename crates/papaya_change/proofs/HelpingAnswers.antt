@@ -78,58 +78,58 @@ module _ {K V S H : Type 0} (eq : K → K → Bool) (input : K → List (List �
 
   -- where a copy loads or exchanges a word, its table has come
   pub load_came : (at : At) → ask_of c.machine ≡ asks.Copy (copies.Load at)
-      → HasComeFor eq input build write finish classes respects b name matches fed form k begun v c.machine c.table c.last c.kept made c.taken c.put c.fresh r at
-  load_came at asked = came_for eq input build write finish classes respects b name matches fed form k begun v c.machine c.table c.last c.kept made
-      c.taken c.put c.fresh r at (all_there eq input build write finish classes respects b name matches fed form k begun v c.machine c.table c.last
-      c.kept made c.taken c.put c.fresh r (copies.Load at) asked)
+      → HasComeFor eq input build write finish classes respects b name matches fed form k begun v c.machine c.table c.copier.last c.copier.kept made c.taken c.put c.copier.fresh r at
+  load_came at asked = came_for eq input build write finish classes respects b name matches fed form k begun v c.machine c.table c.copier.last c.copier.kept made
+      c.taken c.put c.copier.fresh r at (all_there eq input build write finish classes respects b name matches fed form k begun v c.machine c.table c.copier.last
+      c.copier.kept made c.taken c.put c.copier.fresh r (copies.Load at) asked)
 
   pub try_came : (at : At) (old new : ℕ) → ask_of c.machine ≡ asks.Copy (copies.Exchange at old new)
-      → HasComeFor eq input build write finish classes respects b name matches fed form k begun v c.machine c.table c.last c.kept made c.taken c.put c.fresh r at
-  try_came at old new asked = came_for eq input build write finish classes respects b name matches fed form k begun v c.machine c.table c.last c.kept
-      made c.taken c.put c.fresh r at (all_there eq input build write finish classes respects b name matches fed form k begun v c.machine c.table c.last
-      c.kept made c.taken c.put c.fresh r (copies.Exchange at old new) asked)
+      → HasComeFor eq input build write finish classes respects b name matches fed form k begun v c.machine c.table c.copier.last c.copier.kept made c.taken c.put c.copier.fresh r at
+  try_came at old new asked = came_for eq input build write finish classes respects b name matches fed form k begun v c.machine c.table c.copier.last c.copier.kept
+      made c.taken c.put c.copier.fresh r at (all_there eq input build write finish classes respects b name matches fed form k begun v c.machine c.table c.copier.last
+      c.copier.kept made c.taken c.put c.copier.fresh r (copies.Exchange at old new) asked)
 
   pub size_came : (t : ℕ) → ask_of c.machine ≡ asks.Copy (copies.SizeOf t) → HasCome v t
   size_came t asked = chain_came v t (all_there eq input build write finish classes respects b name matches fed form k begun v c.machine c.table
-      c.last c.kept made c.taken c.put c.fresh r (copies.SizeOf t) asked)
+      c.copier.last c.copier.kept made c.taken c.put c.copier.fresh r (copies.SizeOf t) asked)
 
   -- so has the one that is to get a next table
   pub follows_came : (slots limit chunks : ℕ) → ask_of c.machine ≡ asks.Copy (copies.MakeTable slots limit chunks) → HasCome v (follows_of c.machine)
   follows_came slots limit chunks asked =
-      let rest = relying eq input build write finish classes respects b name matches fed form k begun v c.machine c.table c.last c.kept made c.taken
-      c.put c.fresh r in
+      let rest = relying eq input build write finish classes respects b name matches fed form k begun v c.machine c.table c.copier.last c.copier.kept made c.taken
+      c.put c.copier.fresh r in
       chain_came v (follows_of c.machine) (subst (λ (z : List (Exchange (Stored K V))).
       IsOn (run z start).first (run z start).next (follows_of c.machine)) rest.is
       (follows_on (wide eq input build write finish classes respects b matches fed form k (exchanges_of begun) v)
       (coded eq input build write finish classes respects b matches fed form k (exchanges_of begun)) slots limit chunks (exchanges_of begun)
-      rest.since k c.machine (loaded_with c.last c.kept made) rest.relies asked))
+      rest.since k c.machine (loaded_with c.copier.last c.copier.kept made) rest.relies asked))
 
   -- and has the slot
   pub load_low : (t x : ℕ) → ask_of c.machine ≡ asks.Copy (copies.Load (Slot t x)) → (log : List (Event K V S)) → IsPrefix v log → (sheet : Sheet)
       → IsTable log t sheet → x < length sheet.slots
-  load_low t x asked = slot_within eq input build write finish classes respects b name matches fed form k begun v c.machine c.table c.last c.kept made
-      c.taken c.put c.fresh r t x (all_there eq input build write finish classes respects b name matches fed form k begun v c.machine c.table c.last
-      c.kept made c.taken c.put c.fresh r (copies.Load (Slot t x)) asked)
+  load_low t x asked = slot_within eq input build write finish classes respects b name matches fed form k begun v c.machine c.table c.copier.last c.copier.kept made
+      c.taken c.put c.copier.fresh r t x (all_there eq input build write finish classes respects b name matches fed form k begun v c.machine c.table c.copier.last
+      c.copier.kept made c.taken c.put c.copier.fresh r (copies.Load (Slot t x)) asked)
 
   pub try_low : (t x old new : ℕ) → ask_of c.machine ≡ asks.Copy (copies.Exchange (Slot t x) old new) → (log : List (Event K V S)) → IsPrefix v log
       → (sheet : Sheet) → IsTable log t sheet → x < length sheet.slots
-  try_low t x old new asked = slot_within eq input build write finish classes respects b name matches fed form k begun v c.machine c.table c.last
-      c.kept made c.taken c.put c.fresh r t x (all_there eq input build write finish classes respects b name matches fed form k begun v c.machine
-      c.table c.last c.kept made c.taken c.put c.fresh r (copies.Exchange (Slot t x) old new) asked)
+  try_low t x old new asked = slot_within eq input build write finish classes respects b name matches fed form k begun v c.machine c.table c.copier.last
+      c.copier.kept made c.taken c.put c.copier.fresh r t x (all_there eq input build write finish classes respects b name matches fed form k begun v c.machine
+      c.table c.copier.last c.copier.kept made c.taken c.put c.copier.fresh r (copies.Exchange (Slot t x) old new) asked)
 
   -- it may exchange what it asks for, but a link
   pub may_try : (at : At) (old new : ℕ) → ask_of c.machine ≡ asks.Copy (copies.Exchange at old new) → ((t : ℕ) → at ≡ Next t → ⊥)
-      → (log : List (Event K V S)) → IsPrefix v log → CanExchange eq hash b at (kind_of_ask c.machine) old new c.kept names.Nothing log
+      → (log : List (Event K V S)) → IsPrefix v log → CanExchange eq hash b at (kind_of_ask c.machine) old new c.copier.kept names.Nothing log
   may_try at old new asked other log pre = can_copy eq input build write finish classes respects b name matches fed form k begun v c.machine c.table
-      c.last c.kept made c.taken c.put c.fresh r at old new asked other log pre
+      c.copier.last c.copier.kept made c.taken c.put c.copier.fresh r at old new asked other log pre
 
   -- A copy that asks to link a table asks to link the one at hand, where none is linked yet.
   pub record IsLinking (t old new : ℕ) : Type 0 where
     pub none : old ≡ 0
     pub kind : kind_of_ask c.machine ≡ Some kinds.Link
-    pub fresh : IsFresh b name v new c.fresh
+    pub fresh : IsFresh b name v new c.copier.fresh
     pub chunks : ℕ
-    pub words : HasChunks c.fresh chunks
+    pub words : HasChunks c.copier.fresh chunks
     pub link : link_in c.machine.phase ≡ Some (links.Linking t new chunks)
 
   pub linking : (t old new : ℕ) → ask_of c.machine ≡ asks.Copy (copies.Exchange (Next t) old new) → IsLinking t old new
@@ -146,7 +146,7 @@ module _ {K V S H : Type 0} (eq : K → K → Bool) (input : K → List (List �
       }
 
   module _ (t old new : ℕ) (asked : ask_of c.machine ≡ asks.Copy (copies.Exchange (Next t) old new)) (table : Where Sheet) (seal : Pen)
-      (is : c.fresh ≡ Some (table, seal)) where
+      (is : c.copier.fresh ≡ Some (table, seal)) where
     -- it is this table, with this seal
     pub record IsReady : Type 0 where
       pub number_is : number_of table ≡ new
@@ -171,23 +171,23 @@ module _ {K V S H : Type 0} (eq : K → K → Bool) (input : K → List (List �
     pub may_link : (log : List (Event K V S)) → IsPrefix v log
         → CanExchange eq hash b (Next t) (Some kinds.Link) 0 (table.index + 1) None (names.Table table) log
     may_link log pre = let l = linking t old new asked in
-        can_link eq input build write finish classes respects b name matches fed form k begun v c.machine c.table c.last c.kept made c.taken c.put
-        c.fresh r t old new asked l.kind l.none l.chunks l.link l.words table seal is ready.number_is log pre
+        can_link eq input build write finish classes respects b name matches fed form k begun v c.machine c.table c.copier.last c.copier.kept made c.taken c.put
+        c.copier.fresh r t old new asked l.kind l.none l.chunks l.link l.words table seal is ready.number_is log pre
 
     -- with it no pair is marked
-    pub link_marks : c.last ≡ marked_or (kind_of_ask c.machine) None c.last
-    link_marks = sym (ap (λ (o : Option StepKind). marked_or o None c.last) (linking t old new asked).kind)
+    pub link_marks : c.copier.last ≡ marked_or (kind_of_ask c.machine) None c.copier.last
+    link_marks = sym (ap (λ (o : Option StepKind). marked_or o None c.copier.last) (linking t old new asked).kind)
 
     -- it was tried to be linked
     pub link_for : (seen : List (Event K V S)) → IsPrefix v seen → (found : ℕ) (log : List (Event K V S)) (state : Option (Named K V))
         → IsTried eq hash b (Next t) (Some kinds.Link) 0 (table.index + 1) None (names.Table table) seen found log state
-        → IsTriedFor eq hash b name (Next t) (kind_of_ask c.machine) old new c.kept c.fresh v found log None
+        → IsTriedFor eq hash b name (Next t) (kind_of_ask c.machine) old new c.copier.kept c.copier.fresh v found log None
     link_for seen pre found log state tried =
         let l = linking t old new asked in
-        subst (λ (o : Option StepKind). IsTriedFor eq hash b name (Next t) o old new c.kept c.fresh v found log None) (sym l.kind)
-        (subst (λ (n : ℕ). IsTriedFor eq hash b name (Next t) (Some kinds.Link) n new c.kept c.fresh v found log None) (sym l.none)
-        (subst (λ (n : ℕ). IsTriedFor eq hash b name (Next t) (Some kinds.Link) 0 n c.kept c.fresh v found log None) ready.number_is
-        (tried_link eq hash b name v seen pre t (table.index + 1) c.kept c.fresh table seal is found log state tried)))
+        subst (λ (o : Option StepKind). IsTriedFor eq hash b name (Next t) o old new c.copier.kept c.copier.fresh v found log None) (sym l.kind)
+        (subst (λ (n : ℕ). IsTriedFor eq hash b name (Next t) (Some kinds.Link) n new c.copier.kept c.copier.fresh v found log None) (sym l.none)
+        (subst (λ (n : ℕ). IsTriedFor eq hash b name (Next t) (Some kinds.Link) 0 n c.copier.kept c.copier.fresh v found log None) ready.number_is
+        (tried_link eq hash b name v seen pre t (table.index + 1) c.copier.kept c.copier.fresh table seal is found log state tried)))
 
 -- the same of a call whose machine stands within its tables
 module _ {K V S H : Type 0} (eq : K → K → Bool) (input : K → List (List ℕ)) (build : S → H) (write : H → List ℕ → H) (finish : H → ℕ)
@@ -199,10 +199,10 @@ module _ {K V S H : Type 0} (eq : K → K → Bool) (input : K → List (List �
   hashes = hash_of input build write finish
 
   abbrev Gs : List (Event K V S) → Rattle.papaya_law.specs.Exchange.Setting (Option K) (Stored K V)
-  Gs log = G eq input build write finish classes respects b name matches fed form k begun v c.machine c.table c.last c.kept made c.taken c.put c.fresh r log
+  Gs log = G eq input build write finish classes respects b name matches fed form k begun v c.machine c.table c.copier.last c.copier.kept made c.taken c.put c.copier.fresh r log
 
   abbrev Cs : Rattle.papaya_law.specs.Code.Coding (Option K) (Stored K V)
-  Cs = C eq input build write finish classes respects b name matches fed form k begun v c.machine c.table c.last c.kept made c.taken c.put c.fresh r
+  Cs = C eq input build write finish classes respects b name matches fed form k begun v c.machine c.table c.copier.last c.copier.kept made c.taken c.put c.copier.fresh r
 
   -- what the answer leaves
   abbrev Leaves : List (Event K V S) → Driver K V S H → Answer → Type 0
@@ -211,7 +211,7 @@ module _ {K V S H : Type 0} (eq : K → K → Bool) (input : K → List (List �
   -- what was true of the words before an exchange, or of all
   abbrev Tells : List (Event K V S) → (before log : List (Event K V S)) → IsPrefix before log → CopyAsk → Answer → (last kept : Option (Stored K V)) → Type 0
   Tells setting before log pre ask answer last kept = IsCopyTold (Gs setting) Cs (state_of before) (kind_of_ask c.machine) (follows_of c.machine)
-      (loaded_with c.last c.kept made) ask answer (exchanges_of pre.0) (loaded_with last kept made)
+      (loaded_with c.copier.last c.copier.kept made) ask answer (exchanges_of pre.0) (loaded_with last kept made)
 
   -- where a size was told, a table of so many slots has come
   abbrev IsSizeTold : List (Event K V S) → Answer → Type 0
@@ -219,37 +219,37 @@ module _ {K V S H : Type 0} (eq : K → K → Bool) (input : K → List (List �
 
   module _ (ask : CopyAsk) (asked : ask_of c.machine ≡ asks.Copy ask) (before : List (Event K V S)) (since : IsPrefix v before)
       (l₀ : IsLawfulLog eq hashes b before) (log : List (Event K V S)) (l : IsLawfulLog eq hashes b log) (pre : IsPrefix before log) (answer : Answer)
-      (words : answer ≡ answers.Call Exchanged → HasWords (Gs log) (link_in c.machine.phase)) (c' : Driver K V S H) (by : IsGivenBy answer c'.given.done)
-      (told : Tells log before log pre ask answer c'.last c'.kept) where
+      (words : answer ≡ answers.Call Exchanged → HasWords (Gs log) (link_in c.machine.phase)) (c' : Driver K V S H) (by : IsGivenBy answer c'.copier.given.done)
+      (told : Tells log before log pre ask answer c'.copier.last c'.copier.kept) where
     -- the call, with what it changed as before
-    answered : c'.taken ≡ c.taken → c'.put ≡ c.put → IsPlaced b (Some name) (pair_named c'.last) → IsPlaced b (Some name) (pair_named c'.kept)
-        → In (IsMadeLink (IsReadyAs b name log c'.fresh)) (link_in (after c.machine answer).phase) → IsSizeTold log answer → Leaves log c' answer
+    answered : c'.taken ≡ c.taken → c'.put ≡ c.put → IsPlaced b (Some name) (pair_named c'.copier.last) → IsPlaced b (Some name) (pair_named c'.copier.kept)
+        → In (IsMadeLink (IsReadyAs b name log c'.copier.fresh)) (link_in (after c.machine answer).phase) → IsSizeTold log answer → Leaves log c' answer
     answered taken put placed placed' hand size = record {
       relies = subst (λ (o : Option (Stored K V)).
-          IsSetAside eq hashes b name matches fed k begun log (after c.machine answer) c'.last c'.kept made o c'.put c'.fresh) (sym taken)
-          (subst (λ (o : Option (Stored K V)). IsSetAside eq hashes b name matches fed k begun log (after c.machine answer) c'.last c'.kept made
-          c.taken o c'.fresh) (sym put)
-          (copied eq input build write finish classes respects b name matches fed form k begun v c.machine c.table c.last c.kept made c.taken c.put
-          c.fresh r standing ask asked before since l₀ log l pre answer words c'.last c'.kept c'.fresh c'.given.done by told placed placed' hand size));
-      leads = leads eq input build write finish classes respects b name matches fed form k begun v c.machine c.table c.last c.kept made c.taken c.put
-          c.fresh r standing ask asked before since l₀ log l pre answer words c'.last c'.kept c'.fresh c'.given.done by told;
+          IsSetAside eq hashes b name matches fed k begun log (after c.machine answer) c'.copier.last c'.copier.kept made o c'.put c'.copier.fresh) (sym taken)
+          (subst (λ (o : Option (Stored K V)). IsSetAside eq hashes b name matches fed k begun log (after c.machine answer) c'.copier.last c'.copier.kept made
+          c.taken o c'.copier.fresh) (sym put)
+          (copied eq input build write finish classes respects b name matches fed form k begun v c.machine c.table c.copier.last c.copier.kept made c.taken c.put
+          c.copier.fresh r standing ask asked before since l₀ log l pre answer words c'.copier.last c'.copier.kept c'.copier.fresh c'.copier.given.done by told placed placed' hand size));
+      leads = leads eq input build write finish classes respects b name matches fed form k begun v c.machine c.table c.copier.last c.copier.kept made c.taken c.put
+          c.copier.fresh r standing ask asked before since l₀ log l pre answer words c'.copier.last c'.copier.kept c'.copier.fresh c'.copier.given.done by told;
     }
 
   -- the table at hand is as before where none was made or linked
   kept_hand : (ask : CopyAsk) → ask_of c.machine ≡ asks.Copy ask → (log : List (Event K V S)) → IsPrefix v log → (answer : Answer)
-      → ((n : ℕ) → answer ≡ answers.Call (Made_number n) → ⊥) → (c' : Driver K V S H) → c'.fresh ≡ c.fresh
-      → In (IsMadeLink (IsReadyAs b name log c'.fresh)) (link_in (after c.machine answer).phase)
+      → ((n : ℕ) → answer ≡ answers.Call (Made_number n) → ⊥) → (c' : Driver K V S H) → c'.copier.fresh ≡ c.copier.fresh
+      → In (IsMadeLink (IsReadyAs b name log c'.copier.fresh)) (link_in (after c.machine answer).phase)
   kept_hand ask asked log pre answer none c' same =
       subst (λ (o : Option (Where Sheet × Pen)). In (IsMadeLink (IsReadyAs b name log o)) (link_in (after c.machine answer).phase)) (sym same)
-      (same_hand eq input build write finish classes respects b name matches fed form k begun v c.machine c.table c.last c.kept made c.taken c.put
-      c.fresh r standing ask asked log pre answer none)
+      (same_hand eq input build write finish classes respects b name matches fed form k begun v c.machine c.table c.copier.last c.copier.kept made c.taken c.put
+      c.copier.fresh r standing ask asked log pre answer none)
 
   -- an answer with which nothing is exchanged
   module _ (ask : CopyAsk) (asked : ask_of c.machine ≡ asks.Copy ask) (log : List (Event K V S)) (l : IsLawfulLog eq hashes b log)
-      (pre : IsPrefix v log) (answer : Answer) (c' : Driver K V S H) (by : IsGivenBy answer c'.given.done)
-      (told : Tells log log log ([], append-nil log) ask answer c'.last c'.kept) where
-    quiet : c'.taken ≡ c.taken → c'.put ≡ c.put → c'.fresh ≡ c.fresh → IsPlaced b (Some name) (pair_named c'.last)
-        → IsPlaced b (Some name) (pair_named c'.kept) → (answer ≡ answers.Call Exchanged → ⊥) → ((n : ℕ) → answer ≡ answers.Call (Made_number n) → ⊥)
+      (pre : IsPrefix v log) (answer : Answer) (c' : Driver K V S H) (by : IsGivenBy answer c'.copier.given.done)
+      (told : Tells log log log ([], append-nil log) ask answer c'.copier.last c'.copier.kept) where
+    quiet : c'.taken ≡ c.taken → c'.put ≡ c.put → c'.copier.fresh ≡ c.copier.fresh → IsPlaced b (Some name) (pair_named c'.copier.last)
+        → IsPlaced b (Some name) (pair_named c'.copier.kept) → (answer ≡ answers.Call Exchanged → ⊥) → ((n : ℕ) → answer ≡ answers.Call (Made_number n) → ⊥)
         → IsSizeTold log answer → Leaves log c' answer
     quiet taken put fresh placed placed' still none size =
         answered ask asked log pre l log l ([], append-nil log) answer (λ e. absurd (still e)) c' by told taken put placed placed'
@@ -257,23 +257,23 @@ module _ {K V S H : Type 0} (eq : K → K → Bool) (input : K → List (List �
 
   -- a word was loaded
   pub as_loaded : (at : At) → ask_of c.machine ≡ asks.Copy (copies.Load at) → (log : List (Event K V S)) → IsPrefix v log
-      → (word : ℕ) (c' : Driver K V S H) → c' ≡ record c { last = c'.last } → IsLoadedFor eq hashes b name at word log c.last c'.last
+      → (word : ℕ) (c' : Driver K V S H) → c' ≡ record c { copier = record c.copier { last = c'.copier.last } } → IsLoadedFor eq hashes b name at word log c.copier.last c'.copier.last
       → Leaves log c' (answers.Call (Word_read word))
   as_loaded at asked log pre word c' rest is =
-      let here = word_there eq input build write finish classes respects b name matches fed form k begun v c.machine c.table c.last c.kept made
-      c.taken c.put c.fresh r log log at ∙ is.is in
+      let here = word_there eq input build write finish classes respects b name matches fed form k begun v c.machine c.table c.copier.last c.copier.kept made
+      c.taken c.put c.copier.fresh r log log at ∙ is.is in
       quiet (copies.Load at) asked log is.lawful pre (answers.Call (Word_read word)) c' tt
-      (ap (λ (n : ℕ). answers.Call (Word_read n)) (sym here), refl, (λ i. loaded_with (is.last_is i) ((ap (λ (d : Driver K V S H). d.kept) rest) i) made))
-      (ap (λ (d : Driver K V S H). d.taken) rest) (ap (λ (d : Driver K V S H). d.put) rest) (ap (λ (d : Driver K V S H). d.fresh) rest)
+      (ap (λ (n : ℕ). answers.Call (Word_read n)) (sym here), refl, (λ i. loaded_with (is.last_is i) ((ap (λ (d : Driver K V S H). d.copier.kept) rest) i) made))
+      (ap (λ (d : Driver K V S H). d.taken) rest) (ap (λ (d : Driver K V S H). d.put) rest) (ap (λ (d : Driver K V S H). d.copier.fresh) rest)
       (is.placed r.last_placed) (subst (λ (o : Option (Stored K V)). IsPlaced b (Some name) (pair_named o))
-      (sym (ap (λ (d : Driver K V S H). d.kept) rest)) r.kept_placed) (λ e. cc e) (λ n e. cc e) (λ slots limit e. absurd (cc e))
+      (sym (ap (λ (d : Driver K V S H). d.copier.kept) rest)) r.kept_placed) (λ e. cc e) (λ n e. cc e) (λ slots limit e. absurd (cc e))
 
   -- nothing of the call moved
-  still : (c' : Driver K V S H) → c' ≡ c → loaded_with c'.last c'.kept made ≡ loaded_with c.last c.kept made
-  still c' same = ap (λ (d : Driver K V S H). loaded_with d.last d.kept made) same
+  still : (c' : Driver K V S H) → c' ≡ c → loaded_with c'.copier.last c'.copier.kept made ≡ loaded_with c.copier.last c.copier.kept made
+  still c' same = ap (λ (d : Driver K V S H). loaded_with d.copier.last d.copier.kept made) same
 
   quiet_still : (ask : CopyAsk) → ask_of c.machine ≡ asks.Copy ask → (log : List (Event K V S)) → IsLawfulLog eq hashes b log → IsPrefix v log
-      → (answer : Answer) → IsGivenBy answer c.given.done → Tells log log log ([], append-nil log) ask answer c.last c.kept
+      → (answer : Answer) → IsGivenBy answer c.copier.given.done → Tells log log log ([], append-nil log) ask answer c.copier.last c.copier.kept
       → (answer ≡ answers.Call Exchanged → ⊥) → ((n : ℕ) → answer ≡ answers.Call (Made_number n) → ⊥) → IsSizeTold log answer → (c' : Driver K V S H)
       → c' ≡ c → Leaves log c' answer
   quiet_still ask asked log l pre answer by told still none size c' same = subst (λ (d : Driver K V S H). Leaves log d answer) (sym same)
@@ -309,111 +309,111 @@ module _ {K V S H : Type 0} (eq : K → K → Bool) (input : K → List (List �
 
   -- the pair last told of is carried
   pub hashed : (n : ℕ) → ask_of c.machine ≡ asks.Copy (copies.HashOf n) → (word : ℕ)
-      → ((p : Stored K V) → c.last ≡ Some p → word ≡ hashes b.hasher p.value.key.value) → (c' : Driver K V S H) → c' ≡ record c { kept = c'.kept }
-      → c'.kept ≡ c.last → Leaves v c' (answers.Hash word)
+      → ((p : Stored K V) → c.copier.last ≡ Some p → word ≡ hashes b.hasher p.value.key.value) → (c' : Driver K V S H) → c' ≡ record c { copier = record c.copier { kept = c'.copier.kept } }
+      → c'.copier.kept ≡ c.copier.last → Leaves v c' (answers.Hash word)
   hashed n asked word is c' rest carries =
       quiet (copies.HashOf n) asked v r.lawful ([], append-nil v) (answers.Hash word) c' tt
-      (λ p e number. ap answers.Hash (is p e), refl, (λ i. loaded_with ((ap (λ (d : Driver K V S H). d.last) rest) i) (carries i) made))
-      (ap (λ (d : Driver K V S H). d.taken) rest) (ap (λ (d : Driver K V S H). d.put) rest) (ap (λ (d : Driver K V S H). d.fresh) rest)
-      (subst (λ (o : Option (Stored K V)). IsPlaced b (Some name) (pair_named o)) (sym (ap (λ (d : Driver K V S H). d.last) rest)) r.last_placed)
+      (λ p e number. ap answers.Hash (is p e), refl, (λ i. loaded_with ((ap (λ (d : Driver K V S H). d.copier.last) rest) i) (carries i) made))
+      (ap (λ (d : Driver K V S H). d.taken) rest) (ap (λ (d : Driver K V S H). d.put) rest) (ap (λ (d : Driver K V S H). d.copier.fresh) rest)
+      (subst (λ (o : Option (Stored K V)). IsPlaced b (Some name) (pair_named o)) (sym (ap (λ (d : Driver K V S H). d.copier.last) rest)) r.last_placed)
       (subst (λ (o : Option (Stored K V)). IsPlaced b (Some name) (pair_named o)) (sym carries) r.last_placed) (λ e. cc e) (λ i e. cc e)
       (λ slots limit e. absurd (cc e))
 
   -- it was compared
   pub compared : (i n : ℕ) → ask_of c.machine ≡ asks.Copy (copies.SamePair i n) → (same : Bool)
-      → ((p q : Stored K V) → c.kept ≡ Some p → c.last ≡ Some q → same ≡ eq p.value.key.value q.value.key.value) → (c' : Driver K V S H) → c' ≡ c
+      → ((p q : Stored K V) → c.copier.kept ≡ Some p → c.copier.last ≡ Some q → same ≡ eq p.value.key.value q.value.key.value) → (c' : Driver K V S H) → c' ≡ c
       → Leaves v c' (answers.Call (Yes same))
   compared i n asked same is c' stays = quiet_still (copies.SamePair i n) asked v r.lawful ([], append-nil v) (answers.Call (Yes same)) tt
       (λ p q e first f second. ap (λ z. answers.Call (Yes z)) (is p q e f), (refl, refl)) (λ e. cc e) (λ j e. cc e) (λ slots limit e. absurd (cc e)) c' stays
 
   -- the count was summed
-  pub counted : ask_of c.machine ≡ asks.Copy copies.Count → (sum : ℕ) (c' : Driver K V S H) → c' ≡ record c { given = c'.given }
-      → c'.given.done ≡ Sum sum ∷ [] → Leaves v c' (answers.Count sum)
+  pub counted : ask_of c.machine ≡ asks.Copy copies.Count → (sum : ℕ) (c' : Driver K V S H) → c' ≡ record c { copier = record c.copier { given = c'.copier.given } }
+      → c'.copier.given.done ≡ Sum sum ∷ [] → Leaves v c' (answers.Count sum)
   counted asked sum c' rest given =
       quiet copies.Count asked v r.lawful ([], append-nil v) (answers.Count sum) c' given
-      ((sum, refl), (refl, ap (λ (d : Driver K V S H). loaded_with d.last d.kept made) rest))
-      (ap (λ (d : Driver K V S H). d.taken) rest) (ap (λ (d : Driver K V S H). d.put) rest) (ap (λ (d : Driver K V S H). d.fresh) rest)
-      (subst (λ (o : Option (Stored K V)). IsPlaced b (Some name) (pair_named o)) (sym (ap (λ (d : Driver K V S H). d.last) rest)) r.last_placed)
-      (subst (λ (o : Option (Stored K V)). IsPlaced b (Some name) (pair_named o)) (sym (ap (λ (d : Driver K V S H). d.kept) rest)) r.kept_placed)
+      ((sum, refl), (refl, ap (λ (d : Driver K V S H). loaded_with d.copier.last d.copier.kept made) rest))
+      (ap (λ (d : Driver K V S H). d.taken) rest) (ap (λ (d : Driver K V S H). d.put) rest) (ap (λ (d : Driver K V S H). d.copier.fresh) rest)
+      (subst (λ (o : Option (Stored K V)). IsPlaced b (Some name) (pair_named o)) (sym (ap (λ (d : Driver K V S H). d.copier.last) rest)) r.last_placed)
+      (subst (λ (o : Option (Stored K V)). IsPlaced b (Some name) (pair_named o)) (sym (ap (λ (d : Driver K V S H). d.copier.kept) rest)) r.kept_placed)
       (λ e. cc e) (λ i e. cc e) (λ slots limit e. absurd (cc e))
 
   module _ (slots limit chunks : ℕ) (asked : ask_of c.machine ≡ asks.Copy (copies.MakeTable slots limit chunks)) (log : List (Event K V S))
-      (l : IsLawfulLog eq hashes b log) (pre : IsPrefix v log) (c' : Driver K V S H) (rest : c' ≡ record c { fresh = c'.fresh; given = c'.given }) where
-    abbrev last_same : c'.last ≡ c.last
-    last_same = ap (λ (d : Driver K V S H). d.last) rest
+      (l : IsLawfulLog eq hashes b log) (pre : IsPrefix v log) (c' : Driver K V S H) (rest : c' ≡ record c { copier = record c.copier { fresh = c'.copier.fresh; given = c'.copier.given } }) where
+    abbrev last_same : c'.copier.last ≡ c.copier.last
+    last_same = ap (λ (d : Driver K V S H). d.copier.last) rest
 
-    abbrev kept_same : c'.kept ≡ c.kept
-    kept_same = ap (λ (d : Driver K V S H). d.kept) rest
+    abbrev kept_same : c'.copier.kept ≡ c.copier.kept
+    kept_same = ap (λ (d : Driver K V S H). d.copier.kept) rest
 
-    placed_last : IsPlaced b (Some name) (pair_named c'.last)
+    placed_last : IsPlaced b (Some name) (pair_named c'.copier.last)
     placed_last = subst (λ (o : Option (Stored K V)). IsPlaced b (Some name) (pair_named o)) (sym last_same) r.last_placed
 
-    placed_kept : IsPlaced b (Some name) (pair_named c'.kept)
+    placed_kept : IsPlaced b (Some name) (pair_named c'.copier.kept)
     placed_kept = subst (λ (o : Option (Stored K V)). IsPlaced b (Some name) (pair_named o)) (sym kept_same) r.kept_placed
 
     -- a table was made
-    pub tabled : (n : ℕ) → follows_of c.machine < n → IsReadyAs b name log c'.fresh n chunks → Leaves log c' (answers.Call (Made_number n))
+    pub tabled : (n : ℕ) → follows_of c.machine < n → IsReadyAs b name log c'.copier.fresh n chunks → Leaves log c' (answers.Call (Made_number n))
     tabled n past fresh =
         answered (copies.MakeTable slots limit chunks) asked log pre l log l ([], append-nil log) (answers.Call (Made_number n)) (λ e. absurd (cc e))
-        c' tt (inr (n, past, refl), (refl, ap (λ (d : Driver K V S H). loaded_with d.last d.kept made) rest))
+        c' tt (inr (n, past, refl), (refl, ap (λ (d : Driver K V S H). loaded_with d.copier.last d.copier.kept made) rest))
         (ap (λ (d : Driver K V S H). d.taken) rest) (ap (λ (d : Driver K V S H). d.put) rest) placed_last placed_kept
-        (new_hand eq input build write finish classes respects b name matches fed form k begun v c.machine c.table c.last c.kept made c.taken c.put
-        c.fresh r standing (copies.MakeTable slots limit chunks) asked log slots limit chunks refl c'.fresh n fresh) (λ many least e. absurd (cc e))
+        (new_hand eq input build write finish classes respects b name matches fed form k begun v c.machine c.table c.copier.last c.copier.kept made c.taken c.put
+        c.copier.fresh r standing (copies.MakeTable slots limit chunks) asked log slots limit chunks refl c'.copier.fresh n fresh) (λ many least e. absurd (cc e))
 
     -- or it was refused
-    pub unmade : (refused : Refused) → (refused ≡ Memory) ⊎ ((refused ≡ Capacity) × IsFull c'.given.done) → c'.fresh ≡ c.fresh
+    pub unmade : (refused : Refused) → (refused ≡ Memory) ⊎ ((refused ≡ Capacity) × IsFull c'.copier.given.done) → c'.copier.fresh ≡ c.copier.fresh
         → Leaves log c' (answers.Call (Was_refused refused))
     unmade refused why same =
         quiet (copies.MakeTable slots limit chunks) asked log l pre (answers.Call (Was_refused refused)) c' why
-        (inl (refused, refl), (refl, ap (λ (d : Driver K V S H). loaded_with d.last d.kept made) rest))
+        (inl (refused, refl), (refl, ap (λ (d : Driver K V S H). loaded_with d.copier.last d.copier.kept made) rest))
         (ap (λ (d : Driver K V S H). d.taken) rest) (ap (λ (d : Driver K V S H). d.put) rest) same placed_last placed_kept (λ e. cc e) (λ i e. cc e)
         (λ many least e. absurd (cc e))
 
   module _ (at : At) (old new : ℕ) (asked : ask_of c.machine ≡ asks.Copy (copies.Exchange at old new)) (found : ℕ) (log : List (Event K V S))
-      (pair : Option (Stored K V)) (t : IsTriedFor eq hashes b name at (kind_of_ask c.machine) old new c.kept c.fresh v found log pair)
+      (pair : Option (Stored K V)) (t : IsTriedFor eq hashes b name at (kind_of_ask c.machine) old new c.copier.kept c.copier.fresh v found log pair)
       (c' : Driver K V S H) where
-    placed_marked : IsPlaced b (Some name) (pair_named (marked_or (kind_of_ask c.machine) pair c.last))
+    placed_marked : IsPlaced b (Some name) (pair_named (marked_or (kind_of_ask c.machine) pair c.copier.last))
     placed_marked = by_kind (kind_of_ask c.machine)
       where
-        by_kind : (kind : Option Rattle.papaya_ask.specs.declared.ask.StepKind.StepKind) → IsPlaced b (Some name) (pair_named (marked_or kind pair c.last))
+        by_kind : (kind : Option Rattle.papaya_ask.specs.declared.ask.StepKind.StepKind) → IsPlaced b (Some name) (pair_named (marked_or kind pair c.copier.last))
         by_kind (Some Rattle.papaya_ask.specs.declared.ask.StepKind.TheVariants.Mark) = t.placed
         by_kind other = r.last_placed
 
-    abbrev placed_carried : c'.kept ≡ c.kept → IsPlaced b (Some name) (pair_named c'.kept)
+    abbrev placed_carried : c'.copier.kept ≡ c.copier.kept → IsPlaced b (Some name) (pair_named c'.copier.kept)
     placed_carried same = subst (λ (o : Option (Stored K V)). IsPlaced b (Some name) (pair_named o)) (sym same) r.kept_placed
 
     -- an exchange was made
-    pub exchanged : (found == old) ≡ true → c'.taken ≡ c.taken → c'.put ≡ c.put → c'.kept ≡ c.kept → c'.last ≡ marked_or (kind_of_ask c.machine) pair c.last
-        → In (IsMadeLink (IsReadyAs b name log c'.fresh)) (link_in (after c.machine (answers.Call Exchanged)).phase) → Leaves log c' (answers.Call Exchanged)
+    pub exchanged : (found == old) ≡ true → c'.taken ≡ c.taken → c'.put ≡ c.put → c'.copier.kept ≡ c.copier.kept → c'.copier.last ≡ marked_or (kind_of_ask c.machine) pair c.copier.last
+        → In (IsMadeLink (IsReadyAs b name log c'.copier.fresh)) (link_in (after c.machine (answers.Call Exchanged)).phase) → Leaves log c' (answers.Call Exchanged)
     exchanged is taken put carried marked hand =
-        let g = grown eq input build write finish classes respects b name matches fed form k begun v c.machine c.table c.last c.kept made c.taken
-        c.put c.fresh r at old new asked found log pair t is in
+        let g = grown eq input build write finish classes respects b name matches fed form k begun v c.machine c.table c.copier.last c.copier.kept made c.taken
+        c.put c.copier.fresh r at old new asked found log pair t is in
         answered (copies.Exchange at old new) asked t.before t.since t.lawful log t.now g.0 (answers.Call Exchanged)
-        (λ e. linked_words eq input build write finish classes respects b name matches fed form k begun v c.machine c.table c.last c.kept made
-        c.taken c.put c.fresh r at old new asked found log pair t is) c' tt
-        (subst (λ (o : Option (Stored K V)). Tells log t.before log g.0 (copies.Exchange at old new) (answers.Call Exchanged) o c'.kept) (sym marked)
+        (λ e. linked_words eq input build write finish classes respects b name matches fed form k begun v c.machine c.table c.copier.last c.copier.kept made
+        c.taken c.put c.copier.fresh r at old new asked found log pair t is) c' tt
+        (subst (λ (o : Option (Stored K V)). Tells log t.before log g.0 (copies.Exchange at old new) (answers.Call Exchanged) o c'.copier.kept) (sym marked)
         (subst (λ (o : Option (Stored K V)). Tells log t.before log g.0 (copies.Exchange at old new) (answers.Call Exchanged)
-        (marked_or (kind_of_ask c.machine) pair c.last) o) (sym carried) g.1))
+        (marked_or (kind_of_ask c.machine) pair c.copier.last) o) (sym carried) g.1))
         taken put (subst (λ (o : Option (Stored K V)). IsPlaced b (Some name) (pair_named o)) (sym marked) placed_marked) (placed_carried carried)
         hand (λ slots limit e. absurd (cc e))
 
     -- or it was lost
-    pub beaten : (found == old) ≡ false → c'.taken ≡ c.taken → c'.put ≡ c.put → c'.kept ≡ c.kept → c'.last ≡ or_last pair c.last
-        → In (IsMadeLink (IsReadyAs b name log c'.fresh)) (link_in (after c.machine (answers.Call (Found_instead found))).phase)
+    pub beaten : (found == old) ≡ false → c'.taken ≡ c.taken → c'.put ≡ c.put → c'.copier.kept ≡ c.copier.kept → c'.copier.last ≡ or_last pair c.copier.last
+        → In (IsMadeLink (IsReadyAs b name log c'.copier.fresh)) (link_in (after c.machine (answers.Call (Found_instead found))).phase)
         → Leaves log c' (answers.Call (Found_instead found))
     beaten is taken put carried told hand =
-        let g = lost eq input build write finish classes respects b name matches fed form k begun v c.machine c.table c.last c.kept made c.taken c.put
-        c.fresh r at old new asked found log pair t is in
+        let g = lost eq input build write finish classes respects b name matches fed form k begun v c.machine c.table c.copier.last c.copier.kept made c.taken c.put
+        c.copier.fresh r at old new asked found log pair t is in
         answered (copies.Exchange at old new) asked t.before t.since t.lawful log t.now g.0 (answers.Call (Found_instead found)) (λ e. absurd (cc e)) c' tt
-        (subst (λ (o : Option (Stored K V)). Tells log t.before log g.0 (copies.Exchange at old new) (answers.Call (Found_instead found)) o c'.kept) (sym told)
+        (subst (λ (o : Option (Stored K V)). Tells log t.before log g.0 (copies.Exchange at old new) (answers.Call (Found_instead found)) o c'.copier.kept) (sym told)
         (subst (λ (o : Option (Stored K V)). Tells log t.before log g.0 (copies.Exchange at old new) (answers.Call (Found_instead found))
-        (or_last pair c.last) o) (sym carried) g.1))
+        (or_last pair c.copier.last) o) (sym carried) g.1))
         taken put (subst (λ (o : Option (Stored K V)). IsPlaced b (Some name) (pair_named o)) (sym told)
-        (placed_or b name pair c.last t.placed r.last_placed)) (placed_carried carried) hand (λ slots limit e. absurd (cc e))
+        (placed_or b name pair c.copier.last t.placed r.last_placed)) (placed_carried carried) hand (λ slots limit e. absurd (cc e))
 
     -- the table at hand is as before
-    pub hand_kept : (told : Call_answer) → ((n : ℕ) → told ≡ Made_number n → ⊥) → IsPrefix v log → c'.fresh ≡ c.fresh
-        → In (IsMadeLink (IsReadyAs b name log c'.fresh)) (link_in (after c.machine (answers.Call told)).phase)
+    pub hand_kept : (told : Call_answer) → ((n : ℕ) → told ≡ Made_number n → ⊥) → IsPrefix v log → c'.copier.fresh ≡ c.copier.fresh
+        → In (IsMadeLink (IsReadyAs b name log c'.copier.fresh)) (link_in (after c.machine (answers.Call told)).phase)
     hand_kept told none pre same = kept_hand (copies.Exchange at old new) asked log pre (answers.Call told)
         (λ n e. let f : told ≡ Made_number n = cc e in none n f) c' same
 

@@ -33,8 +33,8 @@ use Rattle.papaya_change.specs.declared.copier.Copier.{Copier}
 use Rattle.papaya_change.specs.declared.driver.Driver.{Driver}
 use Rattle.papaya_change.specs.Changing.{IsDriven, IsForm, IsReadyAs}
 use Rattle.papaya_change.specs.Copier.{AnswersExchange, AnswersTo, CanAnswerTo, CanExchangeFor}
-use Rattle.papaya_change.specs.Copier.{HasMade, IsHandLeft, IsReached, copier_of, marked_or}
-use Rattle.papaya_change.specs.Copier.{with_copier}
+use Rattle.papaya_change.specs.Copier.{HasMade, IsHandLeft, IsReached, marked_or}
+use Rattle.papaya_change.specs.Going.{with_copier}
 use Rattle.papaya_change.specs.Helping.{HasCopied, IsTriedFor}
 use Rattle.papaya_change.proofs.HelpingAnswers.{as_loaded, beaten, compared, counted, exchanged}
 use Rattle.papaya_change.proofs.HelpingAnswers.{follows_came, hand_kept, hand_tried, hashed, hinted}
@@ -52,15 +52,15 @@ module _ {K V S H : Type 0} (eq : K → K → Bool) (input : K → List (List �
   hash = hash_of input build write finish
 
   abbrev there : (ask : CopyAsk) → ask_of c.machine ≡ asks.Copy ask
-      → AreThere (G eq input build write finish classes respects b name matches fed form k begun v c.machine c.table c.last c.kept made c.taken c.put
-      c.fresh r v) (C eq input build write finish classes respects b name matches fed form k begun v c.machine c.table c.last c.kept made c.taken c.put
-      c.fresh r) (state_of v) c.last c.kept ask
-  there = all_there eq input build write finish classes respects b name matches fed form k begun v c.machine c.table c.last c.kept made c.taken c.put c.fresh r
+      → AreThere (G eq input build write finish classes respects b name matches fed form k begun v c.machine c.table c.copier.last c.copier.kept made c.taken c.put
+      c.copier.fresh r v) (C eq input build write finish classes respects b name matches fed form k begun v c.machine c.table c.copier.last c.copier.kept made c.taken c.put
+      c.copier.fresh r) (state_of v) c.copier.last c.copier.kept ask
+  there = all_there eq input build write finish classes respects b name matches fed form k begun v c.machine c.table c.copier.last c.copier.kept made c.taken c.put c.copier.fresh r
 
   -- where a word is named, its table has come
-  reached : (at : At) → IsThere (G eq input build write finish classes respects b name matches fed form k begun v c.machine c.table c.last c.kept made
-      c.taken c.put c.fresh r v) (C eq input build write finish classes respects b name matches fed form k begun v c.machine c.table c.last c.kept made
-      c.taken c.put c.fresh r) (state_of v) c.last c.kept at → IsReached v at
+  reached : (at : At) → IsThere (G eq input build write finish classes respects b name matches fed form k begun v c.machine c.table c.copier.last c.copier.kept made
+      c.taken c.put c.copier.fresh r v) (C eq input build write finish classes respects b name matches fed form k begun v c.machine c.table c.copier.last c.copier.kept made
+      c.taken c.put c.copier.fresh r) (state_of v) c.copier.last c.copier.kept at → IsReached v at
   reached Root is = tt
   reached (Next t) is = chain_came v t is
   reached (Aborted t) is = chain_came v t is
@@ -73,18 +73,18 @@ module _ {K V S H : Type 0} (eq : K → K → Bool) (input : K → List (List �
   reached Made_word is = absurd is
 
   abbrev Can : CopyAsk → Type 0
-  Can ask = CanAnswerTo eq hash b name ask (kind_of_ask c.machine) (follows_of c.machine) v (copier_of c)
+  Can ask = CanAnswerTo eq hash b name ask (kind_of_ask c.machine) (follows_of c.machine) v c.copier
 
   can_exchange : (at : At) (old new : ℕ) → ask_of c.machine ≡ asks.Copy (copies.Exchange at old new)
-      → CanExchangeFor eq hash b name at (kind_of_ask c.machine) old new v (copier_of c)
+      → CanExchangeFor eq hash b name at (kind_of_ask c.machine) old new v c.copier
   can_exchange (Next t) old new asked =
       let l = linking eq input build write finish classes respects b name matches fed form k begun made v c r t old new asked in (
         record {
           come = try_came eq input build write finish classes respects b name matches fed form k begun made v c r (Next t) old new asked;
           fresh = l.fresh;
           can = λ w seal is.
-              can_link eq input build write finish classes respects b name matches fed form k begun v c.machine c.table c.last c.kept made c.taken
-              c.put c.fresh r t old new asked l.kind l.none l.chunks l.link l.words w seal is
+              can_link eq input build write finish classes respects b name matches fed form k begun v c.machine c.table c.copier.last c.copier.kept made c.taken
+              c.put c.copier.fresh r t old new asked l.kind l.none l.chunks l.link l.words w seal is
               (ready eq input build write finish classes respects b name matches fed form k begun made v c r t old new asked w seal is).number_is v
               ([], append-nil v);
         },
@@ -121,7 +121,7 @@ module _ {K V S H : Type 0} (eq : K → K → Bool) (input : K → List (List �
       fit = (
         reached (Slot t x) (there (copies.WriteHint t x n) asked),
         may_note eq input build write finish classes respects b name matches fed form k
-            begun v c.machine c.table c.last c.kept made c.taken c.put c.fresh r t x n asked,
+            begun v c.machine c.table c.copier.last c.copier.kept made c.taken c.put c.copier.fresh r t x n asked,
       )
   can_answer (copies.SizeOf t) asked fit = size_came eq input build write finish classes respects b name matches fed form k begun made v c r t asked
   can_answer (copies.HashOf n) asked fit = let p = there (copies.HashOf n) asked in record { some = (p.0, p.1); placed = r.last_placed }
@@ -140,7 +140,7 @@ module _ {K V S H : Type 0} (eq : K → K → Bool) (input : K → List (List �
     Leaves l answer = HasCopied eq hash b name matches fed k begun made l c c' answer
 
     module _ (at : At) (old new : ℕ) (asked : ask_of c.machine ≡ asks.Copy (copies.Exchange at old new)) (found : ℕ) (pair : Option (Stored K V))
-        (t : IsTriedFor eq hash b name at (kind_of_ask c.machine) old new c.kept c.fresh v found log pair) where
+        (t : IsTriedFor eq hash b name at (kind_of_ask c.machine) old new c.copier.kept c.copier.fresh v found log pair) where
       -- the table at hand, after an exchange was tried
       abbrev Hand : Call_answer → Type 0
       Hand told = In (IsMadeLink (IsReadyAs b name log h.fresh)) (link_in (after c.machine (answers.Call told)).phase)
@@ -149,11 +149,11 @@ module _ {K V S H : Type 0} (eq : K → K → Bool) (input : K → List (List �
       not_made told (inl is) n e = let f : Exchanged ≡ Made_number n = sym is ∙ e in cc f
       not_made told (inr (word, is)) n e = let f : Found_instead word ≡ Made_number n = sym is ∙ e in cc f
 
-      stays : (told : Call_answer) → (told ≡ Exchanged) ⊎ ((word : ℕ) × (told ≡ Found_instead word)) → h.fresh ≡ c.fresh → Hand told
+      stays : (told : Call_answer) → (told ≡ Exchanged) ⊎ ((word : ℕ) × (told ≡ Found_instead word)) → h.fresh ≡ c.copier.fresh → Hand told
       stays told is same = hand_kept eq input build write finish classes respects b name matches fed form k begun made v c r standing at old new asked
           found log pair t c' told (not_made told is) pre same
 
-      hand : (place : At) → at ≡ place → IsHandLeft place c.fresh h.fresh → (told : Call_answer) → (told ≡ Exchanged)
+      hand : (place : At) → at ≡ place → IsHandLeft place c.copier.fresh h.fresh → (told : Call_answer) → (told ≡ Exchanged)
           ⊎ ((word : ℕ) × (told ≡ Found_instead word)) → Hand told
       hand (Next i) e left told is = hand_tried eq input build write finish classes respects b name matches fed form k begun made v c r standing i old
           new (asked ∙ ap (λ (a : At). asks.Copy (copies.Exchange a old new)) e) log h.fresh told is
@@ -163,8 +163,8 @@ module _ {K V S H : Type 0} (eq : K → K → Bool) (input : K → List (List �
       hand (Slot i x) e left told is = stays told is left
       hand Made_word e left told is = stays told is left
 
-      ended : (z : Bool) → (found == old) ≡ z → h.kept ≡ c.kept
-          → MatchBool z (h.last ≡ marked_or (kind_of_ask c.machine) pair c.last) (h.last ≡ or_last pair c.last) → IsHandLeft at c.fresh h.fresh
+      ended : (z : Bool) → (found == old) ≡ z → h.kept ≡ c.copier.kept
+          → MatchBool z (h.last ≡ marked_or (kind_of_ask c.machine) pair c.copier.last) (h.last ≡ or_last pair c.copier.last) → IsHandLeft at c.copier.fresh h.fresh
           → Leaves log (if z then answers.Call Exchanged else answers.Call (Found_instead found))
       ended true is kept last left = exchanged eq input build write finish classes respects b name matches fed form k begun made v c r standing at old
           new asked found log pair t c' is refl refl kept last (hand at refl left Exchanged (inl refl))
@@ -172,13 +172,13 @@ module _ {K V S H : Type 0} (eq : K → K → Bool) (input : K → List (List �
           new asked found log pair t c' is refl refl kept last (hand at refl left (Found_instead found) (inr (found, refl)))
 
     tried_on : (at : At) (old new : ℕ) → ask_of c.machine ≡ asks.Copy (copies.Exchange at old new) → (answer : Answer)
-        → AnswersExchange eq hash b name at (kind_of_ask c.machine) old new v (copier_of c) log h answer → Leaves log answer
+        → AnswersExchange eq hash b name at (kind_of_ask c.machine) old new v c.copier log h answer → Leaves log answer
     tried_on at old new asked answer a = subst (Leaves log) (sym a.is)
         (ended at old new asked a.found a.tried.pair a.tried.tried (a.found == old) refl (ap (λ (z : Copier K V S H). z.kept) a.rest) a.tried.last_is a.hand)
 
     -- each answer leaves the call relying on what holds
     pub copied : (ask : CopyAsk) → ask_of c.machine ≡ asks.Copy ask → (answer : Answer)
-        → AnswersTo eq hash b name ask (kind_of_ask c.machine) (follows_of c.machine) v (copier_of c) log h answer → Leaves log answer
+        → AnswersTo eq hash b name ask (kind_of_ask c.machine) (follows_of c.machine) v c.copier log h answer → Leaves log answer
     copied (copies.Load at) asked answer a = subst (Leaves log) (sym a.is)
         (as_loaded eq input build write finish classes respects b name matches fed form k begun made v c r standing at asked log pre a.word c'
         (ap (with_copier c) a.rest) a.as_loaded)
@@ -210,7 +210,7 @@ module _ {K V S H : Type 0} (eq : K → K → Bool) (input : K → List (List �
         subst (Leaves log) (sym y.1) (tabled eq input build write finish classes respects b name matches fed form k begun made v c r standing slots
         limit chunks asked log a.lawful pre c' (ap (with_copier c) a.rest) y.0 y.2.past (y.2.fresh, y.2.words)))
         (λ (n : (refused : Refused) × (answer ≡ answers.Call (Was_refused refused))
-        × ((refused ≡ Memory) ⊎ ((refused ≡ Capacity) × IsFull h.given.done)) × (h.fresh ≡ c.fresh)).
+        × ((refused ≡ Memory) ⊎ ((refused ≡ Capacity) × IsFull h.given.done)) × (h.fresh ≡ c.copier.fresh)).
         subst (Leaves log) (sym n.1) (unmade eq input build write finish classes respects b name matches fed form k begun made v c r standing slots
         limit chunks asked log a.lawful pre c' (ap (with_copier c) a.rest) n.0 n.2 n.3))
         a.makes

@@ -61,19 +61,19 @@ module _ {K V S H : Type 0} (eq : K → K → Bool) (input : K → List (List �
     -- the table in which it is to look has come
     pub come_now : (n : ℕ) → IsEntering m n → HasCome log n
     come_now n is = entering_came eq input build write finish classes respects b name can.0 can.1 can.2 can.3 can.4 log (after c.machine answer)
-        c₁.last c₁.kept can.5 c₁.taken c₁.put c₁.fresh copied_now.relies n (to n is)
+        c₁.copier.last c₁.copier.kept can.5 c₁.taken c₁.put c₁.copier.fresh copied_now.relies n (to n is)
 
     -- then it may have entered a table
     module _ (c₂ : Driver K V S H) (is : c₂ ≡ record c₁ { machine = m; table = c₂.table }) where
       -- it is one answer further
       pub reached_now : (was : Machine) (tables : List ℕ) (given : List CapacityCause) → HasReached c₀.machine was tables given → (ask : CopyAsk)
           → ask_of was ≡ Copy ask → c.machine.call ≡ was.call → (log' : List (Event K V S)) → IsPrefix log log'
-          → HasReached c₀.machine c₂.machine (tables_of log') c₂.given.done
+          → HasReached c₀.machine c₂.machine (tables_of log') c₂.copier.given.done
       reached_now was tables given reached ask asked same log' pre' =
-          subst (λ (z : Driver K V S H). HasReached c₀.machine z.machine (tables_of log') z.given.done) (sym is)
-          (subst (λ (z : Machine). HasReached c₀.machine z (tables_of log') c₁.given.done) (sym goes_to)
-          (reached_since c₀.machine (after c.machine answer) (tables_of log) (tables_of log') c₁.given.done (tables_since log log' pre')
-          (reached_past c₀.machine was c.machine (after c.machine answer) tables (tables_of log) given c₁.given.done reached (busy was ask asked) same
+          subst (λ (z : Driver K V S H). HasReached c₀.machine z.machine (tables_of log') z.copier.given.done) (sym is)
+          (subst (λ (z : Machine). HasReached c₀.machine z (tables_of log') c₁.copier.given.done) (sym goes_to)
+          (reached_since c₀.machine (after c.machine answer) (tables_of log) (tables_of log') c₁.copier.given.done (tables_since log log' pre')
+          (reached_past c₀.machine was c.machine (after c.machine answer) tables (tables_of log) given c₁.copier.given.done reached (busy was ask asked) same
           copied_now.leads)))
 
       -- and holds that table
@@ -87,8 +87,8 @@ module _ {K V S H : Type 0} (eq : K → K → Bool) (input : K → List (List �
           (sym (is ∙ ap (λ (z : Machine). record c₁ { machine = z; table = c₂.table }) goes_to))
           (λ matches fed form k begun made r.
           let now = goes matches fed form k begun made r in let moved = copies matches fed form k begun made now in
-          arrived eq input build write finish classes respects b name matches fed form k begun log (after c.machine answer) c₁.last c₁.kept made
-          c₁.taken c₁.put c₁.fresh moved.relies v c.machine c.table c.last c.kept c.taken c.put c.fresh now (tables_of log) c₁.given.done
+          arrived eq input build write finish classes respects b name matches fed form k begun log (after c.machine answer) c₁.copier.last c₁.copier.kept made
+          c₁.taken c₁.put c₁.copier.fresh moved.relies v c.machine c.table c.copier.last c.copier.kept c.taken c.put c.copier.fresh now (tables_of log) c₁.copier.given.done
           moved.leads pre log' pre' l' c₂.table held' still')
 
 -- a machine that does not ask for a copy asks for its call

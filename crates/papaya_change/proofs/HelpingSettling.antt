@@ -19,7 +19,6 @@ use Rattle.papaya_book.specs.Logs.{Stored}
 use Rattle.papaya_change.specs.declared.copier.Copier.{Copier}
 use Rattle.papaya_change.specs.declared.driver.Driver.{Driver}
 use Rattle.papaya_change.specs.Changing.{CanGoOn, GoesOn, IsDriven, IsForm}
-use Rattle.papaya_change.specs.Copier.{copier_of, with_copier}
 use Rattle.papaya_change.specs.Helping.{Copies, HasCopied, IsEntering}
 use Rattle.papaya_change.specs.Settling.{AnswersAt, CanAnswerAt, CanLead, Ends, IsPath, IsTurn, Leads, Stop}
 use Rattle.papaya_change.proofs.HelpingArrives.{arrived}
@@ -28,7 +27,7 @@ use Rattle.papaya_change.proofs.ResizingStages.{stage_fits}
 
 -- the call, as its copy stands here
 abbrev pub driver_at : {K V S H : Type 0} → Driver K V S H → Stop K V S H → Driver K V S H
-driver_at c s = record (with_copier c s.loaded) { machine = record c.machine { phase = Copying_root s.copying } }
+driver_at c s = record c { machine = record c.machine { phase = Copying_root s.copying }; copier = s.loaded }
 
 -- a machine whose copy stands there
 pub standing_at : {K V S H : Type 0} (c : Driver K V S H) (s : Stop K V S H) → IsStanding c.machine → IsStandingCopying s.copying

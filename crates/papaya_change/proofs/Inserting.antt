@@ -100,10 +100,10 @@ module _ {K V S H : Type 0} (eq : K → K → Bool) (input : K → List (List �
     -- it goes on, where it makes no pair, and puts in no other value
     kept : (log' : List (Event K V S)) → IsPrefix log log' → (w : Writer K V S H) (answer : Answer) → w.call.machine ≡ m
         → ((v : V) → held_value w.value ≡ Some v → v ≡ value) → ((q : Stored K V) → w.call.put ≡ Some q → q.value.value ≡ value) → IsStanding m
-        → m.phase ≡ Calling → IsOpen → IsUnpairing answer → TellsTaken log' (calls.ask_of m.call) answer → IsUnsaid w.call.given.done answer
+        → m.phase ≡ Calling → IsOpen → IsUnpairing answer → TellsTaken log' (calls.ask_of m.call) answer → IsUnsaid w.call.copier.given.done answer
         → IsWritingOn eq hash b name key r.made begun log' w answer → IsInsertingOn eq hash b name key value begun log' (record x { writer = w }) (Some answer)
     kept log' pre w answer machine left put standing calling open_still unpairing tells unsaid on =
-        let given = w.call.given.done in
+        let given = w.call.copier.given.done in
         let next : Machine = after w.call.machine (answers.Call answer) in
         let same : next ≡ after m (answers.Call answer) = ap (λ (z : Machine). after z (answers.Call answer)) machine in
         let keeps = keeps_then m calling answer unpairing in
@@ -132,7 +132,7 @@ module _ {K V S H : Type 0} (eq : K → K → Bool) (input : K → List (List �
     -- so it does after an answer that leaves its value and what it put in
     pub goes_on : (log' : List (Event K V S)) → IsPrefix log log' → (w : Writer K V S H) (answer : Answer) → w.call.machine ≡ m
         → w.value ≡ x.writer.value → w.call.put ≡ x.writer.call.put → IsStanding m → m.phase ≡ Calling → IsOpen → IsUnpairing answer
-        → TellsTaken log' (calls.ask_of m.call) answer → IsUnsaid w.call.given.done answer
+        → TellsTaken log' (calls.ask_of m.call) answer → IsUnsaid w.call.copier.given.done answer
         → IsWritingOn eq hash b name key r.made begun log' w answer → IsInsertingOn eq hash b name key value begun log' (record x { writer = w }) (Some answer)
     goes_on log' pre w answer machine left put standing calling open_still unpairing tells unsaid on = kept log' pre w answer machine
         (λ v e. r.value_is v (ap held_value (sym left) ∙ e)) (λ q e. r.put_is q (sym put ∙ e)) standing calling open_still unpairing tells unsaid on
@@ -140,7 +140,7 @@ module _ {K V S H : Type 0} (eq : K → K → Bool) (input : K → List (List �
     -- the pair was not logged
     pub pair_unmade : (w : Writer K V S H) (answer : Answer) → w.call.machine ≡ m → held_value w.value ≡ held_value x.writer.value
         → w.call.put ≡ x.writer.call.put → IsStanding m → m.phase ≡ Calling → IsOpen → IsUnpairing answer → TellsTaken log (calls.ask_of m.call) answer
-        → IsUnsaid w.call.given.done answer
+        → IsUnsaid w.call.copier.given.done answer
         → IsWritingOn eq hash b name key r.made begun log w answer → IsInsertingOn eq hash b name key value begun log (record x { writer = w }) (Some answer)
     pair_unmade w answer machine left put standing calling open_still unpairing tells unsaid on =
         kept log ([], append-nil log) w answer machine (λ v e. r.value_is v (sym left ∙ e)) (λ q e. r.put_is q (sym put ∙ e)) standing calling
@@ -149,7 +149,7 @@ module _ {K V S H : Type 0} (eq : K → K → Bool) (input : K → List (List �
     -- a pair of its value was tried to be put in
     pub pair_tried : (log' : List (Event K V S)) → IsPrefix log log' → (w : Writer K V S H) (answer : Answer) (q : Stored K V) → q.value.value ≡ value
         → w.call.machine ≡ m → w.value ≡ x.writer.value → (w.call.put ≡ x.writer.call.put) ⊎ (w.call.put ≡ Some q) → IsStanding m → m.phase ≡ Calling
-        → IsOpen → IsUnpairing answer → TellsTaken log' (calls.ask_of m.call) answer → IsUnsaid w.call.given.done answer
+        → IsOpen → IsUnpairing answer → TellsTaken log' (calls.ask_of m.call) answer → IsUnsaid w.call.copier.given.done answer
         → IsWritingOn eq hash b name key r.made begun log' w answer → IsInsertingOn eq hash b name key value begun log' (record x { writer = w }) (Some answer)
     pair_tried log' pre w answer q value_is machine left put standing calling open_still unpairing tells unsaid on =
         kept log' pre w answer machine (λ v e. r.value_is v (ap held_value (sym left) ∙ e))
@@ -158,7 +158,7 @@ module _ {K V S H : Type 0} (eq : K → K → Bool) (input : K → List (List �
         put) standing calling open_still unpairing tells unsaid on
 
     abbrev loaded : LoadedPairs (Stored K V)
-    loaded = record { last = x.writer.call.last; made = r.made }
+    loaded = record { last = x.writer.call.copier.last; made = r.made }
 
     abbrev g : Setting (Option K) (Stored K V)
     g = setting_for eq hash b (eq key) (hash b.hasher key) log
@@ -218,8 +218,8 @@ module _ {K V S H : Type 0} (eq : K → K → Bool) (input : K → List (List �
               put_is = λ p e. r.put_is p (sym put ∙ e);
               refuses = λ cause e. refused IsMemoryCapacityOrLimit (Made_number n) standing calling open_still (none IsMemoryCapacityOrLimit)
                   (λ over. inr refl) cause (ap ask_of (sym same) ∙ e);
-              crowded = λ e. refused (λ cause. cause ≡ Capacity → HasNoRoom next.call.initial (tables_of log) w.call.given.done) (Made_number n)
-                  standing calling open_still (none (λ cause. cause ≡ Capacity → HasNoRoom next.call.initial (tables_of log) w.call.given.done))
+              crowded = λ e. refused (λ cause. cause ≡ Capacity → HasNoRoom next.call.initial (tables_of log) w.call.copier.given.done) (Made_number n)
+                  standing calling open_still (none (λ cause. cause ≡ Capacity → HasNoRoom next.call.initial (tables_of log) w.call.copier.given.done))
                   (λ over f. absurd (cc f)) Capacity (ap ask_of (sym same) ∙ e) refl;
               spent = λ e. refused (λ cause. IsSpent b.limit log) (Made_number n) standing calling open_still (none (λ cause. IsSpent b.limit log))
                   (λ over. absurd (⊎_elim (λ s. cc s) (λ s. cc s) over.5)) Limit (ap ask_of (sym same) ∙ e);
@@ -245,7 +245,7 @@ module _ {K V S H : Type 0} (eq : K → K → Bool) (input : K → List (List �
           (of_later made_now more log r.writing.calling.lawful ([], append-nil log)))
 
       -- of the key that it met
-      pub pair_of_made : (i : ℕ) → ask_of m ≡ Call (MakePairOf i) → ((p : Stored K V) → x.writer.call.last ≡ Some p → key_of q ≡ key_of p)
+      pub pair_of_made : (i : ℕ) → ask_of m ≡ Call (MakePairOf i) → ((p : Stored K V) → x.writer.call.copier.last ≡ Some p → key_of q ≡ key_of p)
           → IsInsertingOn eq hash b name key value begun log (record x { writer = w; of = Some q }) (Some (Made_number n))
       pair_of_made i asks key_is =
           let to = writes makes in
@@ -268,7 +268,7 @@ module _ {K V S H : Type 0} (eq : K → K → Bool) (input : K → List (List �
           })
         where
           -- the pair that it met last is the one that the write is to take the place of
-          met_there : (to : Write) → m.call.state ≡ Writing to → (to.old == 0) ≡ false → (p : Stored K V) × (x.writer.call.last ≡ Some p)
+          met_there : (to : Write) → m.call.state ≡ Writing to → (to.old == 0) ≡ false → (p : Stored K V) × (x.writer.call.copier.last ≡ Some p)
               × HasKeyAt log to.place.table to.place.probe.i (key_of p)
           met_there to is full =
               let at = subst (ReliesStage g c (exchanges_of begun) r.writing.calling.since (Some key) loaded (Insert true)) is stage in
@@ -285,8 +285,8 @@ module _ {K V S H : Type 0} (eq : K → K → Bool) (input : K → List (List �
 module _ {K V S H : Type 0} (eq : K → K → Bool) (hash : S → K → ℕ) (b : Begun K V S) (name : Book) (key : K) (value : V) where
   -- an insertion that begins
   pub begins : (log : List (Event K V S)) (x : Insertion K V S H) → IsLawfulLog eq hash b log → (initial : ℕ)
-      → x.writer.call.machine ≡ started (Insert true) (hash b.hasher key) b.mode initial 0 b.limit → (x.writer.call.table ≡ None) × (x.writer.call.fresh ≡ None)
-      → (x.writer.call.last ≡ None) × (x.writer.call.kept ≡ None) × (x.writer.call.taken ≡ None) × (x.writer.call.put ≡ None) → x.own ≡ None
+      → x.writer.call.machine ≡ started (Insert true) (hash b.hasher key) b.mode initial 0 b.limit → (x.writer.call.table ≡ None) × (x.writer.call.copier.fresh ≡ None)
+      → (x.writer.call.copier.last ≡ None) × (x.writer.call.copier.kept ≡ None) × (x.writer.call.taken ≡ None) × (x.writer.call.put ≡ None) → x.own ≡ None
       → x.of ≡ None → x.writer.key ≡ Some (keys.Own key) → x.writer.value ≡ Some (values.Own value) → IsInserting eq hash b name key value log log x
   begins log x l initial machine table pairs own of handed left = record {
     made = [];

@@ -33,11 +33,11 @@ module _ {K V S H : Type 0} (eq : K → K → Bool) (input : K → List (List �
 
   pub inserting_helped : IsDriven eq hash b name (eq key) (hash b.hasher key) (Some key) begun log' r.made c → c.put ≡ x.writer.call.put
       → c.machine.phase ≡ Calling → (x.writer.call.machine.phase ≡ Calling → (c ≡ x.writer.call) × (log' ≡ log))
-      → HasHelped x.writer.call.machine c.machine (tables_of log') c.given.done
+      → HasHelped x.writer.call.machine c.machine (tables_of log') c.copier.given.done
       → IsInserting eq hash b name key value begun log' (record x { writer = record x.writer { call = c } })
   inserting_helped driven put calling still helped =
       let m = x.writer.call.machine in
-      let k = helped_keeps m c.machine (tables_of log') c.given.done helped in
+      let k = helped_keeps m c.machine (tables_of log') c.copier.given.done helped in
       let same = λ (e : m.phase ≡ Calling). (still e).0 in
       record {
         made = r.made;

@@ -55,7 +55,7 @@ module _ {K V S H : Type 0} (eq : K → K → Bool) (input : K → List (List �
 
   module _ (log : List (Event K V S)) (x : Insertion K V S H) (r : Ins log x) where
     abbrev loaded : LoadedPairs (Stored K V)
-    loaded = record { last = x.writer.call.last; made = r.made }
+    loaded = record { last = x.writer.call.copier.last; made = r.made }
 
     -- a change that puts in a number puts in a pair
     some_put : (class : K) (change : Option ℕ × Option ℕ) (n : ℕ) → change.1 ≡ Some n → (put : Option (Stored K V))

@@ -92,8 +92,8 @@ module _ {K V S : Type 0} (eq : K → K → Bool) (hash : S → K → ℕ) (b : 
       }
 
   module _ {H : Type 0} (log : List (Event K V S)) (x : Insertion K V S H) (l : IsLawfulLog eq hash b log) (initial : ℕ)
-      (table : (x.writer.call.table ≡ None) × (x.writer.call.fresh ≡ None))
-      (pairs : (x.writer.call.last ≡ None) × (x.writer.call.kept ≡ None) × (x.writer.call.taken ≡ None) × (x.writer.call.put ≡ None))
+      (table : (x.writer.call.table ≡ None) × (x.writer.call.copier.fresh ≡ None))
+      (pairs : (x.writer.call.copier.last ≡ None) × (x.writer.call.copier.kept ≡ None) × (x.writer.call.taken ≡ None) × (x.writer.call.put ≡ None))
       (has_key : HasKey b name key x.writer.key) (has_value : HasValue b name x.writer.value) (value_is : held_value x.writer.value ≡ Some q.value.value) where
     abbrev IsAt : Option ℕ → Option Of → Type 0
     IsAt own of = x.writer.call.machine ≡ insertion_at (hash b.hasher key) b.mode initial (made_with own of) AtRoot

@@ -75,12 +75,12 @@ module _ {K V S : Type 0} (eq : K → K → Bool) (hash : S → K → ℕ) (b : 
   module _ {H : Type 0} (log : List (Event K V S)) (c : Driver K V S H) (n : ℕ) where
     -- so it goes on with any
     pub goes_numbered : GoesOn eq hash b name log c log (record c { machine = with_number c.machine n })
-    goes_numbered = λ matches fed form k begun made r. calling_numbered matches fed k begun log c.machine c.table c.last c.kept made c.taken c.put c.fresh r n
+    goes_numbered = λ matches fed form k begun made r. calling_numbered matches fed k begun log c.machine c.table c.copier.last c.copier.kept made c.taken c.put c.copier.fresh r n
 
     -- and is set aside as before
     pub aside_numbered : CanGoOn eq hash b name log c → (c.machine.phase ≡ Calling → ⊥) → IsAside c.machine (with_number c.machine n)
     aside_numbered can aside =
         let r = can.6 in
         let left = left_in (setting_for eq hash b can.0 can.1 log) (coding_for hash b.hasher can.1) (exchanges_of can.4) r.since can.3 c.machine
-        (loaded_with c.last c.kept can.5) n c.machine.phase r.relies.phase aside in
+        (loaded_with c.copier.last c.copier.kept can.5) n c.machine.phase r.relies.phase aside in
         record { from = left.0; left = left.1; call = refl; busy = aside }

@@ -60,7 +60,7 @@ module _ {K V S : Type 0} (eq : K → K → Bool) (hash : S → K → ℕ) (b : 
   }
 
   module _ {H : Type 0} (value : V) (x : Insertion K V S H) (initial : ℕ) (held : x.writer.call.table ≡ Some table)
-      (fresh : x.writer.call.fresh ≡ None) (pairs : (x.writer.call.last ≡ None) × (x.writer.call.kept ≡ None) × (x.writer.call.taken ≡ None)
+      (fresh : x.writer.call.copier.fresh ≡ None) (pairs : (x.writer.call.copier.last ≡ None) × (x.writer.call.copier.kept ≡ None) × (x.writer.call.taken ≡ None)
       × (x.writer.call.put ≡ None))
       (has_key : HasKey b name key x.writer.key) (has_value : HasValue b name x.writer.value) (value_is : held_value x.writer.value ≡ Some value)
       (machine : x.writer.call.machine ≡ insertion_at (hash b.hasher key) b.mode initial (nothing_made b.limit) (Growing (Room n)))

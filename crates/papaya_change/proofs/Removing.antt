@@ -103,7 +103,7 @@ module _ {K V S H F : Type 0} (eq : K → K → Bool) (input : K → List (List 
 
     -- the pairs that its call was told of
     abbrev loaded : LoadedPairs (Stored K V)
-    loaded = call_loaded eq input build write finish classes respects b matches query lawful None name begun x.call.last []
+    loaded = call_loaded eq input build write finish classes respects b matches query lawful None name begun x.call.copier.last []
 
     module _ (standing : IsStanding m) where
       -- no answer of its own has it refused: it asks for nothing to be made
@@ -146,39 +146,39 @@ module _ {K V S H F : Type 0} (eq : K → K → Bool) (input : K → List (List 
       -- the word at a place may be loaded
       pub load_held : (at : At) → ask_of m ≡ Call (Load at) → IsHeldAt at log x.call.table
       load_held at asks =
-          load_table eq input build write finish classes respects b matches query lawful None name begun log m x.call.table x.call.last x.call.kept []
-          x.call.taken x.call.put x.call.fresh r.calling at asks
+          load_table eq input build write finish classes respects b matches query lawful None name begun log m x.call.table x.call.copier.last x.call.copier.kept []
+          x.call.taken x.call.put x.call.copier.fresh r.calling at asks
           (subst (λ (a : Ask). MayAsk m.call.task (calls.kind_of_ask m.call) a) (call_asks m (Load at) asks).1 (asked_of_task m.call standing.call))
 
       -- and was loaded
       pub loaded_as : (log' : List (Event K V S)) → IsPrefix log log' → (at : At) (word : ℕ) (y : Driver K V S H)
-          → y ≡ record x.call { table = y.table; last = y.last } → ask_of m ≡ Call (Load at)
-          → IsLoaded eq hash b name at word log' x.call.table y.table x.call.last y.last → RemovingOn log' (record x { call = y }) f (Some (Word_read word))
+          → y ≡ record x.call { table = y.table; copier = record x.call.copier { last = y.copier.last } } → ask_of m ≡ Call (Load at)
+          → IsLoaded eq hash b name at word log' x.call.table y.table x.call.copier.last y.copier.last → RemovingOn log' (record x { call = y }) f (Some (Word_read word))
       loaded_as log' pre at word y rest asks is =
           let calling = loads eq input build write finish classes respects b matches query lawful None name begun log log' pre
-          (loaded_lawful eq hash b name log' at word x.call.table y.table x.call.last y.last is) m x.call.table x.call.last x.call.kept []
-          x.call.taken x.call.put x.call.fresh r.calling at word y.table y.last asks is in
+          (loaded_lawful eq hash b name log' at word x.call.table y.table x.call.copier.last y.copier.last is) m x.call.table x.call.copier.last x.call.copier.kept []
+          x.call.taken x.call.put x.call.copier.fresh r.calling at word y.table y.copier.last asks is in
           subst (λ (z : Driver K V S H). RemovingOn log' (record x { call = z }) f (Some (Word_read word))) (sym rest)
-          (goes_on log' pre (record x.call { table = y.table; last = y.last }) (Word_read word) refl tt (λ cause e. cc e) (Load at) asks tt calling)
+          (goes_on log' pre (record x.call { table = y.table; copier = record x.call.copier { last = y.copier.last } }) (Word_read word) refl tt (λ cause e. cc e) (Load at) asks tt calling)
 
       -- a table whose size is asked for is held
       pub size_held : (t : ℕ) → ask_of m ≡ Call (SizeOf t) → x.call.table ≡ None → ⊥
       size_held t asks none = subst (λ (o : Option (Bor Sheet)). MatchOption o ⊥ (λ z. IsTable log t z.now)) none
-          (size_table eq input build write finish classes respects b matches query lawful None name begun log m x.call.table x.call.last x.call.kept []
-          x.call.taken x.call.put x.call.fresh r.calling t asks)
+          (size_table eq input build write finish classes respects b matches query lawful None name begun log m x.call.table x.call.copier.last x.call.copier.kept []
+          x.call.taken x.call.put x.call.copier.fresh r.calling t asks)
 
       -- its size was told
       pub sized_on : (t : ℕ) (lent : Bor Sheet) → x.call.table ≡ Some lent → (slots limit : ℕ) → slots ≡ length lent.now.slots
           → limit ≡ lent.now.limit → IsSize slots limit → ask_of m ≡ Call (SizeOf t) → RemovingOn log x f (Some (Size slots limit))
       sized_on t lent has slots limit slots_is limit_is size asks =
           goes_on log ([], append-nil log) x.call (Size slots limit) refl size (λ cause e. cc e) (SizeOf t) asks tt
-          (sized eq input build write finish classes respects b matches query lawful None name begun log m x.call.table x.call.last x.call.kept []
-          x.call.taken x.call.put x.call.fresh r.calling t lent has slots limit slots_is limit_is asks)
+          (sized eq input build write finish classes respects b matches query lawful None name begun log m x.call.table x.call.copier.last x.call.copier.kept []
+          x.call.taken x.call.put x.call.copier.fresh r.calling t lent has slots limit slots_is limit_is asks)
 
       -- a slot whose hint is loaded is one of the table that is held
       pub hint_held : (t i : ℕ) → ask_of m ≡ Call (LoadHint t i) → IsHeldAt (Slot t i) log x.call.table
       hint_held t i asks = hint_table eq input build write finish classes respects b matches query lawful None name begun log m x.call.table
-          x.call.last x.call.kept [] x.call.taken x.call.put x.call.fresh r.calling t i (inl asks)
+          x.call.copier.last x.call.copier.kept [] x.call.taken x.call.put x.call.copier.fresh r.calling t i (inl asks)
 
       -- its hint was loaded
       pub hinted_on : (log' : List (Event K V S)) → IsPrefix log log' → (t i n : ℕ) → ask_of m ≡ Call (LoadHint t i) → IsSlotHint eq hash b t i n log'
@@ -186,13 +186,13 @@ module _ {K V S H F : Type 0} (eq : K → K → Bool) (input : K → List (List 
       hinted_on log' pre t i n asks is =
           goes_on log' pre x.call (Word_read n) refl tt (λ cause e. cc e) (LoadHint t i) asks tt
           (hinted eq input build write finish classes respects b matches query lawful None name begun log log' pre is.lawful m x.call.table
-          x.call.last x.call.kept [] x.call.taken x.call.put x.call.fresh r.calling t i n asks is)
+          x.call.copier.last x.call.copier.kept [] x.call.taken x.call.put x.call.copier.fresh r.calling t i n asks is)
 
       -- a pair that was told of last
       abbrev Told : Type 0
-      Told = (p : Stored K V) × (x.call.last ≡ Some p) × IsPlaced b (Some name) (names.Pair p)
+      Told = (p : Stored K V) × (x.call.copier.last ≡ Some p) × IsPlaced b (Some name) (names.Pair p)
 
-      told_of : (p : Stored K V) → x.call.last ≡ Some p → Told
+      told_of : (p : Stored K V) → x.call.copier.last ≡ Some p → Told
       told_of p last = (p, last, subst (λ (o : Option (Stored K V)). IsPlaced b (Some name) (pair_named o)) last r.calling.last_placed)
 
       -- a pair whose key is compared was told of
@@ -214,22 +214,22 @@ module _ {K V S H F : Type 0} (eq : K → K → Bool) (input : K → List (List 
           told_of shows.0 shows.1
 
       -- the pair last told of was compared
-      pub compared_on : (n : ℕ) (same : Bool) → ((p : Stored K V) → x.call.last ≡ Some p → same ≡ matches (key_of p)) → ask_of m ≡ Call (SameKey n)
+      pub compared_on : (n : ℕ) (same : Bool) → ((p : Stored K V) → x.call.copier.last ≡ Some p → same ≡ matches (key_of p)) → ask_of m ≡ Call (SameKey n)
           → RemovingOn log x f (Some (Yes same))
       compared_on n same is asks =
           goes_on log ([], append-nil log) x.call (Yes same) refl tt (λ cause e. cc e) (SameKey n) asks tt
-          (compared eq input build write finish classes respects b matches query lawful None name begun log m x.call.table x.call.last x.call.kept []
-          x.call.taken x.call.put x.call.fresh r.calling n same is asks)
+          (compared eq input build write finish classes respects b matches query lawful None name begun log m x.call.table x.call.copier.last x.call.copier.kept []
+          x.call.taken x.call.put x.call.copier.fresh r.calling n same is asks)
 
       -- the change was counted
       pub counted_on : (by : _) → ask_of m ≡ Call (AddToShard by) → RemovingOn log x f (Some Ok_done)
       counted_on by asks =
           goes_on log ([], append-nil log) x.call Ok_done refl tt (λ cause e. cc e) (AddToShard by) asks tt
-          (counted eq input build write finish classes respects b matches query lawful None name begun log m x.call.table x.call.last x.call.kept []
-          x.call.taken x.call.put x.call.fresh r.calling by asks)
+          (counted eq input build write finish classes respects b matches query lawful None name begun log m x.call.table x.call.copier.last x.call.copier.kept []
+          x.call.taken x.call.put x.call.copier.fresh r.calling by asks)
 
       -- the pair last told of was shown
-      pub shown_on : (n : ℕ) (p : Stored K V) (agreed : Bool) (g : F) → x.call.last ≡ Some p → judges f p agreed g → ask_of m ≡ Call (ShowPair n)
+      pub shown_on : (n : ℕ) (p : Stored K V) (agreed : Bool) (g : F) → x.call.copier.last ≡ Some p → judges f p agreed g → ask_of m ≡ Call (ShowPair n)
           → RemovingOn log (record x { shown = Some p }) g (Some (Yes agreed))
       shown_on n p agreed g last judged showing =
           let own = call_asks m (ShowPair n) showing in
@@ -246,15 +246,15 @@ module _ {K V S H F : Type 0} (eq : K → K → Bool) (input : K → List (List 
           let never = not_refused (ShowPair n) showing (λ reply h. cc h) (Yes agreed) (λ cause e. cc e) in (
             record {
               calling = quiet eq input build write finish classes respects b matches query lawful None name begun log log ([], append-nil log)
-                  r.calling.lawful m x.call.table x.call.last x.call.kept [] x.call.taken x.call.put x.call.fresh r.calling
-                  (ShowPair n) showing (Yes agreed) x.call.last [] x.call.table x.call.fresh
+                  r.calling.lawful m x.call.table x.call.copier.last x.call.copier.kept [] x.call.taken x.call.put x.call.copier.fresh r.calling
+                  (ShowPair n) showing (Yes agreed) x.call.copier.last [] x.call.table x.call.copier.fresh
                   (record {
                     told = (inl (agreed, refl), (refl, refl));
                     same = refl;
                     busy = λ z. z;
                     brings = barren eq input build write finish classes respects b matches query lawful None name begun log log ([], append-nil log)
-                        r.calling.lawful m x.call.table x.call.last x.call.kept [] x.call.taken x.call.put x.call.fresh r.calling (ShowPair n) showing
-                        tt (Yes agreed) x.call.fresh;
+                        r.calling.lawful m x.call.table x.call.copier.last x.call.copier.kept [] x.call.taken x.call.put x.call.copier.fresh r.calling (ShowPair n) showing
+                        tt (Yes agreed) x.call.copier.fresh;
                   }) r.calling.holds_table r.calling.last_placed r.calling.made_placed;
               task_is = (chain_task m (answers.Call (Yes agreed)) (own_order m own.0 (Yes agreed))).0 ∙ r.task_is;
               words = own_shows m own.0 (Yes agreed) r.words;
@@ -279,8 +279,8 @@ module _ {K V S H F : Type 0} (eq : K → K → Bool) (input : K → List (List 
       module _ (t i old new : ℕ) (tries : ask_of m ≡ Call (Ask_exchange (Slot t i) old new)) where
         -- the slot is one of the table that is held
         pub delete_held : IsHeldAt (Slot t i) log x.call.table
-        delete_held = slot_table eq input build write finish classes respects b matches query lawful None name begun log m x.call.table x.call.last
-            x.call.kept [] x.call.taken x.call.put x.call.fresh r.calling t i (inr (old, new, tries))
+        delete_held = slot_table eq input build write finish classes respects b matches query lawful None name begun log m x.call.table x.call.copier.last
+            x.call.copier.kept [] x.call.taken x.call.put x.call.copier.fresh r.calling t i (inr (old, new, tries))
 
         -- a removal's exchange of a slot deletes
         its_own : (m.phase ≡ Calling) × (calls.ask_of m.call ≡ Ask_exchange (Slot t i) old new)
@@ -295,8 +295,8 @@ module _ {K V S H F : Type 0} (eq : K → K → Bool) (input : K → List (List 
         delete_can =
             subst (λ (z : Option StepKind). CanExchange eq hash b (Slot t i) z old new None names.Nothing log) (sym (own_kind m its_own.0))
             (can_delete eq input build write finish classes respects b matches query lawful None (exchanges_of begun) log r.calling.lawful m.call
-            loaded (call_relies eq input build write finish classes respects b matches query lawful None name begun log m x.call.table x.call.last
-            x.call.kept [] x.call.taken x.call.put x.call.fresh r.calling) t i old new its_own.1 delete_kind)
+            loaded (call_relies eq input build write finish classes respects b matches query lawful None name begun log m x.call.table x.call.copier.last
+            x.call.copier.kept [] x.call.taken x.call.put x.call.copier.fresh r.calling) t i old new its_own.1 delete_kind)
 
         module _ (log' : List (Event K V S)) (pre : IsPrefix log log') (found : ℕ) (pair : Option (Stored K V))
             (s : IsSlotTried eq hash b name t i (kind_of_ask m) old new None names.Nothing log found log' pair) where
@@ -304,22 +304,22 @@ module _ {K V S H F : Type 0} (eq : K → K → Bool) (input : K → List (List 
           tombstone : (found == old) ≡ true → RemovingOn log' (record x { call = record x.call { taken = pair; put = None } }) f (Some Exchanged)
           tombstone is = goes_on log' pre (record x.call { taken = pair; put = None }) Exchanged refl tt (λ cause e. cc e)
               (Ask_exchange (Slot t i) old new) tries tt
-              (exchanged eq input build write finish classes respects b matches query lawful None name begun log log' m x.call.table x.call.last
-              x.call.kept [] x.call.taken x.call.put x.call.fresh r.calling t i old new found None pair tries s (λ q none. absurd (cc none))
+              (exchanged eq input build write finish classes respects b matches query lawful None name begun log log' m x.call.table x.call.copier.last
+              x.call.copier.kept [] x.call.taken x.call.put x.call.copier.fresh r.calling t i old new found None pair tries s (λ q none. absurd (cc none))
               (λ claim q none. absurd (cc none)) is)
 
           -- it was not
-          not_tombstone : (found == old) ≡ false → RemovingOn log' (record x { call = record x.call { last = or_last pair x.call.last } }) f
+          not_tombstone : (found == old) ≡ false → RemovingOn log' (record x { call = record x.call { copier = record x.call.copier { last = or_last pair x.call.copier.last } } }) f
               (Some (Found_instead found))
-          not_tombstone is = goes_on log' pre (record x.call { last = or_last pair x.call.last }) (Found_instead found) refl tt (λ cause e. cc e)
+          not_tombstone is = goes_on log' pre (record x.call { copier = record x.call.copier { last = or_last pair x.call.copier.last } }) (Found_instead found) refl tt (λ cause e. cc e)
               (Ask_exchange (Slot t i) old new) tries tt
-              (lost eq input build write finish classes respects b matches query lawful None name begun log log' m x.call.table x.call.last
-              x.call.kept [] x.call.taken x.call.put x.call.fresh r.calling t i old new found None pair tries s is)
+              (lost eq input build write finish classes respects b matches query lawful None name begun log log' m x.call.table x.call.copier.last
+              x.call.copier.kept [] x.call.taken x.call.put x.call.copier.fresh r.calling t i old new found None pair tries s is)
 
           -- as the call holds it afterwards
           abbrev AfterDelete : Bool → Driver K V S H → Answer → Type 0
           AfterDelete z y answer = MatchBool z ((answer ≡ Exchanged) × (y ≡ record x.call { taken = pair; put = None }))
-              ((answer ≡ Found_instead found) × (y ≡ record x.call { last = or_last pair x.call.last }))
+              ((answer ≡ Found_instead found) × (y ≡ record x.call { copier = record x.call.copier { last = or_last pair x.call.copier.last } }))
 
           pub delete_on : (y : Driver K V S H) (answer : Answer) → AfterDelete (found == old) y answer → RemovingOn log' (record x { call = y }) f (Some answer)
           delete_on y answer h =

@@ -24,10 +24,10 @@ module _ {K V S H F : Type 0} (eq : K → K → Bool) (hash : S → K → ℕ) (
     (judges : F → Stored K V → Bool → F → Type 0) (first : F) (begun log log' : List (Event K V S)) (x : Removal K V S H) (f : F)
     (r : IsRemoving eq hash b name matches fed judges first begun log x f) (c : Driver K V S H) where
   pub removing_helped : IsPrefix log log' → IsDriven eq hash b name matches fed None begun log' [] c → c.machine.phase ≡ Calling
-      → (x.call.machine.phase ≡ Calling → c ≡ x.call) → HasHelped x.call.machine c.machine (tables_of log') c.given.done
+      → (x.call.machine.phase ≡ Calling → c ≡ x.call) → HasHelped x.call.machine c.machine (tables_of log') c.copier.given.done
       → IsRemoving eq hash b name matches fed judges first begun log' (record x { call = c }) f
   removing_helped pre driven calling still helped =
-      let k = helped_keeps x.call.machine c.machine (tables_of log') c.given.done helped in
+      let k = helped_keeps x.call.machine c.machine (tables_of log') c.copier.given.done helped in
       record {
         calling = driven;
         task_is = k.task ∙ r.task_is;

@@ -140,7 +140,7 @@ module _ {K V S H F : Type 0} (eq : K → K → Bool) (input : K → List (List 
     -- the removal with this machine, which its closure was shown this, and which took out this
     abbrev pub removal_with : Machine → (shown taken : Option (Stored K V)) → Removal K V S H
     removal_with m shown taken = record {
-      call = record { machine = m; table = Some lent; last = Some p; kept = None; taken = taken; put = None; fresh = None; given = nothing_given };
+      call = record { machine = m; table = Some lent; copier = record { last = Some p; kept = None; fresh = None; given = nothing_given }; taken = taken; put = None };
       shown = shown;
     }
 
@@ -243,7 +243,7 @@ module _ {K V S H F : Type 0} (eq : K → K → Bool) (input : K → List (List 
             (subst (λ (z : Bool). MatchBool z ((Exchanged ≡ Exchanged)
             × (record deletes.call { taken = pair; put = None } ≡ record deletes.call { taken = pair; put = None }))
             ((Exchanged ≡ Found_instead found) × (record deletes.call { taken = pair; put = None }
-            ≡ record deletes.call { last = or_last pair (Some p) }))) (sym is) (refl, refl))).0
+            ≡ record deletes.call { copier = record deletes.call.copier { last = or_last pair (Some p) } }))) (sym is) (refl, refl))).0
 
         abbrev pub ended : Removal K V S H
         ended = removal_with (after tombstone.call.machine (answers.Call Ok_done)) (Some p) pair

@@ -65,7 +65,7 @@ module _ {K V S H F : Type 0} (eq : K → K → Bool) (input : K → List (List 
   m = x.call.machine
 
   abbrev loaded : LoadedPairs (Stored K V)
-  loaded = record { last = x.call.last; made = [] }
+  loaded = record { last = x.call.copier.last; made = [] }
 
   -- what it has replied
   replies : (reply : Reply) → ask_of m ≡ Call (Done reply)
@@ -326,8 +326,8 @@ module _ {K V F : Type 0} (eq : K → K → Bool) (matches : K → Bool) (old ne
 -- a removal that begins
 pub begins : {K V S H F : Type 0} (eq : K → K → Bool) (hash : S → K → ℕ) (b : Begun K V S) (name : Book) (matches : K → Bool) (fed : ℕ)
     (judges : F → Stored K V → Bool → F → Type 0) (first : F) (log : List (Event K V S)) (x : Removal K V S H) → IsLawfulLog eq hash b log → (initial : ℕ)
-    → x.call.machine ≡ started RemoveIf fed b.mode initial 0 b.limit → (x.call.table ≡ None) × (x.call.fresh ≡ None) → (x.call.last ≡ None)
-    × (x.call.kept ≡ None) × (x.call.taken ≡ None) × (x.call.put ≡ None) → x.shown ≡ None → IsRemoving eq hash b name matches fed judges first log log x first
+    → x.call.machine ≡ started RemoveIf fed b.mode initial 0 b.limit → (x.call.table ≡ None) × (x.call.copier.fresh ≡ None) → (x.call.copier.last ≡ None)
+    × (x.call.copier.kept ≡ None) × (x.call.taken ≡ None) × (x.call.put ≡ None) → x.shown ≡ None → IsRemoving eq hash b name matches fed judges first log log x first
 begins eq hash b name matches fed judges first log x l initial machine table pairs shown = record {
   calling = rw (machine, table.0, table.1, pairs.0, pairs.1, pairs.2, pairs.3) (begins_calling eq hash b name matches fed None refl log l RemoveIf initial);
   task_is = ap (λ (z : Machine). z.call.task) machine;

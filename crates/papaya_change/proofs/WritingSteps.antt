@@ -67,7 +67,7 @@ use Rattle.papaya_change.proofs.Written.{Writing, WritingOn, goes_on, own_query}
 -- such a call that begins, with its key and its value as they are handed in
 pub begins : {K V S H : Type 0} (eq : K → K → Bool) (hash : S → K → ℕ) (b : Begun K V S) (name : Book) (key : K) (log : List (Event K V S))
     (w : Writer K V S H) → IsLawfulLog eq hash b log → (task : Task) (initial : ℕ) → w.call.machine ≡ started task (hash b.hasher key) b.mode initial 0 b.limit
-    → (w.call.table ≡ None) × (w.call.fresh ≡ None) → (w.call.last ≡ None) × (w.call.kept ≡ None) × (w.call.taken ≡ None) × (w.call.put ≡ None)
+    → (w.call.table ≡ None) × (w.call.copier.fresh ≡ None) → (w.call.copier.last ≡ None) × (w.call.copier.kept ≡ None) × (w.call.taken ≡ None) × (w.call.put ≡ None)
     → w.key ≡ Some (keys.Own key) → HasValue b name w.value → IsWriting eq hash b name key [] log log w
 begins eq hash b name key log w l task initial machine table pairs own valued = record {
   calling = rw (machine, table.0, table.1, pairs.0, pairs.1, pairs.2, pairs.3)
@@ -122,7 +122,7 @@ module _ {K V S H : Type 0} (eq : K → K → Bool) (input : K → List (List �
       -- the word at a place may be loaded
       pub load_held : (at : At) → ask_of m ≡ Call (Load at) → IsHeldAt at log w.call.table
       load_held at asks = load_table eq input build write finish classes respects b (eq key) (input key) query (Some key) name begun log m
-          w.call.table w.call.last w.call.kept made w.call.taken w.call.put w.call.fresh r.calling at asks (may_ask (Load at) asks)
+          w.call.table w.call.copier.last w.call.copier.kept made w.call.taken w.call.put w.call.copier.fresh r.calling at asks (may_ask (Load at) asks)
 
       -- a root is opened where there is none
       module _ (old new : ℕ) (asks : ask_of m ≡ Call (Ask_exchange Root old new)) where
@@ -133,11 +133,11 @@ module _ {K V S H : Type 0} (eq : K → K → Bool) (input : K → List (List �
         asks_zero = asks ∙ ap (λ (n : ℕ). Call (Ask_exchange Root n new)) (may_ask (Ask_exchange Root old new) asks).2
 
         -- the table that is to be opened is at hand
-        pub opening : IsFresh b name log new w.call.fresh
+        pub opening : IsFresh b name log new w.call.copier.fresh
         opening = r.calling.brings new (subst (λ (a : Chain_ask). IsBringing a new) (sym asks_zero) (refl, refl))
 
         -- what is at hand is that table, with its seal
-        pub opening_of : (t : Where Sheet) (seal : Pen) → w.call.fresh ≡ Some (t, seal) → (number_of t ≡ new) × IsMade t.value log
+        pub opening_of : (t : Where Sheet) (seal : Pen) → w.call.copier.fresh ≡ Some (t, seal) → (number_of t ≡ new) × IsMade t.value log
             × IsPlaced b (Some name) (names.Table t) × (seal.book ≡ name) × (seal.nib ≡ nib may_write t.value.seal 0)
         opening_of t seal e =
             let both = sym opening.is ∙ e in
@@ -149,14 +149,14 @@ module _ {K V S H : Type 0} (eq : K → K → Bool) (input : K → List (List �
         module _ (log' : List (Event K V S)) (found : ℕ) (t : Where Sheet) (state : Option (Named K V)) (lent : Bor Sheet)
             (fresh' : Option (Where Sheet × Pen)) (tried : IsTried eq hash b Root (Some kinds.Open) 0 new None (names.Table t) log found log' state) where
           abbrev w' : Writer K V S H
-          w' = record w { call = record w.call { table = Some lent; fresh = fresh' } }
+          w' = record w { call = record w.call { table = Some lent; copier = record w.call.copier { fresh = fresh' } } }
 
           -- it was opened
           pub opened_here : (found == 0) ≡ true → IsTable log' new lent.now → On log' w' Exchanged
           opened_here is holds =
               goes_on eq input build write finish classes respects b name key made begun log w r made log' w' Exchanged r.keyed r.valued tt
               (opened eq input build write finish classes respects b (eq key) (input key) query (Some key) name begun log log' m w.call.table
-              w.call.last w.call.kept made w.call.taken w.call.put w.call.fresh fresh' r.calling new found t state asks_zero kind_open tried lent is holds)
+              w.call.copier.last w.call.copier.kept made w.call.taken w.call.put w.call.copier.fresh fresh' r.calling new found t state asks_zero kind_open tried lent is holds)
               r.put_placed
 
           -- another one was
@@ -164,7 +164,7 @@ module _ {K V S H : Type 0} (eq : K → K → Bool) (input : K → List (List �
           opened_there is holds =
               goes_on eq input build write finish classes respects b name key made begun log w r made log' w' (Found_instead found) r.keyed r.valued tt
               (beaten eq input build write finish classes respects b (eq key) (input key) query (Some key) name begun log log' m w.call.table
-              w.call.last w.call.kept made w.call.taken w.call.put w.call.fresh fresh' r.calling new found t state asks_zero kind_open tried lent is holds)
+              w.call.copier.last w.call.copier.kept made w.call.taken w.call.put w.call.copier.fresh fresh' r.calling new found t state asks_zero kind_open tried lent is holds)
               r.put_placed
 
       -- a number for a pair may be taken
@@ -174,7 +174,7 @@ module _ {K V S H : Type 0} (eq : K → K → Bool) (input : K → List (List �
 
         pub taking : CanExchange eq hash b Made_word (kind_of_ask m) old new None names.Nothing log
         taking = take_can eq input build write finish classes respects b (eq key) (input key) query (Some key) name begun log m w.call.table
-            w.call.last w.call.kept made w.call.taken w.call.put w.call.fresh r.calling old new asks kind_take
+            w.call.copier.last w.call.copier.kept made w.call.taken w.call.put w.call.copier.fresh r.calling old new asks kind_take
 
         -- after it was tried the call relies on what holds, and it was told how many are taken where another was first
         module _ (log' : List (Event K V S)) (found : ℕ) (state : Option (Named K V))
@@ -188,11 +188,11 @@ module _ {K V S H : Type 0} (eq : K → K → Bool) (input : K → List (List �
               (λ is. subst (On log' w) (sym (subst (λ (z : Bool). Tells z answer) is told))
               (goes_on eq input build write finish classes respects b name key made begun log w r made log' w Exchanged r.keyed r.valued tt
               (number_taken eq input build write finish classes respects b (eq key) (input key) query (Some key) name begun log m w.call.table
-              w.call.last w.call.kept made w.call.taken w.call.put w.call.fresh r.calling old new asks kind_take log' found state tried is) r.put_placed))
+              w.call.copier.last w.call.copier.kept made w.call.taken w.call.put w.call.copier.fresh r.calling old new asks kind_take log' found state tried is) r.put_placed))
               (λ is. subst (On log' w) (sym (subst (λ (z : Bool). Tells z answer) is told))
               (goes_on eq input build write finish classes respects b name key made begun log w r made log' w (Found_instead found) r.keyed r.valued
               tt (number_lost eq input build write finish classes respects b (eq key) (input key) query (Some key) name begun log m w.call.table
-              w.call.last w.call.kept made w.call.taken w.call.put w.call.fresh r.calling old new asks kind_take log' found state tried is) r.put_placed))
+              w.call.copier.last w.call.copier.kept made w.call.taken w.call.put w.call.copier.fresh r.calling old new asks kind_take log' found state tried is) r.put_placed))
               (cases_Bool (found == old))
 
           pub took_tells : (answer : Answer) → Tells (found == old) answer → TellsTaken log' (calls.ask_of m.call) answer
@@ -203,39 +203,39 @@ module _ {K V S H : Type 0} (eq : K → K → Bool) (input : K → List (List �
               (λ is.
               let e = subst (λ (z : Bool). Tells z answer) is told in
               let made_is = number_found eq input build write finish classes respects b (eq key) (input key) query (Some key) name begun log m
-              w.call.table w.call.last w.call.kept made w.call.taken w.call.put w.call.fresh r.calling old new asks kind_take log' found state tried is in
+              w.call.table w.call.copier.last w.call.copier.kept made w.call.taken w.call.put w.call.copier.fresh r.calling old new asks kind_take log' found state tried is in
               ⊎_elim (λ s. absurd (let f = sym e ∙ s in cc f)) (λ s. let f = sym e ∙ s in made_is ∙ cc f) says)
               (cases_Bool (found == old))
 
     -- a place was loaded
     pub loaded_on : (log' : List (Event K V S)) → IsPrefix log log' → (at : At) (word : ℕ) (c : Driver K V S H)
-        → c ≡ record w.call { table = c.table; last = c.last } → ask_of m ≡ Call (Load at)
-        → IsLoaded eq hash b name at word log' w.call.table c.table w.call.last c.last → On log' (record w { call = c }) (Word_read word)
+        → c ≡ record w.call { table = c.table; copier = record w.call.copier { last = c.copier.last } } → ask_of m ≡ Call (Load at)
+        → IsLoaded eq hash b name at word log' w.call.table c.table w.call.copier.last c.copier.last → On log' (record w { call = c }) (Word_read word)
     loaded_on log' pre at word c rest asks is =
         let calling = loads eq input build write finish classes respects b (eq key) (input key) query (Some key) name begun log log' pre
-        (loaded_lawful eq hash b name log' at word w.call.table c.table w.call.last c.last is) m w.call.table w.call.last w.call.kept made
-        w.call.taken w.call.put w.call.fresh r.calling at word c.table c.last asks is in
+        (loaded_lawful eq hash b name log' at word w.call.table c.table w.call.copier.last c.copier.last is) m w.call.table w.call.copier.last w.call.copier.kept made
+        w.call.taken w.call.put w.call.copier.fresh r.calling at word c.table c.copier.last asks is in
         subst (λ (z : Driver K V S H). On log' (record w { call = z }) (Word_read word)) (sym rest)
         (goes_on eq input build write finish classes respects b name key made begun log w r made log'
-        (record w { call = record w.call { table = c.table; last = c.last } }) (Word_read word) r.keyed r.valued tt calling r.put_placed)
+        (record w { call = record w.call { table = c.table; copier = record w.call.copier { last = c.copier.last } } }) (Word_read word) r.keyed r.valued tt calling r.put_placed)
 
     -- how many numbers for pairs were taken is told
     pub loaded_tells : (log' : List (Event K V S)) (at : At) (word : ℕ) (c : Driver K V S H) → ask_of m ≡ Call (Load at)
-        → IsLoaded eq hash b name at word log' w.call.table c.table w.call.last c.last → TellsTaken log' (calls.ask_of m.call) (Word_read word)
+        → IsLoaded eq hash b name at word log' w.call.table c.table w.call.copier.last c.copier.last → TellsTaken log' (calls.ask_of m.call) (Word_read word)
     loaded_tells log' at word c asks is number count says =
-        let made_is = taken_at eq hash b name log' at word w.call.table c.table w.call.last c.last is
+        let made_is = taken_at eq hash b name log' at word w.call.table c.table w.call.copier.last c.copier.last is
         (subst IsNumberAsk (call_asks m (Load at) asks).1 number) in
         ⊎_elim (λ e. made_is ∙ cc e) (λ e. absurd (cc e)) says
 
     -- a slot whose hint is loaded or written is one of the table that is held
     pub hint_held : (t i : ℕ) → (ask_of m ≡ Call (LoadHint t i)) ⊎ ((hint : ℕ) × (ask_of m ≡ Call (WriteHint t i hint))) → IsHeldAt (Slot t i) log w.call.table
     hint_held t i asks = hint_table eq input build write finish classes respects b (eq key) (input key) query (Some key) name begun log m w.call.table
-        w.call.last w.call.kept made w.call.taken w.call.put w.call.fresh r.calling t i asks
+        w.call.copier.last w.call.copier.kept made w.call.taken w.call.put w.call.copier.fresh r.calling t i asks
 
     -- a hint that is written may be the slot's
     pub hint_can : (t i n : ℕ) → ask_of m ≡ Call (WriteHint t i n) → IsSlotHint eq hash b t i n log
     hint_can t i n asks = hint_may eq input build write finish classes respects b (eq key) (input key) query (Some key) name begun log m w.call.table
-        w.call.last w.call.kept made w.call.taken w.call.put w.call.fresh r.calling t i n asks
+        w.call.copier.last w.call.copier.kept made w.call.taken w.call.put w.call.copier.fresh r.calling t i n asks
 
     -- a hint was loaded
     pub hinted_on : (log' : List (Event K V S)) → IsPrefix log log' → (t i n : ℕ) → ask_of m ≡ Call (LoadHint t i) → IsSlotHint eq hash b t i n log'
@@ -243,53 +243,53 @@ module _ {K V S H : Type 0} (eq : K → K → Bool) (input : K → List (List �
     hinted_on log' pre t i n asks is =
         goes_on eq input build write finish classes respects b name key made begun log w r made log' w (Word_read n) r.keyed r.valued tt
         (hinted eq input build write finish classes respects b (eq key) (input key) query (Some key) name begun log log' pre is.lawful m w.call.table
-        w.call.last w.call.kept made w.call.taken w.call.put w.call.fresh r.calling t i n asks is)
+        w.call.copier.last w.call.copier.kept made w.call.taken w.call.put w.call.copier.fresh r.calling t i n asks is)
         r.put_placed
 
     -- and one was written
     pub noted_on : (t i n : ℕ) → ask_of m ≡ Call (WriteHint t i n) → On log w Ok_done
     noted_on t i n asks =
         goes_on eq input build write finish classes respects b name key made begun log w r made log w Ok_done r.keyed r.valued tt
-        (noted eq input build write finish classes respects b (eq key) (input key) query (Some key) name begun log m w.call.table w.call.last
-        w.call.kept made w.call.taken w.call.put w.call.fresh r.calling t i n asks)
+        (noted eq input build write finish classes respects b (eq key) (input key) query (Some key) name begun log m w.call.table w.call.copier.last
+        w.call.copier.kept made w.call.taken w.call.put w.call.copier.fresh r.calling t i n asks)
         r.put_placed
 
     -- a table whose size is asked for is held
     pub size_held : (t : ℕ) → ask_of m ≡ Call (SizeOf t) → w.call.table ≡ None → ⊥
     size_held t asks none = subst (λ (o : Option (Bor Sheet)). MatchOption o ⊥ (λ z. IsTable log t z.now)) none
-        (size_table eq input build write finish classes respects b (eq key) (input key) query (Some key) name begun log m w.call.table w.call.last
-        w.call.kept made w.call.taken w.call.put w.call.fresh r.calling t asks)
+        (size_table eq input build write finish classes respects b (eq key) (input key) query (Some key) name begun log m w.call.table w.call.copier.last
+        w.call.copier.kept made w.call.taken w.call.put w.call.copier.fresh r.calling t asks)
 
     -- its size was told
     pub sized_on : (t : ℕ) (lent : Bor Sheet) → w.call.table ≡ Some lent → (slots limit : ℕ) → slots ≡ length lent.now.slots → limit ≡ lent.now.limit
         → IsSize slots limit → ask_of m ≡ Call (SizeOf t) → On log w (Size slots limit)
     sized_on t lent has slots limit slots_is limit_is size asks =
         goes_on eq input build write finish classes respects b name key made begun log w r made log w (Size slots limit) r.keyed r.valued size
-        (sized eq input build write finish classes respects b (eq key) (input key) query (Some key) name begun log m w.call.table w.call.last
-        w.call.kept made w.call.taken w.call.put w.call.fresh r.calling t lent has slots limit slots_is limit_is asks)
+        (sized eq input build write finish classes respects b (eq key) (input key) query (Some key) name begun log m w.call.table w.call.copier.last
+        w.call.copier.kept made w.call.taken w.call.put w.call.copier.fresh r.calling t lent has slots limit slots_is limit_is asks)
         r.put_placed
 
     -- the change was counted
     pub counted_on : (by : _) → ask_of m ≡ Call (AddToShard by) → On log w Ok_done
     counted_on by asks =
         goes_on eq input build write finish classes respects b name key made begun log w r made log w Ok_done r.keyed r.valued tt
-        (counted eq input build write finish classes respects b (eq key) (input key) query (Some key) name begun log m w.call.table w.call.last
-        w.call.kept made w.call.taken w.call.put w.call.fresh r.calling by asks)
+        (counted eq input build write finish classes respects b (eq key) (input key) query (Some key) name begun log m w.call.table w.call.copier.last
+        w.call.copier.kept made w.call.taken w.call.put w.call.copier.fresh r.calling by asks)
         r.put_placed
 
     module _ (t i old new : ℕ) (asks : ask_of m ≡ Call (Ask_exchange (Slot t i) old new)) where
       -- the slot is one of the table that is held
       pub slot_held : IsHeldAt (Slot t i) log w.call.table
       slot_held = slot_table eq input build write finish classes respects b (eq key) (input key) query (Some key) name begun log m w.call.table
-          w.call.last w.call.kept made w.call.taken w.call.put w.call.fresh r.calling t i (inr (old, new, asks))
+          w.call.copier.last w.call.copier.kept made w.call.taken w.call.put w.call.copier.fresh r.calling t i (inr (old, new, asks))
 
       abbrev its_own : (m.phase ≡ Calling) × (calls.ask_of m.call ≡ Ask_exchange (Slot t i) old new)
       its_own = call_asks m (Ask_exchange (Slot t i) old new) asks
 
       abbrev relying : IsRelying eq input build write finish classes respects b (eq key) (input key) query (Some key) (exchanges_of begun) log m.call
-          (call_loaded eq input build write finish classes respects b (eq key) (input key) query (Some key) name begun w.call.last made)
+          (call_loaded eq input build write finish classes respects b (eq key) (input key) query (Some key) name begun w.call.copier.last made)
       relying = call_relies eq input build write finish classes respects b (eq key) (input key) query (Some key) name begun log m w.call.table
-          w.call.last w.call.kept made w.call.taken w.call.put w.call.fresh r.calling
+          w.call.copier.last w.call.copier.kept made w.call.taken w.call.put w.call.copier.fresh r.calling
 
       -- where a pair is put in, it is claimed for an empty slot, and else takes the place of another
       kind_at : IsPutting (kind_of_ask m) → kind_of_ask m ≡ Some (cond (old == 0) kinds.Claim kinds.Replace)
@@ -306,7 +306,7 @@ module _ {K V S H : Type 0} (eq : K → K → Bool) (input : K → List (List �
           let same = own_kind m its_own.0 in
           subst (λ (z : Option StepKind). CanExchange eq hash b (Slot t i) z old new (Some q) (names.Pair q) log) (sym same)
           (can_put eq input build write finish classes respects b (eq key) (input key) query (Some key) (exchanges_of begun) log r.calling.lawful
-          m.call (call_loaded eq input build write finish classes respects b (eq key) (input key) query (Some key) name begun w.call.last made)
+          m.call (call_loaded eq input build write finish classes respects b (eq key) (input key) query (Some key) name begun w.call.copier.last made)
           relying t i old new its_own.1 (subst IsPutting same kind) q (
             λ claims. ap (λ z. Some z) (claims_own kind q stands (same ∙ claims)),
             λ replaces.
@@ -319,7 +319,7 @@ module _ {K V S H : Type 0} (eq : K → K → Bool) (input : K → List (List �
           let same = own_kind m its_own.0 in
           subst (λ (z : Option StepKind). CanExchange eq hash b (Slot t i) z old new None names.Nothing log) (sym same)
           (can_delete eq input build write finish classes respects b (eq key) (input key) query (Some key) (exchanges_of begun) log r.calling.lawful
-          m.call (call_loaded eq input build write finish classes respects b (eq key) (input key) query (Some key) name begun w.call.last made)
+          m.call (call_loaded eq input build write finish classes respects b (eq key) (input key) query (Some key) name begun w.call.copier.last made)
           relying t i old new its_own.1 (sym same ∙ kind))
 
       -- what is put in is one of the pairs that were made, or none
@@ -337,23 +337,23 @@ module _ {K V S H : Type 0} (eq : K → K → Bool) (input : K → List (List �
             goes_on eq input build write finish classes respects b name key made begun log w r made log'
             (record w { call = record w.call { taken = pair; put = put } }) Exchanged r.keyed r.valued tt
             (exchanged eq input build write finish classes respects b (eq key) (input key) query (Some key) name begun log log' m w.call.table
-            w.call.last w.call.kept made w.call.taken w.call.put w.call.fresh r.calling t i old new found put pair asks s own
+            w.call.copier.last w.call.copier.kept made w.call.taken w.call.put w.call.copier.fresh r.calling t i old new found put pair asks s own
             (λ claim q has. ap (λ z. Some z) (claims claim q has)) is)
             (put_is_placed put own)
 
         -- it was not
-        slot_lost : (found == old) ≡ false → On log' (record w { call = record w.call { last = or_last pair w.call.last } }) (Found_instead found)
+        slot_lost : (found == old) ≡ false → On log' (record w { call = record w.call { copier = record w.call.copier { last = or_last pair w.call.copier.last } } }) (Found_instead found)
         slot_lost is =
             goes_on eq input build write finish classes respects b name key made begun log w r made log'
-            (record w { call = record w.call { last = or_last pair w.call.last } }) (Found_instead found) r.keyed r.valued tt
-            (lost eq input build write finish classes respects b (eq key) (input key) query (Some key) name begun log log' m w.call.table w.call.last
-            w.call.kept made w.call.taken w.call.put w.call.fresh r.calling t i old new found put pair asks s is)
+            (record w { call = record w.call { copier = record w.call.copier { last = or_last pair w.call.copier.last } } }) (Found_instead found) r.keyed r.valued tt
+            (lost eq input build write finish classes respects b (eq key) (input key) query (Some key) name begun log log' m w.call.table w.call.copier.last
+            w.call.copier.kept made w.call.taken w.call.put w.call.copier.fresh r.calling t i old new found put pair asks s is)
             r.put_placed
 
         -- as the call holds it afterwards
         abbrev AfterTried : Bool → Driver K V S H → Answer → Type 0
         AfterTried z c answer = MatchBool z ((answer ≡ Exchanged) × (c ≡ record w.call { taken = pair; put = put }))
-            ((answer ≡ Found_instead found) × (c ≡ record w.call { last = or_last pair w.call.last }))
+            ((answer ≡ Found_instead found) × (c ≡ record w.call { copier = record w.call.copier { last = or_last pair w.call.copier.last } }))
 
         pub tried_on : (c : Driver K V S H) (answer : Answer) → AfterTried (found == old) c answer → On log' (record w { call = c }) answer
         tried_on c answer h =

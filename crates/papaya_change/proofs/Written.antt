@@ -42,7 +42,7 @@ use Rattle.papaya_lookup.proofs.Readings.{IsQuery}
 module _ {K V S H : Type 0} (eq : K → K → Bool) (hash : S → K → ℕ) (b : Begun K V S) (name : Book) (key : K) (made : List (Stored K V))
     (begun log : List (Event K V S)) (w : Writer K V S H) (given : Rattle.papaya_book.specs.declared.rule.own.OwnSteps.OwnSteps CapacityCause) where
   pub with_given : (answer : Answer) → IsWritingOn eq hash b name key made begun log w answer
-      → IsWritingOn eq hash b name key made begun log (record w { call = record w.call { given = given } }) answer
+      → IsWritingOn eq hash b name key made begun log (record w { call = record w.call { copier = record w.call.copier { given = given } } }) answer
   with_given answer on = (record { calling = on.0.calling; keyed = on.0.keyed; valued = on.0.valued; put_placed = on.0.put_placed }, on.1)
 
 -- an answer to an ask for something made
@@ -114,15 +114,15 @@ module _ {K V S H : Type 0} (eq : K → K → Bool) (input : K → List (List �
       key_made answer asks plain =
           goes_on made log w answer r.keyed r.valued (plain_fit answer plain)
           (quiet eq input build write finish classes respects b (eq key) (input key) own_query (Some key) name begun log log ([], append-nil log)
-          r.calling.lawful m w.call.table w.call.last w.call.kept made w.call.taken w.call.put w.call.fresh r.calling
-          MakeKey asks answer w.call.last made w.call.table w.call.fresh
+          r.calling.lawful m w.call.table w.call.copier.last w.call.copier.kept made w.call.taken w.call.put w.call.copier.fresh r.calling
+          MakeKey asks answer w.call.copier.last made w.call.table w.call.copier.fresh
           (record {
             told = (make_answer answer plain, (refl, refl));
             same = refl;
             busy = λ z. z;
             brings = barren eq input build write finish classes respects b (eq key) (input key) own_query (Some key) name begun log log
-                ([], append-nil log) r.calling.lawful m w.call.table w.call.last w.call.kept made w.call.taken w.call.put w.call.fresh r.calling MakeKey
-                asks tt answer w.call.fresh;
+                ([], append-nil log) r.calling.lawful m w.call.table w.call.copier.last w.call.copier.kept made w.call.taken w.call.put w.call.copier.fresh r.calling MakeKey
+                asks tt answer w.call.copier.fresh;
           }) r.calling.holds_table r.calling.last_placed r.calling.made_placed)
           r.put_placed
 
@@ -130,15 +130,15 @@ module _ {K V S H : Type 0} (eq : K → K → Bool) (input : K → List (List �
       value_made answer asks plain =
           goes_on made log w answer r.keyed r.valued (plain_fit answer plain)
           (quiet eq input build write finish classes respects b (eq key) (input key) own_query (Some key) name begun log log ([], append-nil log)
-          r.calling.lawful m w.call.table w.call.last w.call.kept made w.call.taken w.call.put w.call.fresh r.calling
-          MakeValue asks answer w.call.last made w.call.table w.call.fresh
+          r.calling.lawful m w.call.table w.call.copier.last w.call.copier.kept made w.call.taken w.call.put w.call.copier.fresh r.calling
+          MakeValue asks answer w.call.copier.last made w.call.table w.call.copier.fresh
           (record {
             told = (make_answer answer plain, (refl, refl));
             same = refl;
             busy = λ z. z;
             brings = barren eq input build write finish classes respects b (eq key) (input key) own_query (Some key) name begun log log
-                ([], append-nil log) r.calling.lawful m w.call.table w.call.last w.call.kept made w.call.taken w.call.put w.call.fresh r.calling
-                MakeValue asks tt answer w.call.fresh;
+                ([], append-nil log) r.calling.lawful m w.call.table w.call.copier.last w.call.copier.kept made w.call.taken w.call.put w.call.copier.fresh r.calling
+                MakeValue asks tt answer w.call.copier.fresh;
           }) r.calling.holds_table r.calling.last_placed r.calling.made_placed)
           r.put_placed
 
@@ -152,15 +152,15 @@ module _ {K V S H : Type 0} (eq : K → K → Bool) (input : K → List (List �
         pair_unmade answer asks unmade plain =
             goes_on made log (record w { value = value; key = own }) answer keyed valued (plain_fit answer plain)
             (quiet eq input build write finish classes respects b (eq key) (input key) own_query (Some key) name begun log log ([], append-nil log)
-            r.calling.lawful m w.call.table w.call.last w.call.kept made w.call.taken w.call.put w.call.fresh r.calling
-            MakePair asks answer w.call.last made w.call.table w.call.fresh
+            r.calling.lawful m w.call.table w.call.copier.last w.call.copier.kept made w.call.taken w.call.put w.call.copier.fresh r.calling
+            MakePair asks answer w.call.copier.last made w.call.table w.call.copier.fresh
             (record {
               told = inl (unmade, (refl, refl));
               same = refl;
               busy = λ z. z;
               brings = barren eq input build write finish classes respects b (eq key) (input key) own_query (Some key) name begun log log
-                  ([], append-nil log) r.calling.lawful m w.call.table w.call.last w.call.kept made w.call.taken w.call.put w.call.fresh r.calling
-                  MakePair asks tt answer w.call.fresh;
+                  ([], append-nil log) r.calling.lawful m w.call.table w.call.copier.last w.call.copier.kept made w.call.taken w.call.put w.call.copier.fresh r.calling
+                  MakePair asks tt answer w.call.copier.fresh;
             }) r.calling.holds_table r.calling.last_placed r.calling.made_placed)
             r.put_placed
 
@@ -169,15 +169,15 @@ module _ {K V S H : Type 0} (eq : K → K → Bool) (input : K → List (List �
         of_unmade n answer asks unmade plain =
             goes_on made log (record w { value = value; key = own }) answer keyed valued (plain_fit answer plain)
             (quiet eq input build write finish classes respects b (eq key) (input key) own_query (Some key) name begun log log ([], append-nil log)
-            r.calling.lawful m w.call.table w.call.last w.call.kept made w.call.taken w.call.put w.call.fresh r.calling
-            (MakePairOf n) asks answer w.call.last made w.call.table w.call.fresh
+            r.calling.lawful m w.call.table w.call.copier.last w.call.copier.kept made w.call.taken w.call.put w.call.copier.fresh r.calling
+            (MakePairOf n) asks answer w.call.copier.last made w.call.table w.call.copier.fresh
             (record {
               told = inl (unmade, (refl, refl));
               same = refl;
               busy = λ z. z;
               brings = barren eq input build write finish classes respects b (eq key) (input key) own_query (Some key) name begun log log
-                  ([], append-nil log) r.calling.lawful m w.call.table w.call.last w.call.kept made w.call.taken w.call.put w.call.fresh r.calling
-                  (MakePairOf n) asks tt answer w.call.fresh;
+                  ([], append-nil log) r.calling.lawful m w.call.table w.call.copier.last w.call.copier.kept made w.call.taken w.call.put w.call.copier.fresh r.calling
+                  (MakePairOf n) asks tt answer w.call.copier.fresh;
             }) r.calling.holds_table r.calling.last_placed r.calling.made_placed)
             r.put_placed
 
@@ -192,42 +192,42 @@ module _ {K V S H : Type 0} (eq : K → K → Bool) (input : K → List (List �
           pair_made is asks =
               goes_on (q ∷ made) log (record w { value = value; key = own }) (Made_number q.index) keyed valued low
               (quiet eq input build write finish classes respects b (eq key) (input key) own_query (Some key) name begun log log ([], append-nil log)
-              r.calling.lawful m w.call.table w.call.last w.call.kept made w.call.taken w.call.put w.call.fresh r.calling
-              MakePair asks (Made_number q.index) w.call.last (q ∷ made) w.call.table w.call.fresh
+              r.calling.lawful m w.call.table w.call.copier.last w.call.copier.kept made w.call.taken w.call.put w.call.copier.fresh r.calling
+              MakePair asks (Made_number q.index) w.call.copier.last (q ∷ made) w.call.table w.call.copier.fresh
               (record {
                 told = inr (q, ap (λ z. Some z) is, (refl, refl, refl));
                 same = refl;
                 busy = λ z. z;
                 brings = barren eq input build write finish classes respects b (eq key) (input key) own_query (Some key) name begun log log
-                    ([], append-nil log) r.calling.lawful m w.call.table w.call.last w.call.kept made w.call.taken w.call.put w.call.fresh r.calling
-                    MakePair asks tt (Made_number q.index) w.call.fresh;
+                    ([], append-nil log) r.calling.lawful m w.call.table w.call.copier.last w.call.copier.kept made w.call.taken w.call.put w.call.copier.fresh r.calling
+                    MakePair asks tt (Made_number q.index) w.call.copier.fresh;
               }) r.calling.holds_table r.calling.last_placed one_placed)
               r.put_placed
 
-          pub of_made : (n : ℕ) → ((p : Stored K V) → w.call.last ≡ Some p → key_of q ≡ key_of p) → ask_of m ≡ Call (MakePairOf n)
+          pub of_made : (n : ℕ) → ((p : Stored K V) → w.call.copier.last ≡ Some p → key_of q ≡ key_of p) → ask_of m ≡ Call (MakePairOf n)
               → IsWritingOn eq hash b name key (q ∷ made) begun log (record w { value = value; key = own }) (Made_number q.index)
           of_made n is asks =
               goes_on (q ∷ made) log (record w { value = value; key = own }) (Made_number q.index) keyed valued low
               (quiet eq input build write finish classes respects b (eq key) (input key) own_query (Some key) name begun log log ([], append-nil log)
-              r.calling.lawful m w.call.table w.call.last w.call.kept made w.call.taken w.call.put w.call.fresh r.calling
-              (MakePairOf n) asks (Made_number q.index) w.call.last (q ∷ made) w.call.table w.call.fresh
+              r.calling.lawful m w.call.table w.call.copier.last w.call.copier.kept made w.call.taken w.call.put w.call.copier.fresh r.calling
+              (MakePairOf n) asks (Made_number q.index) w.call.copier.last (q ∷ made) w.call.table w.call.copier.fresh
               (record {
                 told = inr (q, λ p e f. ap (λ z. Some z) (is p e), (refl, refl, refl));
                 same = refl;
                 busy = λ z. z;
                 brings = barren eq input build write finish classes respects b (eq key) (input key) own_query (Some key) name begun log log
-                    ([], append-nil log) r.calling.lawful m w.call.table w.call.last w.call.kept made w.call.taken w.call.put w.call.fresh r.calling
-                    (MakePairOf n) asks tt (Made_number q.index) w.call.fresh;
+                    ([], append-nil log) r.calling.lawful m w.call.table w.call.copier.last w.call.copier.kept made w.call.taken w.call.put w.call.copier.fresh r.calling
+                    (MakePairOf n) asks tt (Made_number q.index) w.call.copier.fresh;
               }) r.calling.holds_table r.calling.last_placed one_placed)
               r.put_placed
 
       -- the key was compared
-      pub key_compared : (n : ℕ) (same : Bool) → ((p : Stored K V) → w.call.last ≡ Some p → same ≡ eq key (key_of p)) → ask_of m ≡ Call (SameKey n)
+      pub key_compared : (n : ℕ) (same : Bool) → ((p : Stored K V) → w.call.copier.last ≡ Some p → same ≡ eq key (key_of p)) → ask_of m ≡ Call (SameKey n)
           → WritingOn log w (Yes same)
       key_compared n same is asks =
           goes_on made log w (Yes same) r.keyed r.valued tt
-          (compared eq input build write finish classes respects b (eq key) (input key) own_query (Some key) name begun log m w.call.table w.call.last
-          w.call.kept made w.call.taken w.call.put w.call.fresh r.calling n same is asks)
+          (compared eq input build write finish classes respects b (eq key) (input key) own_query (Some key) name begun log m w.call.table w.call.copier.last
+          w.call.copier.kept made w.call.taken w.call.put w.call.copier.fresh r.calling n same is asks)
           r.put_placed
 
       -- what it was told of a table that was to be made
@@ -235,15 +235,15 @@ module _ {K V S H : Type 0} (eq : K → K → Bool) (input : K → List (List �
           → (slots limit chunks : ℕ) (answer : Answer) (fresh : Option (Where Sheet × Pen)) → ask_of m ≡ Call (MakeTable slots limit chunks)
           → (((refused : Refused) × (answer ≡ Was_refused refused)) ⊎ (answer ≡ Ok_done)) ⊎ ((n : ℕ) × (0 < n) × (answer ≡ Made_number n))
           → IsFit answer → ((n : ℕ) → answer ≡ Made_number n → IsFresh b name log' n fresh)
-          → WritingOn log' (record w { call = record w.call { fresh = fresh } }) answer
+          → WritingOn log' (record w { call = record w.call { copier = record w.call.copier { fresh = fresh } } }) answer
       table_told log' pre l' slots limit chunks answer fresh asks told fit is_fresh =
           let brings : (n : ℕ) → IsBringing (ask_of (after m (answers.Call answer))) n → IsFresh b name log' n fresh =
           λ n brought. let own = call_asks m (MakeTable slots limit chunks) asks in
           ⊎_elim (λ h. is_fresh n h.0) (λ h. let f = sym own.1 ∙ h in absurd (cc f)) (own_brings m own.0 answer n brought) in
-          goes_on made log' (record w { call = record w.call { fresh = fresh } }) answer r.keyed r.valued fit
+          goes_on made log' (record w { call = record w.call { copier = record w.call.copier { fresh = fresh } } }) answer r.keyed r.valued fit
           (quiet eq input build write finish classes respects b (eq key) (input key) own_query (Some key) name begun log log' pre l' m w.call.table
-          w.call.last w.call.kept made w.call.taken w.call.put w.call.fresh r.calling
-          (MakeTable slots limit chunks) asks answer w.call.last made w.call.table fresh
+          w.call.copier.last w.call.copier.kept made w.call.taken w.call.put w.call.copier.fresh r.calling
+          (MakeTable slots limit chunks) asks answer w.call.copier.last made w.call.table fresh
           (record { told = (told, (refl, refl)); same = refl; busy = λ z. z; brings = brings })
           (held_later log log' pre r.calling.number w.call.table r.calling.holds_table) r.calling.last_placed r.calling.made_placed)
           r.put_placed
@@ -251,14 +251,14 @@ module _ {K V S H : Type 0} (eq : K → K → Bool) (input : K → List (List �
       -- no table was made
       pub table_unmade : (log' : List (Event K V S)) → IsPrefix log log' → IsLawfulLog eq hash b log' → (slots limit chunks : ℕ) (refused : Refused)
           → ask_of m ≡ Call (MakeTable slots limit chunks) → WritingOn log' w (Was_refused refused)
-      table_unmade log' pre l' slots limit chunks refused asks = table_told log' pre l' slots limit chunks (Was_refused refused) w.call.fresh asks
+      table_unmade log' pre l' slots limit chunks refused asks = table_told log' pre l' slots limit chunks (Was_refused refused) w.call.copier.fresh asks
           (inl (inl (refused, refl))) tt (λ n e. absurd (cc e))
 
       -- a table was made
       pub table_made : (log' : List (Event K V S)) → IsPrefix log log' → IsLawfulLog eq hash b log'
           → (slots limit chunks : ℕ) (t : Where Sheet) (seal : Pen) (i : ℕ) → i ≡ number_of t → ask_of m ≡ Call (MakeTable slots limit chunks)
           → IsMade t.value log' → IsPlaced b (Some name) (names.Table t) → seal.book ≡ name → seal.nib ≡ nib may_write t.value.seal 0
-          → WritingOn log' (record w { call = record w.call { fresh = Some (t, seal) } }) (Made_number i)
+          → WritingOn log' (record w { call = record w.call { copier = record w.call.copier { fresh = Some (t, seal) } } }) (Made_number i)
       table_made log' pre l' slots limit chunks t seal i number_is asks is_made placed book is =
           table_told log' pre l' slots limit chunks (Made_number i) (Some (t, seal)) asks (inr (i, omega arith, refl)) (let low = placed.1 in omega arith)
           (λ n e. let number : i ≡ n = cc e in record {

@@ -155,7 +155,7 @@ module _ {K V S H : Type 0} (eq : K → K → Bool) (hash : S → K → ℕ) (b 
   abbrev pub IsDriven : (K → Bool) → ℕ → Option K → List (Event K V S) → List (Event K V S)
       → List (Stored K V) → Driver K V S H → Type 0
   IsDriven matches fed k begun log made c = IsCalling eq hash b name matches fed k begun log c.machine
-      c.table c.last c.kept made c.taken c.put c.fresh
+      c.table c.copier.last c.copier.kept made c.taken c.put c.copier.fresh
 
   -- some call is under way, and each that is goes on so
   abbrev pub CanGoOn : List (Event K V S) → Driver K V S H → Type 0

@@ -29,7 +29,6 @@ use Rattle.papaya_book.specs.Rule.{IsLawfulLog, IsPlaced}
 use Rattle.papaya_book.specs.Sheets.{Sheet}
 use Rattle.papaya_change.specs.declared.copier.Asked.{Asked}
 use Rattle.papaya_change.specs.declared.copier.Copier.{Copier}
-use Rattle.papaya_change.specs.declared.driver.Driver.{Driver}
 use Rattle.papaya_change.specs.Changing.{HasChunks, IsFresh}
 use Rattle.papaya_change.specs.Helping.{IsLoadedFor, IsTriedFor}
 
@@ -89,13 +88,6 @@ module _ {K V S : Type 0} (eq : K → K → Bool) (hash : S → K → ℕ) (b : 
     pub table : IsTable log t sheet
     pub len : size.0 ≡ length sheet.slots
     pub limit : size.1 ≡ sheet.limit
-
--- what a call hands over that is set aside, and the call that has it back
-abbrev pub copier_of : {K V S H : Type 0} → Driver K V S H → Copier K V S H
-copier_of c = record { last = c.last; kept = c.kept; fresh = c.fresh; given = c.given }
-
-abbrev pub with_copier : {K V S H : Type 0} → Driver K V S H → Copier K V S H → Driver K V S H
-with_copier c h = record c { last = h.last; kept = h.kept; fresh = h.fresh; given = h.given }
 
 module _ {K V S H : Type 0} (eq : K → K → Bool) (hash : S → K → ℕ) (b : Begun K V S)
     (name : Book) where

@@ -44,6 +44,6 @@ module _ {K V S : Type 0} where
 
 -- a call that begins holds nothing yet
 pub record HoldsNothing {K V S H : Type 0} (c : Driver K V S H) : Type 0 where
-  pub table : (c.table ≡ None) × (c.fresh ≡ None)
-  pub pairs : (c.last ≡ None) × (c.kept ≡ None) × (c.taken ≡ None) × (c.put ≡ None)
-  pub given : c.given.done ≡ []
+  pub table : (c.table ≡ None) × (c.copier.fresh ≡ None)
+  pub pairs : (c.copier.last ≡ None) × (c.copier.kept ≡ None) × (c.taken ≡ None) × (c.put ≡ None)
+  pub given : c.copier.given.done ≡ []

@@ -6,9 +6,14 @@ use Rattle.papaya_chain.specs.declared.ask.Answer.{Answer}
 use Rattle.papaya_chain.specs.declared.machine.Machine.{Machine}
 use Rattle.papaya_book.specs.declared.rule.entry.Begun.{Begun}
 use Rattle.papaya_book.specs.declared.rule.entry.Event.{Event}
+use Rattle.papaya_change.specs.declared.copier.Copier.{Copier}
 use Rattle.papaya_change.specs.declared.driver.Driver.{Driver}
 use Rattle.papaya_change.specs.Changing.{GoesOn}
 use Rattle.papaya_change.specs.Helping.{Copies}
+
+-- the call with this copier
+abbrev pub with_copier : {K V S H : Type 0} → Driver K V S H → Copier K V S H → Driver K V S H
+with_copier c copier = record c { copier = copier }
 
 -- the call with this machine
 abbrev pub with_machine : {K V S H : Type 0} → Driver K V S H → Machine → Driver K V S H

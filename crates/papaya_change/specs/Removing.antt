@@ -46,7 +46,7 @@ module _ {K V S H F : Type 0} (eq : K → K → Bool) (hash : S → K → ℕ) (
     pub refuses : (cause : Refused) → ask_of x.call.machine ≡ Call (Done (reply.Refused cause))
         → IsMemoryOrCapacity cause
     pub crowded : ask_of x.call.machine ≡ Call (Done (reply.Refused Capacity))
-        → HasNoRoom x.call.machine.call.initial (tables_of log) x.call.given.done
+        → HasNoRoom x.call.machine.call.initial (tables_of log) x.call.copier.given.done
 
   -- the removal after its machine was answered
   abbrev pub answered : Removal K V S H → Answer → Removal K V S H
@@ -81,7 +81,7 @@ module _ {K V S H F : Type 0} (eq : K → K → Bool) (hash : S → K → ℕ) (
 abbrev pub Shows : {K V S H F : Type 0} → (F → Stored K V → Bool → F → Type 0) → Removal K V S H → F
     → Removal K V S H → F → Answer → Type 0
 Shows {K = K} {V = V} judges x f x' g answer = (p : Stored K V) × (agreed : Bool)
-    × (x.call.last ≡ Some p) × judges f p agreed g × (x' ≡ record x { shown = Some p })
+    × (x.call.copier.last ≡ Some p) × judges f p agreed g × (x' ≡ record x { shown = Some p })
     × (answer ≡ Yes agreed)
 
 module _ {K V S H : Type 0} where

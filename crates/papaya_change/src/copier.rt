@@ -41,8 +41,8 @@ pub struct Asked {
 }
 
 /// What one holds who copies: the pair that was loaded last, the pair that is carried to another
-/// table, and a table that was made, until it is tried to be linked. Where a number was given past
-/// a limit, or the sum of the count, contracts see that number.
+/// table, and a table that was made, until it is tried to be opened or linked. Where a number was
+/// given past a limit, or the sum of the count, contracts see that number.
 #[derive(Drop)]
 pub struct Copier<K: Hash + Eq, V, S: BuildHasher> {
     pub last: Option<Stored<K, V>>,
@@ -65,6 +65,7 @@ pub(crate) fn tried(found: u64, old: u64) -> Answer
 
 impl<K: Hash + Eq, V, S: BuildHasher> Copier<K, V, S> {
     /// One that holds nothing.
+    #[inline(always)]
     pub fn new() -> Copier<K, V, S>
         ensures { (result.last ≡ None) × (result.kept ≡ None) × (result.fresh ≡ None)
             × (result.given.done ≡ []) }
@@ -128,11 +129,9 @@ impl<K: Hash + Eq, V, S: BuildHasher> Copier<K, V, S> {
     }
 
     /// Keeps the pair that was loaded, if one was.
-    fn tell(&mut self, pair: Option<Stored<K, V>>)
-        ensures { self.new ≡ record self.old {
-          last = Rattle.papaya_call_law.specs.Told.or_last pair
-              self.old.last;
-        } }
+    #[inline(always)]
+    pub(crate) fn tell(&mut self, pair: Option<Stored<K, V>>)
+        ensures { self.new ≡ record self.old { last = or_last pair self.old.last } }
     {
         if pair.is_some() {
             self.last = pair;

@@ -15,36 +15,31 @@ ghost use Rattle.papaya_change.specs.Window.Driver.{Holds, Loads};
 ghost use Rattle.papaya_change.specs.Window.LookingOn.{CanLookOn, GoesOver, LooksOn};
 ghost use Rattle.papaya_change.specs.Window.Steps.{CanTake, Deletes, HasTried, IsSizeOf, Takes};
 
+use crate::copier::Copier;
 use crate::fast_path::pass_over;
-use boxcar::Pushed;
-use logbook::Pen;
 use papaya_ask::ask::{Answer as CallAnswer, At};
 use papaya_ask::call::Task;
 use papaya_ask::search::Search;
 use papaya_book::rule::entry::Stored;
-use papaya_book::rule::own::{CapacityCause, OwnSteps};
 use papaya_book::table::Table;
 use papaya_book::window::Window;
 use papaya_call::machine::State;
+use papaya_call::made::Made;
 use papaya_chain::ask::Answer;
 use papaya_chain::machine::Machine;
 use papaya_words::probe::ResizeMode;
 use std::hash::{BuildHasher, Hash};
 
-/// A changing call under way: its machine; the table and the pair that it loaded last; the pair
-/// that it carries to another table while it is set aside for a copy; and the pairs that its change
-/// took out and put in. A table that it has made is opened or linked by its next step. Where it was
-/// given a number past a limit, contracts see that number.
+/// A changing call under way: its machine, the table that it loaded last, and the pairs that its
+/// change took out and put in. Its copier holds the pair that it loaded last, and answers for it
+/// while it is set aside for a copy. A table that it has made is opened or linked by its next step.
 #[derive(Drop)]
 pub struct Driver<'a, K: Hash + Eq, V, S: BuildHasher> {
     pub machine: Machine,
     pub table: Option<&'a Table<K, V, S>>,
-    pub last: Option<Stored<K, V>>,
-    pub kept: Option<Stored<K, V>>,
+    pub copier: Copier<K, V, S>,
     pub taken: Option<Stored<K, V>>,
     pub put: Option<Stored<K, V>>,
-    pub fresh: Option<(Pushed<Table<K, V, S>>, Pen)>,
-    pub given: OwnSteps<CapacityCause>,
 }
 
 impl<'a, K: Hash + Eq, V, S: BuildHasher> Driver<'a, K, V, S> {
@@ -66,12 +61,9 @@ impl<'a, K: Hash + Eq, V, S: BuildHasher> Driver<'a, K, V, S> {
         Driver {
             machine: Machine::new(task, hash, mode, initial, 0, limit),
             table: None,
-            last: None,
-            kept: None,
+            copier: Copier::new(),
             taken: None,
             put: None,
-            fresh: None,
-            given: OwnSteps::nothing(),
         }
     }
 
@@ -85,10 +77,20 @@ impl<'a, K: Hash + Eq, V, S: BuildHasher> Driver<'a, K, V, S> {
           table = Some table.entry;
         } }
     {
-        let mut machine = self.machine;
-        machine.call.state = state;
-        self.machine = machine;
+        self.machine.call.state = state;
         self.table = Some(table);
+    }
+
+    /// Has the call have made these pairs.
+    #[inline(always)]
+    pub fn set_made(&mut self, made: Made)
+        ensures { self.new ≡ record self.old {
+          machine = record self.old.machine {
+            call = record self.old.machine.call { made = made };
+          };
+        } }
+    {
+        self.machine.call.made = made;
     }
 
     /// Where the call looks for this key in the table that it holds, has it go over the places that
@@ -131,7 +133,10 @@ impl<'a, K: Hash + Eq, V, S: BuildHasher> Driver<'a, K, V, S> {
         ensures sees { Sees window.old window.new }
         ensures own { window.new.own ≡ window.old.own }
         ensures as_loaded { Loads at result window.old self.old window.new self.new }
-        ensures rest { self.new ≡ record self.old { table = self.new.table; last = self.new.last } }
+        ensures rest { self.new ≡ record self.old {
+          table = self.new.table;
+          copier = record self.old.copier { last = self.new.copier.last };
+        } }
     {
         match (at, self.table) {
             (At::Root, _) => {
@@ -146,7 +151,7 @@ impl<'a, K: Hash + Eq, V, S: BuildHasher> Driver<'a, K, V, S> {
             }
             (At::Slot(number, place), Some(table)) => {
                 let (word, pair) = window.slot(table, number, place);
-                self.tell(pair);
+                self.copier.tell(pair);
                 word
             }
             (At::Made, _) => window.made(),
@@ -242,16 +247,6 @@ impl<'a, K: Hash + Eq, V, S: BuildHasher> Driver<'a, K, V, S> {
         }
     }
 
-    /// Keeps the pair that was loaded, if one was.
-    #[inline(always)]
-    pub fn tell(&mut self, pair: Option<Stored<K, V>>)
-        ensures { self.new ≡ record self.old { last = or_last pair self.old.last } }
-    {
-        if pair.is_some() {
-            self.last = pair;
-        }
-    }
-
     /// The call tried an exchange with which the pair comes that is to be put in, if one is, and
     /// found this word and this pair.
     #[inline(always)]
@@ -269,7 +264,7 @@ impl<'a, K: Hash + Eq, V, S: BuildHasher> Driver<'a, K, V, S> {
             self.put = put;
             CallAnswer::Exchanged
         } else {
-            self.tell(pair);
+            self.copier.tell(pair);
             CallAnswer::Found(found)
         }
     }

@@ -1,21 +1,25 @@
 //! Insertions whose search of the root ends where most do: their pair is logged and put in at once.
 //! The machine stands in the proof. Computes search so too, and put their pairs in so.
 ghost use Rattle.papaya_change.specs.Window.Ends.{Ends, HasTried, TellsWhy};
-ghost use Rattle.std.specs.Prelude.{◌≡◌, ◌<◌, true, is_ok, length};
+ghost use Rattle.std.specs.Prelude.{◌≡◌, ◌==◌, ◌<◌, true, is_ok, length};
 ghost use Rattle.std.specs.Prelude.{Ok, Err, IfErr, IfOk, None, Some};
 ghost use Rattle.std.specs.Int.{IsPowerOfTwo};
 ghost use Rattle.papaya_ask.specs.Search.{IsWithin};
+ghost use Rattle.papaya_ask.specs.declared.ask.StepKind.TheVariants.{Delete};
 ghost use Rattle.papaya_ask.specs.declared.search.Search.TheVariants.{Looking, Reading};
+ghost use Rattle.papaya_call.specs.Remove.{grave_word};
 ghost use Rattle.papaya_call.specs.declared.machine.State.TheVariants.{Searching};
 ghost use Rattle.papaya_words.specs.Word.{kind_of, pair_of};
 ghost use Rattle.papaya_words.specs.declared.word.Kind.TheVariants.{Live};
 ghost use Rattle.papaya_book.specs.declared.rule.entry.Named.TheVariants.{Pair as PairNamed};
 ghost use Rattle.papaya_book.specs.Pairs.{IsKeyIn};
-ghost use Rattle.papaya_book.specs.Windows.{Does, IsIn, IsLawful, IsTable, Sees};
+ghost use Rattle.papaya_book.specs.Windows.{CanTrySlot, Does, IsIn, IsLawful, IsTable, Sees};
+ghost use Rattle.papaya_book.specs.Windows.{TriesSlot};
 ghost use Rattle.papaya_lookup.specs.Drivers.{own, past};
 ghost use Rattle.papaya_lookup.specs.History.{key_of};
 ghost use Rattle.papaya_change.specs.Changes.{IsPut};
 ghost use Rattle.papaya_change.specs.Seeking.{left_at, left_to, turn_of};
+ghost use Rattle.papaya_change.specs.Showings.{IsSamePair};
 ghost use Rattle.papaya_change.specs.Window.Seeking.{HasWritten, IsFoundFor, LooksAt, ReadsAt, StandsBy};
 ghost use Rattle.papaya_change.specs.Window.Seeking.{Turns};
 ghost use Rattle.papaya_change.specs.Tries.{CanDelete, Offers, ShowsMet, TakesOut, TriesDeletion};
@@ -374,6 +378,42 @@ pub fn replace<K: Hash + Eq + Drop, V: Drop, S: BuildHasher>(
     Tried::Put(pair)
 }
 
+/// Tries to exchange the word of a slot, which names this pair, for the pair's tombstone: the word
+/// that was found there, and the pair that it names. Where the exchange was made, the count has one
+/// pair less, and the pair that went is this one.
+#[inline(always)]
+pub fn delete_slot<K: Hash + Eq, V, S: BuildHasher>(
+    shard: &Shard<'_>,
+    window: &mut Window<'_, K, V, S>,
+    table: &Table<K, V, S>,
+    number: u64,
+    place: usize,
+    word: u64,
+    shown: &Stored<K, V>,
+) -> (u64, Option<Stored<K, V>>)
+    requires table { IsTable window.old number table.now }
+    requires place { place < length table.now.slots }
+    requires can { CanTrySlot window.old number place (Some Delete) (word, grave_word word) }
+    requires placed { IsIn window.old (PairNamed shown.now) }
+    requires number { shown.now.index ≡ pair_of word }
+    ensures sees { Sees window.old window.new }
+    ensures does { Does (result.0 == word) window.old window.new }
+    ensures tried { TriesSlot window.old window.new number place (Some Delete)
+        (word, grave_word word) result.0 result.1 }
+    ensures same { (result.0 == word) ≡ true → (taken : _) × (result.1 ≡ Some taken)
+        × IsSamePair shown.now taken }
+{
+    let grave = Word::tombstone(Word(word).pair());
+    let words = (word, grave.0);
+    let (found, before) = window.exchange_slot(table, number, place, Some(StepKind::Delete), words);
+    if found == word {
+        shard.add(place as u64, -1);
+        let Some(taken) = &before else { unreachable!() };
+        window.book.parts.pairs.agrees(shown, taken);
+    }
+    (found, before)
+}
+
 /// Tries to put the tombstone of a pair that a search has met in its place: whether its word stood
 /// there still. The count then has one pair less, and the pair that went is the one that was met.
 #[inline(always)]
@@ -393,16 +433,9 @@ pub(crate) fn exchange_for_tombstone<K: Hash + Eq, V, S: BuildHasher>(
     ensures does { Does result window.old window.new }
 {
     let (place, word) = (met.place, met.word);
-    let (slot, kind) = (place.probe.i, Some(StepKind::Delete));
-    let grave = Word::tombstone(Word(word).pair());
-    let (found, before) = window.exchange_slot(table, place.table, slot, kind, (word, grave.0));
-    if found != word {
-        return false;
-    }
-    shard.add(slot as u64, -1);
-    let Some(taken) = before else { unreachable!() };
-    window.book.parts.pairs.agrees(&met.stored, &taken);
-    true
+    let slot = place.probe.i;
+    let (found, _) = delete_slot(shard, window, table, place.table, slot, word, &met.stored);
+    found == word
 }
 
 /// Tries to delete the live pair that a compute's search has met: whether its word stood there

@@ -8,19 +8,16 @@ ghost use Rattle.papaya_chain.specs.declared.machine.Phase.TheVariants.{Calling}
 ghost use Rattle.papaya_copy.specs.declared.settle.Settle.TheVariants.{Looking};
 ghost use Rattle.papaya_copy.specs.Link.{IsFitCopyAsk};
 ghost use Rattle.papaya_book.specs.Windows.{HasCome, IsLawful, IsTable, Sees};
-ghost use Rattle.papaya_change.specs.Copier.{copier_of, with_copier};
 ghost use Rattle.papaya_change.specs.Window.Driver.{CanGoOn, Copies, GoesOn, Helps};
-ghost use Rattle.papaya_change.specs.Going.{with_machine};
 ghost use Rattle.papaya_change.specs.Window.Going.{GoesBy};
 ghost use Rattle.papaya_change.specs.Helping.{IsEntering};
 ghost use Rattle.papaya_change.specs.Settling.{at_slot};
 
-use crate::copier::{Asked, Copier};
+use crate::copier::Asked;
 use crate::driver::Driver;
 use papaya_ask::copy_ask::CopyAsk;
 use papaya_ask::search::Search;
 use papaya_book::count::Shard;
-use papaya_book::rule::own::OwnSteps;
 use papaya_book::window::Window;
 use papaya_call::machine::State;
 use papaya_chain::ask::{Answer, Ask};
@@ -30,7 +27,6 @@ use papaya_copy::settle::Settle;
 use papaya_copy::step::{Chunk, Step};
 use std::alloc::Global;
 use std::hash::{BuildHasher, Hash};
-use std::mem;
 use std::sync::{MutexGuard, Wait};
 
 impl<'a, K: Hash + Eq, V, S: BuildHasher> Driver<'a, K, V, S> {
@@ -59,17 +55,6 @@ impl<'a, K: Hash + Eq, V, S: BuildHasher> Driver<'a, K, V, S> {
         self.help_set_aside(rt, alloc, shard, window);
     }
 
-    /// Has the call copy a table from the chunk of this number on, of as many as there are.
-    fn copy_from(&mut self, number: u64)
-        ensures { self.new ≡ record self.old {
-          machine = record self.old.machine { number = number };
-        } }
-    {
-        let mut machine = self.machine;
-        machine.number = number;
-        self.machine = machine;
-    }
-
     /// Copies until the call goes on for itself. It is a function of its own, so that a call that
     /// is not set aside pays nothing for it.
     #[inline(never)]
@@ -87,7 +72,7 @@ impl<'a, K: Hash + Eq, V, S: BuildHasher> Driver<'a, K, V, S> {
         ensures goes_on { GoesOn window.old self.old window.new self.new }
         ensures rest { (self.new.taken ≡ self.old.taken) × (self.new.put ≡ self.old.put) }
     {
-        self.copy_from(shard.count().next_start());
+        self.machine.number = shard.count().next_start();
         // The turn to make a next table, until that is linked. Where it is refused the copy ends,
         // and the turn goes with it.
         let mut making: Option<MutexGuard<'a, ()>> = None;
@@ -143,8 +128,10 @@ impl<'a, K: Hash + Eq, V, S: BuildHasher> Driver<'a, K, V, S> {
         ensures standing { IsStanding self.new.machine }
         ensures fit { IsFit result }
         ensures goes { GoesBy window.old self.old window.new self.new result }
-        ensures rest { self.new ≡ with_machine (with_copier self.old (copier_of self.new))
-            self.new.machine }
+        ensures rest { self.new ≡ record self.old {
+          machine = self.new.machine;
+          copier = self.new.copier;
+        } }
     {
         match self.machine.phase {
             Phase::Copying(Copying::Stepping(aim, Step::Settling(chunk, Settle::Looking))) => {
@@ -165,16 +152,14 @@ impl<'a, K: Hash + Eq, V, S: BuildHasher> Driver<'a, K, V, S> {
         ensures standing { IsStanding self.new.machine }
         ensures fit { IsFit result }
         ensures goes { GoesBy window.old self.old window.new self.new result }
-        ensures rest { self.new ≡ with_machine (with_copier self.old (copier_of self.new))
-            self.new.machine }
+        ensures rest { self.new ≡ record self.old {
+          machine = self.new.machine;
+          copier = self.new.copier;
+        } }
     {
         let mode = self.machine.call.mode;
-        let mut copier = self.lend();
-        let (copying, answer) = copier.copy_slots(aim, chunk, mode, window);
-        self.take_back(copier);
-        let mut machine = self.machine;
-        machine.phase = Phase::Copying(copying);
-        self.machine = machine;
+        let (copying, answer) = self.copier.copy_slots(aim, chunk, mode, window);
+        self.machine.phase = Phase::Copying(copying);
         answer
     }
 
@@ -196,44 +181,13 @@ impl<'a, K: Hash + Eq, V, S: BuildHasher> Driver<'a, K, V, S> {
         ensures own { window.new.own ≡ window.old.own }
         ensures fit { IsFit result }
         ensures copies { Copies window.old self.old window.new self.new result }
-        ensures rest { self.new ≡ record self.old {
-          last = self.new.last;
-          kept = self.new.kept;
-          fresh = self.new.fresh;
-          given = self.new.given;
-        } }
+        ensures rest { self.new ≡ record self.old { copier = self.new.copier } }
     {
         let asked = Asked {
             ask,
             kind: self.machine.kind(),
             follows: self.machine.follows(),
         };
-        let mut copier = self.lend();
-        let answer = copier.answer(rt, alloc, shard, asked, making, window);
-        self.take_back(copier);
-        answer
-    }
-
-    /// Hands over what is held for a copy.
-    fn lend(&mut self) -> Copier<K, V, S>
-        ensures value { result ≡ copier_of self.old }
-        ensures rest { self.new ≡ with_copier self.old (copier_of self.new) }
-    {
-        Copier {
-            last: self.last.take(),
-            kept: self.kept.take(),
-            fresh: self.fresh.take(),
-            given: mem::replace(&mut self.given, OwnSteps::nothing()),
-        }
-    }
-
-    /// Has back what was held for a copy.
-    fn take_back(&mut self, copier: Copier<K, V, S>)
-        ensures { self.new ≡ with_copier self.old copier }
-    {
-        self.last = copier.last;
-        self.kept = copier.kept;
-        self.fresh = copier.fresh;
-        self.given = copier.given;
+        self.copier.answer(rt, alloc, shard, asked, making, window)
     }
 }

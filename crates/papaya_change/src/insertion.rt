@@ -6,16 +6,18 @@ ghost use Rattle.papaya_book.specs.Windows.{Does, IsIn, Sees};
 ghost use Rattle.papaya_book.specs.declared.rule.entry.Named.TheVariants.{Pair as PairNamed};
 ghost use Rattle.papaya_change.specs.Doing.{Answers, has_changed, was_made};
 ghost use Rattle.papaya_change.specs.Window.Inserting.{CanInsert, HasPut, HasPutSince, Inserts};
-ghost use Rattle.std.specs.Prelude.{◌≡◌, ℕ, ◌<◌, ◌^◌, false, true, is_ok, Some, Err, IfErr, IfOk};
+ghost use Rattle.std.specs.Prelude.{◌≡◌, ℕ, ◌<◌, ◌^◌, false, true, is_ok, None, Some, Err, IfErr, IfOk};
 ghost use Rattle.std.specs.Int.{IsPowerOfTwo};
 ghost use Rattle.papaya_call.specs.Machine.{ask_of as call_ask_of};
-ghost use Rattle.papaya_chain.specs.Machine.{IsStanding, ask_of};
+ghost use Rattle.papaya_chain.specs.Machine.{IsStanding, ask_of, started};
 ghost use Rattle.papaya_chain.specs.declared.ask.Ask.TheVariants.{Call};
 ghost use Rattle.papaya_chain.specs.declared.machine.Phase.TheVariants.{Calling};
 ghost use Rattle.papaya_ask.specs.declared.ask.Ask.TheVariants.{Done, Exchange, MakePair, MakePairOf};
 ghost use Rattle.papaya_ask.specs.declared.ask.At.TheVariants.{Slot};
 ghost use Rattle.papaya_ask.specs.declared.call.Reply.TheVariants.{Refused as ReplyRefused};
+ghost use Rattle.papaya_ask.specs.declared.call.Task.TheVariants.{Insert};
 ghost use Rattle.papaya_change.specs.Changes.{IsPut};
+ghost use Rattle.papaya_change.specs.Driver.{HoldsNothing};
 ghost use Rattle.papaya_change.specs.Window.Seeking.{HasWritten, StandsBy};
 ghost use Rattle.papaya_change.specs.declared.fast_path.Turn.TheVariants.{Over};
 ghost use Rattle.papaya_change.specs.Writing.{HasKeyAt, IsMemoryCapacityOrLimit};
@@ -25,6 +27,7 @@ use crate::means::Means;
 use crate::writing::Writer;
 use papaya_ask::ask::{Answer, Ask as CallAsk, At};
 use papaya_ask::call::{Reply, Task};
+use papaya_book::book::Book;
 use papaya_book::book::pairs::{KeyPart, ValuePart};
 use papaya_book::count::Shard;
 use papaya_book::keyed::Hashed;
@@ -53,6 +56,36 @@ pub struct Insertion<'a, K: Hash + Eq, V, S: BuildHasher> {
 }
 
 impl<'a, K: Hash + Eq + Drop, V: Drop, S: BuildHasher> Insertion<'a, K, V, S> {
+    /// An insertion of this key and value, which begins at the root and has made no pair.
+    #[inline(always)]
+    fn begin<R: Wait>(
+        means: &Means<'_, '_, R>,
+        book: &Book<K, V, S>,
+        hash: u64,
+        key: KeyPart<K, V>,
+        value: ValuePart<K, V>,
+    ) -> Insertion<'a, K, V, S>
+        requires initial { IsPowerOfTwo means.now.initial }
+        ensures machine { result.writer.call.machine ≡ started (Insert true) hash
+            book.now.parts.mode means.now.initial 0 book.now.parts.limit }
+        ensures standing { IsStanding result.writer.call.machine }
+        ensures empty { HoldsNothing result.writer.call }
+        ensures parts { (result.writer.key ≡ Some key) × (result.writer.value ≡ Some value) }
+        ensures made { (result.own ≡ None) × (result.of ≡ None) }
+    {
+        let task = Task::Insert { replace: true };
+        let parts = &book.parts;
+        Insertion {
+            writer: Writer {
+                call: Driver::new(task, hash, parts.mode, means.initial, parts.limit),
+                key: Some(key),
+                value: Some(value),
+            },
+            own: None,
+            of: None,
+        }
+    }
+
     /// Logs the pair of the call's key and the value.
     fn make_pair<R: Wait>(&mut self, rt: &R, window: &Window<'a, K, V, S>) -> Answer
         requires standing { IsStanding self.old.writer.call.machine }
@@ -220,7 +253,7 @@ fn drive<'a, R: Wait, K: Hash + Eq + Drop, V: Drop, S: BuildHasher>(
                 insertion.writer.look_on(window);
             }
             None => {
-                *given = insertion.writer.call.given.again();
+                *given = insertion.writer.call.copier.given.again();
                 return insertion.replied(window);
             }
         }
@@ -249,16 +282,8 @@ pub(crate) fn insert_slow<'a, R: Wait, K: Hash + Eq + Drop, V: Drop, S: BuildHas
     window.learn();
     let book = window.book;
     let hash = hash(&book.parts.hasher, &key);
-    let task = Task::Insert { replace: true };
-    let insertion = Insertion {
-        writer: Writer {
-            call: Driver::new(task, hash, book.parts.mode, means.initial, book.parts.limit),
-            key: Some(KeyPart::Own(key)),
-            value: Some(ValuePart::Own(value)),
-        },
-        own: None,
-        of: None,
-    };
+    let (key, value) = (KeyPart::Own(key), ValuePart::Own(value));
+    let insertion = Insertion::begin(means, book, hash, key, value);
     drive(means, window, given, insertion)
 }
 
@@ -284,19 +309,12 @@ pub(crate) fn insert_onward<'a, R: Wait, K: Hash + Eq + Drop, V: Drop, S: BuildH
     ensures tells { TellsWhy means.now.initial window.new given.new.done
         (λ cause. result ≡ Err cause) }
 {
-    let book = window.book;
-    let task = Task::Insert { replace: true };
-    let mut call = Driver::new(task, hash, book.parts.mode, means.initial, book.parts.limit);
-    call.stand(State::Growing(Need::Room(number)), table);
-    let insertion = Insertion {
-        writer: Writer {
-            call,
-            key: Some(KeyPart::Own(key)),
-            value: Some(ValuePart::Own(value)),
-        },
-        own: None,
-        of: None,
-    };
+    let (key, value) = (KeyPart::Own(key), ValuePart::Own(value));
+    let mut insertion = Insertion::begin(means, window.book, hash, key, value);
+    insertion
+        .writer
+        .call
+        .stand(State::Growing(Need::Room(number)), table);
     drive(means, window, given, insertion)
 }
 
@@ -320,24 +338,14 @@ pub(crate) fn insert_logged<'a, R: Wait, K: Hash + Eq + Drop, V: Drop, S: BuildH
         (λ cause. result ≡ Err cause) }
 {
     window.learn();
-    let book = window.book;
-    let task = Task::Insert { replace: true };
-    let mut call = Driver::new(task, hash, book.parts.mode, means.initial, book.parts.limit);
-    let mut machine = call.machine;
-    machine.call.made = Made {
+    let (key, value) = (KeyPart::Of(pair.again()), ValuePart::Of(pair.again()));
+    let mut insertion = Insertion::begin(means, window.book, hash, key, value);
+    let made = insertion.writer.call.machine.call.made;
+    insertion.writer.call.set_made(Made {
         own: Some(pair.index() as u64),
-        ..machine.call.made
-    };
-    call.machine = machine;
-    let insertion = Insertion {
-        writer: Writer {
-            call,
-            key: Some(KeyPart::Of(pair.again())),
-            value: Some(ValuePart::Of(pair.again())),
-        },
-        own: Some(pair),
-        of: None,
-    };
+        ..made
+    });
+    insertion.own = Some(pair);
     drive(means, window, given, insertion)
 }
 
@@ -366,23 +374,13 @@ pub(crate) fn insert_met<'a, R: Wait, K: Hash + Eq + Drop, V: Drop, S: BuildHash
         (λ cause. result ≡ Err cause) }
 {
     window.learn();
-    let book = window.book;
-    let task = Task::Insert { replace: true };
-    let mut call = Driver::new(task, hash, book.parts.mode, means.initial, book.parts.limit);
-    let mut machine = call.machine;
-    machine.call.made = Made {
+    let (key, value) = (KeyPart::Own(key), ValuePart::Of(pair.again()));
+    let mut insertion = Insertion::begin(means, window.book, hash, key, value);
+    let made = insertion.writer.call.machine.call.made;
+    insertion.writer.call.set_made(Made {
         of: Some(write.of(pair.index() as u64)),
-        ..machine.call.made
-    };
-    call.machine = machine;
-    let insertion = Insertion {
-        writer: Writer {
-            call,
-            key: Some(KeyPart::Own(key)),
-            value: Some(ValuePart::Of(pair.again())),
-        },
-        own: None,
-        of: Some(pair),
-    };
+        ..made
+    });
+    insertion.of = Some(pair);
     drive(means, window, given, insertion)
 }

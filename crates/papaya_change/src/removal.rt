@@ -75,10 +75,10 @@ impl<'a, K: Hash + Eq, V, S: BuildHasher> Removal<'a, K, V, S> {
     /// Does the key match that of the pair last loaded?
     fn same<Q: Equivalent<K>>(&self, key: &Q, window: &Window<'a, K, V, S>) -> Answer
         requires last { HasLast window.now self.now.call }
-        ensures same { (p : _) → self.now.call.last ≡ Some p
+        ensures same { (p : _) → self.now.call.copier.last ≡ Some p
             → result ≡ Answer.Yes (Q.matches key.now (key_of p)) }
     {
-        let Some(last) = &self.call.last else {
+        let Some(last) = &self.call.copier.last else {
             unreachable!()
         };
         let book = window.book;
@@ -96,7 +96,7 @@ impl<'a, K: Hash + Eq, V, S: BuildHasher> Removal<'a, K, V, S> {
         ensures callable { F.IsAlwaysCallable agrees.new }
         ensures shows { Shows (Judges F.FnMut) self.old agrees.old self.new agrees.new result }
     {
-        let Some(last) = &self.call.last else {
+        let Some(last) = &self.call.copier.last else {
             unreachable!()
         };
         let (stored, value) = entry(window.book, last);
@@ -232,7 +232,7 @@ pub fn remove_slow<
                     .help(means.rt, means.alloc, means.shard, window);
             }
             None => {
-                *given = removal.call.given.again();
+                *given = removal.call.copier.given.again();
                 return removal.replied(window);
             }
         }

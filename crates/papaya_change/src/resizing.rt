@@ -123,9 +123,7 @@ impl<K: Hash + Eq, V, S: BuildHasher> Resizing<K, V, S> {
     {
         let mode = self.machine.mode;
         let (copying, answer) = self.copier.copy_slots(aim, chunk, mode, window);
-        let mut machine = self.machine;
-        machine.state = State::Copying { from, copying };
-        self.machine = machine;
+        self.machine.state = State::Copying { from, copying };
         answer
     }
 

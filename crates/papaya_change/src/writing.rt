@@ -96,7 +96,7 @@ impl<'a, K: Hash + Eq + Drop, V: Drop, S: BuildHasher> Writer<'a, K, V, S> {
         requires standing { IsStanding self.now.call.machine }
         ensures steps { Steps window.now self.now window.now self.now result }
     {
-        let Some(last) = &self.call.last else {
+        let Some(last) = &self.call.copier.last else {
             unreachable!()
         };
         let book = window.book;
@@ -133,7 +133,7 @@ impl<'a, K: Hash + Eq + Drop, V: Drop, S: BuildHasher> Writer<'a, K, V, S> {
         requires asks { (ask_of self.now.call.machine ≡ Call MakeKey)
             ⊎ (ask_of self.now.call.machine ≡ Call MakeValue) }
         requires standing { IsStanding self.now.call.machine }
-        ensures unsaid { IsUnsaid self.now.call.given.done result }
+        ensures unsaid { IsUnsaid self.now.call.copier.given.done result }
         ensures makes { MakesPart ⟦<S as Keyed<K>>⟧.keys self.now result }
     {
         Answer::Made(0)
@@ -180,14 +180,14 @@ impl<'a, K: Hash + Eq + Drop, V: Drop, S: BuildHasher> Writer<'a, K, V, S> {
     ) -> Result<Stored<K, V>, Answer>
         requires waits { (n : ℕ) × Waits window.now self.old (MakePairOf n) }
         requires standing { IsStanding self.old.call.machine }
-        ensures key { IfOk result (λ q. (p : _) → self.old.call.last ≡ Some p
+        ensures key { IfOk result (λ q. (p : _) → self.old.call.copier.last ≡ Some p
             → key_of q ≡ key_of p) }
         ensures logs { Logs window.now self.old self.new result }
     {
         let Some(value) = self.value.take() else {
             return Err(Answer::Ok);
         };
-        let Some(last) = &self.call.last else {
+        let Some(last) = &self.call.copier.last else {
             unreachable!()
         };
         let lane = last.index() as u64;
@@ -227,12 +227,12 @@ impl<'a, K: Hash + Eq + Drop, V: Drop, S: BuildHasher> Writer<'a, K, V, S> {
         requires size { IsSize len limit }
         ensures steps { Steps window.old self.old window.new self.new result }
     {
-        let made = window.make_table(rt, alloc, len, limit, chunks, None, &mut self.call.given);
+        let made = window.make_table(rt, alloc, len, limit, chunks, None, &mut self.call.copier.given);
         window.learn();
         match made {
             Ok((table, seal)) => {
                 let number = table.index() as u64 + 1;
-                self.call.fresh = Some((table, seal));
+                self.call.copier.fresh = Some((table, seal));
                 Answer::Made(number)
             }
             Err(refused) => Answer::Refused(refused),
@@ -245,7 +245,7 @@ impl<'a, K: Hash + Eq + Drop, V: Drop, S: BuildHasher> Writer<'a, K, V, S> {
         requires standing { IsStanding self.old.call.machine }
         ensures steps { Steps window.old self.old window.new self.new result }
     {
-        let Some((table, mut seal)) = self.call.fresh.take() else {
+        let Some((table, mut seal)) = self.call.copier.fresh.take() else {
             unreachable!()
         };
         let (found, root) = window.open_root(&table, &mut seal);

@@ -201,10 +201,10 @@ module _ {K V S H : Type 0} (eq : K → K → Bool) (input : K → List (List �
 
       -- it goes on after an answer to a silent ask
       pub goes_on : (log' : List (Event K V S)) → IsPrefix log log' → (w : Writer K V S H) → w.call.machine ≡ m → w.value ≡ x.writer.value
-          → IsUnsaid w.call.given.done answer → TellsTaken log' (calls.ask_of m.call) answer → IsWritingOn eq hash b name key r.made begun log' w answer
+          → IsUnsaid w.call.copier.given.done answer → TellsTaken log' (calls.ask_of m.call) answer → IsWritingOn eq hash b name key r.made begun log' w answer
           → ComputingOn log' (record x { writer = w }) heard (Some answer)
       goes_on log' pre w same value unsaid tells on =
-          let given = w.call.given.done in
+          let given = w.call.copier.given.done in
           let l' : IsLawfulLog eq hash b log' = on.0.calling.lawful in
           let then : after w.call.machine (answers.Call answer) ≡ after m (answers.Call answer) = ap (λ (z : Machine). after z (answers.Call answer)) same in (
             record {
@@ -245,6 +245,6 @@ module _ {K V S H : Type 0} (eq : K → K → Bool) (input : K → List (List �
 
       -- so it does where it was not asked how many numbers for pairs were taken
       pub goes_untold : (IsNumberAsk ask → ⊥) → (log' : List (Event K V S)) → IsPrefix log log' → (w : Writer K V S H) → w.call.machine ≡ m
-          → w.value ≡ x.writer.value → IsUnsaid w.call.given.done answer → IsWritingOn eq hash b name key r.made begun log' w answer
+          → w.value ≡ x.writer.value → IsUnsaid w.call.copier.given.done answer → IsWritingOn eq hash b name key r.made begun log' w answer
           → ComputingOn log' (record x { writer = w }) heard (Some answer)
       goes_untold other log' pre w same value unsaid on = goes_on log' pre w same value unsaid (λ number. absurd (other (subst IsNumberAsk own.1 number))) on

@@ -116,12 +116,12 @@ module _ {K V S H T : Type 0} (eq : K → K → Bool) (input : K → List (List 
 
   pub computing_helped : IsDriven eq hash b name (eq key) (hash b.hasher key) (Some key) begun log' r.made c → c.put ≡ x.writer.call.put
       → c.machine.phase ≡ Calling → (x.writer.call.machine.phase ≡ Calling → (c ≡ x.writer.call) × (log' ≡ log))
-      → HasHelped x.writer.call.machine c.machine (tables_of log') c.given.done
+      → HasHelped x.writer.call.machine c.machine (tables_of log') c.copier.given.done
       → IsComputing eq hash b name key begun log' (record x { writer = record x.writer { call = c } }) heard
   computing_helped driven put calling still helped =
       let m = x.writer.call.machine in
       let tables = tables_of log' in
-      let given = c.given.done in
+      let given = c.copier.given.done in
       let k = helped_keeps m c.machine tables given helped in
       let same = λ (e : m.phase ≡ Calling). (still e).0 in
       record {

@@ -140,7 +140,7 @@ module _ {K V S T H : Type 0} (eq : K → K → Bool) (hash : S → K → ℕ) (
 
   module _ (ask : Ask) (asks : ask_of chain ≡ Call ask) (makes : MakesPair ask) where
     goes_on : (made' : List (Stored K V)) (w : Writer K V S H) (chosen fill made : Option (Stored K V)) (answer : Answer) → w.call.machine ≡ chain
-        → IsUnsaid w.call.given.done answer → IsWritingOn eq hash b name key made' begun log w answer → IsPlaced b (Some name) (pair_named chosen)
+        → IsUnsaid w.call.copier.given.done answer → IsWritingOn eq hash b name key made' begun log w answer → IsPlaced b (Some name) (pair_named chosen)
         → IsPlaced b (Some name) (pair_named fill)
         → ((stands : Said) → StandsOn (calls.after m answer) stands → Holds key made' heard (with_pairs w chosen fill made) stands)
         → ((i n : ℕ) → StandsOn (calls.after m answer) (Makes (Some i) n) → IsAnswered (calls.after m answer).state
@@ -148,7 +148,7 @@ module _ {K V S T H : Type 0} (eq : K → K → Bool) (hash : S → K → ℕ) (
         → ((old : ℕ) (new : Of) → (calls.after m answer).remembered.choice ≡ Some (To_replace old new) → KeepsSlot made new)
         → On (with_pairs w chosen fill made) answer
     goes_on made' w chosen fill made answer same unsaid on placed fills stood newest of_slot =
-        let given = w.call.given.done in
+        let given = w.call.copier.given.done in
         let then : after w.call.machine (answers.Call answer) ≡ after chain (answers.Call answer) = ap (λ (z : Machine). after z (answers.Call answer)) same in
         let led = order chain answer ask asks makes in
         let call_is : (after w.call.machine (answers.Call answer)).call ≡ calls.after m answer = ap (λ (z : Machine). z.call) then
@@ -194,7 +194,7 @@ module _ {K V S T H : Type 0} (eq : K → K → Bool) (hash : S → K → ℕ) (
     still w same (Removes n) h = h
 
     -- no pair was made
-    pub unmade : (w : Writer K V S H) (answer : Answer) → w.call.machine ≡ chain → IsUnlogged answer → IsUnsaid w.call.given.done answer
+    pub unmade : (w : Writer K V S H) (answer : Answer) → w.call.machine ≡ chain → IsUnlogged answer → IsUnsaid w.call.copier.given.done answer
         → held_value w.value ≡ held_value x.writer.value → IsWritingOn eq hash b name key r.made begun log w answer
         → On (with_pairs w x.chosen x.fill x.made) answer
     unmade w answer same unlogged unsaid kept on = goes_on r.made w x.chosen x.fill x.made answer same unsaid on r.chosen_placed r.fill_placed stood
@@ -274,7 +274,7 @@ module _ {K V S T H : Type 0} (eq : K → K → Bool) (hash : S → K → ℕ) (
     c = coding_for hash b.hasher (hash b.hasher key)
 
     abbrev loaded : LoadedPairs (Stored K V)
-    loaded = record { last = x.writer.call.last; made = r.made }
+    loaded = record { last = x.writer.call.copier.last; made = r.made }
 
     pub replaces : (n : ℕ) → IsReplacing m i n
     replaces n = machine_replacing m n i r.task_is standing.call r.words (call_asks chain (MakePairOf i) asks).1
@@ -312,7 +312,7 @@ module _ {K V S T H : Type 0} (eq : K → K → Bool) (hash : S → K → ℕ) (
     pub some_shown : x.shown ≡ None → ⊥
     some_shown none = let s = was_shown 0 in let e = sym s.1 ∙ none in cc e
 
-    pub some_last : x.writer.call.last ≡ None → ⊥
+    pub some_last : x.writer.call.copier.last ≡ None → ⊥
     some_last none = let e = sym (met 0).last ∙ none in cc e
 
     -- a pair was made in its place
@@ -322,7 +322,7 @@ module _ {K V S T H : Type 0} (eq : K → K → Bool) (hash : S → K → ℕ) (
       abbrev now_with : Stored K V → Computing K V S T H
       now_with p = with_pairs w (Some p) x.fill (Some q)
 
-      pub replaced : (p last : Stored K V) → x.shown ≡ Some p → x.writer.call.last ≡ Some last → p.value ≡ last.value → key_of q ≡ key_of last
+      pub replaced : (p last : Stored K V) → x.shown ≡ Some p → x.writer.call.copier.last ≡ Some last → p.value ≡ last.value → key_of q ≡ key_of last
           → On (with_pairs w (Some p) x.fill (Some q)) (Made_number q.index)
       replaced p last shown last_is one key_is = goes_on (MakePairOf i) asks tt (q ∷ r.made) w (Some p) x.fill (Some q) (Made_number q.index) same
           (λ cause e. absurd (cc e)) on (subst (λ (o : Option (Stored K V)). IsPlaced b (Some name) (pair_named o)) shown r.shown_placed) r.fill_placed
@@ -384,7 +384,7 @@ module _ {K V S T H : Type 0} (eq : K → K → Bool) (input : K → List (List 
     (standing : IsStanding x.writer.call.machine) where
   -- the pair that was shown last and the one that was loaded last have one number
   pub one_number : (i : ℕ) → ask_of x.writer.call.machine ≡ Call (MakePairOf i) → (p last : Stored K V) → x.shown ≡ Some p
-      → x.writer.call.last ≡ Some last → p.index ≡ last.index
+      → x.writer.call.copier.last ≡ Some last → p.index ≡ last.index
   one_number i asks p last shown last_is =
       let hash = hash_of input build write finish in
       let hashed = hashed_with eq input build write finish classes respects b (eq key) (input key)

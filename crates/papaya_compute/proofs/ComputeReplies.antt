@@ -87,7 +87,7 @@ module _ {K V S T H : Type 0} (eq : K → K → Bool) (input : K → List (List 
 
   -- the pairs that its call was told of
   abbrev loaded : LoadedPairs (Stored K V)
-  loaded = record { last = x.writer.call.last; made = r.made }
+  loaded = record { last = x.writer.call.copier.last; made = r.made }
 
   abbrev Answers : Result (Computed K V T) Cause → Type 0
   Answers answer = IsReplied eq key (history_of begun) (history_of log) heard answer
@@ -393,7 +393,7 @@ module _ {K V T : Type 0} (eq : K → K → Bool) (key : K) (older old new : Lis
 -- a compute that begins
 pub begins : {K V S T H : Type 0} (eq : K → K → Bool) (hash : S → K → ℕ) (b : Begun K V S) (name : Book) (key : K) (log : List (Event K V S))
     (x : Computing K V S T H) → IsLawfulLog eq hash b log → (initial : ℕ) → x.writer.call.machine ≡ started Compute (hash b.hasher key) b.mode initial 0 b.limit
-    → (x.writer.call.table ≡ None) × (x.writer.call.fresh ≡ None) → (x.writer.call.last ≡ None) × (x.writer.call.kept ≡ None)
+    → (x.writer.call.table ≡ None) × (x.writer.call.copier.fresh ≡ None) → (x.writer.call.copier.last ≡ None) × (x.writer.call.copier.kept ≡ None)
     × (x.writer.call.taken ≡ None) × (x.writer.call.put ≡ None) → x.writer.key ≡ Some (keys.Own key) → x.writer.value ≡ None → x.shown ≡ None
     → x.fill ≡ None → x.chosen ≡ None → IsComputing eq hash b name key log log x []
 begins eq hash b name key log x l initial machine table pairs own value shown fill chosen = record {

@@ -216,34 +216,34 @@ module _ {K V S H : Type 0} (eq : K → K → Bool) (input : K → List (List �
     w' = after w.call.machine (answers.Call (Op kind))
 
     abbrev Called' : Type 0
-    Called' = IsCalling eq hash b name (eq key) (hash b.hasher key) (Some key) begun log w' w.call.table w.call.last w.call.kept made w.call.taken
-        w.call.put w.call.fresh
+    Called' = IsCalling eq hash b name (eq key) (hash b.hasher key) (Some key) begun log w' w.call.table w.call.copier.last w.call.copier.kept made w.call.taken
+        w.call.put w.call.copier.fresh
 
     called : (shown : Option ℕ) → ask_of w.call.machine ≡ Call (show shown) → Called'
     called None e = quiet eq input build write finish classes respects b (eq key) (input key) own (Some key) name begun log log ([], append-nil log)
-        r.calling.lawful w.call.machine w.call.table w.call.last w.call.kept made w.call.taken w.call.put w.call.fresh r.calling
-        ShowNone e (Op kind) w.call.last made w.call.table w.call.fresh
+        r.calling.lawful w.call.machine w.call.table w.call.copier.last w.call.copier.kept made w.call.taken w.call.put w.call.copier.fresh r.calling
+        ShowNone e (Op kind) w.call.copier.last made w.call.table w.call.copier.fresh
         (record {
           told = (inr (inl (kind, refl)), (refl, refl));
           same = refl;
           busy = λ z.
               z;
           brings = barren eq input build write finish classes respects b (eq key) (input key) own (Some key) name begun log log
-              ([], append-nil log) r.calling.lawful w.call.machine w.call.table w.call.last w.call.kept made w.call.taken w.call.put w.call.fresh
-              r.calling ShowNone e tt (Op kind) w.call.fresh;
+              ([], append-nil log) r.calling.lawful w.call.machine w.call.table w.call.copier.last w.call.copier.kept made w.call.taken w.call.put w.call.copier.fresh
+              r.calling ShowNone e tt (Op kind) w.call.copier.fresh;
         })
         r.calling.holds_table r.calling.last_placed r.calling.made_placed
     called (Some i) e = quiet eq input build write finish classes respects b (eq key) (input key) own (Some key) name begun log log
-        ([], append-nil log) r.calling.lawful w.call.machine w.call.table w.call.last w.call.kept made w.call.taken w.call.put w.call.fresh r.calling
-        (ShowPair i) e (Op kind) w.call.last made w.call.table w.call.fresh
+        ([], append-nil log) r.calling.lawful w.call.machine w.call.table w.call.copier.last w.call.copier.kept made w.call.taken w.call.put w.call.copier.fresh r.calling
+        (ShowPair i) e (Op kind) w.call.copier.last made w.call.table w.call.copier.fresh
         (record {
           told = (inr (inl (kind, refl)), (refl, refl));
           same = refl;
           busy = λ z.
               z;
           brings = barren eq input build write finish classes respects b (eq key) (input key) own (Some key) name begun log log
-              ([], append-nil log) r.calling.lawful w.call.machine w.call.table w.call.last w.call.kept made w.call.taken w.call.put w.call.fresh
-              r.calling (ShowPair i) e tt (Op kind) w.call.fresh;
+              ([], append-nil log) r.calling.lawful w.call.machine w.call.table w.call.copier.last w.call.copier.kept made w.call.taken w.call.put w.call.copier.fresh
+              r.calling (ShowPair i) e tt (Op kind) w.call.copier.fresh;
         })
         r.calling.holds_table r.calling.last_placed r.calling.made_placed
 
@@ -440,7 +440,7 @@ module _ {K V S H : Type 0} (eq : K → K → Bool) (input : K → List (List �
     C = Coded eq input build write finish classes respects b (eq key) (input key) own (Some key) name begun
 
     abbrev loaded : LoadedPairs (Stored K V)
-    loaded = record { last = x.writer.call.last; made = r.made }
+    loaded = record { last = x.writer.call.copier.last; made = r.made }
 
     was_held : (value : Option (Stored K V)) → WasAtMoment G C (exchanges_of begun) r.writing.calling.since (Some key) value
         → WasHeld eq (eq key) (history_of begun) (history_of log) value
@@ -453,7 +453,7 @@ module _ {K V S H : Type 0} (eq : K → K → Bool) (input : K → List (List �
         r.writing.calling.relies.call (call_asks x.writer.call.machine ShowNone e).1)
 
     -- where it shows the pair last told of, the key had it
-    pub pair_held : (n : ℕ) → ask_of x.writer.call.machine ≡ Call (ShowPair n) → (p : Stored K V) → x.writer.call.last ≡ Some p
+    pub pair_held : (n : ℕ) → ask_of x.writer.call.machine ≡ Call (ShowPair n) → (p : Stored K V) → x.writer.call.copier.last ≡ Some p
         → WasHeld eq (eq key) (history_of begun) (history_of log) (Some p) × (p.index ≡ n)
     pair_held n e p last =
         let hashed = hashed_with eq input build write finish classes respects b (eq key) (input key) own log r.writing.calling.lawful in

@@ -93,8 +93,8 @@ module _ {K V S : Type 0} (eq : K → K → Bool) (hash : S → K → ℕ) (b : 
     counts = tt;
   }
 
-  module _ {T H : Type 0} (x : Computing K V S T H) (initial : ℕ) (table : (x.writer.call.table ≡ None) × (x.writer.call.fresh ≡ None))
-      (pairs : (x.writer.call.last ≡ None) × (x.writer.call.kept ≡ None) × (x.writer.call.taken ≡ None) × (x.writer.call.put ≡ None))
+  module _ {T H : Type 0} (x : Computing K V S T H) (initial : ℕ) (table : (x.writer.call.table ≡ None) × (x.writer.call.copier.fresh ≡ None))
+      (pairs : (x.writer.call.copier.last ≡ None) × (x.writer.call.copier.kept ≡ None) × (x.writer.call.taken ≡ None) × (x.writer.call.put ≡ None))
       (has_key : HasKey b name key x.writer.key) (has_value : HasValue b name x.writer.value) where
     abbrev IsAt : Remembered → Type 0
     IsAt held = x.writer.call.machine ≡ resumed_at h b.mode initial b.limit held

@@ -123,10 +123,10 @@ module _ {K V S T H O : Type 0} {d : keyed.Ghosts S K H} (says : O → Option (S
               on,
               helps.standing,
               helps.calling,
-              (helped_keeps (after m' (answers.Call answer)) then.machine (tables_of w''.sight.log) then.given.done helps.helped).initial
+              (helped_keeps (after m' (answers.Call answer)) then.machine (tables_of w''.sight.log) then.copier.given.done helps.helped).initial
                   ∙ (ap (λ (z : Machine). z.call.initial) led ∙ ((own_settings m r.2 answer).0 ∙ r.3)),
               sees_trans _ _ _ (sees_trans _ _ _ r.4 sees) helps.sees,
-              helped_does (after m' (answers.Call answer)) then.machine (tables_of w''.sight.log) then.given.done helps.calling helps.helped start_window w' w''
+              helped_does (after m' (answers.Call answer)) then.machine (tables_of w''.sight.log) then.copier.given.done helps.calling helps.helped start_window w' w''
                   told.still helps.own (subst (λ (z : Machine). Does (has_changed z) start_window w') (sym led)
                   (does_on m r.2 answer start_window w w' r.5 does)),
               (let u = on way.0 way.1 way.2 way.3 in (way.1, u.1.0, u.0, u.1.2)),
@@ -165,9 +165,9 @@ module _ {K V S T H O : Type 0} {d : keyed.Ghosts S K H} (says : O → Option (S
                 (rw t.machine (does_still x.writer.call.machine start_window w w' r.5 t.turns.1)));
           }
 
-          pub tells : TellsWhy initial w' x'.writer.call.given.done (λ cause. answer ≡ Err cause)
+          pub tells : TellsWhy initial w' x'.writer.call.copier.given.done (λ cause. answer ≡ Err cause)
           tells = let u = at_end way.0 way.1 way.2 way.3 in record {
-            crowded = λ e. subst (λ n. HasNoRoom n (tables_of w'.sight.log) x'.writer.call.given.done) (ap (λ (z : Machine). z.call.initial) t.machine ∙ r.3)
+            crowded = λ e. subst (λ n. HasNoRoom n (tables_of w'.sight.log) x'.writer.call.copier.given.done) (ap (λ (z : Machine). z.call.initial) t.machine ∙ r.3)
                 (u.1.2.crowded (subst (λ z. IfErr z (λ cause. ask_of x'.writer.call.machine ≡ Call (Done (Refused cause)))) e h.refusal));
             spent = λ e. u.1.2.spent (subst (λ z. IfErr z (λ cause. ask_of x'.writer.call.machine ≡ Call (Done (Refused cause)))) e h.refusal);
           }

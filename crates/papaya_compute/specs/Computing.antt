@@ -98,7 +98,7 @@ number_of (Some p) = Some p.index
 -- the closure is to be shown this: that there is none, or the pair last loaded
 abbrev pub IsToShow : {K V S H T : Type 0} → Computing K V S T H → Option (Stored K V) → Type 0
 IsToShow x shown = (ask_of x.writer.call.machine ≡ Call (show (number_of shown)))
-    × MatchOption shown (Unit {0}) (λ p. x.writer.call.last ≡ Some p)
+    × MatchOption shown (Unit {0}) (λ p. x.writer.call.copier.last ≡ Some p)
 
 -- what any call asks that inserts, but for its pairs and the slots that it exchanges
 abbrev pub IsWriters : Ask → Type 0
@@ -199,7 +199,7 @@ module _ {K V S H T : Type 0} (eq : K → K → Bool) (hash : S → K → ℕ) (
     pub refuses : (refused : Refused) → ask_of x.writer.call.machine
         ≡ Call (Done (reply.Refused refused)) → IsRefusedBy heard refused
     pub crowded : ask_of x.writer.call.machine ≡ Call (Done (reply.Refused Capacity))
-        → HasNoRoom x.writer.call.machine.call.initial (tables_of log) x.writer.call.given.done
+        → HasNoRoom x.writer.call.machine.call.initial (tables_of log) x.writer.call.copier.given.done
     pub spent : ask_of x.writer.call.machine ≡ Call (Done (reply.Refused Limit))
         → IsSpent b.limit log
 

@@ -112,9 +112,9 @@ fn resume<'a, K: Hash + Eq, V, S: BuildHasher>(
     ensures machine { result.machine ≡ resumed_at hash book.now.parts.mode initial
         book.now.parts.limit remembered }
     ensures standing { IsStanding result.machine }
-    ensures table { (result.table ≡ None) × (result.fresh ≡ None) }
-    ensures pairs { (result.last ≡ None) × (result.kept ≡ None) × (result.taken ≡ None)
-        × (result.put ≡ None) }
+    ensures table { (result.table ≡ None) × (result.copier.fresh ≡ None) }
+    ensures pairs { (result.copier.last ≡ None) × (result.copier.kept ≡ None)
+        × (result.taken ≡ None) × (result.put ≡ None) }
 {
     let parts = &book.parts;
     let mut call = Driver::new(Task::Compute, hash, parts.mode, initial, parts.limit);
@@ -295,9 +295,9 @@ impl<'a, K: Hash + Eq + Drop, V: Drop, S: BuildHasher, T: Drop> Computing<'a, K,
         requires can { IsAnyCompute ⟦<S as Keyed<K>>⟧.keys self.now }
         requires asks { (n : ℕ) × (ask_of self.now.writer.call.machine ≡ Call (ShowPair n)) }
         ensures asks { ask_of self.now.writer.call.machine ≡ Call (ShowPair result.index) }
-        ensures last { self.now.writer.call.last ≡ Some result }
+        ensures last { self.now.writer.call.copier.last ≡ Some result }
     {
-        let Some(last) = &self.writer.call.last else {
+        let Some(last) = &self.writer.call.copier.last else {
             unreachable!()
         };
         last.again()
@@ -360,7 +360,7 @@ impl<'a, K: Hash + Eq + Drop, V: Drop, S: BuildHasher, T: Drop> Computing<'a, K,
         ensures machine { self.new.writer.call.machine ≡ self.old.writer.call.machine }
         ensures computes { Computes window.now self.old window.now self.new (Some result) }
     {
-        let (Some(shown), Some(last)) = (&self.shown, &self.writer.call.last) else {
+        let (Some(shown), Some(last)) = (&self.shown, &self.writer.call.copier.last) else {
             unreachable!()
         };
         window.book.parts.pairs.agrees(shown, last);

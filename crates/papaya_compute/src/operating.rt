@@ -168,7 +168,7 @@ fn slow<
                 computing.tell(means.rt, means.alloc, means.shard, answer, window);
             }
             Next::Replied => {
-                *given = computing.writer.call.given.again();
+                *given = computing.writer.call.copier.given.again();
                 let (current, spare) = computing.left(window);
                 let answer = computing.replied(window);
                 return Ended {

@@ -144,7 +144,7 @@ fn compute_slow<
                 computing.tell(means.rt, means.alloc, means.shard, answer, window);
             }
             Next::Replied => {
-                *given = computing.writer.call.given.again();
+                *given = computing.writer.call.copier.given.again();
                 return computing.replied(window);
             }
         }

@@ -402,7 +402,7 @@ module _ {K V S H : Type 0} (eq : K → K → Bool) (input : K → List (List �
           by false d = ([], append-nil s.tried.before ∙ sym d)
 
   -- a word has the number of the pair that it names
-  number_in : (log : List (Event K V S)) → Lawful log → (t x word : ℕ) → word_in eq hashing b log (Slot t x) ≡ word → (p : Stored K V)
+  pub number_in : (log : List (Event K V S)) → Lawful log → (t x word : ℕ) → word_in eq hashing b log (Slot t x) ≡ word → (p : Stored K V)
       → named ((state_of log).slot t x) ≡ Some p → pair_of word ≡ p.index
   number_in log l t x word stands p names = ap pair_of (sym stands)
       ∙ (code_pair (G eq input build write finish classes respects b log) Cs (hashed eq input build write finish classes respects b log l).coding

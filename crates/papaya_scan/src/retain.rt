@@ -73,9 +73,8 @@ fn scan_slot<'a, R: Wait, K: Hash + Eq, V, S: BuildHasher, F: FnMut(&K, &V) -> b
         if show(stored, stays, window) {
             return false;
         }
-        let (found, other) = delete(table, number, place, word, &pair, window);
+        let (found, other) = delete(shard, table, number, place, word, stored, window);
         if found == word {
-            shard.add(place as u64, -1);
             return false;
         }
         word = found;

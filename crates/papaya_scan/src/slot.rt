@@ -5,11 +5,11 @@ ghost use Rattle.papaya_words.specs.declared.word.Kind.TheVariants.{Live};
 ghost use Rattle.papaya_book.specs.Windows.{Does, IsLawful, IsSlot, IsTable, Sees};
 ghost use Rattle.papaya_scan.specs.TableScans.{IsDeleted, IsMet, IsTaken};
 
-use papaya_ask::ask::StepKind;
+use papaya_book::count::Shard;
 use papaya_book::rule::entry::Stored;
 use papaya_book::table::Table;
 use papaya_book::window::Window;
-use papaya_words::word::Word;
+use papaya_change::fast_path::delete_slot;
 use std::hash::{BuildHasher, Hash};
 
 /// Loads a slot's word, and the pair that it names.
@@ -35,36 +35,27 @@ pub fn load<'a, K: Hash + Eq, V, S: BuildHasher>(
 /// Tries to delete the pair that this word of a slot names. It is the word that is found there,
 /// which may be another by then, and the pair that it names.
 pub fn delete<'a, K: Hash + Eq, V, S: BuildHasher>(
+    shard: &Shard<'_>,
     table: &Table<K, V, S>,
     number: u64,
     place: usize,
     word: u64,
-    pair: &Option<Stored<K, V>>,
+    shown: &Stored<K, V>,
     window: &mut Window<'a, K, V, S>,
 ) -> (u64, Option<Stored<K, V>>)
     requires table { IsTable window.old number table.now }
     requires taken { (began : _) × IsTaken began window.old number }
     requires place { place < length table.now.slots }
-    requires stood { IsSlot window.old window.old number place word pair.now }
+    requires stood { IsSlot window.old window.old number place word (Some shown.now) }
     requires live { kind_of word ≡ Live }
     ensures sees { Sees window.old window.new }
     ensures lawful { IsLawful window.new }
     ensures does { Does (result.0 == word) window.old window.new }
-    ensures tombstone { (result.0 == word) ≡ true → (shown : _) × (pair.now ≡ Some shown)
-        × IsDeleted window.new number place shown }
+    ensures tombstone { (result.0 == word) ≡ true → IsDeleted window.new number place shown.now }
     ensures found { (result.0 == word) ≡ false → IsSlot window.old window.new number place result.0
         result.1 }
     ensures met { (began : _) → IsTaken began window.old number
         → IsMet began window.new result.0 result.1 }
 {
-    let tombstone = Word::tombstone(Word(word).pair());
-    let words = (word, tombstone.0);
-    let (found, other) = window.exchange_slot(table, number, place, Some(StepKind::Delete), words);
-    if found == word {
-        let (Some(shown), Some(gone)) = (pair, &other) else {
-            unreachable!()
-        };
-        window.book.parts.pairs.agrees(shown, gone);
-    }
-    (found, other)
+    delete_slot(shard, window, table, number, place, word, shown)
 }

@@ -25,7 +25,7 @@ module _ {K V S H : Type 0} {d : keyed.Ghosts S K H} where
   abbrev pub Loads : At → ℕ → Window K V S H d → Driver K V S H → Window K V S H d → Driver K V S H
       → Type 0
   Loads at word w c w' c' = driver.IsLoaded d.keys.eq d.keys.hash (begun_of w.book.now.parts)
-      w.book.now.begun.book at word w'.sight.log c.table c'.table c.last c'.last
+      w.book.now.begun.book at word w'.sight.log c.table c'.table c.copier.last c'.copier.last
 
   -- some call is under way, and each that is goes on so
   abbrev pub CanGoOn : Window K V S H d → Driver K V S H → Type 0
@@ -43,7 +43,7 @@ module _ {K V S H : Type 0} {d : keyed.Ghosts S K H} where
     pub own : w'.own ≡ w.own
     pub standing : IsStanding c'.machine
     pub calling : c'.machine.phase ≡ Calling
-    pub helped : HasHelped machine c'.machine (tables_of w'.sight.log) c'.given.done
+    pub helped : HasHelped machine c'.machine (tables_of w'.sight.log) c'.copier.given.done
 
   -- a call that was set aside was answered so what it asked for a copy
   abbrev pub Copies : Window K V S H d → Driver K V S H → Window K V S H d → Driver K V S H → Answer

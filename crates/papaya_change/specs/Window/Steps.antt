@@ -28,12 +28,12 @@ abbrev pub HasTried : {K V S H : Type 0} → (found old : ℕ) → (pair put : O
     → Driver K V S H → Driver K V S H → Answer → Type 0
 HasTried found old pair put c c' answer = MatchBool (found == old)
     ((answer ≡ Exchanged) × (c' ≡ record c { taken = pair; put = put }))
-    ((answer ≡ Found found) × (c' ≡ record c { last = or_last pair c.last }))
+    ((answer ≡ Found found) × (c' ≡ record c { copier = record c.copier { last = or_last pair c.copier.last } }))
 
 module _ {K V S H : Type 0} {d : keyed.Ghosts S K H} where
   -- a pair was loaded last
   abbrev pub HasLast : Window K V S H d → Driver K V S H → Type 0
-  HasLast w c = (p : Stored K V) × (c.last ≡ Some p) × IsIn w (Pair p)
+  HasLast w c = (p : Stored K V) × (c.copier.last ≡ Some p) × IsIn w (Pair p)
 
   -- the number of a further pair may be taken
   abbrev pub CanTake : Window K V S H d → Driver K V S H → (words : ℕ × ℕ) → Type 0

@@ -57,7 +57,7 @@ module _ {K V S H : Type 0} {d : keyed.Ghosts S K H} where
     pub machine : c'.call.machine ≡ c.call.machine
     pub value : c'.value ≡ c.value
     pub put : c'.call.put ≡ c.call.put
-    pub unsaid : IsUnsaid c'.call.given.done answer
+    pub unsaid : IsUnsaid c'.call.copier.given.done answer
     pub writes : Writes w c w' c' answer
 
   -- It has it by an exchange of a slot that was tried: where that was made, this is what came with
@@ -69,7 +69,7 @@ module _ {K V S H : Type 0} {d : keyed.Ghosts S K H} where
     pub machine : c'.call.machine ≡ c.call.machine
     pub value : c'.value ≡ c.value
     pub put : (c'.call.put ≡ c.call.put) ⊎ (c'.call.put ≡ comes)
-    pub unsaid : IsUnsaid c'.call.given.done answer
+    pub unsaid : IsUnsaid c'.call.copier.given.done answer
 
   -- It has logged a pair of its value that is to be put in, or this is what its machine is to be
   -- answered.
@@ -83,7 +83,7 @@ module _ {K V S H : Type 0} {d : keyed.Ghosts S K H} where
     pub value : IfOk result (λ q. held_value c.value ≡ Some q.value.value)
     pub pairs : IfOk result (λ q. Pairs w c c' q)
     pub unlogged : IfErr result (λ answer. IsUnlogged answer)
-    pub unsaid : IfErr result (λ answer. IsUnsaid c'.call.given.done answer)
+    pub unsaid : IfErr result (λ answer. IsUnsaid c'.call.copier.given.done answer)
     pub writes : IfErr result (λ answer. Writes w c w c' answer)
 
 module _ {K V S H : Type 0} where

@@ -142,7 +142,7 @@ loop-preserved g c =
     ∙ ap (λ (z : Machine). after z (answers.Call answer)) c.answer.ensures.machine in
     let does = does_on m c.loop.invariant.2 answer c.args.window.now c.loop.window c.answer.new.window c.loop.invariant.5 c.in-Some-answer.ensures.answers in
     let does_call = subst (λ (z : Machine). Does (has_changed z) c.args.window.now c.answer.new.window) (sym same) does in
-    let does_help = helped_does call.machine then.machine (tables_of log) then.given.done c.help.ensures.helps.calling c.help.ensures.helps.helped c.args.window.now
+    let does_help = helped_does call.machine then.machine (tables_of log) then.copier.given.done c.help.ensures.helps.calling c.help.ensures.helps.helped c.args.window.now
     c.answer.new.window c.help.new.window (λ e. (c.help.ensures.still e).1) c.help.ensures.helps.own does_call in (
       (λ key value begun r.
           let u = c.loop.invariant.0 key value begun
@@ -181,7 +181,7 @@ loop-preserved g c =
       c.look_on.ensures.over.standing,
       looked_calling c.help.new.window seen then writer.call c.look_on.ensures.over.looked c.help.ensures.helps.calling,
       looked_initial c.help.new.window seen then writer.call c.look_on.ensures.over.looked
-          ∙ ((helped_keeps call.machine then.machine (tables_of log) then.given.done c.help.ensures.helps.helped).initial
+          ∙ ((helped_keeps call.machine then.machine (tables_of log) then.copier.given.done c.help.ensures.helps.helped).initial
           ∙ (ap (λ (z : Machine). z.call.initial) same ∙ ((own_settings m c.loop.invariant.2 answer).0 ∙ c.loop.invariant.3))),
       sees_trans _ _ _ (sees_trans _ _ _ (sees_trans _ _ _ c.loop.invariant.4 c.answer.ensures.sees) c.help.ensures.helps.sees) c.look_on.ensures.over.sees,
       looked_does c.help.new.window seen then writer.call c.look_on.ensures.over.looked c.args.window.now c.look_on.ensures.over.own does_help,
@@ -250,7 +250,7 @@ returns-in-None-answer-clause-tells g c = record {
       c.replied.ensures.refusal in
       let initial : c.answer.new.self.writer.call.machine.call.initial ≡ c.args.begun.writer.call.machine.call.initial = ap
       (λ (z : Machine). z.call.initial) c.answer.ensures.machine ∙ c.loop.invariant.3 in
-      rw c.again.ensures (subst (λ n. HasNoRoom n (tables_of c.answer.new.window.sight.log) c.answer.new.self.writer.call.given.done) initial (r.crowded refused));
+      rw c.again.ensures (subst (λ n. HasNoRoom n (tables_of c.answer.new.window.sight.log) c.answer.new.self.writer.call.copier.given.done) initial (r.crowded refused));
   spent = λ e.
       let begin = c.requires.can in let key = begin.0 in let value = begin.1 in let begun = begin.2 in
       let u = c.loop.invariant.0 key value begun

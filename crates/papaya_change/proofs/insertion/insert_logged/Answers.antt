@@ -26,24 +26,34 @@ drive-requires-clause-can g c =
     let w = c.learn.new.self.book.now in let log = c.learn.new.self.sight.log in let q = c.args.pair in
     let placed : IsPlaced (begun_of w.parts) (Some w.begun.book) (names.Pair q) = rw c.learn.ensures.sees.book c.requires.placed in
     let hashed : c.args.hash ≡ hash w.parts.hasher (key_of q) = rw c.learn.ensures.sees.book c.requires.hashed in
+    let parts = c.begin-insertion.ensures.parts in
+    let key_part = parts.0 ∙ ap (λ (z : Stored _ _). Some (keys.Of z)) c.again.ensures in
+    let value_part = parts.1 ∙ ap (λ (z : Stored _ _). Some (values.Of z)) c.again-2.ensures in
+    let has_key = subst (λ (o : _). HasKey (begun_of w.parts) w.begun.book (key_of q) o) (sym key_part) (refl, placed) in
+    let has_value = subst (λ (o : _). HasValue (begun_of w.parts) w.begun.book o) (sym value_part) placed in
+    let value_is = ap held_value value_part in
     let made : Made = record (nothing_made w.parts.limit) { own = Some q.index } in
-    let machine : record c.new-call.result.machine {
-      call = record c.new-call.result.machine.call { made = record c.new-call.result.machine.call.made { own = Some c.index.result } };
-    }
-    ≡ insertion_at c.args.hash w.parts.mode c.args.means.now.initial made AtRoot = λ i.
-    record (c.new-call.ensures.machine i) {
-      call =
-          record (c.new-call.ensures.machine i).call { made = record (c.new-call.ensures.machine i).call.made { own = Some (c.index.ensures i) } };
-    } in
+    let stood = c.set_made.ensures in let empty = c.begin-insertion.ensures.empty in
+    let machine : c.set_made.new.self.machine ≡ insertion_at c.args.hash w.parts.mode c.args.means.now.initial made AtRoot = ap
+    (λ z. z.machine) stood ∙ (λ i. record (c.begin-insertion.ensures.machine i) {
+      call = record (c.begin-insertion.ensures.machine i).call {
+        made = record (c.begin-insertion.ensures.machine i).call.made { own = Some (c.index.ensures i) };
+      };
+    }) in
     let there = machine ∙ ap (λ h. insertion_at h w.parts.mode c.args.means.now.initial made AtRoot) hashed in (
       (key_of q),
       q.value.value,
       log,
       begins_logged g.K.PartialEq.eq hash (begun_of w.parts) w.begun.book (key_of q) q placed
-          (g.met.K.Eq.laws.refl (key_of q)) log _ c.learn.ensures.lawful c.args.means.now.initial c.new-call.ensures.empty.table c.new-call.ensures.empty.pairs
-          (subst (λ (z : Stored _ _). HasKey (begun_of w.parts) w.begun.book (key_of q) (Some (keys.Of z))) (sym c.again.ensures) (refl, placed))
-          (subst (λ (z : Stored _ _). HasValue (begun_of w.parts) w.begun.book (Some (values.Of z))) (sym c.again-2.ensures) placed)
-          (ap (λ (z : Stored _ _). held_value (Some (values.Of z))) c.again-2.ensures) refl there refl refl,
+          (g.met.K.Eq.laws.refl (key_of q)) log _ c.learn.ensures.lawful c.args.means.now.initial (ap (λ z. z.table) stood ∙ empty.table.0, ap (λ z. z.copier.fresh) stood ∙ empty.table.1) (
+        ap (λ z. z.copier.last) stood ∙ empty.pairs.0,
+        ap (λ z. z.copier.kept) stood ∙ empty.pairs.1,
+        ap (λ z. z.taken) stood ∙ empty.pairs.2,
+        ap (λ z. z.put) stood ∙ empty.pairs.3,
+      )
+          has_key
+          has_value
+          value_is refl there refl c.begin-insertion.ensures.made.1,
     )
 
 pub returns-clause-put : goal.returns-clause-put
@@ -52,21 +62,31 @@ returns-clause-put g c =
     let w = c.learn.new.self.book.now in let log = c.learn.new.self.sight.log in let q = c.args.pair in
     let placed : IsPlaced (begun_of w.parts) (Some w.begun.book) (names.Pair q) = rw c.learn.ensures.sees.book c.requires.placed in
     let hashed : c.args.hash ≡ hash w.parts.hasher (key_of q) = rw c.learn.ensures.sees.book c.requires.hashed in
+    let parts = c.begin-insertion.ensures.parts in
+    let key_part = parts.0 ∙ ap (λ (z : Stored _ _). Some (keys.Of z)) c.again.ensures in
+    let value_part = parts.1 ∙ ap (λ (z : Stored _ _). Some (values.Of z)) c.again-2.ensures in
+    let has_key = subst (λ (o : _). HasKey (begun_of w.parts) w.begun.book (key_of q) o) (sym key_part) (refl, placed) in
+    let has_value = subst (λ (o : _). HasValue (begun_of w.parts) w.begun.book o) (sym value_part) placed in
+    let value_is = ap held_value value_part in
     let made : Made = record (nothing_made w.parts.limit) { own = Some q.index } in
-    let machine : record c.new-call.result.machine {
-      call = record c.new-call.result.machine.call { made = record c.new-call.result.machine.call.made { own = Some c.index.result } };
-    }
-    ≡ insertion_at c.args.hash w.parts.mode c.args.means.now.initial made AtRoot = λ i.
-    record (c.new-call.ensures.machine i) {
-      call =
-          record (c.new-call.ensures.machine i).call { made = record (c.new-call.ensures.machine i).call.made { own = Some (c.index.ensures i) } };
-    } in
+    let stood = c.set_made.ensures in let empty = c.begin-insertion.ensures.empty in
+    let machine : c.set_made.new.self.machine ≡ insertion_at c.args.hash w.parts.mode c.args.means.now.initial made AtRoot = ap
+    (λ z. z.machine) stood ∙ (λ i. record (c.begin-insertion.ensures.machine i) {
+      call = record (c.begin-insertion.ensures.machine i).call {
+        made = record (c.begin-insertion.ensures.machine i).call.made { own = Some (c.index.ensures i) };
+      };
+    }) in
     let there = machine ∙ ap (λ h. insertion_at h w.parts.mode c.args.means.now.initial made AtRoot) hashed in
     if_ok _ _ c.drive.result c.drive.ensures.put
     (λ a h. put_since g.K.PartialEq.eq (key_of q) q.value.value c.args.window.now.sight.log log c.drive.new.window.sight.log a
     c.learn.ensures.sees.log (h (key_of q) q.value.value log
     (begins_logged g.K.PartialEq.eq hash (begun_of w.parts) w.begun.book (key_of q) q placed (g.met.K.Eq.laws.refl (key_of q)) log _
-    c.learn.ensures.lawful c.args.means.now.initial c.new-call.ensures.empty.table c.new-call.ensures.empty.pairs
-    (subst (λ (z : Stored _ _). HasKey (begun_of w.parts) w.begun.book (key_of q) (Some (keys.Of z))) (sym c.again.ensures) (refl, placed))
-    (subst (λ (z : Stored _ _). HasValue (begun_of w.parts) w.begun.book (Some (values.Of z))) (sym c.again-2.ensures) placed)
-    (ap (λ (z : Stored _ _). held_value (Some (values.Of z))) c.again-2.ensures) refl there refl refl)))
+    c.learn.ensures.lawful c.args.means.now.initial (ap (λ z. z.table) stood ∙ empty.table.0, ap (λ z. z.copier.fresh) stood ∙ empty.table.1) (
+        ap (λ z. z.copier.last) stood ∙ empty.pairs.0,
+        ap (λ z. z.copier.kept) stood ∙ empty.pairs.1,
+        ap (λ z. z.taken) stood ∙ empty.pairs.2,
+        ap (λ z. z.put) stood ∙ empty.pairs.3,
+      )
+    has_key
+    has_value
+    value_is refl there refl c.begin-insertion.ensures.made.1)))

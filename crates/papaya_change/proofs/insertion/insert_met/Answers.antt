@@ -12,7 +12,7 @@ use Rattle.papaya_book.specs.Rule.{IsPlaced}
 use Rattle.papaya_lookup.specs.History.{key_of}
 use Rattle.papaya_lookup.proofs.KeptKeys.{key_at_stays}
 use Rattle.papaya_change.specs.Seeking.{insertion_at}
-use Rattle.papaya_change.specs.Writing.{HasKeyAt, HasValue, held_value}
+use Rattle.papaya_change.specs.Writing.{HasKey, HasKeyAt, HasValue, held_value}
 use Rattle.papaya_change.proofs.InsertingReplies.{put_since}
 use Rattle.papaya_change.proofs.Logged.{begins_met}
 use Rattle.papaya_change.proofs.insertion.insert_met.Goals as goal
@@ -33,26 +33,35 @@ drive-requires-clause-can g c =
     c.requires.met in
     let of : c.of.result ≡ record { pair = q.index; table = c.args.write.place.table; index = c.args.write.place.probe.i } = c.of.ensures
     ∙ ap (made_of c.args.write) c.index.ensures in
+    let parts = c.begin-insertion.ensures.parts in
+    let value_part = parts.1 ∙ ap (λ (z : Stored _ _). Some (values.Of z)) c.again.ensures in
+    let has_key = subst (λ (o : _). HasKey (begun_of w.parts) w.begun.book c.args.key o) (sym parts.0) (refl, tt) in
+    let has_value = subst (λ (o : _). HasValue (begun_of w.parts) w.begun.book o) (sym value_part) placed in
+    let value_is = ap held_value value_part in
     let made : Made = record (nothing_made w.parts.limit) {
       of = Some
           (record { pair = q.index; table = c.args.write.place.table; index = c.args.write.place.probe.i });
     } in
-    let machine : record c.new-call.result.machine {
-      call = record c.new-call.result.machine.call { made = record c.new-call.result.machine.call.made { of = Some c.of.result } };
-    } ≡ insertion_at
-    c.args.hash w.parts.mode c.args.means.now.initial made AtRoot = λ i.
-    record (c.new-call.ensures.machine i) {
-      call =
-          record (c.new-call.ensures.machine i).call { made = record (c.new-call.ensures.machine i).call.made { of = Some (of i) } };
-    } in
+    let stood = c.set_made.ensures in let empty = c.begin-insertion.ensures.empty in
+    let machine : c.set_made.new.self.machine ≡ insertion_at c.args.hash w.parts.mode c.args.means.now.initial made AtRoot = ap
+    (λ z. z.machine) stood ∙ (λ i. record (c.begin-insertion.ensures.machine i) {
+      call = record (c.begin-insertion.ensures.machine i).call {
+        made = record (c.begin-insertion.ensures.machine i).call.made { of = Some (of i) };
+      };
+    }) in
     let there = machine ∙ ap (λ h. insertion_at h w.parts.mode c.args.means.now.initial made AtRoot) hashed in (
       c.args.key,
       q.value.value,
       log,
       begins_met g.K.PartialEq.eq hash (begun_of w.parts) w.begun.book c.args.key q placed c.requires.same log _
-          c.learn.ensures.lawful c.args.means.now.initial c.new-call.ensures.empty.table c.new-call.ensures.empty.pairs (refl, tt)
-          (subst (λ (z : Stored _ _). HasValue (begun_of w.parts) w.begun.book (Some (values.Of z))) (sym c.again.ensures) placed)
-          (ap (λ (z : Stored _ _). held_value (Some (values.Of z))) c.again.ensures) c.args.write.place.table c.args.write.place.probe.i met there refl refl,
+          c.learn.ensures.lawful c.args.means.now.initial (ap (λ z. z.table) stood ∙ empty.table.0, ap (λ z. z.copier.fresh) stood ∙ empty.table.1) (
+        ap (λ z. z.copier.last) stood ∙ empty.pairs.0,
+        ap (λ z. z.copier.kept) stood ∙ empty.pairs.1,
+        ap (λ z. z.taken) stood ∙ empty.pairs.2,
+        ap (λ z. z.put) stood ∙ empty.pairs.3,
+      ) has_key
+          has_value
+          value_is c.args.write.place.table c.args.write.place.probe.i met there c.begin-insertion.ensures.made.0 refl,
     )
 
 pub returns-clause-put : goal.returns-clause-put
@@ -67,23 +76,32 @@ returns-clause-put g c =
     c.requires.met in
     let of : c.of.result ≡ record { pair = q.index; table = c.args.write.place.table; index = c.args.write.place.probe.i } = c.of.ensures
     ∙ ap (made_of c.args.write) c.index.ensures in
+    let parts = c.begin-insertion.ensures.parts in
+    let value_part = parts.1 ∙ ap (λ (z : Stored _ _). Some (values.Of z)) c.again.ensures in
+    let has_key = subst (λ (o : _). HasKey (begun_of w.parts) w.begun.book c.args.key o) (sym parts.0) (refl, tt) in
+    let has_value = subst (λ (o : _). HasValue (begun_of w.parts) w.begun.book o) (sym value_part) placed in
+    let value_is = ap held_value value_part in
     let made : Made = record (nothing_made w.parts.limit) {
       of = Some
           (record { pair = q.index; table = c.args.write.place.table; index = c.args.write.place.probe.i });
     } in
-    let machine : record c.new-call.result.machine {
-      call = record c.new-call.result.machine.call { made = record c.new-call.result.machine.call.made { of = Some c.of.result } };
-    } ≡ insertion_at
-    c.args.hash w.parts.mode c.args.means.now.initial made AtRoot = λ i.
-    record (c.new-call.ensures.machine i) {
-      call =
-          record (c.new-call.ensures.machine i).call { made = record (c.new-call.ensures.machine i).call.made { of = Some (of i) } };
-    } in
+    let stood = c.set_made.ensures in let empty = c.begin-insertion.ensures.empty in
+    let machine : c.set_made.new.self.machine ≡ insertion_at c.args.hash w.parts.mode c.args.means.now.initial made AtRoot = ap
+    (λ z. z.machine) stood ∙ (λ i. record (c.begin-insertion.ensures.machine i) {
+      call = record (c.begin-insertion.ensures.machine i).call {
+        made = record (c.begin-insertion.ensures.machine i).call.made { of = Some (of i) };
+      };
+    }) in
     let there = machine ∙ ap (λ h. insertion_at h w.parts.mode c.args.means.now.initial made AtRoot) hashed in
     if_ok _ _ c.drive.result c.drive.ensures.put
     (λ a h. put_since g.K.PartialEq.eq c.args.key q.value.value c.args.window.now.sight.log log c.drive.new.window.sight.log a
     c.learn.ensures.sees.log (h c.args.key q.value.value log
     (begins_met g.K.PartialEq.eq hash (begun_of w.parts) w.begun.book c.args.key q placed c.requires.same log _ c.learn.ensures.lawful
-    c.args.means.now.initial c.new-call.ensures.empty.table c.new-call.ensures.empty.pairs (refl, tt)
-    (subst (λ (z : Stored _ _). HasValue (begun_of w.parts) w.begun.book (Some (values.Of z))) (sym c.again.ensures) placed)
-    (ap (λ (z : Stored _ _). held_value (Some (values.Of z))) c.again.ensures) c.args.write.place.table c.args.write.place.probe.i met there refl refl)))
+    c.args.means.now.initial (ap (λ z. z.table) stood ∙ empty.table.0, ap (λ z. z.copier.fresh) stood ∙ empty.table.1) (
+        ap (λ z. z.copier.last) stood ∙ empty.pairs.0,
+        ap (λ z. z.copier.kept) stood ∙ empty.pairs.1,
+        ap (λ z. z.taken) stood ∙ empty.pairs.2,
+        ap (λ z. z.put) stood ∙ empty.pairs.3,
+      ) has_key
+    has_value
+    value_is c.args.write.place.table c.args.write.place.probe.i met there c.begin-insertion.ensures.made.0 refl)))

@@ -6,6 +6,7 @@ use Rattle.papaya_call.specs.Made.{nothing_made}
 use Rattle.papaya_book.specs.Hashes.{hash_of}
 use Rattle.papaya_book.specs.Parts.{begun_of}
 use Rattle.papaya_change.specs.Seeking.{IsInsertingAt, insertion_at}
+use Rattle.papaya_change.specs.Writing.{HasKey, HasValue, held_value}
 use Rattle.papaya_change.proofs.Onward.{begins_onward}
 use Rattle.papaya_change.proofs.insertion.insert_onward.Goals as goal
 
@@ -19,8 +20,11 @@ drive-requires-clause-can g c =
     let w = c.args.window.now.book.now in let b = begun_of w.parts in let log = c.args.window.now.sight.log in let key = c.args.key in
     let to = Growing (Room c.args.number) in
     let stood = c.stand.ensures in
+    let parts = c.begin-insertion.ensures.parts in
+    let has_key = subst (λ (o : _). HasKey b w.begun.book key o) (sym parts.0) (refl, tt) in
+    let has_value = subst (λ (o : _). HasValue b w.begun.book o) (sym parts.1) tt in let value_is = ap held_value parts.1 in
     let machine : c.stand.new.self.machine ≡ insertion_at c.args.hash w.parts.mode c.args.means.now.initial (nothing_made w.parts.limit) to = ap
-    (λ z. z.machine) stood ∙ (λ i. record (c.new-call.ensures.machine i) { call = record (c.new-call.ensures.machine i).call { state = to } }) in
+    (λ z. z.machine) stood ∙ (λ i. record (c.begin-insertion.ensures.machine i) { call = record (c.begin-insertion.ensures.machine i).call { state = to } }) in
     let there = machine ∙ ap (λ h. insertion_at h w.parts.mode c.args.means.now.initial (nothing_made w.parts.limit) to) c.requires.hashed in
     let st = c.requires.stands in let led : Some to ≡ Some st.0 = st.1 in let is : to ≡ st.0 = cc led in
     let r = subst (λ (z : State). IsInsertingAt g.K.PartialEq.eq hash b w.begun.book key st.2.0 log z None c.args.table.now) (sym is) st.2.1 in (
@@ -28,13 +32,13 @@ drive-requires-clause-can g c =
       c.args.value,
       st.2.0,
       begins_onward g.K.PartialEq.eq hash b w.begun.book key st.2.0 log c.args.number c.args.table r c.args.value _
-          c.args.means.now.initial (ap (λ z. z.table) stood) (ap (λ z. z.fresh) stood ∙ c.new-call.ensures.empty.table.1) (
-            ap (λ z. z.last) stood ∙ c.new-call.ensures.empty.pairs.0,
-            ap (λ z. z.kept) stood ∙ c.new-call.ensures.empty.pairs.1,
+          c.args.means.now.initial (ap (λ z. z.table) stood) (ap (λ z. z.copier.fresh) stood ∙ c.begin-insertion.ensures.empty.table.1) (
+            ap (λ z. z.copier.last) stood ∙ c.begin-insertion.ensures.empty.pairs.0,
+            ap (λ z. z.copier.kept) stood ∙ c.begin-insertion.ensures.empty.pairs.1,
             ap (λ z. z.taken) stood
-                ∙ c.new-call.ensures.empty.pairs.2,
-            ap (λ z. z.put) stood ∙ c.new-call.ensures.empty.pairs.3,
-          ) (refl, tt) tt refl there refl refl,
+                ∙ c.begin-insertion.ensures.empty.pairs.2,
+            ap (λ z. z.put) stood ∙ c.begin-insertion.ensures.empty.pairs.3,
+          ) has_key has_value value_is there c.begin-insertion.ensures.made.0 c.begin-insertion.ensures.made.1,
     )
 
 pub returns-clause-put : goal.returns-clause-put
@@ -43,17 +47,20 @@ returns-clause-put g c =
     let w = c.args.window.now.book.now in let b = begun_of w.parts in let log = c.args.window.now.sight.log in let key = c.args.key in
     let to = Growing (Room c.args.number) in
     let stood = c.stand.ensures in
+    let parts = c.begin-insertion.ensures.parts in
+    let has_key = subst (λ (o : _). HasKey b w.begun.book key o) (sym parts.0) (refl, tt) in
+    let has_value = subst (λ (o : _). HasValue b w.begun.book o) (sym parts.1) tt in let value_is = ap held_value parts.1 in
     let machine : c.stand.new.self.machine ≡ insertion_at c.args.hash w.parts.mode c.args.means.now.initial (nothing_made w.parts.limit) to = ap
-    (λ z. z.machine) stood ∙ (λ i. record (c.new-call.ensures.machine i) { call = record (c.new-call.ensures.machine i).call { state = to } }) in
+    (λ z. z.machine) stood ∙ (λ i. record (c.begin-insertion.ensures.machine i) { call = record (c.begin-insertion.ensures.machine i).call { state = to } }) in
     let there = machine ∙ ap (λ h. insertion_at h w.parts.mode c.args.means.now.initial (nothing_made w.parts.limit) to) c.requires.hashed in
     if_ok _ _ c.drive.result c.drive.ensures.put (λ a h begun state led r0.
     let is : to ≡ state = cc led in
     let r = subst (λ (z : State). IsInsertingAt g.K.PartialEq.eq hash b w.begun.book key begun log z None c.args.table.now) (sym is) r0 in
     h key c.args.value begun (begins_onward g.K.PartialEq.eq hash b w.begun.book key begun log c.args.number c.args.table r c.args.value _
-    c.args.means.now.initial (ap (λ z. z.table) stood) (ap (λ z. z.fresh) stood ∙ c.new-call.ensures.empty.table.1) (
-      ap (λ z. z.last) stood ∙ c.new-call.ensures.empty.pairs.0,
-      ap (λ z. z.kept) stood ∙ c.new-call.ensures.empty.pairs.1,
+    c.args.means.now.initial (ap (λ z. z.table) stood) (ap (λ z. z.copier.fresh) stood ∙ c.begin-insertion.ensures.empty.table.1) (
+      ap (λ z. z.copier.last) stood ∙ c.begin-insertion.ensures.empty.pairs.0,
+      ap (λ z. z.copier.kept) stood ∙ c.begin-insertion.ensures.empty.pairs.1,
       ap (λ z. z.taken) stood
-          ∙ c.new-call.ensures.empty.pairs.2,
-      ap (λ z. z.put) stood ∙ c.new-call.ensures.empty.pairs.3,
-    ) (refl, tt) tt refl there refl refl))
+          ∙ c.begin-insertion.ensures.empty.pairs.2,
+      ap (λ z. z.put) stood ∙ c.begin-insertion.ensures.empty.pairs.3,
+    ) has_key has_value value_is there c.begin-insertion.ensures.made.0 c.begin-insertion.ensures.made.1))

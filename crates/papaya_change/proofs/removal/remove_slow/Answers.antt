@@ -137,11 +137,11 @@ loop-preserved g c =
       ),
       c.help.ensures.helps.standing,
       c.help.ensures.helps.calling,
-      (helped_keeps call.machine then.machine (tables_of log) then.given.done c.help.ensures.helps.helped).initial
+      (helped_keeps call.machine then.machine (tables_of log) then.copier.given.done c.help.ensures.helps.helped).initial
           ∙ (ap (λ (z : Machine). z.call.initial) same ∙ ((own_settings m c.loop.invariant.2 answer).0 ∙ c.loop.invariant.3)),
       sees_trans _ _ _ (sees_trans _ _ _ c.loop.invariant.4 c.answer.ensures.sees) c.help.ensures.helps.sees,
       c.answer.ensures.callable,
-      helped_does call.machine then.machine (tables_of log) then.given.done c.help.ensures.helps.calling c.help.ensures.helps.helped c.args.window.now
+      helped_does call.machine then.machine (tables_of log) then.copier.given.done c.help.ensures.helps.calling c.help.ensures.helps.helped c.args.window.now
           c.answer.new.window c.help.new.window (λ e. (c.help.ensures.still e).1) c.help.ensures.helps.own does_call,
     )
 
@@ -185,7 +185,7 @@ returns-in-None-answer-clause-crowded g c = λ e.
     let refused = t.1 ∙ ap (λ z. Call (Done z)) (told_refused c.answer.new.self t.0 c.replied.result t.2 Capacity e) in
     let initial : c.answer.new.self.call.machine.call.initial ≡ c.args.means.now.initial = ap (λ (z : Machine). z.call.initial)
     c.answer.ensures.machine ∙ c.loop.invariant.3 in
-    rw c.again.ensures (subst (λ n. HasNoRoom n (tables_of c.answer.new.window.sight.log) c.answer.new.self.call.given.done) initial (r.crowded refused))
+    rw c.again.ensures (subst (λ n. HasNoRoom n (tables_of c.answer.new.window.sight.log) c.answer.new.self.call.copier.given.done) initial (r.crowded refused))
 
 pub returns-in-None-answer-clause-ends : goal.returns-in-None-answer-clause-ends
 returns-in-None-answer-clause-ends g c = record {

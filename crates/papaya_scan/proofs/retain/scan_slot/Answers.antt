@@ -1,4 +1,4 @@
-use Rattle.std.proofs.Common.{◌≡◌, ⊎_elim, suc, Bool, true, false, ◌++◌, append-nil, sym, ap, ◌∙◌, subst}
+use Rattle.std.proofs.Common.{◌≡◌, ⊎_elim, suc, Bool, true, false, Option, ◌++◌, append-nil, sym, ap, ◌∙◌, subst}
 use denote.Bor.{Bor}
 use Rattle.papaya_words.specs.Word.{kind_of}
 use Rattle.papaya_words.specs.declared.word.Kind.TheVariants as kinds
@@ -14,7 +14,6 @@ use Rattle.papaya_lookup.specs.Drivers.{own}
 use Rattle.papaya_lookup.specs.History.{history_of}
 use Rattle.papaya_change.specs.Showings.{Judges}
 use Rattle.papaya_scan.specs.Meeting.{HadPair, has_pair}
-use Rattle.papaya_scan.specs.Taking.{IsDeleted}
 use Rattle.papaya_scan.proofs.TableScans.{scans_none, scans_on, scans_stopped, table_on, taken_on}
 use Rattle.papaya_scan.proofs.Scanning.{deletion_done, other_word, same_word, so_kept, so_past, so_shown, so_tombstone, some_same}
 use Rattle.papaya_scan.proofs.retain.scan_slot.Goals as goal
@@ -59,6 +58,14 @@ returns-then-show-clause-scans g c = λ began taken.
 pub delete-found-requires-clause-table : goal.delete-found-requires-clause-table
 delete-found-requires-clause-table g c = table_on c.args.window.now c.loop.window c.args.number c.args.table.now c.loop.invariant.sees c.requires.table
 
+pub delete-found-requires-clause-stood : goal.delete-found-requires-clause-stood
+delete-found-requires-clause-stood g c =
+    let hash = hash_of g.K.Hash.hash_input g.S.BuildHasher.build_hasher g.S.Hasher.Hasher.write g.S.Hasher.Hasher.finish in
+    let stands = subst (λ (z : Bor (Book _ _ _ _)). IsSlot g.K.PartialEq.eq hash (begun_of z.now.parts) z.now.begun.book c.args.number c.args.place
+    c.loop.word c.loop.window.sight.log c.loop.pair) (sym c.loop.invariant.sees.book) c.loop.invariant.stands in
+    subst (λ (o : Option (Stored _ _)). IsSlot g.K.PartialEq.eq hash (begun_of c.loop.window.book.now.parts) c.loop.window.book.now.begun.book
+    c.args.number c.args.place c.loop.word c.loop.window.sight.log o) c.in-Some-pair.is stands
+
 pub delete-found-requires-clause-taken : goal.delete-found-requires-clause-taken
 delete-found-requires-clause-taken g c = (
   c.requires.taken.0,
@@ -74,8 +81,6 @@ returns-then-found-word-clause-scans g c = λ began taken.
     let same = some_same met.0 c.in-Some-pair.stored (sym met.1 ∙ c.in-Some-pair.is) in
     let had = subst (λ (p : Stored _ _). HadPair g.K.PartialEq.eq (history_of began) (history_of c.loop.window.sight.log) p) same met.2 in
     let stood = same_word c.delete-found.result.0 c.loop.word c.if-found-word.true in
-    let tombstone = c.delete-found.ensures.tombstone stood in
-    let one = some_same tombstone.0 c.in-Some-pair.stored (sym tombstone.1 ∙ c.in-Some-pair.is) in
     let lawful = subst (λ (z : Bor (Book _ _ _ _)). IsLawfulLog g.K.PartialEq.eq hash (begun_of z.now.parts) then'.sight.log)
     (c.delete-found.ensures.sees.book ∙ c.loop.invariant.sees.book) c.delete-found.ensures.lawful in
     let does = subst (λ (b : Bool). then'.own.done ≡ c.loop.window.own.done ++ last_if b (steps_of then'.sight.log)) stood c.delete-found.ensures.does in
@@ -85,7 +90,7 @@ returns-then-found-word-clause-scans g c = λ began taken.
     (own c.loop.window) c.loop.stays c.args.place c.loop.word c.loop.pair c.loop.invariant.stands (c.loop.invariant.scans began taken) live c.in-Some-pair.stored
     c.in-Some-pair.is had c.show.new.stays (false ≡ false) (subst (λ (b : Bool). Judges g.F.FnMut c.loop.stays c.in-Some-pair.stored b c.show.new.stays) c.if-show.false c.show.ensures.shown)
     then'.sight.log c.delete-found.ensures.sees.log lawful
-    (subst (λ (p : Stored _ _). IsDeleted then'.sight.log c.args.number c.args.place p) one tombstone.2) (own then')
+    (c.delete-found.ensures.tombstone stood) (own then')
     (λ r. deletion_done then'.sight.log c.args.number c.args.place c.in-Some-pair.stored r c.loop.window.own.done then'.own.done does)
 
 pub loop-preserved : goal.loop-preserved

@@ -1,45 +1,37 @@
-use Rattle.std.proofs.Common.{ℕ, Option, sym, ap, ◌∙◌, subst}
+use Rattle.std.proofs.Common.{ℕ, Option, sym, subst}
 use Rattle.papaya_ask.specs.declared.ask.StepKind.{StepKind}
 use Rattle.papaya_chain.specs.Machine.{follows_of, kind_of_ask}
 use Rattle.papaya_book.specs.Hashes.{hash_of}
 use Rattle.papaya_book.specs.Parts.{begun_of}
-use Rattle.papaya_change.specs.declared.copier.Copier.{Copier}
 use Rattle.papaya_change.specs.declared.driver.Driver.{Driver}
-use Rattle.papaya_change.specs.Copier.{AnswersTo, CanAnswerTo, copier_of, with_copier}
+use Rattle.papaya_change.specs.Copier.{AnswersTo, CanAnswerTo}
 use Rattle.papaya_change.specs.Helping.{HasCopied}
 use Rattle.papaya_change.proofs.HelpingCopies.{can_answer, copied}
 use Rattle.papaya_change.proofs.driver.Driver.copy.Goals as goal
 
-pub answer-answer-requires : goal.answer-answer-requires
-answer-answer-requires g c = let hash = hash_of g.K.Hash.hash_input g.S.BuildHasher.build_hasher g.S.Hasher.Hasher.write g.S.Hasher.Hasher.finish in record {
-  can = subst (λ (h : Copier _ _ _ _). CanAnswerTo g.K.PartialEq.eq hash (begun_of c.args.window.now.book.now.parts)
-      c.args.window.now.book.now.begun.book c.args.ask c.kind.result c.follows.result c.args.window.now.sight.log h) (sym c.lend-copier.ensures.value)
-      (subst (λ (n : ℕ). CanAnswerTo g.K.PartialEq.eq hash (begun_of c.args.window.now.book.now.parts) c.args.window.now.book.now.begun.book
-      c.args.ask c.kind.result n c.args.window.now.sight.log (copier_of c.args.self.now)) (sym c.follows.ensures)
+pub answer-requires : goal.answer-requires
+answer-requires g c = let hash = hash_of g.K.Hash.hash_input g.S.BuildHasher.build_hasher g.S.Hasher.Hasher.write g.S.Hasher.Hasher.finish in record {
+  can = subst (λ (n : ℕ). CanAnswerTo g.K.PartialEq.eq hash (begun_of c.args.window.now.book.now.parts) c.args.window.now.book.now.begun.book
+      c.args.ask c.kind.result n c.args.window.now.sight.log c.args.self.now.copier) (sym c.follows.ensures)
       (subst (λ (o : Option StepKind). CanAnswerTo g.K.PartialEq.eq hash (begun_of c.args.window.now.book.now.parts)
       c.args.window.now.book.now.begun.book c.args.ask o (follows_of c.args.self.now.machine) c.args.window.now.sight.log
-      (copier_of c.args.self.now)) (sym c.kind.ensures)
+      c.args.self.now.copier) (sym c.kind.ensures)
       (can_answer g.K.PartialEq.eq g.K.Hash.hash_input g.S.BuildHasher.build_hasher g.S.Hasher.Hasher.write g.S.Hasher.Hasher.finish g.met.K.Eq.laws
       g.met.K.Hash.respects_eq (begun_of c.args.window.now.book.now.parts) c.args.window.now.book.now.begun.book c.requires.can.0 c.requires.can.1
       c.requires.can.2 c.requires.can.3 c.requires.can.4 c.requires.can.5 c.args.window.now.sight.log c.args.self.now c.requires.can.6 c.args.ask
-      c.requires.asks c.requires.fit)));
+      c.requires.asks c.requires.fit));
 }
 
 pub returns-clause-copies : goal.returns-clause-copies
 returns-clause-copies g c = λ matches fed form k begun made r.
     let hash = hash_of g.K.Hash.hash_input g.S.BuildHasher.build_hasher g.S.Hasher.Hasher.write g.S.Hasher.Hasher.finish in
-    let log = c.answer-answer.new.window.sight.log in let h = c.answer-answer.new.self in
+    let log = c.answer.new.window.sight.log in let h = c.answer.new.self in
     let told = subst (λ (n : ℕ). AnswersTo g.K.PartialEq.eq hash (begun_of c.args.window.now.book.now.parts) c.args.window.now.book.now.begun.book
-    c.args.ask (kind_of_ask c.args.self.now.machine) n c.args.window.now.sight.log (copier_of c.args.self.now) log h c.answer-answer.result) c.follows.ensures
+    c.args.ask (kind_of_ask c.args.self.now.machine) n c.args.window.now.sight.log c.args.self.now.copier log h c.answer.result) c.follows.ensures
     (subst (λ (o : Option StepKind). AnswersTo g.K.PartialEq.eq hash (begun_of c.args.window.now.book.now.parts) c.args.window.now.book.now.begun.book
-    c.args.ask o c.follows.result c.args.window.now.sight.log (copier_of c.args.self.now) log h c.answer-answer.result) c.kind.ensures
-    (subst (λ (z : Copier _ _ _ _). AnswersTo g.K.PartialEq.eq hash (begun_of c.args.window.now.book.now.parts) c.args.window.now.book.now.begun.book
-    c.args.ask c.kind.result c.follows.result c.args.window.now.sight.log z log h c.answer-answer.result) c.lend-copier.ensures.value
-    c.answer-answer.ensures.answers)) in
-    let same = c.take_back.ensures ∙ ap (λ (z : Driver _ _ _ _). with_copier z h) c.lend-copier.ensures.rest in
-    subst (λ (z : Driver _ _ _ _). HasCopied g.K.PartialEq.eq hash (begun_of c.args.window.now.book.now.parts) c.args.window.now.book.now.begun.book
-    matches fed k begun made log c.args.self.now z c.answer-answer.result) (sym same)
-    (copied g.K.PartialEq.eq g.K.Hash.hash_input g.S.BuildHasher.build_hasher g.S.Hasher.Hasher.write g.S.Hasher.Hasher.finish g.met.K.Eq.laws
+    c.args.ask o c.follows.result c.args.window.now.sight.log c.args.self.now.copier log h c.answer.result) c.kind.ensures
+    c.answer.ensures.answers) in
+    copied g.K.PartialEq.eq g.K.Hash.hash_input g.S.BuildHasher.build_hasher g.S.Hasher.Hasher.write g.S.Hasher.Hasher.finish g.met.K.Eq.laws
     g.met.K.Hash.respects_eq (begun_of c.args.window.now.book.now.parts) c.args.window.now.book.now.begun.book matches fed form k begun made
-    c.args.window.now.sight.log c.args.self.now r c.requires.standing log c.answer-answer.ensures.sees.log h c.args.ask c.requires.asks
-    c.answer-answer.result told)
+    c.args.window.now.sight.log c.args.self.now r c.requires.standing log c.answer.ensures.sees.log h c.args.ask c.requires.asks
+    c.answer.result told

@@ -1,8 +1,7 @@
 use Rattle.std.proofs.Common.{◌≡◌, refl, sym, ap, ◌∙◌, subst}
 use Rattle.papaya_chain.specs.Machine.{IsStanding}
 use Rattle.papaya_change.specs.declared.driver.Driver.{Driver}
-use Rattle.papaya_change.specs.Copier.{copier_of, with_copier}
-use Rattle.papaya_change.specs.Going.{with_machine}
+use Rattle.papaya_change.specs.Going.{with_copier, with_machine}
 use Rattle.papaya_change.proofs.driver.Driver.copy_on.Goals as goal
 
 pub returns-in_default-clause-standing : goal.returns-in_default-clause-standing
@@ -30,4 +29,4 @@ pub returns-in_default-clause-rest : goal.returns-in_default-clause-rest
 returns-in_default-clause-rest g c =
     let w = c.args.window.now in let c₀ = c.args.self.now in let one = c.copy in let now = one.new.self in
     let machine_is : now.machine ≡ c₀.machine = ap (λ (z : Driver _ _ _ _). z.machine) one.ensures.rest in
-    one.ensures.rest ∙ ap (with_machine (with_copier c₀ (copier_of now))) (sym machine_is)
+    one.ensures.rest ∙ ap (with_machine (with_copier c₀ now.copier)) (sym machine_is)

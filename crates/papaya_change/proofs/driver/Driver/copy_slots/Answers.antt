@@ -1,29 +1,22 @@
-use Rattle.std.proofs.Common.{◌≡◌, refl, sym, ap, ◌∙◌, subst}
+use Rattle.std.proofs.Common.{◌≡◌, refl, sym, ap, subst}
 use Rattle.papaya_copy.specs.declared.copying.Copying.{Copying}
 use Rattle.papaya_copy.specs.declared.settle.Settle.TheVariants.{Looking}
 use Rattle.papaya_chain.specs.declared.machine.Phase.{Phase}
 use Rattle.papaya_chain.specs.declared.machine.Phase.TheVariants.{Copying as Copying_root}
-use Rattle.papaya_chain.specs.Machine.{IsStanding, IsStandingPhase}
+use Rattle.papaya_chain.specs.Machine.{IsStandingPhase}
 use Rattle.papaya_book.specs.Hashes.{hash_of}
 use Rattle.papaya_book.specs.Parts.{begun_of}
-use Rattle.papaya_change.specs.declared.copier.Copier.{Copier}
 use Rattle.papaya_change.specs.declared.driver.Driver.{Driver}
 use Rattle.papaya_change.specs.Changing.{CanGoOn, GoesOn}
-use Rattle.papaya_change.specs.Copier.{copier_of, with_copier}
-use Rattle.papaya_change.specs.Going.{GoesBy, with_machine}
-use Rattle.papaya_change.specs.Settling.{CanLead, Ends, Stop, at_slot}
+use Rattle.papaya_change.specs.Going.{with_machine}
+use Rattle.papaya_change.specs.Settling.{Stop, at_slot}
 use Rattle.papaya_change.proofs.HelpingSettling.{can_lead, driver_at, goes, goes_by, standing_at}
 use Rattle.papaya_change.proofs.driver.Driver.copy_slots.Goals as goal
 
 pub copy_slots-copying-requires-clause-standing : goal.copy_slots-copying-requires-clause-standing
 copy_slots-copying-requires-clause-standing g c =
-    let w = c.args.window.now in let c₀ = c.args.self.now in let eq = g.K.PartialEq.eq in
-    let hash = hash_of g.K.Hash.hash_input g.S.BuildHasher.build_hasher g.S.Hasher.Hasher.write g.S.Hasher.Hasher.finish in
-    let b = begun_of w.book.now.parts in let name = w.book.now.begun.book in
     let at : Copying = at_slot c.args.aim c.args.chunk Looking in
-    let s : Stop _ _ _ _ = record { copying = at; log = w.sight.log; loaded = copier_of c₀ } in
     let stands : IsStandingPhase (Copying_root at) = subst IsStandingPhase c.requires.phase c.requires.standing.phase in
-    let same : driver_at c₀ s ≡ c₀ = ap (λ (p : Phase). with_machine c₀ (record c₀.machine { phase = p })) (sym c.requires.phase) in
     stands.0
 
 pub copy_slots-copying-requires-clause-can : goal.copy_slots-copying-requires-clause-can
@@ -32,30 +25,18 @@ copy_slots-copying-requires-clause-can g c =
     let hash = hash_of g.K.Hash.hash_input g.S.BuildHasher.build_hasher g.S.Hasher.Hasher.write g.S.Hasher.Hasher.finish in
     let b = begun_of w.book.now.parts in let name = w.book.now.begun.book in
     let at : Copying = at_slot c.args.aim c.args.chunk Looking in
-    let s : Stop _ _ _ _ = record { copying = at; log = w.sight.log; loaded = copier_of c₀ } in
+    let s : Stop _ _ _ _ = record { copying = at; log = w.sight.log; loaded = c₀.copier } in
     let stands : IsStandingPhase (Copying_root at) = subst IsStandingPhase c.requires.phase c.requires.standing.phase in
     let same : driver_at c₀ s ≡ c₀ = ap (λ (p : Phase). with_machine c₀ (record c₀.machine { phase = p })) (sym c.requires.phase) in
-    subst (λ (h : Copier _ _ _ _). CanLead eq hash b name c₀.machine.call.mode (record { copying = at; log = w.sight.log; loaded = h }))
-    (sym c.lend-copier.ensures.value)
-    (can_lead g.K.PartialEq.eq g.K.Hash.hash_input g.S.BuildHasher.build_hasher g.S.Hasher.Hasher.write g.S.Hasher.Hasher.finish g.met.K.Eq.laws
+    can_lead g.K.PartialEq.eq g.K.Hash.hash_input g.S.BuildHasher.build_hasher g.S.Hasher.Hasher.write g.S.Hasher.Hasher.finish g.met.K.Eq.laws
     g.met.K.Hash.respects_eq b name c₀ c.requires.standing s stands
-    (subst (λ (z : Driver _ _ _ _). CanGoOn eq hash b name w.sight.log z) (sym same) c.requires.can))
+    (subst (λ (z : Driver _ _ _ _). CanGoOn eq hash b name w.sight.log z) (sym same) c.requires.can)
 
 pub returns-clause-standing : goal.returns-clause-standing
 returns-clause-standing g c =
-    let w = c.args.window.now in let c₀ = c.args.self.now in let eq = g.K.PartialEq.eq in
-    let hash = hash_of g.K.Hash.hash_input g.S.BuildHasher.build_hasher g.S.Hasher.Hasher.write g.S.Hasher.Hasher.finish in
-    let b = begun_of w.book.now.parts in let name = w.book.now.begun.book in
-    let at : Copying = at_slot c.args.aim c.args.chunk Looking in
-    let s : Stop _ _ _ _ = record { copying = at; log = w.sight.log; loaded = copier_of c₀ } in
-    let stands : IsStandingPhase (Copying_root at) = subst IsStandingPhase c.requires.phase c.requires.standing.phase in
-    let same : driver_at c₀ s ≡ c₀ = ap (λ (p : Phase). with_machine c₀ (record c₀.machine { phase = p })) (sym c.requires.phase) in
-    let two = c.copy_slots-copying in let w' = two.new.window in let h = two.new.self in
-    let s' : Stop _ _ _ _ = record { copying = two.result.0; log = w'.sight.log; loaded = h } in
-    let back = c.take_back.ensures ∙ ap (λ (z : Driver _ _ _ _). with_copier z h) c.lend-copier.ensures.rest in
-    let final = with_machine c.take_back.new.self (record c.take_back.new.self.machine { phase = Copying_root two.result.0 }) in
-    let is : final ≡ driver_at c₀ s' = ap (λ (z : Driver _ _ _ _). with_machine z (record z.machine { phase = Copying_root two.result.0 })) back in
-    subst (λ (z : Driver _ _ _ _). IsStanding z.machine) (sym is) (standing_at c₀ s' c.requires.standing two.ensures.standing)
+    let two = c.copy_slots-copying in
+    let s' : Stop _ _ _ _ = record { copying = two.result.0; log = two.new.window.sight.log; loaded = two.new.self } in
+    standing_at c.args.self.now s' c.requires.standing two.ensures.standing
 
 pub returns-clause-goes : goal.returns-clause-goes
 returns-clause-goes g c =
@@ -63,20 +44,13 @@ returns-clause-goes g c =
     let hash = hash_of g.K.Hash.hash_input g.S.BuildHasher.build_hasher g.S.Hasher.Hasher.write g.S.Hasher.Hasher.finish in
     let b = begun_of w.book.now.parts in let name = w.book.now.begun.book in
     let at : Copying = at_slot c.args.aim c.args.chunk Looking in
-    let s : Stop _ _ _ _ = record { copying = at; log = w.sight.log; loaded = copier_of c₀ } in
+    let s : Stop _ _ _ _ = record { copying = at; log = w.sight.log; loaded = c₀.copier } in
     let stands : IsStandingPhase (Copying_root at) = subst IsStandingPhase c.requires.phase c.requires.standing.phase in
     let same : driver_at c₀ s ≡ c₀ = ap (λ (p : Phase). with_machine c₀ (record c₀.machine { phase = p })) (sym c.requires.phase) in
-    let two = c.copy_slots-copying in let w' = two.new.window in let h = two.new.self in
-    let s' : Stop _ _ _ _ = record { copying = two.result.0; log = w'.sight.log; loaded = h } in
-    let back = c.take_back.ensures ∙ ap (λ (z : Driver _ _ _ _). with_copier z h) c.lend-copier.ensures.rest in
-    let final = with_machine c.take_back.new.self (record c.take_back.new.self.machine { phase = Copying_root two.result.0 }) in
-    let is : final ≡ driver_at c₀ s' = ap (λ (z : Driver _ _ _ _). with_machine z (record z.machine { phase = Copying_root two.result.0 })) back in
-    let ends = subst (λ (z : Copier _ _ _ _).
-    Ends eq hash b name c₀.machine.call.mode (record { copying = at; log = w.sight.log; loaded = z }) s' two.result.1) c.lend-copier.ensures.value
-    two.ensures.ends in
-    let last : Stop _ _ _ _ = record { copying = two.result.0; log = ends.log; loaded = ends.loaded } in
-    subst (λ (z : Driver _ _ _ _). GoesBy eq hash b name w.sight.log c₀ w'.sight.log z two.result.1) (sym is)
-    (record {
+    let two = c.copy_slots-copying in let w' = two.new.window in
+    let s' : Stop _ _ _ _ = record { copying = two.result.0; log = w'.sight.log; loaded = two.new.self } in
+    let ends = two.ensures.ends in
+    let last : Stop _ _ _ _ = record { copying = two.result.0; log = ends.log; loaded = ends.loaded } in record {
       seen = ends.log;
       mid = driver_at c₀ last;
       goes_on = subst (λ (z : Driver _ _ _ _). GoesOn eq hash b name w.sight.log z ends.log (driver_at c₀ last)) same
@@ -88,20 +62,4 @@ returns-clause-goes g c =
       machine = refl;
       call = refl;
       table = refl;
-    })
-
-pub returns-clause-rest : goal.returns-clause-rest
-returns-clause-rest g c =
-    let w = c.args.window.now in let c₀ = c.args.self.now in let eq = g.K.PartialEq.eq in
-    let hash = hash_of g.K.Hash.hash_input g.S.BuildHasher.build_hasher g.S.Hasher.Hasher.write g.S.Hasher.Hasher.finish in
-    let b = begun_of w.book.now.parts in let name = w.book.now.begun.book in
-    let at : Copying = at_slot c.args.aim c.args.chunk Looking in
-    let s : Stop _ _ _ _ = record { copying = at; log = w.sight.log; loaded = copier_of c₀ } in
-    let stands : IsStandingPhase (Copying_root at) = subst IsStandingPhase c.requires.phase c.requires.standing.phase in
-    let same : driver_at c₀ s ≡ c₀ = ap (λ (p : Phase). with_machine c₀ (record c₀.machine { phase = p })) (sym c.requires.phase) in
-    let two = c.copy_slots-copying in let w' = two.new.window in let h = two.new.self in
-    let s' : Stop _ _ _ _ = record { copying = two.result.0; log = w'.sight.log; loaded = h } in
-    let back = c.take_back.ensures ∙ ap (λ (z : Driver _ _ _ _). with_copier z h) c.lend-copier.ensures.rest in
-    let final = with_machine c.take_back.new.self (record c.take_back.new.self.machine { phase = Copying_root two.result.0 }) in
-    let is : final ≡ driver_at c₀ s' = ap (λ (z : Driver _ _ _ _). with_machine z (record z.machine { phase = Copying_root two.result.0 })) back in
-    subst (λ (z : Driver _ _ _ _). z ≡ with_machine (with_copier c₀ (copier_of z)) z.machine) (sym is) refl
+    }

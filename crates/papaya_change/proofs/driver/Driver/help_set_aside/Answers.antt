@@ -17,18 +17,14 @@ use Rattle.papaya_change.proofs.driver.Driver.help_set_aside.Goals as goal
 pub loop-init : goal.loop-init
 loop-init g c =
     let w = c.args.window.now in let d = c.args.self.now in
-    let hash = hash_of g.K.Hash.hash_input g.S.BuildHasher.build_hasher g.S.Hasher.Hasher.write g.S.Hasher.Hasher.finish in
-    let is = c.copy_from.ensures in record {
+    let hash = hash_of g.K.Hash.hash_input g.S.BuildHasher.build_hasher g.S.Hasher.Hasher.write g.S.Hasher.Hasher.finish in record {
       sees = record { book = refl; log = ([], append-nil w.sight.log) };
       own = refl;
-      standing = subst (λ (z : Driver _ _ _ _). IsStanding z.machine) (sym is) (stands_numbered d.machine c.next_start.result c.requires.standing);
-      goes_on = subst (λ (z : Driver _ _ _ _).
-          GoesOn g.K.PartialEq.eq hash (begun_of w.book.now.parts) w.book.now.begun.book w.sight.log d w.sight.log z) (sym is)
-          (goes_numbered g.K.PartialEq.eq hash (begun_of w.book.now.parts) w.book.now.begun.book w.sight.log d c.next_start.result);
-      reached = subst (λ (z : Driver _ _ _ _). HasReached d.machine z.machine (tables_of w.sight.log) z.given.done) (sym is)
-          (inr (inl (aside_numbered g.K.PartialEq.eq hash (begun_of w.book.now.parts) w.book.now.begun.book w.sight.log d c.next_start.result
-          c.requires.can c.requires.aside)));
-      rest = (ap (λ (z : Driver _ _ _ _). z.taken) is, ap (λ (z : Driver _ _ _ _). z.put) is);
+      standing = stands_numbered d.machine c.next_start-self.result c.requires.standing;
+      goes_on = goes_numbered g.K.PartialEq.eq hash (begun_of w.book.now.parts) w.book.now.begun.book w.sight.log d c.next_start-self.result;
+      reached = inr (inl (aside_numbered g.K.PartialEq.eq hash (begun_of w.book.now.parts) w.book.now.begun.book w.sight.log d c.next_start-self.result
+          c.requires.can c.requires.aside));
+      rest = (refl, refl);
     }
 
 pub copy_on-answer-requires-clause-can : goal.copy_on-answer-requires-clause-can
@@ -98,7 +94,7 @@ loop-preserved g c =
           g.met.K.Eq.laws g.met.K.Hash.respects_eq (begun_of c.args.window.now.book.now.parts) c.args.window.now.book.now.begun.book
           c.args.window.now.sight.log by.seen c.args.self.now by.mid goes c.requires.can c.copy_on-answer.new.window.sight.log c.copy_on-answer.new.self
           c.copy_on-answer.result by.copies by.machine c.answer.new.self c.answer.ensures.after c.arrive.new.self is c.loop.self.machine
-          (tables_of c.loop.window.sight.log) c.loop.self.given.done c.loop.invariant.reached c.in-Copy.ask asked by.call c.arrive.new.window.sight.log
+          (tables_of c.loop.window.sight.log) c.loop.self.copier.given.done c.loop.invariant.reached c.in-Copy.ask asked by.call c.arrive.new.window.sight.log
           c.arrive.ensures.sees.log;
       rest = (
         ap (λ (z : Driver _ _ _ _). z.taken) is ∙ (ap (λ (z : Driver _ _ _ _). z.taken) rest ∙ c.loop.invariant.rest.0),
@@ -112,6 +108,6 @@ returns-in_default-clause-helps g c = record {
   own = c.loop.invariant.own;
   standing = c.loop.invariant.standing;
   calling = calls c.loop.self.machine (λ ask asked. c.in_default.not-Copy ask (c.ask.ensures.value ∙ asked));
-  helped = helped c.args.self.now.machine c.loop.self.machine (tables_of c.loop.window.sight.log) c.loop.self.given.done
+  helped = helped c.args.self.now.machine c.loop.self.machine (tables_of c.loop.window.sight.log) c.loop.self.copier.given.done
       c.loop.invariant.reached (calls c.loop.self.machine (λ ask asked. c.in_default.not-Copy ask (c.ask.ensures.value ∙ asked)));
 }

@@ -13,6 +13,6 @@ invariant-loop g l = record {
   own : l.window.own ≡ l.fn.window.own;
   standing : IsStanding l.self.machine;
   goes_on : GoesOn l.fn.window l.fn.self l.window l.self;
-  reached : HasReached l.fn.self.machine l.self.machine (tables_of l.window.sight.log) l.self.given.done;
+  reached : HasReached l.fn.self.machine l.self.machine (tables_of l.window.sight.log) l.self.copier.given.done;
   rest : (l.self.taken ≡ l.fn.self.taken) × (l.self.put ≡ l.fn.self.put);
 }

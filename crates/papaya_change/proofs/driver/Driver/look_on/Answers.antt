@@ -25,7 +25,7 @@ pass_over-to-requires-clause-stands g c =
     can.1 z) there can.2 in (
       can.0,
       seeks g.K.PartialEq.eq g.K.Hash.hash_input g.S.BuildHasher.build_hasher g.S.Hasher.Hasher.write g.S.Hasher.Hasher.finish g.met.K.Eq.laws
-          g.met.K.Hash.respects_eq b w.begun.book key can.0 log m at on.table call.last call.kept can.1 call.taken call.put call.fresh r,
+          g.met.K.Hash.respects_eq b w.begun.book key can.0 log m at on.table call.copier.last call.copier.kept can.1 call.taken call.put call.copier.fresh r,
     )
 
 pub returns-clause-looks : goal.returns-clause-looks
@@ -41,12 +41,12 @@ returns-clause-looks g c = λ begun made driven.
     made z) there driven in
     let to = c.pass_over-to in let seen = to.new.window in let place = to.result in
     let seeking = seeks g.K.PartialEq.eq g.K.Hash.hash_input g.S.BuildHasher.build_hasher g.S.Hasher.Hasher.write g.S.Hasher.Hasher.finish
-    g.met.K.Eq.laws g.met.K.Hash.respects_eq b w.begun.book key begun log m at on.table call.last call.kept made call.taken call.put call.fresh r in
+    g.met.K.Eq.laws g.met.K.Hash.respects_eq b w.begun.book key begun log m at on.table call.copier.last call.copier.kept made call.taken call.put call.copier.fresh r in
     let sought = subst (λ (z : Bor (BookOf _ _ _ _)). IsSeekingAt Inserts g.K.PartialEq.eq hash (begun_of z.now.parts) z.now.begun.book key begun
     seen.sight.log (Searching (Looking place)) None on.table.now) to.ensures.sees.book
     (to.ensures.turns Inserts begun (Searching (Looking place)) refl seeking) in
     let passed = passes g.K.PartialEq.eq g.K.Hash.hash_input g.S.BuildHasher.build_hasher g.S.Hasher.Hasher.write g.S.Hasher.Hasher.finish
-    g.met.K.Eq.laws g.met.K.Hash.respects_eq b w.begun.book key begun log m at on.table call.last call.kept made call.taken call.put call.fresh r
+    g.met.K.Eq.laws g.met.K.Hash.respects_eq b w.begun.book key begun log m at on.table call.copier.last call.copier.kept made call.taken call.put call.copier.fresh r
     seen.sight.log to.ensures.sees.log place (ap (λ z. z.table) to.ensures.stays) sought in
     let stood : c.stand.new.self ≡ record call { machine = looking_at m place; table = Some on.table } = c.stand.ensures
     ∙ (λ i. record call {

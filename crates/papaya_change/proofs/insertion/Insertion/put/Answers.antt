@@ -15,6 +15,20 @@ put-requires-clause-kind g c = put_kind g.K.PartialEq.eq
     (begun_of c.args.window.now.book.now.parts) c.args.window.now.book.now.begun.book c.requires.can.0 c.requires.can.1 c.requires.can.2
     c.args.window.now.sight.log c.args.self.now c.requires.can.3 c.requires.standing c.args.number c.args.place c.args.words.0 c.args.words.1 c.requires.asks
 
+pub put-requires-clause-number : goal.put-requires-clause-number
+put-requires-clause-number g c =
+    let p = puts_own g.K.PartialEq.eq (hash_of g.K.Hash.hash_input g.S.BuildHasher.build_hasher g.S.Hasher.Hasher.write g.S.Hasher.Hasher.finish)
+    (begun_of c.args.window.now.book.now.parts) c.args.window.now.book.now.begun.book c.requires.can.0 c.requires.can.1 c.requires.can.2
+    c.args.window.now.sight.log c.args.self.now c.requires.can.3 c.requires.standing c.args.number c.args.place c.args.words.0 c.args.words.1
+    c.requires.asks (ap (λ z. z == 0) c.if-words-eq0.true) in
+    let both : Some p.0 ≡ Some c.in-Some.own = sym p.1 ∙ c.in-Some.is in
+    let one : p.0 ≡ c.in-Some.own = cc both in
+    let h = subst (Puts g.K.PartialEq.eq (hash_of g.K.Hash.hash_input g.S.BuildHasher.build_hasher g.S.Hasher.Hasher.write g.S.Hasher.Hasher.finish)
+    (begun_of c.args.window.now.book.now.parts) c.args.window.now.book.now.begun.book c.requires.can.0 c.requires.can.1 c.requires.can.2
+    c.args.window.now.sight.log c.args.self.now c.requires.can.3 c.requires.standing c.args.number c.args.place c.args.words.0 c.args.words.1
+    c.requires.asks) one p.2 in
+    h.number
+
 pub put-requires-2-clause-kind : goal.put-requires-2-clause-kind
 put-requires-2-clause-kind g c = put_kind g.K.PartialEq.eq
     (hash_of g.K.Hash.hash_input g.S.BuildHasher.build_hasher g.S.Hasher.Hasher.write g.S.Hasher.Hasher.finish)

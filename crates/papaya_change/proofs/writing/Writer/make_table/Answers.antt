@@ -24,7 +24,7 @@ returns-in-Ok g c = record {
         let lawful = subst (λ (b : _). IsLawfulLog g.K.PartialEq.eq hash (begun_of b.now.parts) log)
         (c.learn.ensures.sees.book ∙ c.make_table-made.ensures.sees.book) c.learn.ensures.lawful in let new = c.in-Ok.ensures in
         with_given g.K.PartialEq.eq hash (begun_of c.args.window.now.book.now.parts) c.args.window.now.book.now.begun.book key made begun log
-        (record c.args.self.now { call = record c.args.self.now.call { fresh = Some (c.in-Ok.table, c.in-Ok.seal) } }) c.make_table-made.new.given
+        (record c.args.self.now { call = record c.args.self.now.call { copier = record c.args.self.now.call.copier { fresh = Some (c.in-Ok.table, c.in-Ok.seal) } } }) c.make_table-made.new.given
         (Made (c.index.result + 1))
         (table_made g.K.PartialEq.eq g.K.Hash.hash_input g.S.BuildHasher.build_hasher g.S.Hasher.Hasher.write g.S.Hasher.Hasher.finish g.met.K.Eq.laws
         g.met.K.Hash.respects_eq (begun_of c.args.window.now.book.now.parts) c.args.window.now.book.now.begun.book key made begun

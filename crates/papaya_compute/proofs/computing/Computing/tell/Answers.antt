@@ -44,7 +44,7 @@ returns g c = record {
       standing = c.help.ensures.helps.standing;
       calling = c.help.ensures.helps.calling;
       helped = subst (λ (z : Machine).
-          HasHelped z c.help.new.self.machine (tables_of c.help.new.window.sight.log) c.help.new.self.given.done)
+          HasHelped z c.help.new.self.machine (tables_of c.help.new.window.sight.log) c.help.new.self.copier.given.done)
           (ap (λ (d : Driver _ _ _ _). d.machine) c.answer.ensures.after) c.help.ensures.helps.helped;
     };
     still = λ calling. (c.help.ensures.still (ap (λ (d : Driver _ _ _ _). d.machine.phase) c.answer.ensures.after ∙ calling)).1;
