@@ -2,14 +2,15 @@
 // is refused there, and no memory is wanted for it.
 use crate::expect::{is, is_at};
 use crate::plain::{
-    Asked, MODES, Numbers, WHOLE, begin, compute, removal, replies, reply_to, times, value, value_of,
+    Asked, MODES, Numbers, WHOLE, begin, compute, removal, replies, reply_to, times, value,
+    value_of,
 };
 use papaya_ask::ask::StepKind;
 use papaya_ask::call::{Call, Reply};
 use papaya_call::answers::Operation;
 use papaya_core::schedule::Core;
 use papaya_core::trace::{Event, Trace, Turn};
-use papaya_hashers::times::APART;
+use papaya_testing::times::APART;
 use papaya_words::probe::{Refused, ResizeMode};
 use std::alloc::Global;
 use std::process::Abort;
@@ -219,8 +220,19 @@ fn fills(alloc: Global) -> Result<Asked, Fail> {
 fn logs_none(rt: &impl Abort, alloc: Global, core: &mut Numbers) -> Result<(), Fail> {
     is(rt, opens(alloc, core, fills(alloc)?)?, (Some(LIMIT), 0));
     is(rt, without_memory(alloc, core)?, (Some(MEMORY), 0));
-    is(rt, opens(alloc, core, Call::Insert(7, 1))?, (Some(LIMIT), 1));
-    replies(rt, alloc, core, (0, 0), removal(alloc, 7, true)?, Reply::Absent)
+    is(
+        rt,
+        opens(alloc, core, Call::Insert(7, 1))?,
+        (Some(LIMIT), 1),
+    );
+    replies(
+        rt,
+        alloc,
+        core,
+        (0, 0),
+        removal(alloc, 7, true)?,
+        Reply::Absent,
+    )
 }
 
 /// A map without a table that may log no pair. An insertion makes the table first, and is refused

@@ -11,7 +11,7 @@ use papaya_ask::call::{Call, Reply};
 use papaya_core::outcome::Outcome;
 use papaya_core::schedule::Core;
 use papaya_core::trace::{Trace, Turn};
-use papaya_hashers::times::{APART, TOGETHER};
+use papaya_testing::times::{APART, TOGETHER};
 use papaya_words::probe::{Refused, ResizeMode};
 use std::alloc::Global;
 use std::process::Abort;
@@ -257,12 +257,7 @@ fn stores_in_place(
 }
 
 /// Caller 2 makes room for so many keys more, and moves all pairs.
-fn makes_room(
-    rt: &impl Abort,
-    alloc: Global,
-    core: &mut Numbers,
-    more: usize,
-) -> Result<(), Fail> {
+fn makes_room(rt: &impl Abort, alloc: Global, core: &mut Numbers, more: usize) -> Result<(), Fail> {
     let done = Reply::Done;
     replies(rt, alloc, core, (more, 2), Call::Reserve(more), done)?;
     replies(rt, alloc, core, (more, 2), Call::CopyAll, done)

@@ -10,7 +10,7 @@ use papaya_ask::call::{Call, Reply};
 use papaya_call::answers::Operation;
 use papaya_core::schedule::Core;
 use papaya_core::trace::{Event, Trace, Turn};
-use papaya_hashers::times::APART;
+use papaya_testing::times::APART;
 use papaya_words::probe::{Refused, ResizeMode};
 use std::alloc::Global;
 use std::process::Abort;
@@ -346,7 +346,9 @@ fn calls_that_are_stopped_beside_others(rt: HostRuntime) -> Result<(), Fail> {
 /// How many entries an insertion has that stops after three steps, and then goes on. The number of a
 /// caller names it and nothing else.
 fn entries_of_parts(alloc: Global, core: &mut Numbers) -> Result<(usize, usize), Fail> {
-    let first = begin(alloc, core, usize::MAX, Call::Insert(7, 100), 3)?.entries.len();
+    let first = begin(alloc, core, usize::MAX, Call::Insert(7, 100), 3)?
+        .entries
+        .len();
     let last = go_on(alloc, core, usize::MAX)?.entries.len();
     Ok((first, last))
 }
