@@ -5,7 +5,7 @@
 What runs is the program of the tests that `rt test` has proved and built, or else that of the folder. Tests of the first kind run once for
 each request that they make, with just that one refused. Those of the second kind run once, and tell what is to
 be refused, while a call of theirs runs: a request for a number of bytes that no test needs is a word (crate
-papaya_refusals). Each has to pass, and of the second kind each has to be refused something. The requests are
+papaya_testing). Each has to pass, and of the second kind each has to be refused something. The requests are
 those of the C library's heap: a small library that is loaded before it counts them, and is built here by the
 toolchain's own compiler.
 """
@@ -123,8 +123,7 @@ TOLERANT = [
     ("papaya_seq_tests", "refused::"),
     ("papaya_set_tests", "refused::"),
     ("papaya_map_tests", "refused::"),
-    ("papaya_json_tests", "refused::"),
-    ("papaya_reclaiming_tests", "refused::"),
+    ("papaya_collect_tests", "json::refused::"),
 ]
 
 # Those that tell what is to be refused.

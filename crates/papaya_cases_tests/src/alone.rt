@@ -3,8 +3,8 @@ use crate::answers::{Answer, compute_of, insertion_of, making_of, pair_of, remov
 use crate::expect::MODES;
 use crate::maps::{CASES, goes};
 use crate::steps::{Agrees, Calls, by_parity};
-use papaya_hashers::same::{FIRST, LAST};
 use papaya_seq::seq::HashMap;
+use papaya_testing::same::{FIRST, LAST};
 use papaya_words::probe::Refused;
 use std::alloc::Global;
 use std::hash::{BuildHasher, BuildHasherDefault, FoldHasher};

@@ -2,8 +2,8 @@
 use crate::expect::MODES;
 use crate::key_steps::Calls;
 use crate::sets::{CASES, goes};
-use papaya_hashers::same::{FIRST, LAST};
 use papaya_set::seq::HashSet;
+use papaya_testing::same::{FIRST, LAST};
 use papaya_words::probe::Refused;
 use std::alloc::Global;
 use std::hash::{BuildHasher, BuildHasherDefault, FoldHasher};

@@ -9,9 +9,9 @@ use crate::key_steps::Step::{
 };
 use crate::sets::{CASES, Case, goes};
 use crate::shared_sets::Shared;
-use papaya_hashers::same::{FIRST, Same};
 use papaya_keys::guard::{Collector, Guard};
 use papaya_set::set::HashSet;
+use papaya_testing::same::{FIRST, Same};
 use papaya_words::probe::Refused;
 use std::process::Abort;
 use std::sync::Wait;

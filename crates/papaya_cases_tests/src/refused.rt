@@ -11,10 +11,10 @@ use crate::steps::Step::{
     RemoveIf, TryInsert, TryInsertWith, Update, UpdateOrInsert, UpdateOrInsertWith,
 };
 use crate::steps::{Calls, answer};
-use papaya_hashers::same::FIRST;
 use papaya_map::map;
-use papaya_refusals::tries::{Outcome, Ready, Trial, fails_at, tries};
 use papaya_seq::seq;
+use papaya_testing::same::FIRST;
+use papaya_testing::tries::{Outcome, Ready, Trial, fails_at, tries};
 use papaya_words::probe::{Refused, ResizeMode};
 use std::alloc::Global;
 use std::process::Abort;

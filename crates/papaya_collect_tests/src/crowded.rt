@@ -1,7 +1,7 @@
 // Maps and sets that threads share, by the calls of a crowd. In a set a key has the value 0.
-use papaya_hashers::times::Times;
 use papaya_map::map::HashMap;
 use papaya_set::set::HashSet;
+use papaya_testing::times::Times;
 use papaya_words::probe::{Refused, ResizeMode};
 use std::alloc::Global;
 use std::sync::Wait;

@@ -4,10 +4,10 @@
 use crate::crowded::Crowded;
 use crate::expect::is_at;
 use crate::keys::MODES;
-use papaya_hashers::times::{APART, TOGETHER, Times};
 use papaya_map::map::HashMap;
-use papaya_refusals::heap::{refuse_each, relent};
 use papaya_set::set::HashSet;
+use papaya_testing::heap::{refuse_each, relent};
+use papaya_testing::times::{APART, TOGETHER, Times};
 use papaya_words::probe::{Refused, ResizeMode};
 use std::alloc::Global;
 use std::process::Abort;

@@ -3,6 +3,11 @@
 use std::fmt::Debug;
 use std::process::Abort;
 
+/// What was found is what is wanted.
+pub fn is<T: PartialEq + Debug + Drop>(rt: &impl Abort, found: T, wanted: T) {
+    assert_eq!(rt; found, wanted);
+}
+
 /// What was found in a case, which has a number, is what is wanted.
 pub fn is_at<T: PartialEq + Debug + Drop>(rt: &impl Abort, case: usize, found: T, wanted: T) {
     assert_eq!(rt; found, wanted, "at {case}");

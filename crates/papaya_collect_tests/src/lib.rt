@@ -1,5 +1,5 @@
 //! The tests of calls that take many keys, copy, compare, or make a map or a set anew: on maps and
-//! sets, for one caller and shared by threads.
+//! sets, for one caller and shared by threads. And those of maps and sets as JSON.
 #![tactic(auto)]
 
 #[cfg(test)]
@@ -12,6 +12,8 @@ mod crowded;
 mod crowds;
 #[cfg(test)]
 mod expect;
+#[cfg(test)]
+mod json;
 #[cfg(test)]
 mod keys;
 #[cfg(test)]

@@ -11,7 +11,7 @@ use papaya_ask::call::{Call, Reply};
 use papaya_call::answers::{Listed, Operation};
 use papaya_core::outcome::Outcome;
 use papaya_core::schedule::Core;
-use papaya_hashers::times::{APART, TOGETHER, Times};
+use papaya_testing::times::{APART, TOGETHER, Times};
 use papaya_words::probe::ResizeMode;
 use std::alloc::Global;
 use std::hash::{Hash, Hasher};

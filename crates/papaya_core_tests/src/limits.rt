@@ -2,15 +2,15 @@
 // is refused there, and no memory is wanted for it.
 use crate::expect::{is, is_at};
 use crate::plain::{
-    Asked, MODES, Numbers, WHOLE, begin, by_value, compute, removal, replies, reply_to, times,
-    value, value_of,
+    Asked, MODES, Numbers, WHOLE, begin, compute, removal, replies, reply_to, times, value,
+    value_of,
 };
 use papaya_ask::ask::StepKind;
 use papaya_ask::call::{Call, Reply};
 use papaya_call::answers::Operation;
 use papaya_core::schedule::Core;
 use papaya_core::trace::{Event, Trace, Turn};
-use papaya_hashers::times::APART;
+use papaya_testing::times::APART;
 use papaya_words::probe::{Refused, ResizeMode};
 use std::alloc::Global;
 use std::process::Abort;
@@ -46,18 +46,17 @@ fn logged(core: &Numbers) -> u64 {
     count
 }
 
-/// A map with a limit of three has two keys and has replaced the value of one.
-fn three_pairs(rt: &impl Abort, alloc: Global, mode: ResizeMode) -> Result<Numbers, Fail> {
-    let mut core = limited(alloc, mode, 0, 3)?;
+/// Two keys are stored, and the value of one is replaced: three pairs.
+fn stores_three(rt: &impl Abort, alloc: Global, core: &mut Numbers) -> Result<(), Fail> {
     let replaced = Reply::Replaced { old: 10, new: 11 };
     for (call, reply) in [
         (Call::Insert(7, 10), Reply::Inserted(10)),
         (Call::Insert(2, 20), Reply::Inserted(20)),
         (Call::Insert(7, 11), replaced),
     ] {
-        replies(rt, alloc, &mut core, (0, 0), call, reply)?;
+        replies(rt, alloc, core, (0, 0), call, reply)?;
     }
-    Ok(core)
+    Ok(())
 }
 
 /// At the limit nothing is stored, and all else is as ever.
@@ -85,7 +84,8 @@ fn stores_no_more(rt: &impl Abort, alloc: Global, core: &mut Numbers) -> Result<
 #[test]
 fn calls_at_a_limit(rt: HostRuntime) -> Result<(), Fail> {
     for mode in MODES {
-        let mut core = three_pairs(&rt, rt.alloc(), mode)?;
+        let mut core = limited(rt.alloc(), mode, 0, 3)?;
+        stores_three(&rt, rt.alloc(), &mut core)?;
         stores_no_more(&rt, rt.alloc(), &mut core)?;
     }
     Ok(())
@@ -110,8 +110,9 @@ fn together(
     Ok(core.run(turns)?)
 }
 
-/// How many callers were refused for the limit, and how many were not refused.
-fn ends(trace: &Trace) -> (usize, usize) {
+/// How many numbers were taken, how many callers were refused for the limit, and how many were not
+/// refused.
+fn ends(trace: &Trace) -> (usize, usize, usize) {
     let (mut refused, mut stored) = (0usize, 0usize);
     for entry in &trace.entries {
         match entry.event {
@@ -122,7 +123,18 @@ fn ends(trace: &Trace) -> (usize, usize) {
             _ => {}
         }
     }
-    (refused, stored)
+    (times(trace, StepKind::Take), refused, stored)
+}
+
+/// The same of callers that insert together.
+fn ends_together(
+    alloc: Global,
+    core: &mut Numbers,
+    steps: usize,
+    is_one_key: bool,
+) -> Result<(usize, usize, usize), Fail> {
+    let trace = together(alloc, core, steps, is_one_key)?;
+    Ok(ends(&trace))
 }
 
 /// Eight callers, of different keys or of one, leave just as many pairs as the limit says. Of
@@ -135,10 +147,8 @@ fn just_so_many(
     is_one_key: bool,
 ) -> Result<(), Fail> {
     let mut core = limited(alloc, mode, 0, MOST)?;
-    let trace = together(alloc, &mut core, steps, is_one_key)?;
-    let (refused, stored) = ends(&trace);
-    is_at(rt, steps, logged(&core), MOST);
-    is_at(rt, steps, times(&trace, StepKind::Take), MOST as usize);
+    let (taken, refused, stored) = ends_together(alloc, &mut core, steps, is_one_key)?;
+    is_at(rt, steps, (logged(&core), taken), (MOST, MOST as usize));
     is_at(rt, steps, refused.wrapping_add(stored), CALLERS);
     is_at(rt, steps, is_one_key || stored == MOST as usize, true);
     Ok(())
@@ -155,39 +165,74 @@ fn callers_that_are_stopped_at_a_limit(rt: HostRuntime) -> Result<(), Fail> {
     Ok(())
 }
 
-/// A caller makes a call, no step of which has memory, and it replies so.
-fn without_memory(
-    rt: &impl Abort,
-    alloc: Global,
-    core: &mut Numbers,
-    call: Asked,
-    reply: Reply,
-) -> Result<Trace, Fail> {
-    let mut turns = vec![in alloc; Turn::Begin(0, call)]?;
+/// What a caller is replied that inserts key 7, where no step of that has memory, and how many
+/// numbers it takes.
+type Unmade = (Option<Reply>, usize);
+
+fn without_memory(alloc: Global, core: &mut Numbers) -> Result<Unmade, Fail> {
+    let mut turns = vec![in alloc; Turn::Begin(0, Call::Insert(7, 1))]?;
     for _ in 0..STEPS_OF_INSERT {
         turns.push(Turn::Step(0, true))?;
     }
     let trace = core.run(turns)?;
-    is(rt, by_value(core, reply_to(&trace, 0)), Some(reply));
-    Ok(trace)
+    Ok((reply_to(&trace, 0), times(&trace, StepKind::Take)))
+}
+
+/// A map that was made for some pairs has this limit, and there is no memory. Then there is, and no
+/// number is left.
+fn unmade_at(
+    rt: &impl Abort,
+    alloc: Global,
+    mode: ResizeMode,
+    most: u64,
+    wanted: Unmade,
+) -> Result<(), Fail> {
+    let mut core = limited(alloc, mode, 6, most)?;
+    is(rt, without_memory(alloc, &mut core)?, wanted);
+    replies(rt, alloc, &mut core, (1, 0), Call::Insert(7, 1), LIMIT)?;
+    is(rt, logged(&core), 0);
+    Ok(())
 }
 
 /// There are tables already. At the limit no memory is wanted. Below it the number stays taken,
 /// though there is no memory for its pair.
 #[test]
 fn no_memory_at_a_limit(rt: HostRuntime) -> Result<(), Fail> {
-    let alloc = rt.alloc();
     for mode in MODES {
-        let mut none = limited(alloc, mode, 6, 0)?;
-        let trace = without_memory(&rt, alloc, &mut none, Call::Insert(7, 1), LIMIT)?;
-        is(&rt, times(&trace, StepKind::Take), 0);
-        let mut one = limited(alloc, mode, 6, 1)?;
-        let trace = without_memory(&rt, alloc, &mut one, Call::Insert(7, 1), MEMORY)?;
-        is(&rt, times(&trace, StepKind::Take), 1);
-        replies(&rt, alloc, &mut one, (1, 0), Call::Insert(7, 1), LIMIT)?;
-        is(&rt, logged(&one), 0);
+        unmade_at(&rt, rt.alloc(), mode, 0, (Some(LIMIT), 0))?;
+        unmade_at(&rt, rt.alloc(), mode, 1, (Some(MEMORY), 1))?;
     }
     Ok(())
+}
+
+/// A caller makes this call whole: its reply, and how many tables it opens.
+fn opens(alloc: Global, core: &mut Numbers, call: Asked) -> Result<(Option<Reply>, usize), Fail> {
+    let trace = begin(alloc, core, 0, call, WHOLE)?;
+    Ok((reply_to(&trace, 0), times(&trace, StepKind::Open)))
+}
+
+/// A compute of a key that is absent, whose closure answers an insertion.
+fn fills(alloc: Global) -> Result<Asked, Fail> {
+    Ok(compute(alloc, vec![in alloc; Operation::Insert(10)]?))
+}
+
+/// Nothing is stored, and one call opens a table.
+fn logs_none(rt: &impl Abort, alloc: Global, core: &mut Numbers) -> Result<(), Fail> {
+    is(rt, opens(alloc, core, fills(alloc)?)?, (Some(LIMIT), 0));
+    is(rt, without_memory(alloc, core)?, (Some(MEMORY), 0));
+    is(
+        rt,
+        opens(alloc, core, Call::Insert(7, 1))?,
+        (Some(LIMIT), 1),
+    );
+    replies(
+        rt,
+        alloc,
+        core,
+        (0, 0),
+        removal(alloc, 7, true)?,
+        Reply::Absent,
+    )
 }
 
 /// A map without a table that may log no pair. An insertion makes the table first, and is refused
@@ -195,31 +240,9 @@ fn no_memory_at_a_limit(rt: HostRuntime) -> Result<(), Fail> {
 /// makes no table.
 #[test]
 fn limit_of_no_pairs(rt: HostRuntime) -> Result<(), Fail> {
-    let alloc = rt.alloc();
     for mode in MODES {
-        let mut core = limited(alloc, mode, 0, 0)?;
-        let fills = compute(alloc, vec![in alloc; Operation::Insert(10)]?);
-        let trace = begin(alloc, &mut core, 0, fills, WHOLE)?;
-        is(
-            &rt,
-            (reply_to(&trace, 0), times(&trace, StepKind::Open)),
-            (Some(LIMIT), 0),
-        );
-        let _ = without_memory(&rt, alloc, &mut core, Call::Insert(7, 1), MEMORY)?;
-        let trace = begin(alloc, &mut core, 0, Call::Insert(7, 1), WHOLE)?;
-        is(
-            &rt,
-            (reply_to(&trace, 0), times(&trace, StepKind::Open)),
-            (Some(LIMIT), 1),
-        );
-        replies(
-            &rt,
-            alloc,
-            &mut core,
-            (0, 0),
-            removal(alloc, 7, true)?,
-            Reply::Absent,
-        )?;
+        let mut core = limited(rt.alloc(), mode, 0, 0)?;
+        logs_none(&rt, rt.alloc(), &mut core)?;
         is(&rt, logged(&core), 0);
     }
     Ok(())

@@ -6,7 +6,7 @@ use papaya_ask::call::{Call, Reply};
 use papaya_call::answers::{Listed, Operation};
 use papaya_core::schedule::Core;
 use papaya_core::trace::{Event, Trace, Turn};
-use papaya_hashers::times::Times;
+use papaya_testing::times::Times;
 use papaya_words::probe::ResizeMode;
 use std::alloc::Global;
 use std::hash::BuildHasher;

@@ -11,7 +11,7 @@ use papaya_ask::call::{Call, Reply};
 use papaya_core::outcome::Outcome;
 use papaya_core::schedule::Core;
 use papaya_core::trace::{Trace, Turn};
-use papaya_hashers::times::{APART, TOGETHER};
+use papaya_testing::times::{APART, TOGETHER};
 use papaya_words::probe::{Refused, ResizeMode};
 use std::alloc::Global;
 use std::process::Abort;
@@ -28,6 +28,29 @@ fn insertion() -> Asked {
     Call::Insert(KEYS, value(KEYS))
 }
 
+/// Caller 1 makes so many steps of an insertion: its reply, if it has one already.
+fn stopped_at(alloc: Global, core: &mut Numbers, steps: usize) -> Result<Option<Reply>, Fail> {
+    let trace = begin(alloc, core, 1, insertion(), steps)?;
+    Ok(reply_to(&trace, 1))
+}
+
+/// Caller 1 goes on with the insertion: its reply, if it had none yet.
+fn ended(alloc: Global, core: &mut Numbers) -> Result<Option<Reply>, Fail> {
+    let trace = go_on(alloc, core, 1)?;
+    Ok(reply_to(&trace, 1))
+}
+
+/// A caller removes key 0.
+fn removes_0(
+    rt: &impl Abort,
+    alloc: Global,
+    core: &mut Numbers,
+    case: (usize, usize),
+) -> Result<(), Fail> {
+    let removed = Reply::Removed(value(0));
+    replies(rt, alloc, core, case, removal(alloc, 0, true)?, removed)
+}
+
 /// Caller 2 ends the resize and removes key 0, and then caller 1 goes on with an insertion.
 fn removal_beside(
     rt: &impl Abort,
@@ -35,25 +58,12 @@ fn removal_beside(
     core: &mut Numbers,
     steps: usize,
 ) -> Result<(), Fail> {
-    let first = begin(alloc, core, 1, insertion(), steps)?;
+    let early = stopped_at(alloc, core, steps)?;
     replies(rt, alloc, core, (steps, 2), Call::CopyAll, Reply::Done)?;
-    let removed = Reply::Removed(value(0));
-    replies(
-        rt,
-        alloc,
-        core,
-        (steps, 2),
-        removal(alloc, 0, true)?,
-        removed,
-    )?;
-    let last = go_on(alloc, core, 1)?;
-    let reply = reply_to(&first, 1).or(reply_to(&last, 1));
-    is_at(
-        rt,
-        steps,
-        by_value(core, reply),
-        Some(Reply::Inserted(value(KEYS))),
-    );
+    removes_0(rt, alloc, core, (steps, 2))?;
+    let reply = early.or(ended(alloc, core)?);
+    let wanted = Some(Reply::Inserted(value(KEYS)));
+    is_at(rt, steps, by_value(core, reply), wanted);
     holds(rt, alloc, core, steps, (1, KEYS + 1))
 }
 
@@ -72,10 +82,10 @@ fn retain_beside(
     core: &mut Numbers,
     steps: usize,
 ) -> Result<(), Fail> {
-    let _ = begin(alloc, core, 1, insertion(), steps)?;
+    let _ = stopped_at(alloc, core, steps)?;
     let retain = retain_of_nothing(alloc);
     replies(rt, alloc, core, (steps, 2), retain, Reply::Done)?;
-    let _ = go_on(alloc, core, 1)?;
+    let _ = ended(alloc, core)?;
     is_gone(rt, alloc, core, steps)
 }
 
@@ -149,8 +159,7 @@ fn sorted(outcome: Option<Outcome>) -> Result<Option<Outcome>, Fail> {
 
 /// Without key 0, a walk that is stepped answers its list.
 fn walks_by_hand(rt: &impl Abort, alloc: Global, core: &mut Numbers) -> Result<(), Fail> {
-    let removed = Reply::Removed(value(0));
-    replies(rt, alloc, core, (0, 1), removal(alloc, 0, true)?, removed)?;
+    removes_0(rt, alloc, core, (0, 1))?;
     let outcome = sorted(walked(core)?)?;
     let numbers = vec![in alloc; 1, 2, 3, 4, 5, 6, 7]?;
     is(rt, outcome, Some(Outcome::Walked(numbers)));
@@ -168,6 +177,23 @@ enum Case {
     WalksByHand,
 }
 
+fn is_done(
+    rt: &impl Abort,
+    alloc: Global,
+    core: &mut Numbers,
+    case: Case,
+    steps: usize,
+) -> Result<(), Fail> {
+    match case {
+        Case::RemovalBeside => removal_beside(rt, alloc, core, steps),
+        Case::RetainBeside => retain_beside(rt, alloc, core, steps),
+        Case::AsksOnce => asks_once(rt, alloc, core),
+        Case::RefusesRoom => refuses_room(rt, alloc, core),
+        Case::RefusesTable => refuses_table(rt, alloc, core),
+        Case::WalksByHand => walks_by_hand(rt, alloc, core),
+    }
+}
+
 fn full(
     rt: &impl Abort,
     alloc: Global,
@@ -177,14 +203,7 @@ fn full(
 ) -> Result<(), Fail> {
     let mut core = Core::new(alloc, mode, 6, 1, APART)?;
     stores(rt, alloc, &mut core, (0, KEYS))?;
-    match case {
-        Case::RemovalBeside => removal_beside(rt, alloc, &mut core, steps),
-        Case::RetainBeside => retain_beside(rt, alloc, &mut core, steps),
-        Case::AsksOnce => asks_once(rt, alloc, &mut core),
-        Case::RefusesRoom => refuses_room(rt, alloc, &mut core),
-        Case::RefusesTable => refuses_table(rt, alloc, &mut core),
-        Case::WalksByHand => walks_by_hand(rt, alloc, &mut core),
-    }
+    is_done(rt, alloc, &mut core, case, steps)
 }
 
 #[test]
@@ -237,28 +256,34 @@ fn stores_in_place(
     Ok(())
 }
 
-/// Caller 2 makes room for so many keys more, and a caller that inserts them links no table then.
+/// Caller 2 makes room for so many keys more, and moves all pairs.
+fn makes_room(rt: &impl Abort, alloc: Global, core: &mut Numbers, more: usize) -> Result<(), Fail> {
+    let done = Reply::Done;
+    replies(rt, alloc, core, (more, 2), Call::Reserve(more), done)?;
+    replies(rt, alloc, core, (more, 2), Call::CopyAll, done)
+}
+
+/// So many keys are stored, and room is made for some more. A caller that inserts these links no
+/// table then.
 fn reserves_ahead(
     rt: &impl Abort,
     alloc: Global,
-    mode: ResizeMode,
-    (capacity, keys, more): (usize, u64, usize),
+    core: &mut Numbers,
+    (keys, more): (u64, usize),
 ) -> Result<(), Fail> {
-    let mut core = Core::new(alloc, mode, capacity, 1, APART)?;
     let end = keys.wrapping_add(more as u64);
-    stores(rt, alloc, &mut core, (0, keys))?;
-    let done = Reply::Done;
-    replies(rt, alloc, &mut core, (more, 2), Call::Reserve(more), done)?;
-    replies(rt, alloc, &mut core, (more, 2), Call::CopyAll, done)?;
-    stores_in_place(rt, alloc, &mut core, (keys, end))?;
-    holds(rt, alloc, &mut core, more, (0, end))
+    stores(rt, alloc, core, (0, keys))?;
+    makes_room(rt, alloc, core, more)?;
+    stores_in_place(rt, alloc, core, (keys, end))?;
+    holds(rt, alloc, core, more, (0, end))
 }
 
 #[test]
 fn room_is_made_ahead(rt: HostRuntime) -> Result<(), Fail> {
     for mode in MODES {
-        for sizes in [(0, 0, 0), (0, 0, 12), (6, 8, 4), (6, 8, 8), (10, 5, 12)] {
-            reserves_ahead(&rt, rt.alloc(), mode, sizes)?;
+        for (capacity, keys, more) in [(0, 0, 0), (0, 0, 12), (6, 8, 4), (6, 8, 8), (10, 5, 12)] {
+            let mut core = Core::new(rt.alloc(), mode, capacity, 1, APART)?;
+            reserves_ahead(&rt, rt.alloc(), &mut core, (keys, more))?;
         }
     }
     Ok(())
@@ -289,6 +314,27 @@ fn stops_at(
     Ok(false)
 }
 
+/// How many pairs were marked in a trace, and how many chunks were told as copied.
+fn copied(trace: &Trace) -> (usize, usize) {
+    (
+        times(trace, StepKind::Mark),
+        times(trace, StepKind::Advance),
+    )
+}
+
+/// The same of a caller that inserts a key.
+fn copied_by(alloc: Global, core: &mut Numbers, caller: usize) -> Result<(usize, usize), Fail> {
+    let key = KEYS.wrapping_add(1);
+    let trace = begin(alloc, core, caller, Call::Insert(key, value(key)), WHOLE)?;
+    Ok(copied(&trace))
+}
+
+/// The same of caller 1, which goes on.
+fn copied_then(alloc: Global, core: &mut Numbers) -> Result<(usize, usize), Fail> {
+    let trace = go_on(alloc, core, 1)?;
+    Ok(copied(&trace))
+}
+
 /// Caller 1 has marked the pair of its chunk and stops, while another caller copies a chunk. That
 /// one marks so many pairs: none where its number picks the chunk of caller 1, which it ends. Then
 /// caller 1 goes on.
@@ -301,19 +347,8 @@ fn copies_beside(
 ) -> Result<(), Fail> {
     let stopped = stops_at(alloc, core, 1, KEYS, StepKind::Mark)?;
     is_at(rt, other, stopped, true);
-    let key = KEYS.wrapping_add(1);
-    let trace = begin(alloc, core, other, Call::Insert(key, value(key)), WHOLE)?;
-    let copied = (
-        times(&trace, StepKind::Mark),
-        times(&trace, StepKind::Advance),
-    );
-    is_at(rt, other, copied, (marked, 1));
-    let rest = go_on(alloc, core, 1)?;
-    let last = (
-        times(&rest, StepKind::Mark),
-        times(&rest, StepKind::Advance),
-    );
-    is_at(rt, other, last, (0, marked));
+    is_at(rt, other, copied_by(alloc, core, other)?, (marked, 1));
+    is_at(rt, other, copied_then(alloc, core)?, (0, marked));
     holds(rt, alloc, core, other, (0, KEYS.wrapping_add(2)))
 }
 
@@ -364,16 +399,19 @@ fn gives_up_a_table(rt: &impl Abort, alloc: Global, core: &mut Numbers) -> Resul
     Ok(())
 }
 
-/// Callers 0 to 25 fill a table of 32 slots and stop for good, with the count at 0. So the next
-/// table is too short.
+/// Callers 0 to 25 fill a table of 32 slots and stop for good, with the count at 0.
+fn crowd(rt: &impl Abort, alloc: Global, core: &mut Numbers) -> Result<(), Fail> {
+    has_no_table(rt, alloc, core)?;
+    for caller in 0..CROWD {
+        is_at(rt, caller, stops_once_found(alloc, core, caller)?, true);
+    }
+    gives_up_a_table(rt, alloc, core)?;
+    holds(rt, alloc, core, 27, (0, 27))
+}
+
+/// So the next table is too short.
 #[test]
 fn table_made_by_a_count_that_lags_is_given_up(rt: HostRuntime) -> Result<(), Fail> {
     let mut core = Core::new(rt.alloc(), ResizeMode::Blocking, 0, 1, TOGETHER)?;
-    has_no_table(&rt, rt.alloc(), &mut core)?;
-    for caller in 0..CROWD {
-        let stopped = stops_once_found(rt.alloc(), &mut core, caller)?;
-        is_at(&rt, caller, stopped, true);
-    }
-    gives_up_a_table(&rt, rt.alloc(), &mut core)?;
-    holds(&rt, rt.alloc(), &mut core, 27, (0, 27))
+    crowd(&rt, rt.alloc(), &mut core)
 }

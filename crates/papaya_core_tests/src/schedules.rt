@@ -10,7 +10,7 @@ use papaya_ask::call::{Call, Reply};
 use papaya_call::answers::Operation;
 use papaya_core::schedule::Core;
 use papaya_core::trace::{Event, Trace, Turn};
-use papaya_hashers::times::APART;
+use papaya_testing::times::APART;
 use papaya_words::probe::{Refused, ResizeMode};
 use std::alloc::Global;
 use std::process::Abort;
@@ -343,15 +343,22 @@ fn calls_that_are_stopped_beside_others(rt: HostRuntime) -> Result<(), Fail> {
     Ok(())
 }
 
+/// How many entries an insertion has that stops after three steps, and then goes on. The number of a
+/// caller names it and nothing else.
+fn entries_of_parts(alloc: Global, core: &mut Numbers) -> Result<(usize, usize), Fail> {
+    let first = begin(alloc, core, usize::MAX, Call::Insert(7, 100), 3)?
+        .entries
+        .len();
+    let last = go_on(alloc, core, usize::MAX)?.entries.len();
+    Ok((first, last))
+}
+
 #[test]
 fn finish_ends_with_the_reply_or_its_steps(rt: HostRuntime) -> Result<(), Fail> {
     let mut core: Numbers = Core::new(rt.alloc(), ResizeMode::Blocking, 10, 16, APART)?;
     // A begin and three steps; then the steps that are left and the reply, where no table is made
-    // and none opened. The number of a caller names it and nothing else.
-    let insertion = Call::Insert(7, 100);
-    let first = begin(rt.alloc(), &mut core, usize::MAX, insertion, 3)?;
-    is(&rt, first.entries.len(), 1 + 3);
-    let last = go_on(rt.alloc(), &mut core, usize::MAX)?;
-    is(&rt, last.entries.len(), STEPS_OF_INSERT - 2 - 3 + 1);
+    // and none opened.
+    let wanted = (1 + 3, STEPS_OF_INSERT - 2 - 3 + 1);
+    is(&rt, entries_of_parts(rt.alloc(), &mut core)?, wanted);
     Ok(())
 }

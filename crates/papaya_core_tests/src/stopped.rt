@@ -7,8 +7,8 @@ use crate::plans::{ON_ALL, Plan, Says, Told, as_allowed, on_key};
 use papaya_ask::call::Reply;
 use papaya_core::outcome::Outcome;
 use papaya_core::schedule::Core;
-use papaya_hashers::same::{FIRST, LAST};
-use papaya_hashers::times::APART;
+use papaya_testing::same::{FIRST, LAST};
+use papaya_testing::times::APART;
 use papaya_words::probe::ResizeMode;
 use std::alloc::Global;
 use std::hash::BuildHasher;
@@ -131,6 +131,17 @@ fn heard<S: BuildHasher>(
     Ok(Said { reply, given })
 }
 
+/// A caller makes a call whole.
+fn said_by<S: BuildHasher>(
+    alloc: Global,
+    core: &mut Ruled<S>,
+    caller: usize,
+    plan: Plan,
+) -> Result<Said, Fail> {
+    let outcome = makes(core, caller, plan, WHOLE)?;
+    heard(alloc, core, outcome)
+}
+
 /// The value that a walk gave a key, if it gave it one and no other.
 fn given_to(key: u64, given: &[(u64, u64)]) -> Option<Reply> {
     let mut told = Some(Reply::Absent);
@@ -186,8 +197,8 @@ fn is_plain<S: BuildHasher>(
         let wanted = as_allowed(&told, (first, second), key, start.held(key));
         is_at(rt, case, told, wanted);
     }
-    let walk = makes(core, 2, Plan::Walk, WHOLE)?;
-    is_at(rt, case, heard(alloc, core, walk)?.given, pairs);
+    let walk = said_by(alloc, core, 2, Plan::Walk)?;
+    is_at(rt, case, walk.given, pairs);
     Ok(())
 }
 
@@ -217,33 +228,48 @@ fn begun<S: BuildHasher + Drop>(
     Ok(core)
 }
 
+/// What both calls came to, and whether the first ended before it was stopped.
+#[derive(Drop)]
+struct Both {
+    one: Said,
+    other: Said,
+    is_over: bool,
+}
+
+/// The first call is stopped after so many steps, and goes on when the second was made.
+fn both_said<S: BuildHasher>(
+    alloc: Global,
+    core: &mut Ruled<S>,
+    steps: usize,
+    (first, second): (Plan, Plan),
+) -> Result<Both, Fail> {
+    let early = makes(core, 0, first, steps)?;
+    let is_over = early.is_some();
+    let other = said_by(alloc, core, 1, second)?;
+    let late = goes_on(core, 0, WHOLE);
+    let one = heard(alloc, core, early.or(late))?;
+    Ok(Both {
+        one,
+        other,
+        is_over,
+    })
+}
+
 /// The first call is stopped after so many steps. Did it end before it was?
-fn one_stop<S: BuildHasher + Drop>(
+fn one_stop<S: BuildHasher>(
     rt: &impl Abort,
     alloc: Global,
-    mut core: Ruled<S>,
+    core: &mut Ruled<S>,
     (case, steps): (usize, usize),
     start: Start,
     (first, second): (Plan, Plan),
 ) -> Result<bool, Fail> {
-    let early = makes(&mut core, 0, first, steps)?;
-    let whole = makes(&mut core, 1, second, WHOLE)?;
-    let late = goes_on(&mut core, 0, WHOLE);
-    let is_over = early.is_some();
-    let one = heard(alloc, &core, early.or(late))?;
-    let other = heard(alloc, &core, whole)?;
-    is_done(rt, case, first, &one);
-    is_done(rt, case, second, &other);
-    is_plain(
-        rt,
-        alloc,
-        &mut core,
-        case,
-        start,
-        (first, &one),
-        (second, &other),
-    )?;
-    Ok(is_over)
+    let both = both_said(alloc, core, steps, (first, second))?;
+    is_done(rt, case, first, &both.one);
+    is_done(rt, case, second, &both.other);
+    let said = ((first, &both.one), (second, &both.other));
+    is_plain(rt, alloc, core, case, start, said.0, said.1)?;
+    Ok(both.is_over)
 }
 
 /// The first call is stopped after each number of its steps.
@@ -258,9 +284,9 @@ fn each_stop<S: BuildHasher + Copy>(
     let mut is_over = false;
     for steps in 0..MOST {
         if !is_over {
-            let core = begun(alloc, mode, hasher, start)?;
+            let mut core = begun(alloc, mode, hasher, start)?;
             let case = (case.wrapping_mul(MOST).wrapping_add(steps), steps);
-            is_over = one_stop(rt, alloc, core, case, start, plans)?;
+            is_over = one_stop(rt, alloc, &mut core, case, start, plans)?;
         }
     }
     is_at(rt, case, is_over, true);

@@ -1,7 +1,7 @@
 // What the threads of a map tell each other.
 use crate::crowd::{Crowd, Job};
 use crate::threads::{EACH, KEYS};
-use papaya_gates::crossing::Crossing;
+use papaya_testing::crossing::Crossing;
 use std::alloc::Global;
 use std::sync::atomic::{AtomicBool, AtomicU64, Ordering};
 

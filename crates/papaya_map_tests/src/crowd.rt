@@ -7,7 +7,7 @@ use crate::seen::Says;
 use crate::shared::Shared;
 use crate::steps::{Calls, Step, answer, has_below, inserts};
 use crate::threads::{churn, draw, take_left};
-use papaya_gates::gate::Gate;
+use papaya_testing::gate::Gate;
 use std::sync::Wait;
 use std::sync::atomic::Ordering;
 use std::thread::{Threads, join};

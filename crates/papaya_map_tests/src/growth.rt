@@ -6,7 +6,7 @@ use crate::numbers::Numbers;
 use crate::shared::Turn::{self, Calls, Fails, Guarded, Threads};
 use crate::shared::{Holder, MODES, Making, runs};
 use crate::steps::Step::{self, HasBelow, HasEither, InsertBelow, Len};
-use papaya_hashers::times::APART;
+use papaya_testing::times::APART;
 use papaya_words::probe::{Refused as Why, ResizeMode};
 use std::test::Fail;
 

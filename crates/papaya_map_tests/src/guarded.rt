@@ -3,8 +3,8 @@ use crate::answers::{Answer, computed, done, made, pair, removal, there, tried, 
 use crate::numbers::{Numbers, said};
 use crate::seen::{Says, Seen, agrees, next, next_at, operation};
 use crate::steps::{Calls, Keeps, Step};
-use papaya_gates::gate::Gate;
 use papaya_keys::guard::Guard;
+use papaya_testing::gate::Gate;
 use papaya_words::probe::Refused;
 use std::sync::Wait;
 

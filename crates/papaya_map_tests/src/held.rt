@@ -7,7 +7,7 @@ use crate::shared::Turn::{self, Calls, Fails, Threads};
 use crate::shared::{MODES, runs};
 use crate::steps;
 use crate::steps::Step::{Get, Insert, Len};
-use papaya_gates::gate::{Gate, Look};
+use papaya_testing::gate::{Gate, Look};
 use std::test::Fail;
 
 /// The reference that a lookup answered, and what it was of.

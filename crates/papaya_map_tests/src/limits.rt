@@ -13,8 +13,8 @@ use crate::steps::Step::{
     UpdateOrInsert,
 };
 use crate::steps::{Calls, Script, answer};
-use papaya_gates::gate::Gate;
-use papaya_refusals::tries::{Outcome, Ready, tries};
+use papaya_testing::gate::Gate;
+use papaya_testing::tries::{Outcome, Ready, tries};
 use papaya_words::probe::{Refused, ResizeMode};
 use std::alloc::Global;
 use std::process::Abort;

@@ -4,7 +4,7 @@ use crate::answers::Answer;
 use crate::numbers::Numbers;
 use crate::shared::{Making, Turn, runs};
 use crate::steps::{Calls, Step, has_below};
-use papaya_hashers::times::TOGETHER;
+use papaya_testing::times::TOGETHER;
 use papaya_words::probe::{Refused, ResizeMode};
 use std::sync::Wait;
 use std::test::Fail;

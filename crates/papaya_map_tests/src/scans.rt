@@ -5,7 +5,7 @@ use crate::shared::Turn::{self, Calls, Guarded};
 use crate::shared::{Holder, MODES, Making, runs};
 use crate::steps::Keeps::{EvenKeys, ValuesBelow};
 use crate::steps::Step::{Clear, Get, Insert, InsertBelow, Iter, Keys, Len, Retain, Values};
-use papaya_hashers::times::TOGETHER;
+use papaya_testing::times::TOGETHER;
 use papaya_words::probe::ResizeMode;
 use std::test::Fail;
 

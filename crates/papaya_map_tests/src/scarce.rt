@@ -12,9 +12,9 @@ use crate::steps::Step::{
     Reserve, TryInsert, TryInsertWith, Update, UpdateOrInsert, UpdateOrInsertWith, Values,
 };
 use crate::steps::{Calls, answer, has_below, inserts};
-use papaya_gates::gate::Gate;
-use papaya_hashers::times::TOGETHER;
-use papaya_refusals::tries::{Outcome, Ready, Trial, fails_at, tries};
+use papaya_testing::gate::Gate;
+use papaya_testing::times::TOGETHER;
+use papaya_testing::tries::{Outcome, Ready, Trial, fails_at, tries};
 use papaya_words::probe::{Refused, ResizeMode};
 use std::alloc::Global;
 use std::marker::PhantomData;

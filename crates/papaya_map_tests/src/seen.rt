@@ -1,7 +1,7 @@
 // What closures are shown, and what they answer.
 use crate::answers::Answer;
 use papaya_call::answers::Operation;
-use papaya_gates::gate::Gate;
+use papaya_testing::gate::Gate;
 
 /// What the closure of a call was shown.
 #[derive(Clone, Copy)]

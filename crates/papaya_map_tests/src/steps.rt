@@ -2,7 +2,7 @@
 use crate::answers::Answer;
 use crate::refused::{empties, fills, replaces, stores_again};
 use crate::seen::{Says, Seen};
-use papaya_gates::gate::Gate;
+use papaya_testing::gate::Gate;
 use std::process::Abort;
 use std::sync::Wait;
 

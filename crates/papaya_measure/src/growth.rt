@@ -23,6 +23,17 @@ struct Growth {
     slots: usize,
 }
 
+/// Inserts so many keys, and looks at the clock round each: what the greatest took.
+fn fill<R: Clock + Wait>(rt: &R, map: &mut Map, keys: u32) -> Result<u128, Failure> {
+    let mut greatest: u128 = 0;
+    for number in 0..u64::from(keys) {
+        let start = now(rt)?;
+        map.put_in(rt, key_of(number), number)?;
+        greatest = greatest.max(elapsed(rt, start)?);
+    }
+    Ok(greatest)
+}
+
 /// Inserts so many keys into an empty map of this mode, and looks at the clock round each.
 fn grow<R: Clock + Wait>(
     rt: &R,
@@ -31,13 +42,8 @@ fn grow<R: Clock + Wait>(
     keys: u32,
 ) -> Result<Growth, Failure> {
     let mut map = Map::empty_in(rt, alloc, mode)?;
-    let mut greatest: u128 = 0;
     let first = now(rt)?;
-    for number in 0..u64::from(keys) {
-        let start = now(rt)?;
-        map.put_in(rt, key_of(number), number)?;
-        greatest = greatest.max(elapsed(rt, start)?);
-    }
+    let greatest = fill(rt, &mut map, keys)?;
     Ok(Growth {
         nanoseconds: elapsed(rt, first)?,
         greatest,

@@ -10,10 +10,23 @@ use std::alloc::Global;
 use std::io::Write;
 use std::rt::Clock;
 use std::sync::Wait;
+use std::time::Instant;
 
 /// A map that gives back what replaced and removed pairs take.
 pub(crate) trait Reclaimed: Collection {
     fn give_back<R: Wait>(&mut self, rt: &R) -> Result<(), Failure>;
+}
+
+/// Fills the map that was made since this moment: the nanoseconds since then.
+fn fill_since<R: Clock + Wait, C: Collection>(
+    rt: &R,
+    start: Instant,
+    made: Result<C, Failure>,
+    keys: u32,
+) -> Result<u128, Failure> {
+    let mut map = made?;
+    map.alone(rt, Work::Fill(keys))?;
+    elapsed(rt, start)
 }
 
 /// Makes a map without room, and fills it with so many keys, for which it grows.
@@ -25,9 +38,8 @@ fn time_growing<R: Clock + Wait, C: Collection, W: Write>(
     output: &mut W,
 ) -> Result<(), Failure> {
     let start = now(rt)?;
-    let mut map = C::empty(rt, alloc, 0)?;
-    map.alone(rt, Work::Fill(keys))?;
-    let numbers = [u128::from(keys), elapsed(rt, start)?];
+    let took = fill_since(rt, start, C::empty(rt, alloc, 0), keys)?;
+    let numbers = [u128::from(keys), took];
     print_line("from-empty", backend.name(), keys, &numbers, output)
 }
 
@@ -40,9 +52,8 @@ fn time_blocking<R: Clock + Wait, M: Growing, W: Write>(
     output: &mut W,
 ) -> Result<(), Failure> {
     let start = now(rt)?;
-    let mut map = M::empty_in(rt, alloc, ResizeMode::Blocking)?;
-    map.alone(rt, Work::Fill(keys))?;
-    let numbers = [u128::from(keys), elapsed(rt, start)?];
+    let made = M::empty_in(rt, alloc, ResizeMode::Blocking);
+    let numbers = [u128::from(keys), fill_since(rt, start, made, keys)?];
     print_line(
         "from-empty-blocking",
         backend.name(),
@@ -69,6 +80,29 @@ pub fn time_from_empty<R: Clock + Wait, W: Write>(
     time_blocking::<R, shared::Map, W>(rt, alloc, Backend::Shared, keys, output)
 }
 
+/// A map, made for so many keys and filled with these keys in so many rounds, and the nanoseconds that
+/// this took.
+fn filled<R: Clock + Wait, M: Reclaimed>(
+    rt: &R,
+    alloc: Global,
+    (keys, rounds): (u32, u32),
+) -> Result<(M, u128), Failure> {
+    let start = now(rt)?;
+    let mut map = M::empty(rt, alloc, keys as usize)?;
+    for _ in 0..rounds {
+        map.alone(rt, Work::Fill(keys))?;
+    }
+    let took = elapsed(rt, start)?;
+    Ok((map, took))
+}
+
+/// The nanoseconds that it takes to reclaim a map.
+fn give_back<R: Clock + Wait, M: Reclaimed>(rt: &R, map: &mut M) -> Result<u128, Failure> {
+    let start = now(rt)?;
+    map.give_back(rt)?;
+    elapsed(rt, start)
+}
+
 /// Fills a map, made for so many keys, with these keys in so many rounds. Then reclaims it.
 fn time_map<R: Clock + Wait, M: Reclaimed, W: Write>(
     rt: &R,
@@ -78,17 +112,11 @@ fn time_map<R: Clock + Wait, M: Reclaimed, W: Write>(
     output: &mut W,
 ) -> Result<(), Failure> {
     let (keys, rounds) = plan;
-    let start = now(rt)?;
-    let mut map = M::empty(rt, alloc, keys as usize)?;
-    for _ in 0..rounds {
-        map.alone(rt, Work::Fill(keys))?;
-    }
+    let (mut map, took) = filled::<R, M>(rt, alloc, plan)?;
     let stored = u64::from(keys) * u64::from(rounds);
-    let numbers = [u128::from(stored), elapsed(rt, start)?];
+    let numbers = [u128::from(stored), took];
     print_line("fill", backend.name(), keys, &numbers, output)?;
-    let start = now(rt)?;
-    map.give_back(rt)?;
-    let numbers = [u128::from(keys), elapsed(rt, start)?];
+    let numbers = [u128::from(keys), give_back(rt, &mut map)?];
     print_line("reclaim", backend.name(), keys, &numbers, output)
 }
 

@@ -52,6 +52,19 @@ const SOAKS: [(Writes, u32); 3] = [
     (Writes::OneInTen, 0x10_0000),
 ];
 
+/// Prints what the answers of a backend to one workload sum to, and answers it.
+fn check_backend<R: Clock + Threads + Wait + Sync, W: Write>(
+    rt: &R,
+    alloc: Global,
+    backend: Backend,
+    plan: Plan,
+    output: &mut W,
+) -> Result<u64, Failure> {
+    let sum = backend.measure(rt, alloc, plan)?.checksum;
+    written(write!(output, " {} {sum}", backend.name()))?;
+    Ok(sum)
+}
+
 /// Prints what the answers of these backends to one workload sum to, of those that do it. The sums
 /// are equal, or it fails.
 fn check_workload<R: Clock + Threads + Wait + Sync, W: Write>(
@@ -71,9 +84,7 @@ fn check_workload<R: Clock + Threads + Wait + Sync, W: Write>(
     let mut sums = Vec::new(alloc);
     for backend in backends {
         if backend.does(workload) {
-            let sum = backend.measure(rt, alloc, plan)?.checksum;
-            written(write!(output, " {} {sum}", backend.name()))?;
-            sums.push(sum)?;
+            sums.push(check_backend(rt, alloc, *backend, plan, output)?)?;
         }
     }
     written(writeln!(output))?;

@@ -32,8 +32,16 @@ fn plan_of(keys: u32) -> Plan {
     }
 }
 
-/// Inserts the keys of a part, and answers the nanoseconds of each insertion. The map is pinned for
-/// each, as a caller who inserts now and then would.
+/// Inserts a key, and answers the nanoseconds that this took. The map is pinned for it, as a caller who
+/// inserts now and then would.
+#[inline(always)]
+fn insert<R: Clock + Wait, C: Pinned>(rt: &R, map: &C, number: u64) -> Result<u128, Failure> {
+    let start = now(rt)?;
+    map.put_in_once(rt, key_of(number), number)?;
+    elapsed(rt, start)
+}
+
+/// Inserts the keys of a part, and answers the nanoseconds of each insertion.
 fn insert_part<R: Clock + Wait, C: Pinned>(
     rt: &R,
     alloc: Global,
@@ -43,9 +51,7 @@ fn insert_part<R: Clock + Wait, C: Pinned>(
     let room = part.end.saturating_sub(part.start);
     let mut times = Vec::with_capacity(alloc, room as usize)?;
     for number in part.start..part.end {
-        let start = now(rt)?;
-        map.put_in_once(rt, key_of(number), number)?;
-        times.push(elapsed(rt, start)?)?;
+        times.push(insert(rt, map, number)?)?;
     }
     Ok(times)
 }
@@ -115,6 +121,32 @@ fn print_times<W: Write>(
     print_line(name_of(mode), backend, keys, &numbers, output)
 }
 
+/// The nanoseconds of each insertion by one thread, and of all.
+fn timed_by_one<R: Clock + Wait, C: Pinned>(
+    rt: &R,
+    alloc: Global,
+    map: &C,
+    keys: u32,
+) -> Result<(Vec<u128>, u128), Failure> {
+    let start = now(rt)?;
+    let times = insert_part(rt, alloc, map, Part::whole(keys))?;
+    let nanoseconds = elapsed(rt, start)?;
+    Ok((times, nanoseconds))
+}
+
+/// The same by several threads.
+fn timed_by_threads<R: Clock + Threads + Wait + Sync, C: Pinned + Sync>(
+    rt: &R,
+    alloc: Global,
+    map: &C,
+    keys: u32,
+) -> Result<(Vec<u128>, u128), Failure> {
+    let start = now(rt)?;
+    let times = insert_in_threads(rt, alloc, map, plan_of(keys))?;
+    let nanoseconds = elapsed(rt, start)?;
+    Ok((times, nanoseconds))
+}
+
 /// The growth of a map by one thread.
 fn by_one<R: Clock + Wait, C: Pinned, W: Write>(
     rt: &R,
@@ -124,9 +156,7 @@ fn by_one<R: Clock + Wait, C: Pinned, W: Write>(
     output: &mut W,
 ) -> Result<(), Failure> {
     let map = C::empty_in(rt, alloc, mode)?;
-    let start = now(rt)?;
-    let times = insert_part(rt, alloc, &map, Part::whole(keys))?;
-    let nanoseconds = elapsed(rt, start)?;
+    let (times, nanoseconds) = timed_by_one(rt, alloc, &map, keys)?;
     print_times(mode, "shared", keys, nanoseconds, times, output)
 }
 
@@ -139,9 +169,7 @@ fn by_threads<R: Clock + Threads + Wait + Sync, C: Pinned + Sync, W: Write>(
     output: &mut W,
 ) -> Result<(), Failure> {
     let map = C::empty_in(rt, alloc, mode)?;
-    let start = now(rt)?;
-    let times = insert_in_threads(rt, alloc, &map, plan_of(keys))?;
-    let nanoseconds = elapsed(rt, start)?;
+    let (times, nanoseconds) = timed_by_threads(rt, alloc, &map, keys)?;
     print_times(mode, "threads", keys, nanoseconds, times, output)
 }
 

@@ -278,6 +278,68 @@ fn pause_of<R: Clock + Wait, C: Soaked>(rt: &R, map: &mut C, keys: u32) -> Resul
     Ok(elapsed(rt, start)? / u128::from(times))
 }
 
+/// What a soak came to.
+#[derive(Clone, Copy, Drop)]
+struct Soaking {
+    /// What its threads told.
+    told: Told,
+    /// The nanoseconds of all calls.
+    nanoseconds: u128,
+    /// The bytes that the process held before, at most, and at the end.
+    before: u64,
+    most: u64,
+    end: u64,
+    /// The nanoseconds of one reclaim.
+    pause: u128,
+}
+
+/// What all threads tell, slice by slice; the most that the process held meanwhile; and the nanoseconds.
+fn serve_slices<R: Clock + Files + Threads + Wait + Sync, C: Soaked + Sync>(
+    rt: &R,
+    alloc: Global,
+    map: &C,
+    soak: Soak,
+    manner: Manner,
+) -> Result<(Told, u64, u128), Failure> {
+    let mut told = Told::NONE;
+    let mut most = resident(rt)?;
+    let start = now(rt)?;
+    for slice in 0..Part::whole(soak.operations).blocks(SLICE) {
+        told = told.and(serve_in_threads(rt, alloc, map, soak, manner, slice)?);
+        most = most.max(resident(rt)?);
+    }
+    Ok((told, most, elapsed(rt, start)?))
+}
+
+/// A map of so many keys.
+fn filled<R: Wait, C: Collection>(rt: &R, alloc: Global, keys: u32) -> Result<C, Failure> {
+    let mut map = C::empty(rt, alloc, keys as usize)?;
+    map.alone(rt, Work::Fill(keys))?;
+    Ok(map)
+}
+
+/// Fills a map, keeps it at work, and reclaims it.
+fn keep_at_work<R: Clock + Files + Threads + Wait + Sync, C: Soaked + Sync>(
+    rt: &R,
+    alloc: Global,
+    soak: Soak,
+    manner: Manner,
+) -> Result<Soaking, Failure> {
+    let before = resident(rt)?;
+    let mut map: C = filled(rt, alloc, soak.keys)?;
+    let (told, most, nanoseconds) = serve_slices(rt, alloc, &map, soak, manner)?;
+    let end = resident(rt)?;
+    let pause = pause_of(rt, &mut map, soak.keys)?;
+    Ok(Soaking {
+        told,
+        nanoseconds,
+        before,
+        most,
+        end,
+        pause,
+    })
+}
+
 /// Prints the line of a soak: its name, its calls and the nanoseconds that they took; the bytes that
 /// the process held more than before, at most and at the end; how often the map was reclaimed; the
 /// nanoseconds of the longest block, and those of one reclaim.
@@ -288,27 +350,21 @@ fn time_manner<R: Clock + Files + Threads + Wait + Sync, C: Soaked + Sync, W: Wr
     manner: Manner,
     output: &mut W,
 ) -> Result<(), Failure> {
-    let before = resident(rt)?;
-    let mut map = C::empty(rt, alloc, soak.keys as usize)?;
-    map.alone(rt, Work::Fill(soak.keys))?;
-    let mut told = Told::NONE;
-    let mut most = resident(rt)?;
-    let start = now(rt)?;
-    for slice in 0..Part::whole(soak.operations).blocks(SLICE) {
-        told = told.and(serve_in_threads(rt, alloc, &map, soak, manner, slice)?);
-        most = most.max(resident(rt)?);
-    }
-    let nanoseconds = elapsed(rt, start)?;
-    let end = resident(rt)?;
-    let pause = pause_of(rt, &mut map, soak.keys)?;
+    let soaking = keep_at_work::<R, C>(rt, alloc, soak, manner)?;
+    let Soaking {
+        before,
+        most,
+        end,
+        ..
+    } = soaking;
     let numbers = [
         u128::from(soak.operations),
-        nanoseconds,
+        soaking.nanoseconds,
         u128::from(most.max(end).saturating_sub(before)),
         u128::from(end.saturating_sub(before)),
-        u128::from(told.reclaims),
-        told.longest,
-        pause,
+        u128::from(soaking.told.reclaims),
+        soaking.told.longest,
+        soaking.pause,
     ];
     print_line(soak.name(), manner.name(), soak.keys, &numbers, output)
 }

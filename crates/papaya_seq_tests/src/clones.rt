@@ -1,7 +1,7 @@
 // Maps of clones, and maps that are built anew.
 use crate::expect::is;
 use crate::numbers::{Numbers, Parts, Work, on_made};
-use papaya_hashers::times::{TOGETHER, Times};
+use papaya_testing::times::{TOGETHER, Times};
 use papaya_words::probe::{Refused, ResizeMode};
 use std::alloc::Global;
 use std::process::Abort;

@@ -1,8 +1,8 @@
 // Tables that grow while keys are stored, looked up, removed and updated.
 use crate::expect::{is, is_at};
 use crate::numbers::{Numbers, Parts, Work, finds, has, inserts, made, on_made, removes, tries};
-use papaya_hashers::times::{APART, TOGETHER, Times};
 use papaya_keys::occupied::{NotInserted, OccupiedError};
+use papaya_testing::times::{APART, TOGETHER, Times};
 use papaya_words::probe::ResizeMode;
 use std::alloc::Global;
 use std::process::Abort;

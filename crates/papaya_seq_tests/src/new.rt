@@ -1,8 +1,8 @@
 // How maps are made, and what they are refused for.
 use crate::expect::is;
 use crate::numbers::{Making, Numbers, Usual, usual};
-use papaya_hashers::times::TOGETHER;
 use papaya_seq::seq::HashMap;
+use papaya_testing::times::TOGETHER;
 use papaya_words::probe::{Refused, ResizeMode};
 use std::alloc::Global;
 use std::hash::{BuildHasherDefault, FoldHasher};

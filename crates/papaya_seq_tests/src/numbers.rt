@@ -1,9 +1,9 @@
 // Maps of numbers, and their calls with what they are to answer. A function that owns a map makes it
 // and hands it on, since its proof looks at all that may become of the map.
 use crate::expect::is;
-use papaya_hashers::times::Times;
 use papaya_keys::occupied::OccupiedError;
 use papaya_seq::seq::HashMap;
+use papaya_testing::times::Times;
 use papaya_words::probe::{Refused, ResizeMode};
 use std::alloc::Global;
 use std::hash::{BuildHasher, BuildHasherDefault, FoldHasher};

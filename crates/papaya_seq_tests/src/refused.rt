@@ -3,7 +3,7 @@
 use crate::expect::{is, is_at};
 use crate::numbers::{Numbers, Parts, Work, on_made, removes};
 use papaya_call::answers::Operation;
-use papaya_hashers::times::{TOGETHER, Times};
+use papaya_testing::times::{TOGETHER, Times};
 use papaya_words::probe::Refused;
 use std::alloc::Global;
 use std::process::Abort;

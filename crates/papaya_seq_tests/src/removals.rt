@@ -1,7 +1,7 @@
 // Removals: what they answer, and what is there after them.
 use crate::expect::is;
 use crate::numbers::{Numbers, Parts, finds, has, inserts, made, removes};
-use papaya_hashers::times::TOGETHER;
+use papaya_testing::times::TOGETHER;
 use papaya_words::probe::Refused;
 use std::process::Abort;
 use std::test::Fail;

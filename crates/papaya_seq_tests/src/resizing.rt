@@ -7,9 +7,9 @@ use crate::numbers::{
 };
 use papaya_ask::call::{Call, Reply};
 use papaya_call::answers::Listed;
-use papaya_hashers::times::{APART, Times};
 use papaya_seq::outcome::Outcome;
 use papaya_seq::seq::HashMap;
+use papaya_testing::times::{APART, Times};
 use papaya_words::probe::{Refused, ResizeMode};
 use std::alloc::Global;
 use std::hash::BuildHasher;

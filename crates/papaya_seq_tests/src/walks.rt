@@ -2,8 +2,8 @@
 use crate::expect::{is, is_at};
 use crate::growth::{looks_so, stores};
 use crate::numbers::{Fold, Making, Numbers, Parts, Usual, Work, has, inserts, on_made, on_usual};
-use papaya_hashers::times::{APART, TOGETHER, Times};
 use papaya_seq::seq::HashMap;
+use papaya_testing::times::{APART, TOGETHER, Times};
 use papaya_words::probe::ResizeMode;
 use std::alloc::{AllocError, Global};
 use std::fmt::Debug;

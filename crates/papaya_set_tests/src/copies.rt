@@ -1,5 +1,5 @@
 // Sets of clones of a set's keys, sets that are made anew, and what the shared ones print.
-use crate::expect::is;
+use crate::expect::{is, prints};
 use crate::labels::{Keys, Labelled, any, key};
 use papaya_set::seq::HashSet;
 use papaya_words::probe::Refused;
@@ -8,17 +8,29 @@ use std::process::Abort;
 use std::sync::Wait;
 use std::test::Fail;
 
+/// The sets for one caller.
+type Alone = HashSet<u64>;
+
+/// The copy has all keys of the set, which are so many.
+fn is_whole(rt: &impl Abort, set: &Alone, copy: &Alone, end: u64) {
+    is(rt, (copy.len() as u64, set.eq(copy)), (end, true));
+}
+
 /// A copy of a set for one caller has its keys, and is as before where it takes a further one,
 /// loses it and is made anew.
-fn copies_alone(rt: &impl Abort, alloc: Global, end: u64) -> Result<(), Fail> {
-    let set: HashSet<u64> = HashSet::from_iter(alloc, 0..end)?;
-    let mut copy = set.try_clone(alloc)?;
-    is(rt, (copy.len() as u64, set.eq(&copy)), (end, true));
+fn stands_alone(rt: &impl Abort, set: &Alone, copy: &mut Alone, end: u64) {
+    is_whole(rt, set, copy, end);
     is(rt, copy.insert(end), Ok(true));
-    is(rt, (set.contains(&end), set.eq(&copy)), (false, false));
+    is(rt, (set.contains(&end), set.eq(copy)), (false, false));
     is(rt, copy.remove(&end), Ok(true));
     is(rt, copy.reclaim(), Ok(()));
-    is(rt, (copy.len() as u64, set.eq(&copy)), (end, true));
+    is_whole(rt, set, copy, end);
+}
+
+fn copies_alone(rt: &impl Abort, alloc: Global, end: u64) -> Result<(), Fail> {
+    let set: Alone = HashSet::from_iter(alloc, 0..end)?;
+    let mut copy = set.try_clone(alloc)?;
+    stands_alone(rt, &set, &mut copy, end);
     Ok(())
 }
 
@@ -29,16 +41,25 @@ fn made<R: Wait>(rt: &R, alloc: Global, keys: &[Labelled]) -> Result<Keys, Refus
     Ok(set)
 }
 
+/// This set has so many keys, and it is equal to the other one or not.
+fn has<R: Wait + Abort>(rt: &R, set: &Keys, other: &Keys, keys: usize, is_equal: bool) {
+    is(rt, (set.len(), set.eq(rt, other)), (keys, Ok(is_equal)));
+}
+
 /// So does a copy of a set that threads share.
+fn stands_apart<R: Wait + Abort>(rt: &R, set: &Keys, copy: &mut Keys, keys: usize) {
+    has(rt, copy, set, keys, true);
+    is(rt, copy.pin().insert(rt, any(9)), Ok(true));
+    has(rt, set, copy, keys, false);
+    is(rt, copy.pin().remove(rt, &any(9)), Ok(true));
+    is(rt, copy.reclaim(rt), Ok(()));
+    has(rt, copy, set, keys, true);
+}
+
 fn copies_shared<R: Wait + Abort>(rt: &R, alloc: Global, keys: &[Labelled]) -> Result<(), Fail> {
     let set = made(rt, alloc, keys)?;
     let mut copy = set.try_clone(rt, alloc)?;
-    is(rt, (copy.len(), set.eq(rt, &copy)), (keys.len(), Ok(true)));
-    is(rt, copy.pin().insert(rt, any(9)), Ok(true));
-    is(rt, (set.len(), set.eq(rt, &copy)), (keys.len(), Ok(false)));
-    is(rt, copy.pin().remove(rt, &any(9)), Ok(true));
-    is(rt, copy.reclaim(rt), Ok(()));
-    is(rt, (copy.len(), set.eq(rt, &copy)), (keys.len(), Ok(true)));
+    stands_apart(rt, &set, &mut copy, keys.len());
     Ok(())
 }
 
@@ -51,18 +72,24 @@ fn a_copy_stands_alone(rt: HostRuntime) -> Result<(), Fail> {
     copies_shared(&rt, alloc, &[any(1), any(2)])
 }
 
+/// A walk over a set of one key prints what it has not given yet.
+fn prints_its_rest<R: Wait + Abort>(rt: &R, alloc: Global, set: &Keys) -> Result<(), Fail> {
+    let mut keys = set.pin().iter(rt)?;
+    prints(rt, alloc, &keys, "[Labelled { number: 7, label: 'x' }]")?;
+    is(rt, keys.next().is_some(), true);
+    prints(rt, alloc, &keys, "[]")
+}
+
+/// An empty set prints none, and then one.
+fn prints_its_keys<R: Wait + Abort>(rt: &R, alloc: Global, set: &Keys) -> Result<(), Fail> {
+    prints(rt, alloc, set, "{}")?;
+    is(rt, set.pin().insert(rt, key(7, 'x')), Ok(true));
+    prints(rt, alloc, set, "{Labelled { number: 7, label: 'x' }}")
+}
+
 #[test]
 fn a_shared_set_prints_its_keys(rt: HostRuntime) -> Result<(), Fail> {
-    let alloc = rt.alloc();
-    let set = Keys::new(&rt, alloc)?;
-    is(&rt, format!(in alloc; "{set:?}")?.as_str(), "{}");
-    is(&rt, set.pin().insert(&rt, key(7, 'x')), Ok(true));
-    let wanted = "{Labelled { number: 7, label: 'x' }}";
-    is(&rt, format!(in alloc; "{set:?}")?.as_str(), wanted);
-    let mut keys = set.pin().iter(&rt)?;
-    let wanted = "[Labelled { number: 7, label: 'x' }]";
-    is(&rt, format!(in alloc; "{keys:?}")?.as_str(), wanted);
-    is(&rt, keys.next().is_some(), true);
-    is(&rt, format!(in alloc; "{keys:?}")?.as_str(), "[]");
-    Ok(())
+    let set = Keys::new(&rt, rt.alloc())?;
+    prints_its_keys(&rt, rt.alloc(), &set)?;
+    prints_its_rest(&rt, rt.alloc(), &set)
 }

@@ -1,4 +1,5 @@
-//! The tests of sets: of the one for one caller, and of the one that threads share.
+//! The tests of sets: of the one for one caller, and of the one that threads share. And those of sets
+//! and maps that are reclaimed while threads go on.
 #![tactic(auto)]
 
 #[cfg(test)]
@@ -9,6 +10,8 @@ mod expect;
 mod labels;
 #[cfg(test)]
 mod overlaps;
+#[cfg(test)]
+mod reclaiming;
 #[cfg(test)]
 mod refused;
 #[cfg(test)]

@@ -1,8 +1,8 @@
 // Calls of a set that overlap: a closure or a reference of one thread, and changes by others.
 use crate::expect::is;
 use crate::labels::{Keys, Labelled, MODES, any, key, made};
-use papaya_gates::crossing::Crossing;
-use papaya_gates::gate::{Gate, Look};
+use papaya_testing::crossing::Crossing;
+use papaya_testing::gate::{Gate, Look};
 use papaya_words::probe::{Refused, ResizeMode};
 use std::alloc::Global;
 use std::process::Abort;
@@ -284,10 +284,9 @@ fn overlaps<R: Threads + Wait + Sync + Abort>(rt: &R, set: &Keys, from: u64, lef
 #[test]
 fn a_retain_shows_a_key_that_was_replaced_once_more(rt: HostRuntime) -> Result<(), Fail> {
     for mode in MODES {
-        let set = with_seven(&rt, rt.alloc(), mode)?;
-        overlaps(&rt, &set, 2, Some('x'));
-        let set = with_seven(&rt, rt.alloc(), mode)?;
-        overlaps(&rt, &set, 3, None);
+        for (from, left) in [(2, Some('x')), (3, None)] {
+            overlaps(&rt, &with_seven(&rt, rt.alloc(), mode)?, from, left);
+        }
     }
     Ok(())
 }
@@ -308,11 +307,10 @@ fn one_call_after_the_other_is_found_out(rt: HostRuntime) -> Result<(), Fail> {
 #[test]
 fn a_reference_stays_as_it_is(rt: HostRuntime) -> Result<(), Fail> {
     for mode in MODES {
-        let set = with_seven(&rt, rt.alloc(), mode)?;
-        is(&rt, both(&rt, &set, Job::Hold, Job::WearOut), (true, true));
-        let set = with_seven(&rt, rt.alloc(), mode)?;
-        let did = both(&rt, &set, Job::LookAnew, Job::WearOut);
-        is(&rt, did, (false, true));
+        for (job, stays) in [(Job::Hold, true), (Job::LookAnew, false)] {
+            let set = with_seven(&rt, rt.alloc(), mode)?;
+            is(&rt, both(&rt, &set, job, Job::WearOut), (stays, true));
+        }
     }
     Ok(())
 }
@@ -320,13 +318,21 @@ fn a_reference_stays_as_it_is(rt: HostRuntime) -> Result<(), Fail> {
 /// While a closure of a retain does not come back, seven threads look keys up, store, replace and
 /// remove them, make the table grow, and walk. They wait for nobody. The keys below 6 stay, since
 /// the one that it would not keep was replaced meanwhile, and is shown to it once more.
+fn is_stuck<R: Threads + Wait + Sync + Abort>(
+    rt: &R,
+    alloc: Global,
+    set: &Keys,
+) -> Result<(), Fail> {
+    is(rt, inserts(rt, set, 0, 6), Ok(true));
+    is(rt, beside(rt, alloc, set)?, true);
+    is(rt, has(set), true);
+    Ok(())
+}
+
 #[test]
 fn a_retain_is_stuck(rt: HostRuntime) -> Result<(), Fail> {
     for mode in MODES {
-        let set = made(&rt, rt.alloc(), mode)?;
-        is(&rt, inserts(&rt, &set, 0, 6), Ok(true));
-        is(&rt, beside(&rt, rt.alloc(), &set)?, true);
-        is(&rt, has(&set), true);
+        is_stuck(&rt, rt.alloc(), &made(&rt, rt.alloc(), mode)?)?;
     }
     Ok(())
 }

@@ -1,8 +1,8 @@
 // A growth that is refused leaves the set as it was. Where the tests run with a failing allocation,
 // as by `rt try --test --fail-alloc N`, a call here meets it.
 use crate::expect::is_at;
-use papaya_hashers::times::{TOGETHER, Times};
 use papaya_set::seq::HashSet;
+use papaya_testing::times::{TOGETHER, Times};
 use papaya_words::probe::Refused;
 use std::alloc::Global;
 use std::test::Fail;

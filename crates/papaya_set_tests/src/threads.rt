@@ -1,7 +1,7 @@
 // Threads that store and remove the same keys: of each just one of them is told so.
 use crate::expect::is;
 use crate::labels::{Keys, MODES, any, made};
-use papaya_gates::crossing::Crossing;
+use papaya_testing::crossing::Crossing;
 use papaya_words::probe::Refused;
 use std::process::Abort;
 use std::sync::Wait;

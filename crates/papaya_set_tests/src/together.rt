@@ -1,5 +1,5 @@
 // Sets that are made of keys, compared and printed.
-use crate::expect::is;
+use crate::expect::{is, prints};
 use papaya_set::seq::HashSet;
 use std::alloc::Global;
 use std::process::Abort;
@@ -21,12 +21,14 @@ fn has(rt: &impl Abort, set: &Keys, keys: usize, slots: usize) {
 #[test]
 fn sets_are_made_of_keys(rt: HostRuntime) -> Result<(), Fail> {
     let alloc = rt.alloc();
-    let none: Keys = HashSet::from_iter(alloc, 0..0)?;
-    has(&rt, &none, 0, 0);
-    let zero: Keys = HashSet::from_iter(alloc, vec![in alloc; 0, 0, 0]?)?;
-    has(&rt, &zero, 1, 32);
-    let three: Keys = HashSet::from_array(alloc, [1, 2, 1, 3])?;
-    has(&rt, &three, 3, 32);
+    has(&rt, &HashSet::from_iter(alloc, 0..0)?, 0, 0);
+    has(
+        &rt,
+        &HashSet::from_iter(alloc, vec![in alloc; 0, 0, 0]?)?,
+        1,
+        32,
+    );
+    has(&rt, &HashSet::from_array(alloc, [1, 2, 1, 3])?, 3, 32);
     Ok(())
 }
 
@@ -57,19 +59,25 @@ fn sets_of_equal_keys_are_equal(rt: HostRuntime) -> Result<(), Fail> {
     Ok(())
 }
 
+/// The set prints 42 and 16, in some order.
+fn prints_both(rt: &impl Abort, alloc: Global, set: &Keys) -> Result<(), Fail> {
+    let text = format!(in alloc; "{set:?}")?;
+    let is_so = text.as_str() == "{42, 16}" || text.as_str() == "{16, 42}";
+    is(rt, is_so, true);
+    Ok(())
+}
+
+/// An empty set prints the keys that it takes.
+fn prints_its_keys(rt: &impl Abort, alloc: Global, set: &mut Keys) -> Result<(), Fail> {
+    prints(rt, alloc, set, "{}")?;
+    is(rt, set.insert(42), Ok(true));
+    prints(rt, alloc, set, "{42}")?;
+    is(rt, set.insert(16), Ok(true));
+    prints_both(rt, alloc, set)
+}
+
 #[test]
 fn a_set_prints_its_keys(rt: HostRuntime) -> Result<(), Fail> {
-    let alloc = rt.alloc();
-    let mut set: Keys = HashSet::with_capacity(alloc, 2)?;
-    is(&rt, format!(in alloc; "{set:?}")?.as_str(), "{}");
-    is(&rt, set.insert(42), Ok(true));
-    is(&rt, format!(in alloc; "{set:?}")?.as_str(), "{42}");
-    is(&rt, set.insert(16), Ok(true));
-    let text = format!(in alloc; "{set:?}")?;
-    is(
-        &rt,
-        text.as_str() == "{42, 16}" || text.as_str() == "{16, 42}",
-        true,
-    );
-    Ok(())
+    let mut set: Keys = HashSet::with_capacity(rt.alloc(), 2)?;
+    prints_its_keys(&rt, rt.alloc(), &mut set)
 }

@@ -8,9 +8,16 @@ use std::test::Fail;
 fn filled(alloc: Global, pages: &[(u64, &str)]) -> Result<Cache, Fail> {
     let mut cache = Cache::new(alloc, 4)?;
     for (page, text) in pages {
-        cache.put(*page, text.to_string(alloc)?)?;
+        puts(alloc, &mut cache, *page, text)?;
     }
     Ok(cache)
+}
+
+/// A further page is put.
+fn puts(alloc: Global, cache: &mut Cache, page: u64, text: &str) -> Result<(), Fail> {
+    let text = text.to_string(alloc)?;
+    cache.put(page, text)?;
+    Ok(())
 }
 
 /// The cache has these texts of these pages, or none.
@@ -49,7 +56,7 @@ fn two_generations_stay(rt: HostRuntime) -> Result<(), Fail> {
 #[test]
 fn the_elder_generation_is_dropped(rt: HostRuntime) -> Result<(), Fail> {
     let mut cache = filled(rt.alloc(), &EIGHT)?;
-    cache.put(9, "i".to_string(rt.alloc())?)?;
+    puts(rt.alloc(), &mut cache, 9, "i")?;
     let wanted = [
         (1, None),
         (4, None),
@@ -65,7 +72,7 @@ fn the_elder_generation_is_dropped(rt: HostRuntime) -> Result<(), Fail> {
 fn the_text_that_was_put_last_is_found(rt: HostRuntime) -> Result<(), Fail> {
     let mut cache = filled(rt.alloc(), &EIGHT)?;
     // (the young generation is full then: it becomes the elder one, which has page 8 too)
-    cache.put(8, "new".to_string(rt.alloc())?)?;
+    puts(rt.alloc(), &mut cache, 8, "new")?;
     has(&rt, &cache, &[(8, Some("new")), (7, Some("g")), (1, None)]);
     Ok(())
 }
@@ -74,9 +81,9 @@ fn the_text_that_was_put_last_is_found(rt: HostRuntime) -> Result<(), Fail> {
 fn a_page_that_is_replaced_drops_no_other(rt: HostRuntime) -> Result<(), Fail> {
     let mut cache = filled(rt.alloc(), &[(1, "a"), (2, "b")])?;
     for _ in 0..100 {
-        cache.put(1, "old".to_string(rt.alloc())?)?;
+        puts(rt.alloc(), &mut cache, 1, "old")?;
     }
-    cache.put(1, "new".to_string(rt.alloc())?)?;
+    puts(rt.alloc(), &mut cache, 1, "new")?;
     has(&rt, &cache, &[(1, Some("new")), (2, Some("b"))]);
     Ok(())
 }

@@ -5,6 +5,8 @@
 #[cfg(test)]
 mod caches;
 #[cfg(test)]
+mod expect;
+#[cfg(test)]
 mod named;
 #[cfg(test)]
 mod servers;

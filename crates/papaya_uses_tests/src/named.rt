@@ -1,4 +1,5 @@
 // Each enum that the facade shows, matched by the facade's names alone.
+use crate::expect::is;
 use papaya::raw::chain::{self, CopyAsk, Phase, Resize, ResizerState, Scan, ScanAsk, ScannerState};
 use papaya::raw::{Answer, Ask, At, Kind, OpKind, Probed, Search, State, StepKind, Task, Word};
 use papaya::schedule::{Call, Event, Reply, Turn};
@@ -270,43 +271,52 @@ fn is_done(state: ScannerState) -> bool {
 
 #[test]
 fn enums_of_words_and_calls_are_matched_by_name(rt: HostRuntime) -> Result<(), Fail> {
-    assert_eq!(rt; code_of(Word::live(3).kind()), 1);
-    assert_eq!(rt; table_of(At::Slot(2, 5)), 2);
-    assert_eq!(rt; aborted_with(kind_of(&Operation::Abort(7))), Some(7));
-    assert_eq!(rt; chunk(ResizeMode::default()), Some(64));
-    assert_eq!(rt; stored(&Compute::Inserted(&1, &2)), Some(2));
-    assert_eq!(rt; stored_pair(Computed::Removed(1)), None);
-    assert_eq!(rt; told(&Outcome::Replied(Reply::Found(3))), 1);
-    assert_eq!(rt; caller_of::<u64, u64, u64>(&Turn::Step(4, false)), 4);
-    assert!(rt; is_changed(Event::Changed(StepKind::Claim, None, Some(0))));
-    assert!(rt; task_of::<u64, u64, u64>(&Call::Get(1)).is_some_and(|task| !is_change(task)));
+    is(&rt, code_of(Word::live(3).kind()), 1);
+    is(&rt, table_of(At::Slot(2, 5)), 2);
+    is(&rt, aborted_with(kind_of(&Operation::Abort(7))), Some(7));
+    is(&rt, chunk(ResizeMode::default()), Some(64));
+    is(&rt, stored(&Compute::Inserted(&1, &2)), Some(2));
+    is(&rt, stored_pair(Computed::Removed(1)), None);
+    is(&rt, told(&Outcome::Replied(Reply::Found(3))), 1);
+    is(&rt, caller_of::<u64, u64, u64>(&Turn::Step(4, false)), 4);
+    is(
+        &rt,
+        is_changed(Event::Changed(StepKind::Claim, None, Some(0))),
+        true,
+    );
+    let task = task_of::<u64, u64, u64>(&Call::Get(1));
+    is(&rt, task.map(is_change), Some(false));
     Ok(())
 }
 
+/// A table that a copier makes.
+const TABLE: CopyAsk = CopyAsk::MakeTable {
+    len: 8,
+    limit: 3,
+    chunks: 1,
+};
+
 #[test]
 fn enums_of_machines_are_matched_by_name(rt: HostRuntime) -> Result<(), Fail> {
-    assert!(rt;
-        chain_makes(chain::Ask::Copy(CopyAsk::MakeTable {
-            len: 8,
-            limit: 3,
-            chunks: 1
-        }))
+    is(&rt, chain_makes(chain::Ask::Copy(TABLE)), true);
+    is(&rt, makes(Ask::MakePair), true);
+    is(&rt, scanned(ScanAsk::Show(6)), Some(6));
+    is(&rt, chain_refused_by(chain::Answer::Count(2)), None);
+    let refused = refused_by(Answer::Refused(Refused::Memory));
+    is(&rt, refused, Some(Refused::Memory));
+    let waits = waits_for(State::Searching(Search::Sizing(1)));
+    is(&rt, waits, Some("a size"));
+    is(
+        &rt,
+        (is_over(Probed::Over(1)), resizes(Phase::Calling)),
+        (true, false),
     );
-    assert!(rt; makes(Ask::MakePair));
-    assert_eq!(rt; scanned(ScanAsk::Show(6)), Some(6));
-    assert!(rt; chain_refused_by(chain::Answer::Count(2)).is_none());
-    assert_eq!(rt;
-        refused_by(Answer::Refused(Refused::Memory)),
-        Some(Refused::Memory)
+    is(&rt, more(Resize::Reserve(9)), 9);
+    is(
+        &rt,
+        (takes_out(Scan::Retain), begins(ResizerState::AtRoot)),
+        (true, true),
     );
-    assert_eq!(rt;
-        waits_for(State::Searching(Search::Sizing(1))),
-        Some("a size")
-    );
-    assert!(rt; is_over(Probed::Over(1)) && !resizes(Phase::Calling));
-    assert_eq!(rt; more(Resize::Reserve(9)), 9);
-    assert!(rt;
-        takes_out(Scan::Retain) && begins(ResizerState::AtRoot) && is_done(ScannerState::Done)
-    );
+    is(&rt, is_done(ScannerState::Done), true);
     Ok(())
 }

@@ -1,4 +1,5 @@
 // What a server does for months: logins that end, and a cache that is full.
+use crate::expect::is;
 use papaya::Refused;
 use papaya_uses::logins::{Desk, Login, log_in, login_of, logins, sweep};
 use papaya_uses::pages::{Page, Reader, pages, put, text_of};
@@ -28,18 +29,22 @@ fn is_in(rt: &impl Wait, desk: &mut Desk<'_>, token: u64, now: u64) -> bool {
     login_of(rt, desk, token, now).is_some()
 }
 
+/// Logins come, end, and are swept.
+fn come_and_end(rt: &(impl Abort + Wait), desk: &mut Desk<'_>) {
+    is(rt, all_log_in(rt, desk, 9000), Ok(()));
+    is(rt, is_in(rt, desk, 5, 5), false);
+    is(rt, is_in(rt, desk, 5, 4), true);
+    // 9,000 are stored, and the last 999 have not ended
+    is(rt, sweep(rt, desk, 8000), Ok(true));
+    is(rt, sweep(rt, desk, 8000), Ok(false));
+    let entered = desk.enter(rt);
+    is(rt, (entered.len(), entered.stored()), (999, 999));
+}
+
 #[test]
 fn logins_end_and_give_back_memory(rt: HostRuntime) -> Result<(), Fail> {
     let table = logins(&rt, rt.alloc())?;
-    let mut desk = table.handle();
-    all_log_in(&rt, &mut desk, 9000)?;
-    let (ended, goes_on) = (is_in(&rt, &mut desk, 5, 5), is_in(&rt, &mut desk, 5, 4));
-    assert!(rt; (ended, goes_on) == (false, true));
-    // 9,000 are stored, and the last 999 have not ended
-    let (first, second) = (sweep(&rt, &mut desk, 8000)?, sweep(&rt, &mut desk, 8000)?);
-    assert!(rt; (first, second) == (true, false));
-    let entered = desk.enter(&rt);
-    assert_eq!(rt; (entered.len(), entered.stored()), (999, 999));
+    come_and_end(&rt, &mut table.handle());
     Ok(())
 }
 

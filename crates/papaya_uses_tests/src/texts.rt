@@ -1,4 +1,5 @@
 // The uses whose keys are texts, each run once; threads share the maps.
+use crate::expect::is;
 use papaya::{Refused, Session};
 use papaya_uses::interner::Interner;
 use papaya_uses::metrics::{Metrics, add, read};
@@ -25,10 +26,10 @@ fn both_add(rt: &(impl Threads + Wait + Sync + Abort), alloc: Global, metrics: &
         || adds(rt, alloc, metrics, 1000),
         || adds(rt, alloc, metrics, 1000),
     );
+    is(rt, both == (Ok(0), Ok(1)) || both == (Ok(1), Ok(0)), true);
     let mut session = Session::new(metrics);
-    assert!(rt; both == (Ok(0), Ok(1)) || both == (Ok(1), Ok(0)));
-    assert!(rt; read(&mut session, "requests") == Some(4000));
-    assert!(rt; read(&mut session, "errors") == None);
+    is(rt, read(&mut session, "requests"), Some(4000));
+    is(rt, read(&mut session, "errors"), None);
 }
 
 #[test]
@@ -54,7 +55,7 @@ fn both_ask(rt: &(impl Threads + Wait + Sync + Abort), alloc: Global, interner: 
         || numbers(rt, alloc, interner),
         || numbers(rt, alloc, interner),
     );
-    assert!(rt; first.is_ok() && first == second);
+    is(rt, (first.is_ok(), first == second), (true, true));
 }
 
 #[test]
@@ -62,20 +63,30 @@ fn a_text_has_one_number(rt: HostRuntime) -> Result<(), Fail> {
     let interner = Interner::new(&rt, rt.alloc())?;
     both_ask(&rt, rt.alloc(), &interner);
     let red = interner.number(&rt, rt.alloc(), "red")?;
-    assert!(rt; interner.text(red) == Some("red"));
-    assert!(rt; interner.text(99).is_none());
+    is(&rt, interner.text(red), Some("red"));
+    is(&rt, interner.text(99), None);
+    Ok(())
+}
+
+/// A path leads to this handler, and led to that before.
+fn leads(
+    rt: &(impl Wait + Abort),
+    alloc: Global,
+    routes: &Routes,
+    number: u64,
+    before: Option<u64>,
+) -> Result<(), Fail> {
+    let mut session = Session::new(routes);
+    let home = "/home".to_string(alloc)?;
+    is(rt, lead(rt, &mut session, home, number), Ok(before));
+    is(rt, handler(&mut session, "/home"), Some(number));
+    is(rt, handler(&mut session, "/none"), None);
     Ok(())
 }
 
 #[test]
 fn a_path_is_led(rt: HostRuntime) -> Result<(), Fail> {
     let routes: Routes = Routes::new(&rt, rt.alloc())?;
-    let mut session = Session::new(&routes);
-    let before = lead(&rt, &mut session, "/home".to_string(rt.alloc())?, 1)?;
-    assert!(rt; before.is_none());
-    let before = lead(&rt, &mut session, "/home".to_string(rt.alloc())?, 2)?;
-    assert!(rt; before == Some(1));
-    assert!(rt; handler(&mut session, "/home") == Some(2));
-    assert!(rt; handler(&mut session, "/none").is_none());
-    Ok(())
+    leads(&rt, rt.alloc(), &routes, 1, None)?;
+    leads(&rt, rt.alloc(), &routes, 2, Some(1))
 }

@@ -1,4 +1,5 @@
 // Each use, run once; threads share the tables and the set.
+use crate::expect::is;
 use papaya::seq::HashMap;
 use papaya::{Refused, Session};
 use papaya_uses::counters::{Counters, add};
@@ -56,8 +57,7 @@ fn both_come(
 #[test]
 fn threads_share_users(rt: HostRuntime) -> Result<(), Fail> {
     let users: Users = Users::with_capacity(&rt, rt.alloc(), 100)?;
-    let both = both_come(&rt, &users);
-    assert!(rt; both == (Ok(true), Ok(true)));
+    is(&rt, both_come(&rt, &users), (Ok(true), Ok(true)));
     let mut desk = Session::new(&users);
     has(&rt, &mut desk, 1, Some(1));
     has(&rt, &mut desk, 2, Some(2));
@@ -69,10 +69,8 @@ fn threads_share_users(rt: HostRuntime) -> Result<(), Fail> {
 fn a_session_of_another_user_stays(rt: HostRuntime) -> Result<(), Fail> {
     let users: Users = Users::with_capacity(&rt, rt.alloc(), 100)?;
     let mut desk = Session::new(&users);
-    let before = sign_in(&rt, &mut desk, 7, 1)?;
-    assert!(rt; before.is_none());
-    let out = sign_out(&rt, &mut desk, 7, 2)?;
-    assert!(rt; !out);
+    is(&rt, sign_in(&rt, &mut desk, 7, 1), Ok(None));
+    is(&rt, sign_out(&rt, &mut desk, 7, 2), Ok(false));
     has(&rt, &mut desk, 7, Some(1));
     Ok(())
 }
@@ -81,8 +79,7 @@ fn a_session_of_another_user_stays(rt: HostRuntime) -> Result<(), Fail> {
 fn a_setting_is_read_back(rt: HostRuntime) -> Result<(), Fail> {
     let settings: Settings = Settings::with_capacity(&rt, rt.alloc(), 100)?;
     let mut session = Session::new(&settings);
-    let read = set_and_read(&rt, &mut session, 1, 7)?;
-    assert!(rt; read == Some(7));
+    is(&rt, set_and_read(&rt, &mut session, 1, 7), Ok(Some(7)));
     Ok(())
 }
 
@@ -107,8 +104,7 @@ fn both_add(
 fn no_addition_is_lost(rt: HostRuntime) -> Result<(), Fail> {
     let counters: Counters = Counters::with_capacity(&rt, rt.alloc(), 100)?;
     let _ = both_add(&rt, &counters);
-    let sum = adds(&rt, &counters, 0)?;
-    assert!(rt; sum == 2000);
+    is(&rt, adds(&rt, &counters, 0), Ok(2000));
     Ok(())
 }
 
@@ -126,14 +122,13 @@ fn reads_pages(rt: &impl Wait, hits: &Hits, own: u64) -> bool {
 /// Two threads read pages, and one of them is forgotten.
 fn counts_hits(rt: &(impl Threads + Wait + Sync + Abort), hits: &Hits) {
     let both = join(rt, || reads_pages(rt, hits, 2), || reads_pages(rt, hits, 3));
-    let mut session = Session::new(hits);
-    assert!(rt; both == (true, true));
-    assert!(rt; hit(rt, &mut session, 2) == Ok(11));
-    assert!(rt; total(rt, hits) == Ok(41));
-    assert!(rt; forget_below(rt, hits, 11).is_ok());
-    assert!(rt; reads(hits, 1) == Some(20));
-    assert!(rt; (reads(hits, 2), reads(hits, 3)) == (Some(11), None));
-    assert!(rt; hits.len() == 2);
+    is(rt, both, (true, true));
+    is(rt, hit(rt, &mut Session::new(hits), 2), Ok(11));
+    is(rt, total(rt, hits), Ok(41));
+    is(rt, forget_below(rt, hits, 11).is_ok(), true);
+    is(rt, reads(hits, 1), Some(20));
+    is(rt, (reads(hits, 2), reads(hits, 3)), (Some(11), None));
+    is(rt, hits.len(), 2);
 }
 
 #[test]
@@ -155,20 +150,24 @@ fn meets(rt: &impl Wait, items: &Items) -> Result<u64, Refused> {
     Ok(new)
 }
 
-/// Two threads meet them, and then one is forgotten.
-fn finds(rt: &(impl Threads + Wait + Sync + Abort), items: &Items) -> Result<(), Refused> {
+/// Two threads meet them: how many were new to one of them?
+fn both_meet(rt: &(impl Threads + Wait + Sync), items: &Items) -> Result<u64, Refused> {
     let (first, second) = join(rt, || meets(rt, items), || meets(rt, items));
-    assert!(rt; first?.wrapping_add(second?) == 8);
+    Ok(first?.wrapping_add(second?))
+}
+
+/// Two threads meet them, and then one is forgotten.
+fn finds(rt: &(impl Threads + Wait + Sync + Abort), items: &Items) {
+    is(rt, both_meet(rt, items), Ok(8));
     let mut finder = Finder::new(items);
-    assert!(rt; finder.forget(rt, 3) == Ok(true));
-    assert!(rt; finder.meet(rt, 3) == Ok(true));
-    assert!(rt; meets(rt, items) == Ok(0));
-    Ok(())
+    is(rt, finder.forget(rt, 3), Ok(true));
+    is(rt, finder.meet(rt, 3), Ok(true));
+    is(rt, meets(rt, items), Ok(0));
 }
 
 #[test]
 fn each_item_is_new_once(rt: HostRuntime) -> Result<(), Fail> {
     let items: Items = Items::new(&rt, rt.alloc())?;
-    finds(&rt, &items)?;
+    finds(&rt, &items);
     Ok(())
 }

@@ -1,4 +1,5 @@
 // The map of these tests, and what it has.
+use crate::expect::is;
 use papaya_map::map::HashMap;
 use papaya_reclaiming::reclaiming::{Handle, Reclaiming, ReclaimingMap};
 use papaya_words::probe::Refused;
@@ -37,6 +38,6 @@ pub fn has(
     third: Option<u64>,
 ) {
     let entered = way.enter(rt);
-    assert_eq!(rt; (entered.len(), entered.stored()), (pairs, stored));
-    assert_eq!(rt; entered.pin().get(&3).copied(), third);
+    is(rt, (entered.len(), entered.stored()), (pairs, stored));
+    is(rt, entered.pin().get(&3).copied(), third);
 }

@@ -1,4 +1,4 @@
-//! Runs of the program on texts, and what they must print.
+// Runs of `papaya-run` on texts, and what they must print.
 use papaya_backends::run::run_on;
 use papaya_shell::fakes::{Sink, Source, words};
 use std::alloc::Global;
@@ -38,9 +38,12 @@ impl<'a> Case<'a> {
 }
 
 /// Asserts that a run of this script has written this.
-fn has_written<A: Abort>(rt: &A, found: &[u8], wanted: &str, script: &[u8]) -> Result<(), Fail> {
-    assert_eq!(rt; std::str::from_utf8(found)?, wanted, "in {script:?}");
-    Ok(())
+fn has_written<A: Abort>(rt: &A, found: &[u8], wanted: &str, script: &[u8]) {
+    assert_eq!(rt;
+        std::str::from_utf8(found).ok(),
+        Some(wanted),
+        "in {script:?}"
+    );
 }
 
 /// Asserts that a run of this script has ended with this exit status.
@@ -71,8 +74,8 @@ pub(crate) fn expect_cut<A: Abort + Wait>(
         &mut printed,
         &mut said,
     );
-    has_written(rt, printed.as_slice(), case.output, case.script)?;
-    has_written(rt, said.as_slice(), case.errors, case.script)?;
+    has_written(rt, printed.as_slice(), case.output, case.script);
+    has_written(rt, said.as_slice(), case.errors, case.script);
     has_ended(rt, status, case.status, case.script);
     Ok(())
 }
@@ -100,8 +103,8 @@ pub(crate) fn expect_full<A: Abort + Wait>(
         &mut output,
         &mut said,
     );
-    has_written(rt, output.text.as_slice(), kept, script)?;
-    has_written(rt, said.as_slice(), "papaya-run: output failed\n", script)?;
+    has_written(rt, output.text.as_slice(), kept, script);
+    has_written(rt, said.as_slice(), "papaya-run: output failed\n", script);
     has_ended(rt, status, 1, script);
     Ok(())
 }

@@ -1,4 +1,4 @@
-//! Readers and writers that fail.
+// Readers and writers of `papaya-run` that fail.
 use crate::runs::{Case, expect_cut, expect_full, has_ended};
 use papaya_backends::run::run_on;
 use papaya_shell::fakes::{Sink, Source};

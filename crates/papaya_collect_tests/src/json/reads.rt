@@ -1,5 +1,6 @@
 // Maps that are read of JSON, and why there is none.
-use crate::expect::{Numbers, digits, is, number};
+use crate::expect::is;
+use crate::json::numbers::{Numbers, digits, number};
 use papaya_json::reading::map_from_value;
 use papaya_json::writing::map_to_value;
 use papaya_keys::guard::TextKey;
@@ -60,15 +61,25 @@ fn other_shapes_and_missing_members_are_refused(rt: HostRuntime) -> Result<(), F
     Ok(())
 }
 
-#[test]
-fn a_map_is_read_back(rt: HostRuntime) -> Result<(), Fail> {
-    let alloc = rt.alloc();
+/// A map of forty keys.
+fn filled(alloc: Global) -> Result<Numbers, Refused> {
     let mut map: Numbers = HashMap::new(alloc)?;
     for key in 0..40u64 {
         map.put(key, key.wrapping_mul(10))?;
     }
-    let value = map_to_value(alloc, &map, |key| digits(alloc, key), number)?;
-    let back = numbers_of(alloc, &value)?;
+    Ok(map)
+}
+
+/// The map that is read of a map's JSON.
+fn read_back(alloc: Global, map: &Numbers) -> Result<Numbers, Refused> {
+    let value = map_to_value(alloc, map, |key| digits(alloc, key), number)?;
+    numbers_of(alloc, &value)
+}
+
+#[test]
+fn a_map_is_read_back(rt: HostRuntime) -> Result<(), Fail> {
+    let map = filled(rt.alloc())?;
+    let back = read_back(rt.alloc(), &map)?;
     is(&rt, (back.len(), back.eq(&map)), (40, true));
     Ok(())
 }

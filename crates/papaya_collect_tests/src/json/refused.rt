@@ -1,8 +1,9 @@
 // A growth that is refused makes nothing, and the same call then succeeds. Where the tests run with
 // a failing allocation, as by `rt try --test --fail-alloc N`, a call here meets it.
-use crate::expect::{Numbers, digits, is, number};
-use crate::reads::numbers_of;
-use crate::sets::{Keys, keys_of};
+use crate::expect::is;
+use crate::json::numbers::{Numbers, digits, number};
+use crate::json::reads::numbers_of;
+use crate::json::sets::{Keys, keys_of};
 use papaya_json::writing::{map_to_value, set_to_value};
 use papaya_seq::seq::HashMap;
 use papaya_set::seq::HashSet;
@@ -48,22 +49,30 @@ fn filled_set(alloc: Global) -> Result<Keys, Refused> {
     Ok(set)
 }
 
+/// The map that is read of a map's JSON.
+fn map_again(alloc: Global, map: &Numbers) -> Result<Numbers, Refused> {
+    let value = again(|| map_to_value(alloc, map, |key| digits(alloc, key), number))?;
+    again(|| numbers_of(alloc, &value))
+}
+
 #[test]
 fn refused_growth_makes_no_map(rt: HostRuntime) -> Result<(), Fail> {
-    let alloc = rt.alloc();
-    let map = filled_map(alloc)?;
-    let value = again(|| map_to_value(alloc, &map, |key| digits(alloc, key), number))?;
-    let back = again(|| numbers_of(alloc, &value))?;
+    let map = filled_map(rt.alloc())?;
+    let back = map_again(rt.alloc(), &map)?;
     is(&rt, (map.len(), back.eq(&map)), (40, true));
     Ok(())
 }
 
+/// The set that is read of a set's JSON.
+fn set_again(alloc: Global, set: &Keys) -> Result<Keys, Refused> {
+    let value = again(|| set_to_value(alloc, set, number))?;
+    again(|| keys_of(alloc, &value))
+}
+
 #[test]
 fn refused_growth_makes_no_set(rt: HostRuntime) -> Result<(), Fail> {
-    let alloc = rt.alloc();
-    let set = filled_set(alloc)?;
-    let value = again(|| set_to_value(alloc, &set, number))?;
-    let back = again(|| keys_of(alloc, &value))?;
+    let set = filled_set(rt.alloc())?;
+    let back = set_again(rt.alloc(), &set)?;
     is(&rt, (set.len(), back.eq(&set)), (40, true));
     Ok(())
 }

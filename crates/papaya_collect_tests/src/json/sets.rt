@@ -1,5 +1,6 @@
 // Sets as JSON, and sets that are read of JSON.
-use crate::expect::{is, number};
+use crate::expect::is;
+use crate::json::numbers::number;
 use papaya_json::reading::set_from_value;
 use papaya_json::writing::set_to_value;
 use papaya_set::seq::HashSet;
@@ -44,31 +45,43 @@ fn arrays_are_sets_of_their_items(rt: HostRuntime) -> Result<(), Fail> {
     Ok(())
 }
 
-#[test]
-fn a_set_is_read_back(rt: HostRuntime) -> Result<(), Fail> {
-    let alloc = rt.alloc();
+/// A set of forty keys.
+fn filled(alloc: Global) -> Result<Keys, Refused> {
     let mut set: Keys = HashSet::new(alloc)?;
     for key in 0..40u64 {
         set.insert(key)?;
     }
-    let back = keys_of(alloc, &set_to_value(alloc, &set, number)?)?;
+    Ok(set)
+}
+
+/// The set that is read of a set's JSON.
+fn read_back(alloc: Global, set: &Keys) -> Result<Keys, Refused> {
+    let value = set_to_value(alloc, set, number)?;
+    keys_of(alloc, &value)
+}
+
+#[test]
+fn a_set_is_read_back(rt: HostRuntime) -> Result<(), Fail> {
+    let set = filled(rt.alloc())?;
+    let back = read_back(rt.alloc(), &set)?;
     is(&rt, (back.len(), back.eq(&set)), (40, true));
+    Ok(())
+}
+
+/// The text of the set's JSON is this.
+fn prints(rt: &impl Abort, alloc: Global, set: &Keys, wanted: &str) -> Result<(), Fail> {
+    let value = set_to_value(alloc, set, number)?;
+    is(rt, value.to_string(alloc)?.as_str(), wanted);
     Ok(())
 }
 
 #[test]
 fn a_key_without_an_item_is_refused(rt: HostRuntime) -> Result<(), Fail> {
-    let alloc = rt.alloc();
-    let mut set: Keys = HashSet::new(alloc)?;
-    let empty = set_to_value(alloc, &set, number)?;
-    is(&rt, empty.to_string(alloc)?.as_str(), "[]");
-    set.insert(7)?;
-    let one = set_to_value(alloc, &set, number)?;
-    is(&rt, one.to_string(alloc)?.as_str(), "[7]");
-    is(
-        &rt,
-        set_to_value(alloc, &set, |_| None).err(),
-        Some(Refused::Item),
-    );
+    let mut set: Keys = HashSet::new(rt.alloc())?;
+    prints(&rt, rt.alloc(), &set, "[]")?;
+    is(&rt, set.insert(7), Ok(true));
+    prints(&rt, rt.alloc(), &set, "[7]")?;
+    let refused = set_to_value(rt.alloc(), &set, |_| None).err();
+    is(&rt, refused, Some(Refused::Item));
     Ok(())
 }

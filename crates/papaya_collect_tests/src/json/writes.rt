@@ -1,5 +1,6 @@
 // What maps are as JSON, and why there is none.
-use crate::expect::{Numbers, digits, is, number};
+use crate::expect::is;
+use crate::json::numbers::{Numbers, digits, number};
 use papaya_json::writing::map_to_value;
 use papaya_seq::seq::HashMap;
 use papaya_words::probe::Refused;
@@ -34,25 +35,32 @@ fn clashes<W: Fn(&u64) -> Option<Value>>(
     is(rt, found.err(), Some(wanted));
 }
 
+/// A map of these pairs.
+fn map_of(alloc: Global, pairs: &[(u64, u64)]) -> Result<Numbers, Refused> {
+    let mut map: Numbers = HashMap::new(alloc)?;
+    for (key, value) in pairs {
+        map.put(*key, *value)?;
+    }
+    Ok(map)
+}
+
 #[test]
 fn members_are_in_the_order_of_their_texts(rt: HostRuntime) -> Result<(), Fail> {
-    let alloc = rt.alloc();
-    let mut map: Numbers = HashMap::new(alloc)?;
-    prints(&rt, alloc, &map, "{}")?;
-    map.put(9, 2)?;
-    map.put(10, 1)?;
-    map.put(8, 3)?;
-    prints(&rt, alloc, &map, "{\"10\":1,\"8\":3,\"9\":2}")
+    let cases: [(&[(u64, u64)], &str); 2] = [
+        (&[], "{}"),
+        (&[(9, 2), (10, 1), (8, 3)], "{\"10\":1,\"8\":3,\"9\":2}"),
+    ];
+    for (pairs, wanted) in cases {
+        prints(&rt, rt.alloc(), &map_of(rt.alloc(), pairs)?, wanted)?;
+    }
+    Ok(())
 }
 
 #[test]
 fn equal_texts_and_missing_values_are_refused(rt: HostRuntime) -> Result<(), Fail> {
-    let alloc = rt.alloc();
-    let mut map: Numbers = HashMap::new(alloc)?;
-    map.put(0, 4)?;
-    map.put(1, 3)?;
-    prints(&rt, alloc, &map, "{\"0\":4,\"1\":3}")?;
-    clashes(&rt, alloc, &map, number, Refused::KeyClash);
-    clashes(&rt, alloc, &map, no_four, Refused::Item);
+    let map = map_of(rt.alloc(), &[(0, 4), (1, 3)])?;
+    prints(&rt, rt.alloc(), &map, "{\"0\":4,\"1\":3}")?;
+    clashes(&rt, rt.alloc(), &map, number, Refused::KeyClash);
+    clashes(&rt, rt.alloc(), &map, no_four, Refused::Item);
     Ok(())
 }

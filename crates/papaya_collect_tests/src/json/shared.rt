@@ -1,5 +1,6 @@
 // Maps that threads share as JSON, by one caller.
-use crate::expect::{digits, is, number};
+use crate::expect::is;
+use crate::json::numbers::{digits, number};
 use papaya_json::shared::{shared_map_from_value, shared_map_to_value};
 use papaya_map::map::HashMap;
 use papaya_words::probe::Refused;

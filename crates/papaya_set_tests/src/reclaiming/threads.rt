@@ -1,15 +1,13 @@
 // Threads that come and go all the time while another one reclaims.
-use papaya_map::map::HashMap;
-use papaya_reclaiming::reclaiming::{Handle, Reclaiming, ReclaimingMap};
+use crate::expect::is;
+use crate::reclaiming::numbers::{Numbers, numbers};
+use papaya_reclaiming::reclaiming::ReclaimingMap;
 use papaya_words::probe::Refused;
-use std::hash::{BuildHasherDefault, FoldHasher};
 use std::process::Abort;
 use std::sync::Wait;
 use std::sync::atomic::{AtomicBool, AtomicU64, Ordering};
 use std::test::Fail;
 use std::thread::{Threads, join, yield_now};
-
-type Numbers = HashMap<u64, u64, BuildHasherDefault<FoldHasher>>;
 
 /// A worker calls so often at the most while another thread reclaims: one that holds the other off
 /// for longer fails.
@@ -99,14 +97,26 @@ fn is_whole(rt: &(impl Abort + Wait), map: &Numbers, key: u64, worked: Result<u6
         return;
     };
     assert!(rt; turns < MOST_TURNS, "reclaim was held off");
-    assert_eq!(rt; map.pin().get(&key).copied().unwrap_or(0), turns);
+    is(rt, map.pin().get(&key).copied().unwrap_or(0), turns);
+}
+
+/// So were both workers.
+fn are_whole(
+    rt: &(impl Abort + Wait),
+    shared: &Shared,
+    visitor: Result<u64, Refused>,
+    inmate: Result<u64, Refused>,
+) {
+    let mut handle = shared.map.handle();
+    let entered = handle.enter(rt);
+    is_whole(rt, &entered, 1, visitor);
+    is_whole(rt, &entered, 2, inmate);
 }
 
 #[test]
 fn threads_that_come_and_go_hold_nobody_off(rt: HostRuntime) -> Result<(), Fail> {
-    let map = Numbers::new(&rt, rt.alloc())?;
     let shared = Shared {
-        map: Reclaiming::new(rt.alloc(), map)?,
+        map: numbers(&rt, rt.alloc())?,
         here: AtomicU64::new(0),
         is_over: AtomicBool::new(false),
     };
@@ -115,10 +125,7 @@ fn threads_that_come_and_go_hold_nobody_off(rt: HostRuntime) -> Result<(), Fail>
         || workers(&rt, &shared),
         || reclaims_and_tells(&rt, &shared),
     );
-    assert!(rt; reclaimed == Ok(()));
-    let mut handle = shared.map.handle();
-    let entered = handle.enter(&rt);
-    is_whole(&rt, &entered, 1, visitor);
-    is_whole(&rt, &entered, 2, inmate);
+    is(&rt, reclaimed, Ok(()));
+    are_whole(&rt, &shared, visitor, inmate);
     Ok(())
 }

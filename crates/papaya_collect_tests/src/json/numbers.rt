@@ -1,18 +1,10 @@
-// What the tests compare with. A test is calls of this, since each assertion that stands written
-// out in one makes its proof longer.
+// The maps of these tests, and what their keys and values are as JSON.
 use papaya_seq::seq::HashMap;
 use serde_json::Value;
 use std::alloc::Global;
-use std::fmt::Debug;
-use std::process::Abort;
 
 /// The maps of the tests.
 pub type Numbers = HashMap<u64, u64>;
-
-/// What was found is what is wanted.
-pub fn is<T: PartialEq + Debug + Drop>(rt: &impl Abort, found: T, wanted: T) {
-    assert_eq!(rt; found, wanted);
-}
 
 /// A key as decimal digits.
 pub fn digits(alloc: Global, key: &u64) -> Option<String> {

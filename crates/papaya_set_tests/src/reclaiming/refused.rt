@@ -1,5 +1,6 @@
 // A test that passes whichever request for memory is refused.
-use crate::numbers::{Way, has, numbers, write};
+use crate::expect::is;
+use crate::reclaiming::numbers::{Way, has, numbers, write};
 use papaya_words::probe::Refused;
 use std::process::Abort;
 use std::sync::Wait;
@@ -9,9 +10,9 @@ use std::test::Fail;
 fn is_reclaimed(rt: &(impl Abort + Wait), way: &mut Way<'_>) {
     let before = way.enter(rt).stored();
     if let Err(refused) = way.reclaim(rt) {
-        assert!(rt; refused == Refused::Memory);
+        is(rt, refused, Refused::Memory);
         has(rt, way, 10, before, Some(1));
-        assert!(rt; way.reclaim(rt) == Ok(()));
+        is(rt, way.reclaim(rt), Ok(()));
     }
     has(rt, way, 10, 10, Some(1));
 }

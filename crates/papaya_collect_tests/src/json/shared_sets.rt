@@ -1,12 +1,14 @@
 // Sets that threads share as JSON, by one caller.
-use crate::expect::{is, number};
-use crate::sets::keys_of;
+use crate::expect::is;
+use crate::json::numbers::number;
+use crate::json::sets::{Keys, keys_of};
 use papaya_json::shared::{shared_set_from_value, shared_set_to_value};
 use papaya_set::set::HashSet;
 use papaya_words::probe::Refused;
 use serde_json::Value;
 use std::alloc::Global;
 use std::hash::BuildHasherDefault;
+use std::process::Abort;
 use std::sync::Wait;
 use std::test::Fail;
 
@@ -17,12 +19,23 @@ fn shared_of<R: Wait>(rt: &R, alloc: Global, v: &Value) -> Result<Shared, Refuse
     shared_set_from_value(rt, alloc, v, BuildHasherDefault::new(), Value::as_u64)
 }
 
+/// The keys of a set's JSON.
+fn written<R: Wait>(rt: &R, alloc: Global, set: &Shared) -> Result<Keys, Refused> {
+    let value = shared_set_to_value(rt, alloc, set, number)?;
+    keys_of(alloc, &value)
+}
+
+/// Has the set's JSON just the keys of this value?
+fn is_read_back<R: Wait>(rt: &R, alloc: Global, set: &Shared, v: &Value) -> Result<bool, Refused> {
+    let keys = written(rt, alloc, set)?;
+    Ok(keys.eq(&keys_of(alloc, v)?))
+}
+
 /// How many keys the set of this text has, and whether its JSON has just the keys of the text.
 fn read_back<R: Wait>(rt: &R, alloc: Global, text: &str) -> Result<(usize, bool), Fail> {
     let v = Value::from_str(alloc, text)?;
     let set = shared_of(rt, alloc, &v)?;
-    let written = keys_of(alloc, &shared_set_to_value(rt, alloc, &set, number)?)?;
-    Ok((set.len(), written.eq(&keys_of(alloc, &v)?)))
+    Ok((set.len(), is_read_back(rt, alloc, &set, &v)?))
 }
 
 #[test]
@@ -55,16 +68,18 @@ fn other_shapes_are_no_shared_sets(rt: HostRuntime) -> Result<(), Fail> {
     Ok(())
 }
 
+/// The set's JSON has this text, and there is none where a key has no item.
+fn prints<R: Wait + Abort>(rt: &R, alloc: Global, set: &Shared, wanted: &str) -> Result<(), Fail> {
+    let refused = shared_set_to_value(rt, alloc, set, |_| None).err();
+    is(rt, refused, Some(Refused::Item));
+    let value = shared_set_to_value(rt, alloc, set, number)?;
+    is(rt, value.to_string(alloc)?.as_str(), wanted);
+    Ok(())
+}
+
 #[test]
 fn a_key_of_a_shared_set_without_an_item_is_refused(rt: HostRuntime) -> Result<(), Fail> {
-    let alloc = rt.alloc();
-    let set = shared_of(&rt, alloc, &Value::from_str(alloc, "[7,7]")?)?;
-    let one = shared_set_to_value(&rt, alloc, &set, number)?;
-    is(&rt, one.to_string(alloc)?.as_str(), "[7]");
-    is(
-        &rt,
-        shared_set_to_value(&rt, alloc, &set, |_| None).err(),
-        Some(Refused::Item),
-    );
-    Ok(())
+    let value = Value::from_str(rt.alloc(), "[7,7]")?;
+    let set = shared_of(&rt, rt.alloc(), &value)?;
+    prints(&rt, rt.alloc(), &set, "[7]")
 }

@@ -1,5 +1,0 @@
-//! Tests of the program `papaya-bench`.
-#![tactic(auto)]
-
-#[cfg(test)]
-mod runs;

@@ -1,0 +1,12 @@
+//! What the tests share: hashers (`same`, `times`), where threads wait for each other (`gate`,
+//! `crossing`), and calls that are refused memory (`heap`, `tries`). `tests/refused.py` puts a heap below
+//! the tests that refuses what they tell it to refuse. Without it nothing is refused, and each call
+//! succeeds at once.
+#![tactic(auto)]
+
+pub mod crossing;
+pub mod gate;
+pub mod heap;
+pub mod same;
+pub mod times;
+pub mod tries;
