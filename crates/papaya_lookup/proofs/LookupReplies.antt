@@ -144,12 +144,6 @@ module _ {K V : Type 0} (eq : K → K → Bool) (matches : K → Bool) (old new 
   pair_answer = found_as (λ hit p. (hit.key.now ≡ key_of p) × (hit.value.now ≡ p.value.value))
       (λ pair p. (pair.0.now ≡ key_of p) × (pair.1.now ≡ p.value.value)) (λ hit. (hit.key, hit.value)) (λ hit p is. is) eq matches old new
 
-  -- its value, where more is told
-  pub hit_value : {S H : Type 0} (answer : Option (Hit K V S H)) (value : Option (Bor V)) → option_map (λ hit. hit.value) answer ≡ value
-      → IsHitAnsweredBetween eq matches old new answer → IsAnsweredBetween eq matches old new value
-  hit_value = found_as (λ hit p. (hit.key.now ≡ key_of p) × (hit.value.now ≡ p.value.value)) (λ value p. value.now ≡ p.value.value) (λ hit. hit.value)
-      (λ hit p is. is.1) eq matches old new
-
 -- what was answered since more was seen
 pub answered_since : {K V A : Type 0} (is_of : A → Stored K V → Type 0) (eq : K → K → Bool) (matches : K → Bool)
     (old mid new : List (Change K (Stored K V))) (answer : Option A) → IsPrefix old mid → IsFoundBetween is_of eq matches mid new answer

@@ -1,5 +1,5 @@
 -- One place of a search of the root alone: where it leads the machine that nothing runs.
-use Rattle.std.proofs.Common.{◌≡◌, ℕ, nat_lt, if◌then◌else◌, Bool, true, false, Option, Some, List, refl, sym, ap, ◌∙◌, subst}
+use Rattle.std.proofs.Common.{◌≡◌, ℕ, nat_lt, if◌then◌else◌, Bool, true, false, MatchOption, Option, Some, List, sym, ap, ◌∙◌, subst}
 use Rattle.std.specs.Cmp.{IsEquivalence}
 use Rattle.std.proofs.lemmas.Bool.{ltb-true}
 use mathlib.Core.List.{IsPrefix}
@@ -27,7 +27,7 @@ use Rattle.papaya_book.specs.Hinted.{IsSlotHint}
 use Rattle.papaya_book.specs.Logs.{Stored}
 use Rattle.papaya_book.specs.Sheets.{Sheet}
 use Rattle.papaya_lookup.specs.History.{key_of}
-use Rattle.papaya_lookup.specs.Lookups.{IsNear, IsReadingAt, IsTurned, turn_of}
+use Rattle.papaya_lookup.specs.Lookups.{IsReadingAt, IsTurned, turn_near, turn_of}
 use Rattle.papaya_lookup.specs.declared.lookup.Met.{Met}
 use Rattle.papaya_lookup.specs.declared.near.Near.{Near}
 use Rattle.papaya_lookup.specs.declared.near.Near.TheVariants as nears
@@ -42,28 +42,13 @@ on_within at within = chosen IsProbed (nat_lt at.probe.len at.limit) (On (Lookin
     (λ e. next_within at within (ltb-true at.probe.len at.limit e)) (λ e. tt)
 
 -- where no pair is at a place, and it is not the last, the next place is looked at
-pub went_on : {M E : Type 0} (P : Turn M E → Type 0) (Q : M → Type 0) (at next : Place) (near : Near M E) → near ≡ nears.On
-    → nat_lt at.probe.len at.limit ≡ true → next ≡ next_place at → IsNear P Q at near → P (turns.Next next)
-went_on {M} {E} P Q at next near on more is all =
+pub went_on : {M E : Type 0} (P : Turn M E → Type 0) (at next : Place) (near : Near M E) → near ≡ nears.On → nat_lt at.probe.len at.limit ≡ true
+    → next ≡ next_place at → MatchOption (turn_near at near) (Unit {0}) P → P (turns.Next next)
+went_on {M} {E} P at next near on more is all =
     let goes : go_on at ≡ On (Looking next) = ap (λ (o : Bool). if o then On (Looking (next_place at)) else Over at.table) more
     ∙ ap (λ (p : Place). On (Looking p)) (sym is) in
-    subst (λ (s : Probed). P (turn_of s)) goes (subst (IsNear P Q at) on all)
-
--- and where it is, the table is passed
-pub went_over : {M E : Type 0} (P : Turn M E → Type 0) (Q : M → Type 0) (at : Place) (near : Near M E) → near ≡ nears.On
-    → nat_lt at.probe.len at.limit ≡ false → IsNear P Q at near → P (turns.Over at.table)
-went_over P Q at near on last all =
-    let goes : go_on at ≡ Over at.table = ap (λ (o : Bool). if o then On (Looking (next_place at)) else Over at.table) last in
-    subst (λ (s : Probed). P (turn_of s)) goes (subst (IsNear P Q at) on all)
-
--- what was come to at a place that is not passed does not depend on the place
-pub ends_at : {M E : Type 0} (P : Turn M E → Type 0) (Q : M → Type 0) (at first : Place) (near : Near M E) → (near ≡ nears.On → ⊥) → IsNear P Q at near
-    → IsNear P Q first near
-ends_at P Q at first nears.On none all = absurd (none refl)
-ends_at P Q at first (nears.Found entry) none all = all
-ends_at P Q at first nears.Absent none all = all
-ends_at P Q at first (nears.Aside met) none all = all
-ends_at P Q at first (nears.Over t) none all = all
+    let told : turn_near {M = M} {E = E} at near ≡ Some (turns.Next next) = ap (turn_near at) on ∙ ap (λ (s : Probed). Some (turn_of s)) goes in
+    subst (λ (o : Option (Turn M E)). MatchOption o (Unit {0}) P) told all
 
 -- what the word tells, by its kind
 pub looks : (at : Place) (word : ℕ) (kind : Kind) → kind_of word ≡ kind → look at word ≡ look_at kind at word

@@ -1,5 +1,5 @@
 -- A search of a table and the lookup around it: where each turn leads the machine that nothing runs.
-use Rattle.std.proofs.Common.{◌≡◌, ℕ, ◌+◌, ◌<◌, ◌==◌, nat_lt, if◌then◌else◌, Bool, true, false}
+use Rattle.std.proofs.Common.{◌≡◌, ℕ, ◌<◌, ◌==◌, nat_lt, if◌then◌else◌, Bool, true, false}
 use Rattle.std.proofs.Common.{MatchOption, Option, None, Some, List, length, refl, sym, ap, ◌∙◌}
 use Rattle.std.proofs.Common.{subst, arith}
 use Rattle.std.proofs.lemmas.Bool.{ne_eqb}
@@ -41,11 +41,10 @@ use Rattle.papaya_book.specs.Rule.{IsLawfulLog, IsPlaced}
 use Rattle.papaya_book.specs.Sheets.{Sheet}
 use Rattle.papaya_book.proofs.Loaded.{told_pair}
 use Rattle.papaya_book.proofs.Logs.{table_came}
-use Rattle.papaya_book.proofs.TableSizes.{sizes}
 use Rattle.papaya_lookup.specs.Answers.{IsHitAnsweredBetween}
 use Rattle.papaya_lookup.specs.History.{history_of, key_of}
 use Rattle.papaya_call_law.specs.Relies.{HasMet}
-use Rattle.papaya_lookup.specs.Lookups.{HasHit, HoldsPair, IsAside, IsReading, IsReadingAt, IsTurned, coding_for, led_to, left_of, lookup_at, met_in, setting_for, turn_of}
+use Rattle.papaya_lookup.specs.Lookups.{HasHit, HoldsPair, IsReading, IsReadingAt, IsTurned, coding_for, led_to, left_of, lookup_at, setting_for, turn_of}
 use Rattle.papaya_lookup.specs.declared.lookup.Met.{Met}
 use Rattle.papaya_lookup.specs.declared.lookup.Turn.{Turn}
 use Rattle.papaya_lookup.specs.declared.lookup.Turn.TheVariants as turns
@@ -257,65 +256,6 @@ module _ {K V S H : Type 0} (eq : K → K → Bool) (input : K → List (List �
       pub word_next : (a : Place) → hinted at h hint ≡ On (Reading a) → IsReadingAt eq hash b matches fed_to begun h log' (Searching (Reading at)) table
       word_next a e = (r.0, r.1, r.2, subst (λ (s : Probed). Reads log' (goes_as Get b.mode nothing s) r.0 r.2) (read_hinted at h hint a e) hint_answered.0)
 
-  -- the key of a pair is compared
-  module _ (log : List (Event K V S)) (table : Sheet) (lent : Bor Sheet) (lent_is : lent.now ≡ table) (at : Place) (within : IsWithin at) (word : ℕ)
-      (p : Stored K V) (placed : IsPlaced b (Some name) (names.Pair p)) (r : Reads log (Searching (Comparing at word)) lent (Some p)) where
-    abbrev compares : Met K V
-    compares = record { place = at; word = word; stored = p }
-
-    pub set_aside : IsAside eq hash b name matches fed_to begun h log table compares
-    set_aside = record { lent = lent; lent_is = lent_is; within = within; placed = placed; reading = r }
-
-    -- the word that was loaded named it
-    word_met : HasMet (setting_for eq hash b matches fed_to log) (coding_for hash b.hasher fed_to) begun r.since None at word p
-    word_met =
-        let stage = r.relies.stage in
-        let one : stage.0 ≡ p = let same = sym stage.1 ∙ sym r.holds_pair.0 in cc same in
-        subst (HasMet (setting_for eq hash b matches fed_to log) (coding_for hash b.hasher fed_to) begun r.since None at word) one stage.2
-
-    module _ (same : Bool) (same_is : same ≡ matches (key_of p)) where
-      compared : Reads log (goes_as Get b.mode nothing (at_yes (Comparing at word) same)) lent (Some p)
-          × (left_of (goes_as Get b.mode nothing (at_yes (Comparing at word) same)) < left_of (Searching (Comparing at word)))
-      compared =
-          let all = same_read eq input build write finish classes respects b matches query lawful begun log
-          (lookup_at h b.mode b.limit (Searching (Comparing at word))) (Some lent) (Some p) r within (pair_of word) p same refl same_is refl in
-          (all.reading, all.fewer)
-
-      pub other_key : IsProbed (at_yes (Comparing at word) same) → ((a' : Place) (w' : ℕ) → at_yes (Comparing at word) same ≡ Here a' w' → ⊥)
-          → Goes log (Searching (Comparing at word)) table (turn_of (at_yes (Comparing at word) same))
-      other_key seen none = goes_on log (Searching (Comparing at word)) table lent lent_is (Some p) (at_yes (Comparing at word) same) seen
-          (onward_yes at word same none) compared.0 compared.1
-
-      pub same_key : (a' : Place) (w' : ℕ) → at_yes (Comparing at word) same ≡ Here a' w' → (entry : Bor K × Bor V) → entry.0.now ≡ key_of p
-          → entry.1.now ≡ p.value.value → IsTurned eq hash b name matches fed_to begun h log table (turns.Found compares entry)
-      same_key a' w' here entry key_is value_is = record {
-        lent = lent;
-        lent_is = lent_is;
-        pair = Some p;
-        number = pair_of w';
-        reading = subst (λ (s : Probed). Reads log (goes_as Get b.mode nothing s) lent (Some p)) here compared.0;
-        within = λ z e'. absurd (cc e');
-        found = λ met' entry' e'.
-            let one : compares ≡ met' = cc e' in
-            let two : entry ≡ entry' = cc e' in
-            subst (λ (z : Met K V × (Bor K × Bor V)). (Some p ≡ Some z.0.stored) × (z.1.0.now ≡ key_of z.0.stored)
-            × (z.1.1.now ≡ z.0.stored.value.value) × HasHit eq hash b name matches fed_to begun log table z.0) (λ i. (one i, two i)) (
-              refl,
-              key_is,
-              value_is,
-              record {
-                lawful = r.lawful;
-                since = r.since;
-                is = r.is;
-                met = word_met;
-                same = sym same_is ∙ here_same at a' word w' same here;
-                within = within;
-                holds = subst (IsTable log at.table) lent_is r.holds_table;
-                placed = placed;
-              },
-            );
-      }
-
   module _ (log : List (Event K V S)) (at : Place) (within : IsWithin at) (table : Sheet)
       (r : IsReadingAt eq hash b matches fed_to begun h log (Searching (Reading at)) table) where
     -- the table has the place
@@ -362,45 +302,61 @@ module _ {K V S H : Type 0} (eq : K → K → Bool) (input : K → List (List �
                 subst (λ (s : Probed). left_of (goes_as Get b.mode nothing s) < left_of (Searching (Reading at))) seen looked.fewer,
               )
 
-          abbrev met : Met K V
-          met = record { place = at; word = word; stored = p }
+          -- the word that was loaded named it
+          word_met : HasMet (setting_for eq hash b matches fed_to log') (coding_for hash b.hasher fed_to) begun comparing.0.since None at word p
+          word_met =
+              let stage = comparing.0.relies.stage in
+              let one : stage.0 ≡ p = let same = sym stage.1 ∙ sym comparing.0.holds_pair.0 in cc same in
+              subst (HasMet (setting_for eq hash b matches fed_to log') (coding_for hash b.hasher fed_to) begun comparing.0.since None at word) one stage.2
 
-          -- and is set aside
-          pub aside_there : IsAside eq hash b name matches fed_to begun h log' table met
-          aside_there = set_aside log' table r.0 r.1 at within word p pair_placed comparing.0
-
-          -- or was compared
+          -- its key was compared
           module _ (same : Bool) (same_is : same ≡ matches (key_of p)) where
+            compared : Reads log' (goes_as Get b.mode nothing (at_yes (Comparing at word) same)) r.0 (Some p)
+                × (left_of (goes_as Get b.mode nothing (at_yes (Comparing at word) same)) < left_of (Searching (Reading at)))
+            compared =
+                let all = same_read eq input build write finish classes respects b matches query lawful begun log'
+                (lookup_at h b.mode b.limit (Searching (Comparing at word))) (Some r.0) (Some p) comparing.0 within (pair_of word) p same refl same_is refl in
+                let before : left_of (Searching (Comparing at word)) < left_of (Searching (Reading at)) = comparing.1 in
+                let less : left_of (goes_as Get b.mode nothing (at_yes (Comparing at word) same)) < left_of (Searching (Comparing at word)) = all.fewer in
+                (all.reading, omega (arith, before, less))
+
             pub other_pair : IsProbed (at_yes (Comparing at word) same) → ((a' : Place) (w' : ℕ) → at_yes (Comparing at word) same ≡ Here a' w' → ⊥)
                 → Goes log' (Searching (Reading at)) table (turn_of (at_yes (Comparing at word) same))
-            other_pair seen none =
-                let all = other_key log' table r.0 r.1 at within word p pair_placed comparing.0 same same_is seen none in
-                let before : left_of (Searching (Comparing at word)) < left_of (Searching (Reading at)) = comparing.1 in
-                let turn : Turn (Met K V) (Bor K × Bor V) = turn_of (at_yes (Comparing at word) same) in
-                let less : left_of (led_to b.mode 0 turn) < left_of (Searching (Comparing at word)) = all.1 in
-                (all.0, omega (arith, before, less))
+            other_pair seen none = goes_on log' (Searching (Reading at)) table r.0 r.1 (Some p) (at_yes (Comparing at word) same) seen
+                (onward_yes at word same none) compared.0 compared.1
+
+            abbrev met : Met K V
+            met = record { place = at; word = word; stored = p }
 
             pub pair_found : (a' : Place) (w' : ℕ) → at_yes (Comparing at word) same ≡ Here a' w' → (entry : Bor K × Bor V) → entry.0.now ≡ key_of p
                 → entry.1.now ≡ p.value.value → IsTurned eq hash b name matches fed_to begun h log' table (turns.Found met entry)
-            pair_found a' w' here entry key_is value_is =
-                same_key log' table r.0 r.1 at within word p pair_placed comparing.0 same same_is a' w' here entry key_is value_is
-
--- a pair that was set aside was met at a place of its table's size
-pub met_there : {K V S : Type 0} (eq : K → K → Bool) (hash : S → K → ℕ) (b : Begun K V S) (name : Name) (matches : K → Bool) (fed : ℕ)
-    (begun : List (Exchange (Stored K V))) (h : ℕ) (log : List (Event K V S)) (table : Sheet) (met : Met K V)
-    → IsAside eq hash b name matches fed begun h log table met
-    → met ≡ met_in table met.place.table met.place.probe.i met.place.probe.len met.word met.stored
-met_there eq hash b name matches fed begun h log table met a =
-    let at = met.place in
-    let stands = a.reading.relies.stage.2.stands in
-    let came : IsTable log at.table table = subst (IsTable log at.table) a.lent_is a.reading.holds_table in
-    let all = sizes (steps_of log) at.table came.0 came.1 in
-    let is : came.0.value ≡ table = came.2 in
-    let len : at.len ≡ length table.slots = stands.len ∙ (all.0 ∙ ap (λ (z : Sheet). length z.slots) is) in
-    let places : at.limit + 1 ≡ table.limit + 1 = stands.limit ∙ (all.1 ∙ ap (λ (z : Sheet). z.limit + 1) is) in
-    let limit : at.limit ≡ table.limit = omega (arith, places) in
-    ap (λ (n : ℕ). record met { place = record at { len = n } }) len
-    ∙ ap (λ (n : ℕ). record met { place = record at { len = length table.slots; limit = n } }) limit
+            pair_found a' w' here entry key_is value_is = record {
+              lent = r.0;
+              lent_is = r.1;
+              pair = Some p;
+              number = pair_of w';
+              reading = subst (λ (s : Probed). Reads log' (goes_as Get b.mode nothing s) r.0 (Some p)) here compared.0;
+              within = λ z e'. absurd (cc e');
+              found = λ met' entry' e'.
+                  let one : met ≡ met' = cc e' in
+                  let two : entry ≡ entry' = cc e' in
+                  subst (λ (z : Met K V × (Bor K × Bor V)). (Some p ≡ Some z.0.stored) × (z.1.0.now ≡ key_of z.0.stored)
+                  × (z.1.1.now ≡ z.0.stored.value.value) × HasHit eq hash b name matches fed_to begun log' table z.0) (λ i. (one i, two i)) (
+                    refl,
+                    key_is,
+                    value_is,
+                    record {
+                      lawful = comparing.0.lawful;
+                      since = comparing.0.since;
+                      is = comparing.0.is;
+                      met = word_met;
+                      same = sym same_is ∙ here_same at a' word w' same here;
+                      within = within;
+                      holds = subst (IsTable log' at.table) r.1 comparing.0.holds_table;
+                      placed = pair_placed;
+                    },
+                  );
+            }
 
 module _ {K V S H : Type 0} (eq : K → K → Bool) (input : K → List (List ℕ)) (build : S → H) (write : H → List ℕ → H) (finish : H → ℕ)
     (classes : IsEquivalence eq) (respects : (x y : K) → eq x y ≡ true → input x ≡ input y)
@@ -462,21 +418,6 @@ module _ {K V S H : Type 0} (eq : K → K → Bool) (input : K → List (List �
       let all = next_read eq input build write finish classes respects b matches query lawful (exchanges_of began) log log' after told.lawful
       (lookup_at h b.mode b.limit (Leaving t)) (Some turned.lent) turned.pair r tt book.begun.book t word held refl told in
       (turned.pair, all.reading, subst (λ (s : Stage). left_of (numbered word) < left_of s) (sym leads) all.fewer)
-
-  -- and that is searched from its first place on
-  pub next_looked : (log log' : List (Event K V S)) → IsPrefix log log' → (table : Sheet) (t : ℕ) (chunk : ℕ) → book.parts.mode ≡ Incremental chunk
-      → Turned log table (turns.Over t) → (word : ℕ) (held : Option (Bor Sheet)) → IsNext eq hash_in b book.begun.book t word log' held
-      → (lent : Bor Sheet) → held ≡ Some lent → (slots limit : ℕ) → slots ≡ length lent.now.slots → limit ≡ lent.now.limit → IsSize slots limit
-      → (at : Place) → at ≡ first_place h word slots limit
-      → IsReadingAt eq hash_in b matches (fed eq input build write finish classes respects b matches query lawful) (exchanges_of began) h log'
-      (Searching (Looking at)) lent.now
-      × (left_of (Searching (Looking at)) < left_of (led_to {M = Met K V} {E = Bor K × Bor V} b.mode 0 (turns.Over t)))
-  next_looked log log' after table t chunk mode turned word held told lent has slots limit slots_is limit_is size at at_is =
-      let next = next_held log log' after table t chunk mode turned word held told in
-      let first = first_looked log' word held next.0 next.1 told.names lent has slots limit slots_is limit_is size at at_is in
-      let before : left_of (numbered word) < left_of (led_to {M = Met K V} {E = Bor K × Bor V} b.mode 0 (turns.Over t)) = next.2 in
-      let less : left_of (Searching (Looking at)) < left_of (numbered word) = first.1 in
-      (first.0, omega (arith, before, less))
 
   -- what the lookup answers: the pair that was found
   pub answers_found : (log : List (Event K V S)) (table : Sheet) (met : Met K V) (entry : Bor K × Bor V) → Turned log table (turns.Found met entry)

@@ -1,14 +1,13 @@
 -- What a lookup relies on, and what a caller has seen and made, by what it sees of the map.
-use Rattle.std.specs.Prelude.{◌≡◌, ℕ, Option, Some, List}
+use Rattle.std.specs.Prelude.{◌≡◌, ℕ, MatchOption, List}
 use mathlib.Core.List.{IsPrefix}
 use denote.Bor.{Bor}
 use Rattle.papaya_ask.specs.declared.search.Place.{Place}
 use Rattle.papaya_call.specs.declared.machine.State.{State as Stage}
 use Rattle.papaya_book.specs.declared.rule.entry.Event.{Event}
-use Rattle.papaya_book.specs.declared.book.Book.{Book}
 use Rattle.papaya_book.specs.declared.keyed.Keyed as keyed
 use Rattle.papaya_book.specs.declared.window.Window.{Window}
-use Rattle.papaya_book.specs.Keys.{Keys, Query}
+use Rattle.papaya_book.specs.Keys.{Query}
 use Rattle.logbook.specs.Pages.{Named as Word}
 use Rattle.papaya_book.specs.Logs.{Stored, exchanges_of}
 use Rattle.papaya_book.specs.Parts.{begun_of}
@@ -17,24 +16,8 @@ use Rattle.papaya_lookup.specs.declared.lookup.Hit.{Hit}
 use Rattle.papaya_lookup.specs.declared.lookup.Met.{Met}
 use Rattle.papaya_lookup.specs.declared.near.Near.{Near}
 use Rattle.papaya_lookup.specs.declared.lookup.Turn.{Turn}
-use Rattle.papaya_lookup.specs.Answers.{IsHitAnsweredBetween}
 use Rattle.papaya_lookup.specs.History.{Change, changes_by, history_of, key_of}
 use Rattle.papaya_lookup.specs.Lookups as lookups
-
--- a lookup of which no window tells: what it relies on, by a book and a log
-module _ {K V S H : Type 0} (keys : Keys K S) (query : Query K S) (book : Book K V S H)
-    (began log : List (Event K V S)) where
-  -- a turn led it on
-  abbrev pub HasTurned : ℕ → Sheet → Turn (Met K V) (Bor K × Bor V) → Type 0
-  HasTurned hash table turn = lookups.IsTurned keys.eq keys.hash (begun_of book.parts)
-      book.begun.book query.matches (query.hash book.parts.hasher) (exchanges_of began) hash log
-      table turn
-
-  -- its search has set this pair aside
-  abbrev pub HasSetAside : ℕ → Sheet → Met K V → Type 0
-  HasSetAside hash table met = lookups.IsAside keys.eq keys.hash (begun_of book.parts)
-      book.begun.book query.matches (query.hash book.parts.hasher) (exchanges_of began) hash log
-      table met
 
 module _ {K V S H : Type 0} {d : keyed.Ghosts S K H} where
   -- the history that is seen
@@ -65,16 +48,11 @@ module _ {K V S H : Type 0} {d : keyed.Ghosts S K H} where
         w.book.now.begun.book query.matches (query.hash w.book.now.parts.hasher)
         (exchanges_of began) hash w.sight.log table turn
 
-    -- a search has set this pair aside, as is seen by now
-    abbrev pub IsAside : Window K V S H d → ℕ → Sheet → Met K V → Type 0
-    IsAside w hash table met = lookups.IsAside d.keys.eq d.keys.hash (begun_of w.book.now.parts)
-        w.book.now.begun.book query.matches (query.hash w.book.now.parts.hasher)
-        (exchanges_of began) hash w.sight.log table met
-
-    -- where a place leads it, as is seen by now
+    -- where a place leads, a turn led it on, as is seen by now
     abbrev pub IsNear : Window K V S H d → ℕ → Sheet → Place → Near (Met K V) (Bor K × Bor V)
         → Type 0
-    IsNear w hash table = lookups.IsNear (IsTurned w hash table) (IsAside w hash table)
+    IsNear w hash table at near = MatchOption (lookups.turn_near at near) (Unit {0})
+        (IsTurned w hash table)
 
     -- a search that began at this log met this pair, as is seen by now
     abbrev pub HasHit : Window K V S H d → Hit K V S H → Type 0
@@ -82,11 +60,6 @@ module _ {K V S H : Type 0} {d : keyed.Ghosts S K H} where
         × (hit.value.now ≡ hit.met.stored.value.value) × lookups.HasHit d.keys.eq d.keys.hash
         (begun_of w.book.now.parts) w.book.now.begun.book query.matches
         (query.hash w.book.now.parts.hasher) (exchanges_of began) w.sight.log hit.table.now hit.met
-
-    -- the answer of one that began at this log, by what is seen then
-    abbrev pub IsAnswer : Window K V S H d → Option (Hit K V S H) → Type 0
-    IsAnswer w answer = IsHitAnsweredBetween d.keys.eq query.matches (history_of began) (past w)
-        answer × ((hit : Hit K V S H) → answer ≡ Some hit → HasHit w hit)
 
   module _ (query : Query K S) where
     -- some lookup would stand here, with this table

@@ -1,5 +1,5 @@
 -- What a lookup on the shared map holds and relies on, and what it answers.
-use Rattle.std.specs.Prelude.{◌≡◌, ℕ, ◌+◌, ◌*◌, ◌-◌, ◌^◌, Bool, true, Option, None, Some, List, ◌++◌, length, slice_get}
+use Rattle.std.specs.Prelude.{◌≡◌, ℕ, ◌+◌, ◌*◌, ◌-◌, ◌^◌, Bool, true, Option, None, Some, List, ◌++◌, slice_get}
 use denote.Bor.{Bor}
 use Rattle.logbook.specs.Pages.{Book, Named as Word}
 use Rattle.papaya_ask.specs.declared.call.Reply.TheVariants.{Absent, Found}
@@ -120,15 +120,12 @@ turn_of (On (Looking at)) = turns.Next at
 turn_of (Over t) = turns.Over t
 turn_of _ = turns.Absent
 
--- what the search has come to where it has looked at one place of a table: a turn that it made, or
--- a pair that is set aside
-abbrev pub IsNear : {M E : Type 0} → (turned : Turn M E → Type 0) → (aside : M → Type 0) → Place
-    → Near M E → Type 0
-IsNear {M} turned aside at nears.On = turned (turn_of (go_on at))
-IsNear {M} turned aside at (nears.Found entry) = (met : M) × turned (turns.Found met entry)
-IsNear {M} turned aside at nears.Absent = turned turns.Absent
-IsNear {M} turned aside at (nears.Aside met) = aside met
-IsNear {M} turned aside at (nears.Over t) = turned (turns.Over t)
+-- the turn that the search has made where it has looked at one place of a table, if it is known
+abbrev pub turn_near : {M E : Type 0} → Place → Near M E → Option (Turn M E)
+turn_near at nears.On = Some (turn_of (go_on at))
+turn_near at (nears.Found met entry) = Some (turns.Found met entry)
+turn_near at nears.Absent = Some turns.Absent
+turn_near at nears.Aside = None
 
 -- where a turn leads the lookup's machine, with the number of the pair that was found
 abbrev pub led_to : {M E : Type 0} → ResizeMode → ℕ → Turn M E → Stage
@@ -169,28 +166,3 @@ pub record IsTurned {K V S : Type 0} (eq : K → K → Bool) (hash : S → K →
       → (pair ≡ Some met.stored) × (entry.0.now ≡ key_of met.stored)
       × (entry.1.now ≡ met.stored.value.value)
       × HasHit eq hash b name matches fed begun log table met
-
--- a pair that was met at slot i of this table, where so many places came before
-abbrev pub met_in : {K V : Type 0} → Sheet → (number i passed word : ℕ) → Stored K V → Met K V
-met_in table number i passed word stored = record {
-  place = record {
-    table = number;
-    len = length table.slots;
-    limit = table.limit;
-    probe = record { i = i; len = passed };
-  };
-  word = word;
-  stored = stored;
-}
-
--- A search has set a pair aside: the lookup's machine compares its key next.
-pub record IsAside {K V S : Type 0} (eq : K → K → Bool) (hash : S → K → ℕ) (b : Begun K V S)
-    (name : Book) (matches : K → Bool) (fed : ℕ) (begun : List (Exchange (Stored K V))) (h : ℕ)
-    (log : List (Event K V S)) (table : Sheet) (met : Met K V) : Type 0 where
-  pub lent : Bor Sheet
-  pub lent_is : lent.now ≡ table
-  pub within : IsWithin met.place
-  pub placed : IsPlaced b (Some name) (Pair met.stored)
-  pub reading : IsReading eq hash b matches fed begun log
-      (lookup_at h b.mode b.limit (Searching (Comparing met.place met.word))) (Some lent)
-      (Some met.stored)

@@ -1,23 +1,20 @@
 //! Lookups, by atomic loads alone. The machine of a lookup stands in the proof: it is answered by
 //! what is loaded.
-ghost use Rattle.std.specs.Prelude.{◌≡◌, ◌<◌, ◌≤◌, Some};
+ghost use Rattle.std.specs.Prelude.{◌≡◌, ◌<◌, ◌≤◌, MatchOption, Some};
 ghost use mathlib.Core.List.{IsPrefix};
 ghost use Rattle.papaya_ask.specs.Search.{IsWithin};
 ghost use Rattle.papaya_call.specs.declared.machine.State.TheVariants.{Searching};
 ghost use Rattle.papaya_ask.specs.declared.search.Search.TheVariants.{Looking, Reading};
-ghost use Rattle.papaya_book.specs.Books.{IsIn, IsLawfulLog};
-ghost use Rattle.papaya_book.specs.declared.rule.entry.Named.TheVariants.{Pair as PairNamed};
+ghost use Rattle.papaya_book.specs.Books.{IsLawfulLog};
 ghost use Rattle.papaya_book.specs.Windows.{IsLawful, Sees};
 ghost use Rattle.papaya_lookup.specs.Answers.{IsAnsweredBetween, IsHitAnsweredBetween};
 ghost use Rattle.papaya_lookup.specs.Answers.{IsPairAnsweredBetween};
 ghost use Rattle.papaya_lookup.specs.History.{history_of};
-ghost use Rattle.papaya_lookup.specs.Drivers.{HasSetAside, HasTurned, Hits, IsAnswer, IsAside};
-ghost use Rattle.papaya_lookup.specs.Drivers.{IsTurned};
-ghost use Rattle.papaya_lookup.specs.Drivers.{Leads, Reads, left_after, past};
-ghost use Rattle.papaya_lookup.specs.Lookups.{left_of, met_in, turn_of};
-ghost use Rattle.papaya_lookup.specs.declared.lookup.Turn.TheVariants.{Next, Over};
+ghost use Rattle.papaya_lookup.specs.Drivers.{Hits, Leads, Reads, left_after, past};
+ghost use Rattle.papaya_lookup.specs.Lookups.{left_of, turn_of};
+ghost use Rattle.papaya_lookup.specs.declared.lookup.Turn.TheVariants.{Next};
 
-use crate::near::{Near, search_slots};
+use crate::near::search_near;
 use papaya_ask::search::{Place, Probed, Search};
 use papaya_book::book::Book;
 use papaya_book::book::gains::named_pair;
@@ -28,7 +25,7 @@ use papaya_book::rule::own::OwnSteps;
 use papaya_book::table::Table;
 use papaya_book::window::Window;
 use papaya_keys::guard::Equivalent;
-use papaya_words::probe::{Probe, ResizeMode};
+use papaya_words::probe::ResizeMode;
 use std::hash::{BuildHasher, Hash, Hasher};
 
 /// What a search has met: a place and the word that stood there, and the pair that it names.
@@ -176,88 +173,6 @@ fn search<'a, K: Hash + Eq, V, S: BuildHasher, Q: Equivalent<K>>(
     }
 }
 
-/// Looks up what `key` matches in the tables behind this one, which does not have it: pairs are
-/// moved to them.
-#[inline(always)]
-fn find_behind<'a, K: Hash + Eq, V, S: BuildHasher, Q: Equivalent<K>>(
-    window: &mut Window<'a, K, V, S>,
-    key: &Q,
-    hash: u64,
-    table: &'a Table<K, V, S>,
-    number: u64,
-) -> Option<Hit<'a, K, V, S>>
-    requires turned { (began : _) × IsTurned (⟦<S as Asked<K, Q>>⟧.query key.now) began window.old
-        hash table.now (Over number) }
-    ensures sees { Sees window.old window.new }
-    ensures own { window.new.own ≡ window.old.own }
-    ensures lawful { IsLawful window.new }
-    ensures answered { (began : _) → IsPrefix began window.old.sight.log
-        → IsTurned (⟦<S as Asked<K, Q>>⟧.query key.now) began window.old hash table.now
-        (Over number) → IsAnswer (⟦<S as Asked<K, Q>>⟧.query key.now) began window.new result }
-{
-    let (mut held, mut passed) = (table, number);
-    loop {
-        match window.book.parts.mode {
-            ResizeMode::Incremental(_) => {}
-            ResizeMode::Blocking => return None,
-        }
-        let (next, behind) = window.next(held, passed);
-        let Some(behind) = behind else {
-            return None;
-        };
-        let (len, limit) = behind.size();
-        let first = Place::first(hash, next, len, limit);
-        match search(window, key, hash, behind, first) {
-            Turn::Found(met, entry) => {
-                return Some(Hit {
-                    table: behind,
-                    met,
-                    key: entry.0,
-                    value: entry.1,
-                    later: true,
-                });
-            }
-            Turn::Over(over) => {
-                held = behind;
-                passed = over;
-            }
-            _ => return None,
-        }
-    }
-}
-
-/// Where the search of the root has led a lookup: to its answer, or to the tables behind.
-#[inline(always)]
-fn follow<'a, K: Hash + Eq, V, S: BuildHasher, Q: Equivalent<K>>(
-    window: &mut Window<'a, K, V, S>,
-    key: &Q,
-    hash: u64,
-    root: &'a Table<K, V, S>,
-    turn: Turn<Met<K, V>, (&'a K, &'a V)>,
-) -> Option<Hit<'a, K, V, S>>
-    requires turned { (began : _) × IsTurned (⟦<S as Asked<K, Q>>⟧.query key.now) began window.old
-        hash root.now turn }
-    requires over { (at : _) → turn ≡ Next at → ⊥ }
-    ensures sees { Sees window.old window.new }
-    ensures own { window.new.own ≡ window.old.own }
-    ensures lawful { IsLawful window.new }
-    ensures answered { (began : _) → IsPrefix began window.old.sight.log
-        → IsTurned (⟦<S as Asked<K, Q>>⟧.query key.now) began window.old hash root.now
-        turn.entry → IsAnswer (⟦<S as Asked<K, Q>>⟧.query key.now) began window.new result }
-{
-    match turn {
-        Turn::Found(met, entry) => Some(Hit {
-            table: root,
-            met,
-            key: entry.0,
-            value: entry.1,
-            later: false,
-        }),
-        Turn::Over(passed) => find_behind(window, key, hash, root, passed),
-        _ => None,
-    }
-}
-
 /// Looks up the pair whose key `key` matches, and tells where it stood. It goes by atomic loads
 /// alone: it waits for nobody and takes no memory.
 ///
@@ -283,14 +198,33 @@ pub fn find<'a, K: Hash + Eq, V, S: BuildHasher, Q: Equivalent<K>>(
     // before it is the root. The answer is the map's at one of these loads.
     window.learn();
     let hash = hash(&window.book.parts.hasher, key);
-    let (number, held) = window.root();
-    let Some(table) = held else {
-        return None;
-    };
-    let (len, limit) = table.size();
-    let first = Place::first(hash, number, len, limit);
-    let turn = search(window, key, hash, table, first);
-    follow(window, key, hash, table, turn)
+    let (root, first) = window.root();
+    let (mut number, mut held) = (root, first);
+    while let Some(table) = held {
+        let (len, limit) = table.size();
+        let first = Place::first(hash, number, len, limit);
+        match search(window, key, hash, table, first) {
+            Turn::Found(met, entry) => {
+                return Some(Hit {
+                    table,
+                    met,
+                    key: entry.0,
+                    value: entry.1,
+                    later: number != root,
+                });
+            }
+            Turn::Over(passed) => match window.book.parts.mode {
+                ResizeMode::Incremental(_) => {
+                    let (next, table) = window.next(table, passed);
+                    number = next;
+                    held = table;
+                }
+                ResizeMode::Blocking => return None,
+            },
+            _ => return None,
+        }
+    }
+    None
 }
 
 /// Looks up what `key` matches, as [`find`] does, and answers its key and its value alone.
@@ -311,143 +245,29 @@ pub fn look_up_pair<'a, K: Hash + Eq, V, S: BuildHasher, Q: Equivalent<K>>(
     }
 }
 
-/// Compares the key of a pair that a search has set aside.
-fn compare<'a, K: Hash + Eq, V, S: BuildHasher, Q: Equivalent<K>>(
-    book: &'a Book<K, V, S>,
-    key: &Q,
-    met: Met<K, V>,
-) -> Turn<Met<K, V>, (&'a K, &'a V)>
-    requires placed { IsIn book.now (PairNamed met.stored) }
-    requires within { IsWithin met.place }
-    ensures { (began : _) (log : _) (hash : _) (table : _) → HasSetAside ⟦<S as Keyed<K>>⟧.keys
-        (⟦<S as Asked<K, Q>>⟧.query key.now) book.now began log hash table met
-        → HasTurned ⟦<S as Keyed<K>>⟧.keys (⟦<S as Asked<K, Q>>⟧.query key.now) book.now began log
-        hash table result }
-{
-    let pair = book.pair(&met.stored);
-    let (stored_key, value) = book.entry(pair);
-    let same = key.equivalent(stored_key);
-    let compared = Search::Comparing(met.place, met.word).at_yes(same);
-    match compared {
-        Probed::Here(..) => {
-            let entry = (stored_key, value);
-            Turn::Found(met, entry)
-        }
-        _ => without(compared),
-    }
-}
-
-/// Goes on with a lookup whose search of the root has set a pair aside: its key is compared, and
-/// the search goes on behind its place.
-#[inline(always)]
-fn go_on<'a, K: Hash + Eq, V, S: BuildHasher, Q: Equivalent<K>>(
-    window: &mut Window<'a, K, V, S>,
-    key: &Q,
-    hash: u64,
-    root: &'a Table<K, V, S>,
-    met: Met<K, V>,
-) -> Option<Hit<'a, K, V, S>>
-    requires aside { (began : _) × IsAside (⟦<S as Asked<K, Q>>⟧.query key.now) began window.old
-        hash root.now met }
-    ensures sees { Sees window.old window.new }
-    ensures own { window.new.own ≡ window.old.own }
-    ensures lawful { IsLawful window.new }
-    ensures answered { (began : _) → IsPrefix began window.old.sight.log
-        → IsAside (⟦<S as Asked<K, Q>>⟧.query key.now) began window.old hash root.now
-        met → IsAnswer (⟦<S as Asked<K, Q>>⟧.query key.now) began window.new result }
-{
-    match compare(window.book, key, met) {
-        Turn::Next(at) => {
-            let turn = search(window, key, hash, root, at);
-            follow(window, key, hash, root, turn)
-        }
-        turned => follow(window, key, hash, root, turned),
-    }
-}
-
-/// The value of what `key` matches, where the search of the root has set a pair aside: the word at
-/// slot `i` named it, and `passed` places came before. It takes no window and no place, so that
-/// those who call it keep theirs in registers.
+/// The value of what `key` matches, by the whole search from the root that is found now. It takes
+/// no window, so that those who call it keep theirs in registers.
 #[cold]
 #[inline(never)]
-fn look_up_aside<'a, K: Hash + Eq, V, S: BuildHasher, Q: Equivalent<K>>(
+fn look_up_anew<'a, K: Hash + Eq, V, S: BuildHasher, Q: Equivalent<K>>(
     book: &'a Book<K, V, S>,
     key: &Q,
     sight: &mut Seen<K, V, S>,
-    hash: u64,
-    root: &'a Table<K, V, S>,
-    number: u64,
-    i: usize,
-    passed: usize,
-    word: u64,
-    stored: Stored<K, V>,
 ) -> Option<&'a V>
-    requires book { sight.old.book ≡ book.now.begun.book }
-    requires aside { (began : _) × HasSetAside ⟦<S as Keyed<K>>⟧.keys
-        (⟦<S as Asked<K, Q>>⟧.query key.now) book.now began sight.old.log hash root.now
-        (met_in root.now number i passed word stored) }
+    requires { sight.old.book ≡ book.now.begun.book }
     ensures book { sight.new.book ≡ sight.old.book }
     ensures seen { IsPrefix sight.old.log sight.new.log }
     ensures lawful { IsLawfulLog ⟦<S as Keyed<K>>⟧.keys book.now sight.new.log }
-    ensures answered { (began : _) → IsPrefix began sight.old.log
-        → HasSetAside ⟦<S as Keyed<K>>⟧.keys (⟦<S as Asked<K, Q>>⟧.query key.now) book.now began
-        sight.old.log hash root.now (met_in root.now number i passed word stored)
-        → IsAnsweredBetween K.eq (Q.matches key.now) (history_of began) (history_of sight.new.log)
-        result }
-{
-    let (len, limit) = root.size();
-    let place = Place {
-        table: number,
-        len,
-        limit,
-        probe: Probe { i, len: passed },
-    };
-    let met = Met {
-        place,
-        word,
-        stored,
-    };
-    let kept = book.keep_root();
-    let own = OwnSteps::nothing();
-    let mut window = Window::new(book, &kept, sight, &own);
-    let found = go_on(&mut window, key, hash, root, met);
-    *sight = window.sight;
-    match found {
-        Some(hit) => Some(hit.value),
-        None => None,
-    }
-}
-
-/// The value of what `key` matches, where the root does not have it. It takes no window either.
-#[cold]
-#[inline(never)]
-fn look_up_behind<'a, K: Hash + Eq, V, S: BuildHasher, Q: Equivalent<K>>(
-    book: &'a Book<K, V, S>,
-    key: &Q,
-    sight: &mut Seen<K, V, S>,
-    hash: u64,
-    root: &'a Table<K, V, S>,
-    number: u64,
-) -> Option<&'a V>
-    requires book { sight.old.book ≡ book.now.begun.book }
-    requires turned { (began : _) × HasTurned ⟦<S as Keyed<K>>⟧.keys
-        (⟦<S as Asked<K, Q>>⟧.query key.now) book.now began sight.old.log hash root.now
-        (Over number) }
-    ensures book { sight.new.book ≡ sight.old.book }
-    ensures seen { IsPrefix sight.old.log sight.new.log }
-    ensures lawful { IsLawfulLog ⟦<S as Keyed<K>>⟧.keys book.now sight.new.log }
-    ensures answered { (began : _) → IsPrefix began sight.old.log → HasTurned ⟦<S as Keyed<K>>⟧.keys
-        (⟦<S as Asked<K, Q>>⟧.query key.now) book.now began sight.old.log hash root.now
-        (Over number) → IsAnsweredBetween K.eq (Q.matches key.now) (history_of began)
+    ensures answered { IsAnsweredBetween K.eq (Q.matches key.now) (history_of sight.old.log)
         (history_of sight.new.log) result }
 {
     let kept = book.keep_root();
     let own = OwnSteps::nothing();
     let mut window = Window::new(book, &kept, sight, &own);
-    let found = find_behind(&mut window, key, hash, root, number);
+    let found = look_up_pair(&mut window, key);
     *sight = window.sight;
     match found {
-        Some(hit) => Some(hit.value),
+        Some((_, value)) => Some(value),
         None => None,
     }
 }
@@ -464,48 +284,14 @@ pub fn look_up<'a, K: Hash + Eq, V, S: BuildHasher, Q: Equivalent<K>>(
     ensures answered { IsAnsweredBetween K.eq (Q.matches key.now) (past window.old)
         (past window.new) result }
 {
-    // Where the search of the root ends without an answer, the rest of the lookup goes on from
-    // there, with the word that was loaded last: no table is searched twice.
-    window.learn();
-    let hash = hash(&window.book.parts.hasher, key);
-    let (number, held) = window.root();
-    let Some(table) = held else {
-        return None;
-    };
-    let (len, limit) = table.size();
-    let first = Place::first(hash, number, len, limit);
-    match search_slots(window, key, hash, table, first) {
-        Near::Found(entry) => Some(entry.1),
-        Near::Aside(met) => {
+    match search_near(window, key) {
+        Some(found) => found,
+        None => {
             let mut sight = window.sight.again();
-            let Met {
-                place,
-                word,
-                stored,
-            } = met;
-            let found = look_up_aside(
-                window.book,
-                key,
-                &mut sight,
-                hash,
-                table,
-                place.table,
-                place.probe.i,
-                place.probe.len,
-                word,
-                stored,
-            );
+            let found = look_up_anew(window.book, key, &mut sight);
             window.sight = sight;
             found
         }
-        Near::Over(passed) => {
-            let mut seen = window.sight.again();
-            let value = look_up_behind(window.book, key, &mut seen, hash, table, passed);
-            window.sight = seen;
-            value
-        }
-        Near::Absent => None,
-        Near::On => None,
     }
 }
 

@@ -1,17 +1,18 @@
-//! The search that most lookups make: a loop over the places of the root alone. It ends at a pair
-//! that a copier moves, at one whose value is another pair's, and at the limit. From there the
-//! lookup goes on as it does in later tables.
-ghost use Rattle.std.specs.Prelude.{◌≡◌, map};
+//! The search that most lookups make: a loop over the places of the root alone. Where a copier was
+//! there, a pair's value is another pair's, or the limit is reached, it gives up, and the whole
+//! search is made.
+ghost use Rattle.std.specs.Prelude.{◌≡◌, MatchOption, map};
 ghost use Rattle.papaya_words.specs.Word.{may_hold};
 ghost use Rattle.papaya_ask.specs.Search.{IsWithin};
 ghost use Rattle.papaya_call.specs.declared.machine.State.TheVariants.{Searching};
 ghost use Rattle.papaya_ask.specs.declared.search.Search.TheVariants.{Looking, Reading};
 ghost use Rattle.papaya_book.specs.Sheets.{word_named};
-ghost use Rattle.papaya_book.specs.Windows.{IsHint, IsSlotWord, Sees};
-ghost use Rattle.papaya_lookup.specs.Drivers.{IsNear, IsReadingAt, IsSlotAt, Reads};
+ghost use Rattle.papaya_book.specs.Windows.{IsHint, IsLawful, IsSlotWord, Sees};
+ghost use Rattle.papaya_lookup.specs.Answers.{IsAnsweredBetween};
+ghost use Rattle.papaya_lookup.specs.Drivers.{IsNear, IsReadingAt, IsSlotAt, Reads, past};
 ghost use Rattle.papaya_lookup.specs.declared.near.Near.TheVariants.{On};
 
-use crate::lookup::Met;
+use crate::lookup::{Met, hash};
 use papaya_ask::ask::At;
 use papaya_ask::search::Place;
 use papaya_book::book::gains::named_pair;
@@ -77,14 +78,12 @@ pub fn word_of<K: Hash + Eq, V, S: BuildHasher>(
 pub(crate) enum Near<M, E> {
     /// The key is not there.
     On,
-    /// A pair with this key and this value has a matching one.
-    Found(E),
+    /// This pair has a matching key: where it was met, and its key and its value.
+    Found(M, E),
     /// No pair has a matching key.
     Absent,
-    /// A copier moves this pair, or its value is another pair's: its key is not compared yet.
-    Aside(M),
-    /// The table of this number does not have the key, but the next may have it.
-    Over(u64),
+    /// A copier was there, or a pair's value is another pair's, so the whole search is to be made.
+    Aside,
 }
 
 /// Whether the word beside this hint is to be loaded, as [`may_hold`] says. Most searches that find
@@ -120,27 +119,21 @@ fn read_slot<'a, K: Hash + Eq, V, S: BuildHasher, Q: Equivalent<K>>(
             let stored = named_pair(word, offer);
             let pair = book.pair(&stored);
             let Some(entry) = book.near_entry(pair) else {
-                return Near::Aside(Met {
-                    place: at,
-                    word,
-                    stored,
-                });
+                return Near::Aside;
             };
             if !key.equivalent(entry.0) {
                 return Near::On;
             }
-            Near::Found(entry)
+            let met = Met {
+                place: at,
+                word,
+                stored,
+            };
+            Near::Found(met, entry)
         }
         Kind::Empty => Near::Absent,
         Kind::Tombstone | Kind::Closed => Near::On,
-        Kind::Marked | Kind::Copied => {
-            let moved = named_pair(word, offer);
-            Near::Aside(Met {
-                place: at,
-                word,
-                stored: moved,
-            })
-        }
+        Kind::Marked | Kind::Copied => Near::Aside,
     }
 }
 
@@ -169,9 +162,10 @@ fn look_at_slot<'a, K: Hash + Eq, V, S: BuildHasher, Q: Equivalent<K>>(
     read_slot(window, key, slot, at)
 }
 
-/// Searches a table from this place on, up to a pair that is set aside.
+/// Searches a table from this place on, as long as no copier was there and the limit is
+/// not reached.
 #[inline(always)]
-pub(crate) fn search_slots<'a, K: Hash + Eq, V, S: BuildHasher, Q: Equivalent<K>>(
+fn search_slots<'a, K: Hash + Eq, V, S: BuildHasher, Q: Equivalent<K>>(
     window: &mut Window<'a, K, V, S>,
     key: &Q,
     hash: u64,
@@ -187,7 +181,8 @@ pub(crate) fn search_slots<'a, K: Hash + Eq, V, S: BuildHasher, Q: Equivalent<K>
     ensures ends { result ≡ On → ⊥ }
     ensures near { (began : _) → IsReadingAt (⟦<S as Asked<K, Q>>⟧.query key.now) began window.old
         hash (Searching (Looking at)) table.now
-        → IsNear (⟦<S as Asked<K, Q>>⟧.query key.now) began window.new hash table.now at result }
+        → (last : _) × IsNear (⟦<S as Asked<K, Q>>⟧.query key.now) began window.new hash table.now
+        last result }
 {
     let slots = slots_of(table);
     let mut place = at;
@@ -198,8 +193,38 @@ pub(crate) fn search_slots<'a, K: Hash + Eq, V, S: BuildHasher, Q: Equivalent<K>
             turned => return turned,
         }
         if place.probe.len >= table.limit() {
-            return Near::Over(place.table);
+            return Near::Aside;
         }
         place.probe.next(place.len - 1);
+    }
+}
+
+/// What a lookup answers by the root alone, or None where the whole search is to be made.
+#[inline(always)]
+pub(crate) fn search_near<'a, K: Hash + Eq, V, S: BuildHasher, Q: Equivalent<K>>(
+    window: &mut Window<'a, K, V, S>,
+    key: &Q,
+) -> Option<Option<&'a V>>
+    ensures sees { Sees window.old window.new }
+    ensures own { window.new.own ≡ window.old.own }
+    ensures lawful { IsLawful window.new }
+    ensures answered { MatchOption result (Unit {0}) (IsAnsweredBetween K.eq (Q.matches key.now)
+        (past window.old) (past window.new)) }
+{
+    window.learn();
+    let hash = hash(&window.book.parts.hasher, key);
+    let (number, held) = window.root();
+    let Some(table) = held else {
+        return None;
+    };
+    let (len, limit) = table.size();
+    let first = Place::first(hash, number, len, limit);
+    match search_slots(window, key, hash, table, first) {
+        Near::Found(_met, entry) => Some(Some(entry.1)),
+        Near::Absent => Some(None),
+        _ => {
+            window.learn();
+            None
+        }
     }
 }

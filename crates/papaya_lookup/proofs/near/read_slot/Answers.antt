@@ -1,14 +1,12 @@
 use Rattle.std.proofs.Common.{◌≡◌, false, true, sym, ap, ◌∙◌, rules}
 use Rattle.papaya_words.specs.Word.{kind_of}
 use Rattle.papaya_words.specs.declared.word.Kind.TheVariants as kinds
-use Rattle.papaya_ask.specs.declared.search.Search.TheVariants.{Comparing}
-use Rattle.papaya_ask.specs.declared.search.Probed.TheVariants.{On}
 use Rattle.papaya_ask.specs.Search.{go_on, look}
 use Rattle.papaya_book.specs.Logs.{exchanges_of}
 use Rattle.papaya_book.specs.Parts.{begun_of}
 use Rattle.papaya_lookup.proofs.Nearing.{looks, meets, none_left, none_there, other_there}
 use Rattle.papaya_lookup.proofs.Readings.{IsQuery}
-use Rattle.papaya_lookup.proofs.Turning.{aside_there, compared_look, pair_found}
+use Rattle.papaya_lookup.proofs.Turning.{pair_found}
 use Rattle.papaya_lookup.proofs.near.read_slot.Goals as goal
 
 pub named_pair-stored-requires : goal.named_pair-stored-requires
@@ -45,13 +43,13 @@ returns-else-not-equivalent-clause-near g c = λ began hash table reading.
     let agrees : c.equivalent.result ≡ true = search rules in
     let key = c.near_entry.ensures.key c.in-Some.entry c.in-Some.is ∙ ap (λ z. z.key.value) c.pair-pair.ensures in
     let value = c.near_entry.ensures.value c.in-Some.entry c.in-Some.is ∙ ap (λ z. z.value) c.pair-pair.ensures in
-    (record { place = c.args.at; word = s.result.0; stored = c.named_pair-stored.result }, rw s.ensures.sees.book (pair_found g.K.PartialEq.eq g.K.Hash.hash_input g.S.BuildHasher.build_hasher g.S.Hasher.Hasher.write
+    rw s.ensures.sees.book (pair_found g.K.PartialEq.eq g.K.Hash.hash_input g.S.BuildHasher.build_hasher g.S.Hasher.Hasher.write
     g.S.Hasher.Hasher.finish g.met.K.Eq.laws g.met.K.Hash.respects_eq (begun_of w.parts) (g.Q.Equivalent.matches c.args.key.now)
     (g.Q.Hash.hash_input c.args.key.now) lawful (exchanges_of began) hash w.begun.book c.args.window.now.sight.log c.args.at
     c.requires.within table reading
     s.new.window.sight.log s.ensures.sees.log s.result.0 s.result.1.state s.ensures.slot c.args.at s.result.0
     (looks c.args.at s.result.0 kinds.Live live) c.named_pair-stored.result c.named_pair-stored.ensures c.equivalent.result same c.args.at
-    s.result.0 (meets c.args.at s.result.0 c.equivalent.result live agrees) _ key value))
+    s.result.0 (meets c.args.at s.result.0 c.equivalent.result live agrees) _ key value)
 
 pub returns-in-Empty-clause-near : goal.returns-in-Empty-clause-near
 returns-in-Empty-clause-near g c = λ began hash table reading.
@@ -77,38 +75,3 @@ returns-in-Tombstone-clause-near g c = λ began hash table reading.
     (g.Q.Hash.hash_input c.args.key.now) lawful (exchanges_of began) hash w.begun.book c.args.window.now.sight.log c.args.at
     c.requires.within table reading
     s.new.window.sight.log s.ensures.sees.log s.result.0 s.result.1.state s.ensures.slot is)
-
-pub named_pair-moved-requires : goal.named_pair-moved-requires
-named_pair-moved-requires g c =
-    let s = c.word_of-word in
-    let is : look c.args.at s.result.0 ≡ On (Comparing c.args.at s.result.0) = search rules in
-    let k = compared_look (kind_of s.result.0) c.args.at s.result.0 c.args.at s.result.0 is in
-    s.ensures.slot.some k.some k.shut
-
-pub returns-in_default-clause-near : goal.returns-in_default-clause-near
-returns-in_default-clause-near g c = λ began hash table reading.
-    let lawful : IsQuery g.K.PartialEq.eq g.K.Hash.hash_input (g.Q.Equivalent.matches c.args.key.now) (g.Q.Hash.hash_input c.args.key.now) =
-    record { feeds = g.met.Q.Equivalent.hashes_as_key c.args.key.now; class = λ k l. g.met.Q.Equivalent.matches_equal_keys c.args.key.now k l } in
-    let w = c.args.window.now.book.now in
-    let s = c.word_of-word in
-    let live : kind_of s.result.0 ≡ kinds.Live = sym c.kind.ensures ∙ c.in-Live.is in
-    rw s.ensures.sees.book (aside_there g.K.PartialEq.eq g.K.Hash.hash_input g.S.BuildHasher.build_hasher g.S.Hasher.Hasher.write
-    g.S.Hasher.Hasher.finish g.met.K.Eq.laws g.met.K.Hash.respects_eq (begun_of w.parts) (g.Q.Equivalent.matches c.args.key.now)
-    (g.Q.Hash.hash_input c.args.key.now) lawful (exchanges_of began) hash w.begun.book c.args.window.now.sight.log c.args.at
-    c.requires.within table reading
-    s.new.window.sight.log s.ensures.sees.log s.result.0 s.result.1.state s.ensures.slot c.args.at s.result.0
-    (looks c.args.at s.result.0 kinds.Live live) c.named_pair-stored.result c.named_pair-stored.ensures)
-
-pub returns-in-Marked-clause-near : goal.returns-in-Marked-clause-near
-returns-in-Marked-clause-near g c = λ began hash table reading.
-    let lawful : IsQuery g.K.PartialEq.eq g.K.Hash.hash_input (g.Q.Equivalent.matches c.args.key.now) (g.Q.Hash.hash_input c.args.key.now) =
-    record { feeds = g.met.Q.Equivalent.hashes_as_key c.args.key.now; class = λ k l. g.met.Q.Equivalent.matches_equal_keys c.args.key.now k l } in
-    let w = c.args.window.now.book.now in
-    let s = c.word_of-word in
-    let is : look c.args.at s.result.0 ≡ On (Comparing c.args.at s.result.0) = search rules in
-    rw s.ensures.sees.book (aside_there g.K.PartialEq.eq g.K.Hash.hash_input g.S.BuildHasher.build_hasher g.S.Hasher.Hasher.write
-    g.S.Hasher.Hasher.finish g.met.K.Eq.laws g.met.K.Hash.respects_eq (begun_of w.parts) (g.Q.Equivalent.matches c.args.key.now)
-    (g.Q.Hash.hash_input c.args.key.now) lawful (exchanges_of began) hash w.begun.book c.args.window.now.sight.log c.args.at
-    c.requires.within table reading
-    s.new.window.sight.log s.ensures.sees.log s.result.0 s.result.1.state s.ensures.slot c.args.at s.result.0
-    is c.named_pair-moved.result c.named_pair-moved.ensures)

@@ -1,4 +1,4 @@
-use Rattle.std.proofs.Common.{◌≡◌, ℕ, ◌+◌, ◌-◌, ◌%◌, ◌<◌, nat_lt, true, false, List, length, refl, sym, ap, ◌∙◌, subst, arith, rules, slice_index_or}
+use Rattle.std.proofs.Common.{◌≡◌, ℕ, ◌+◌, ◌-◌, ◌%◌, ◌<◌, nat_lt, true, List, length, refl, sym, ap, ◌∙◌, subst, arith, rules, slice_index_or}
 use Rattle.logbook.specs.Pages.{Named}
 use Rattle.std.specs.Int.{IsPowerOfTwo}
 use Rattle.papaya_ask.specs.Search.{next_place}
@@ -6,22 +6,11 @@ use Rattle.papaya_book.specs.Logs.{exchanges_of}
 use Rattle.papaya_book.specs.Parts.{begun_of}
 use Rattle.papaya_book.proofs.Logs.{prefix_trans}
 use Rattle.papaya_book.proofs.Windows.{sees_trans}
-use Rattle.papaya_lookup.proofs.Nearing.{ends_at, went_on, went_over}
+use Rattle.papaya_lookup.proofs.Nearing.{went_on}
 use Rattle.papaya_lookup.proofs.Readings.{IsQuery}
 use Rattle.papaya_lookup.proofs.Slots.{named_at, named_len}
 use Rattle.papaya_lookup.proofs.Turning.{hint_there}
-use Rattle.papaya_book.specs.Hashes.{hash_of}
-use Rattle.papaya_book.specs.Keys.{Query}
-use Rattle.papaya_lookup.specs.Drivers.{IsAside, IsTurned}
 use Rattle.papaya_lookup.proofs.near.search_slots.Goals as goal
-use Rattle.papaya_lookup.proofs.near.search_slots.Given.{Over}
-
--- what the key asks
-abbrev query : (g : Over) → g.row.Q.Denot → Query g.row.K.Denot g.row.S.Denot
-query g key = record {
-  matches = g.Q.Equivalent.matches key;
-  hash = λ s. hash_of g.Q.Hash.hash_input g.S.BuildHasher.build_hasher g.S.Hasher.Hasher.write g.S.Hasher.Hasher.finish s key;
-}
 
 pub offset_bounds-slots-place : goal.offset_bounds-slots-place
 offset_bounds-slots-place g c =
@@ -75,8 +64,7 @@ loop-turned-preserved g c =
     (λ (n : ℕ). IsPowerOfTwo n → c.next.new.self.i ≡ (at.probe.i + at.probe.len + 1) % n) slots c.next.ensures.place within.size.power in
     let is : record at { probe = c.next.new.self } ≡ next_place at = search (rules, next) in (
       λ began reading. let u = c.loop-turned.invariant.0 began reading in
-          went_on (IsTurned (query g c.args.key.now) began c.look_at_slot.new.window c.args.hash c.args.table.now)
-          (IsAside (query g c.args.key.now) began c.look_at_slot.new.window c.args.hash c.args.table.now) at _ c.look_at_slot.result c.in-On.is more is (looked.near began c.args.table.now (u.lent, u.lent_is, u.pair, u.reading)),
+          went_on _ at _ c.look_at_slot.result c.in-On.is more is (looked.near began c.args.table.now (u.lent, u.lent_is, u.pair, u.reading)),
       c.loop-turned.invariant.1,
       record { book = looked.sees.book ∙ seen.book; log = prefix_trans _ _ _ seen.log looked.sees.log },
       looked.own ∙ c.loop-turned.invariant.3,
@@ -90,16 +78,5 @@ returns-in_default g c =
       own = looked.own ∙ inv.3;
       ends = c.in_default.not-On;
       near = λ began reading. let t = inv.0 began reading in
-          ends_at (IsTurned (query g c.args.key.now) began c.look_at_slot.new.window c.args.hash c.args.table.now)
-          (IsAside (query g c.args.key.now) began c.look_at_slot.new.window c.args.hash c.args.table.now) c.loop-turned.place c.args.at c.look_at_slot.result c.in_default.not-On
-          (looked.near began c.args.table.now (t.lent, t.lent_is, t.pair, t.reading));
+          (c.loop-turned.place, looked.near began c.args.table.now (t.lent, t.lent_is, t.pair, t.reading));
     }
-
-pub returns-then-place-limit-clause-near : goal.returns-then-place-limit-clause-near
-returns-then-place-limit-clause-near g c = λ began reading.
-    let at = c.loop-turned.place in
-    let last : nat_lt at.probe.len at.limit ≡ false = search rules in
-    let t = c.loop-turned.invariant.0 began reading in
-    went_over (IsTurned (query g c.args.key.now) began c.look_at_slot.new.window c.args.hash c.args.table.now)
-          (IsAside (query g c.args.key.now) began c.look_at_slot.new.window c.args.hash c.args.table.now) at c.look_at_slot.result c.in-On.is last
-    (c.look_at_slot.ensures.near began c.args.table.now (t.lent, t.lent_is, t.pair, t.reading))
