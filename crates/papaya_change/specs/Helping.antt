@@ -160,8 +160,8 @@ module _ {K V S H : Type 0} (eq : K → K → Bool) (hash : S → K → ℕ) (b 
   pub record HasCopied (matches : K → Bool) (fed : ℕ) (k : Option K) (begun : List (Event K V S))
       (made : List (Stored K V)) (log : List (Event K V S)) (c c' : Driver K V S H)
       (answer : Answer) : Type 0 where
-    pub relies : IsSetAside eq hash b name matches fed k begun log (after c.machine answer) c'.copier.last
-        c'.copier.kept made c'.taken c'.put c'.copier.fresh
+    pub relies : IsSetAside eq hash b name matches fed k begun log (after c.machine answer)
+        c'.copier.last c'.copier.kept made c'.taken c'.put c'.copier.fresh
     pub leads : IsAside c.machine (after c.machine answer)
         ⊎ IsLed c.machine (after c.machine answer) (tables_of log) c'.copier.given.done
 

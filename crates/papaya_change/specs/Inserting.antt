@@ -52,7 +52,8 @@ module _ {K V S H : Type 0} (eq : K → K → Bool) (hash : S → K → ℕ) (b 
     pub refuses : (cause : Cause) → ask_of x.writer.call.machine ≡ Call (Done (Refused cause))
         → IsMemoryCapacityOrLimit cause
     pub crowded : ask_of x.writer.call.machine ≡ Call (Done (Refused Capacity))
-        → HasNoRoom x.writer.call.machine.call.initial (tables_of log) x.writer.call.copier.given.done
+        → HasNoRoom x.writer.call.machine.call.initial (tables_of log)
+        x.writer.call.copier.given.done
     pub spent : ask_of x.writer.call.machine ≡ Call (Done (Refused Limit)) → IsSpent b.limit log
 
   -- the insertion after its machine was answered

@@ -227,7 +227,15 @@ impl<'a, K: Hash + Eq + Drop, V: Drop, S: BuildHasher> Writer<'a, K, V, S> {
         requires size { IsSize len limit }
         ensures steps { Steps window.old self.old window.new self.new result }
     {
-        let made = window.make_table(rt, alloc, len, limit, chunks, None, &mut self.call.copier.given);
+        let made = window.make_table(
+            rt,
+            alloc,
+            len,
+            limit,
+            chunks,
+            None,
+            &mut self.call.copier.given,
+        );
         window.learn();
         match made {
             Ok((table, seal)) => {

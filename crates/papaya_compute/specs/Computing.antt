@@ -199,7 +199,8 @@ module _ {K V S H T : Type 0} (eq : K → K → Bool) (hash : S → K → ℕ) (
     pub refuses : (refused : Refused) → ask_of x.writer.call.machine
         ≡ Call (Done (reply.Refused refused)) → IsRefusedBy heard refused
     pub crowded : ask_of x.writer.call.machine ≡ Call (Done (reply.Refused Capacity))
-        → HasNoRoom x.writer.call.machine.call.initial (tables_of log) x.writer.call.copier.given.done
+        → HasNoRoom x.writer.call.machine.call.initial (tables_of log)
+        x.writer.call.copier.given.done
     pub spent : ask_of x.writer.call.machine ≡ Call (Done (reply.Refused Limit))
         → IsSpent b.limit log
 

@@ -28,7 +28,8 @@ abbrev pub HasTried : {K V S H : Type 0} → (found old : ℕ) → (pair put : O
     → Driver K V S H → Driver K V S H → Answer → Type 0
 HasTried found old pair put c c' answer = MatchBool (found == old)
     ((answer ≡ Exchanged) × (c' ≡ record c { taken = pair; put = put }))
-    ((answer ≡ Found found) × (c' ≡ record c { copier = record c.copier { last = or_last pair c.copier.last } }))
+    ((answer ≡ Found found)
+    × (c' ≡ record c { copier = record c.copier { last = or_last pair c.copier.last } }))
 
 module _ {K V S H : Type 0} {d : keyed.Ghosts S K H} where
   -- a pair was loaded last

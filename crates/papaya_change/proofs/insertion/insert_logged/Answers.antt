@@ -46,11 +46,11 @@ drive-requires-clause-can g c =
       log,
       begins_logged g.K.PartialEq.eq hash (begun_of w.parts) w.begun.book (key_of q) q placed
           (g.met.K.Eq.laws.refl (key_of q)) log _ c.learn.ensures.lawful c.args.means.now.initial (ap (λ z. z.table) stood ∙ empty.table.0, ap (λ z. z.copier.fresh) stood ∙ empty.table.1) (
-        ap (λ z. z.copier.last) stood ∙ empty.pairs.0,
-        ap (λ z. z.copier.kept) stood ∙ empty.pairs.1,
-        ap (λ z. z.taken) stood ∙ empty.pairs.2,
-        ap (λ z. z.put) stood ∙ empty.pairs.3,
-      )
+            ap (λ z. z.copier.last) stood ∙ empty.pairs.0,
+            ap (λ z. z.copier.kept) stood ∙ empty.pairs.1,
+            ap (λ z. z.taken) stood ∙ empty.pairs.2,
+            ap (λ z. z.put) stood ∙ empty.pairs.3,
+          )
           has_key
           has_value
           value_is refl there refl c.begin-insertion.ensures.made.1,
@@ -82,11 +82,11 @@ returns-clause-put g c =
     c.learn.ensures.sees.log (h (key_of q) q.value.value log
     (begins_logged g.K.PartialEq.eq hash (begun_of w.parts) w.begun.book (key_of q) q placed (g.met.K.Eq.laws.refl (key_of q)) log _
     c.learn.ensures.lawful c.args.means.now.initial (ap (λ z. z.table) stood ∙ empty.table.0, ap (λ z. z.copier.fresh) stood ∙ empty.table.1) (
-        ap (λ z. z.copier.last) stood ∙ empty.pairs.0,
-        ap (λ z. z.copier.kept) stood ∙ empty.pairs.1,
-        ap (λ z. z.taken) stood ∙ empty.pairs.2,
-        ap (λ z. z.put) stood ∙ empty.pairs.3,
-      )
+      ap (λ z. z.copier.last) stood ∙ empty.pairs.0,
+      ap (λ z. z.copier.kept) stood ∙ empty.pairs.1,
+      ap (λ z. z.taken) stood ∙ empty.pairs.2,
+      ap (λ z. z.put) stood ∙ empty.pairs.3,
+    )
     has_key
     has_value
     value_is refl there refl c.begin-insertion.ensures.made.1)))

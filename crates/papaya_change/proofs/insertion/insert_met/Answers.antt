@@ -55,11 +55,11 @@ drive-requires-clause-can g c =
       log,
       begins_met g.K.PartialEq.eq hash (begun_of w.parts) w.begun.book c.args.key q placed c.requires.same log _
           c.learn.ensures.lawful c.args.means.now.initial (ap (λ z. z.table) stood ∙ empty.table.0, ap (λ z. z.copier.fresh) stood ∙ empty.table.1) (
-        ap (λ z. z.copier.last) stood ∙ empty.pairs.0,
-        ap (λ z. z.copier.kept) stood ∙ empty.pairs.1,
-        ap (λ z. z.taken) stood ∙ empty.pairs.2,
-        ap (λ z. z.put) stood ∙ empty.pairs.3,
-      ) has_key
+            ap (λ z. z.copier.last) stood ∙ empty.pairs.0,
+            ap (λ z. z.copier.kept) stood ∙ empty.pairs.1,
+            ap (λ z. z.taken) stood ∙ empty.pairs.2,
+            ap (λ z. z.put) stood ∙ empty.pairs.3,
+          ) has_key
           has_value
           value_is c.args.write.place.table c.args.write.place.probe.i met there c.begin-insertion.ensures.made.0 refl,
     )
@@ -98,10 +98,10 @@ returns-clause-put g c =
     c.learn.ensures.sees.log (h c.args.key q.value.value log
     (begins_met g.K.PartialEq.eq hash (begun_of w.parts) w.begun.book c.args.key q placed c.requires.same log _ c.learn.ensures.lawful
     c.args.means.now.initial (ap (λ z. z.table) stood ∙ empty.table.0, ap (λ z. z.copier.fresh) stood ∙ empty.table.1) (
-        ap (λ z. z.copier.last) stood ∙ empty.pairs.0,
-        ap (λ z. z.copier.kept) stood ∙ empty.pairs.1,
-        ap (λ z. z.taken) stood ∙ empty.pairs.2,
-        ap (λ z. z.put) stood ∙ empty.pairs.3,
-      ) has_key
+      ap (λ z. z.copier.last) stood ∙ empty.pairs.0,
+      ap (λ z. z.copier.kept) stood ∙ empty.pairs.1,
+      ap (λ z. z.taken) stood ∙ empty.pairs.2,
+      ap (λ z. z.put) stood ∙ empty.pairs.3,
+    ) has_key
     has_value
     value_is c.args.write.place.table c.args.write.place.probe.i met there c.begin-insertion.ensures.made.0 refl)))
