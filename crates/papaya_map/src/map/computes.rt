@@ -1,6 +1,6 @@
 //! The calls whose closure answers what becomes of a key's pair: by a pass, without one, and by
 //! a guard.
-ghost use Rattle.std.specs.Prelude.{◌≡◌, Err, Some, []};
+ghost use Rattle.std.specs.Prelude.{◌≡◌, Err, IsSome, Some, []};
 ghost use Rattle.std.specs.Borrow.{sem};
 ghost use mathlib.Core.List.{IsPrefix};
 ghost use Rattle.papaya_book.specs.Limits.{HasNoRoom};

@@ -1,5 +1,5 @@
 //! The first halves of the calls whose closure answers what becomes of a key's pair.
-ghost use Rattle.std.specs.Prelude.{◌≡◌, Err};
+ghost use Rattle.std.specs.Prelude.{◌≡◌, Err, IsSome};
 ghost use mathlib.Core.List.{IsPrefix};
 ghost use Rattle.papaya_change.specs.Showings.{Operates};
 ghost use Rattle.papaya_compute.specs.ComputeAnswers.{IsComputeBy};
