@@ -274,7 +274,7 @@ fn lines_of_shared_growth(rt: HostRuntime) -> Result<(), Fail> {
     are_lines(&rt, printed.as_slice(), &SHARED_GROWTH)?;
     for line in 0..2 {
         // Of 40 times the 40th stands at p99 and at p99.9, and is the greatest.
-        rises(&rt, printed.as_slice(), line, &[4, 5, 6, 3, 5])?;
+        rises(&rt, printed.as_slice(), line, &[4, 5, 6, 3, 6, 5])?;
     }
     Ok(())
 }
