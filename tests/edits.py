@@ -41,8 +41,13 @@ def extents(lines, name):
 
 def is_of_trait(lines, head):
     """Does the function that begins here stand in a trait, or in an `impl` of one?"""
-    blocks = [it for it in lines[:head] if re.match(r"(impl|(pub(\(.*?\))? )?trait)\b", it)]
-    return lines[head].startswith(" ") and bool(re.match(r"impl\b.* for |.*\btrait ", blocks[-1]))
+    if not lines[head].startswith(" "):
+        return False
+    begins = max(at for at in range(head) if re.match(r"(impl|(pub(\(.*?\))? )?trait)\b", lines[at]))
+    # (a long head goes on in further lines)
+    ends = next(at for at in range(begins, head) if lines[at].endswith("{"))
+    block = " ".join(it.strip() for it in lines[begins : ends + 1])
+    return bool(re.match(r"impl\b.* for |.*\btrait ", block))
 
 
 class Edit(Change):
