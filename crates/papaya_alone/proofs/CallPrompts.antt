@@ -17,14 +17,14 @@ use Rattle.papaya_call.specs.declared.machine.Machine.{Machine}
 use Rattle.papaya_call.specs.declared.machine.State.{State as Stage}
 use Rattle.papaya_call.specs.declared.machine.State.TheVariants.{AtRoot, Making, Opening, Searching}
 use Rattle.papaya_call.specs.declared.machine.State.TheVariants.{Writing, Offering, Showing}
-use Rattle.papaya_call.specs.declared.machine.State.TheVariants.{Pairing, Putting, Deleting}
+use Rattle.papaya_call.specs.declared.machine.State.TheVariants.{Pairing, Putting, Burying}
 use Rattle.papaya_call.specs.declared.machine.State.TheVariants.{Counting, Noting, Uncounting}
 use Rattle.papaya_call.specs.declared.machine.State.TheVariants.{Leaving, Growing, Ended}
 use Rattle.papaya_call.specs.declared.made.Made.{Made}
 use Rattle.papaya_call.specs.Machine.{ask_of, asks, kind_of_ask}
 use Rattle.papaya_law.specs.Allows.{AllAllowed}
 use Rattle.papaya_law.specs.Code.{Coding, IsHashed, code}
-use Rattle.papaya_law.specs.Exchange.{Word, Live, Setting, State, Exchange, Delete, after, run, slot_put, start}
+use Rattle.papaya_law.specs.Exchange.{Word, Live, Setting, State, Exchange, Bury, after, run, slot_put, start}
 use Rattle.papaya_law.specs.Invariant.{IsKeeping}
 use Rattle.papaya_law.specs.Meaning.{map_left}
 use Rattle.papaya_law.proofs.Codes.{code_pair}
@@ -68,9 +68,9 @@ module _ {K P : Type 0} (g : Setting K P) (c : Coding K P) (s : State P) (k : K)
       ap (λ y. word_of g c (after s y) a) is ∙ slots_alike t x (Live p) (Live q) (own_alike new p q own own') a ∙ sym (ap (λ y. word_of g c (after s y) a) is')
   asked_alike (Some kinds.Replace) (words_at.Slot t x) new e e' (o, p, live, own, same, is) (o', q, live', own', same', is') a =
       ap (λ y. word_of g c (after s y) a) is ∙ slots_alike t x (Live p) (Live q) (own_alike new p q own own') a ∙ sym (ap (λ y. word_of g c (after s y) a) is')
-  asked_alike (Some kinds.Delete) (words_at.Slot t x) new e e' (p, live, is) (q, live', is') a =
+  asked_alike (Some kinds.Bury) (words_at.Slot t x) new e e' (p, live, is) (q, live', is') a =
       let same : p ≡ q = cc (live, live') in
-      ap (λ y. word_of g c (after s y) a) (is ∙ ap (Delete t x) same ∙ sym is')
+      ap (λ y. word_of g c (after s y) a) (is ∙ ap (Bury t x) same ∙ sym is')
   asked_alike (Some kinds.Take) words_at.Made new e e' h i a = ap (λ y. word_of g c (after s y) a) (h ∙ sym i)
   asked_alike kind at new e e' h i a = absurd h
 
@@ -105,7 +105,7 @@ module _ {K P : Type 0} (g : Setting K P) (c : Coding K P) (hashed : IsHashed g 
     compared_in made (Showing removal) x n e = absurd cc
     compared_in made (Pairing purpose) x n e = absurd (subst IsPairAsk e (pairing_asks made purpose))
     compared_in made (Putting put) x n e = absurd cc
-    compared_in made (Deleting removal) x n e = absurd cc
+    compared_in made (Burying removal) x n e = absurd cc
     compared_in made (Counting i) x n e = absurd cc
     compared_in made (Noting i) x n e = absurd cc
     compared_in made (Uncounting i) x n e = absurd cc

@@ -41,7 +41,7 @@ use Rattle.papaya_call.specs.declared.machine.Machine.{Machine}
 use Rattle.papaya_call.specs.declared.machine.State.{State}
 use Rattle.papaya_call.specs.declared.machine.State.TheVariants.{AtRoot, Making, Opening, Searching}
 use Rattle.papaya_call.specs.declared.machine.State.TheVariants.{Writing, Offering, Showing}
-use Rattle.papaya_call.specs.declared.machine.State.TheVariants.{Pairing, Putting, Deleting}
+use Rattle.papaya_call.specs.declared.machine.State.TheVariants.{Pairing, Putting, Burying}
 use Rattle.papaya_call.specs.declared.machine.State.TheVariants.{Counting, Noting, Uncounting}
 use Rattle.papaya_call.specs.declared.machine.State.TheVariants.{Leaving, Growing, Ended}
 use Rattle.papaya_ask.specs.Search.{IsSize, next_place, go_on, look_at, match_at, look, at_yes as search_compared, hinted}
@@ -104,7 +104,7 @@ look_sees word_kinds.Empty at word = (omega arith, refl)
 look_sees word_kinds.Live at word = (omega arith, refl)
 look_sees word_kinds.Marked at word = (omega arith, refl)
 look_sees word_kinds.Copied at word = (omega arith, refl)
-look_sees word_kinds.Tombstone at word = let f = go_on_sees at in let l = f.0 in (omega (arith, l), f.1)
+look_sees word_kinds.Buried at word = let f = go_on_sees at in let l = f.0 in (omega (arith, l), f.1)
 look_sees word_kinds.Closed at word = let f = go_on_sees at in let l = f.0 in (omega (arith, l), f.1)
 
 -- a matching key ends the search
@@ -113,7 +113,7 @@ match_sees word_kinds.Empty at word = (omega arith, refl)
 match_sees word_kinds.Live at word = (omega arith, refl)
 match_sees word_kinds.Marked at word = (omega arith, refl)
 match_sees word_kinds.Copied at word = (omega arith, refl)
-match_sees word_kinds.Tombstone at word = (omega arith, refl)
+match_sees word_kinds.Buried at word = (omega arith, refl)
 match_sees word_kinds.Closed at word = (omega arith, refl)
 
 -- and one that was compared
@@ -171,7 +171,7 @@ module _ (made : Made) (how : ResizeMode) (words : At → ℕ) where
   replaces_leads word_kinds.Live at word h = (omega (arith, write_most made (record { place = at; old = word })), tt)
   replaces_leads word_kinds.Marked at word h = (omega arith, h)
   replaces_leads word_kinds.Copied at word h = (omega arith, h)
-  replaces_leads word_kinds.Tombstone at word h = (omega arith, h)
+  replaces_leads word_kinds.Buried at word h = (omega arith, h)
   replaces_leads word_kinds.Closed at word h = (omega arith, h)
 
   -- or removed
@@ -180,7 +180,7 @@ module _ (made : Made) (how : ResizeMode) (words : At → ℕ) where
   removes_leads word_kinds.Live at word h = (omega arith, tt)
   removes_leads word_kinds.Marked at word h = (omega arith, h)
   removes_leads word_kinds.Copied at word h = (omega arith, h)
-  removes_leads word_kinds.Tombstone at word h = (omega arith, h)
+  removes_leads word_kinds.Buried at word h = (omega arith, h)
   removes_leads word_kinds.Closed at word h = (omega arith, h)
 
   -- what is remembered of a pair is done, or its closure is shown it
@@ -195,7 +195,7 @@ module _ (made : Made) (how : ResizeMode) (words : At → ℕ) where
       (λ _. (omega arith, tt))
   recalls_leads (Some (choices.Remove old)) at word n =
       let removal : Removal = record { place = at; word = word } in
-      cond_both (old == n) (Deleting removal) (Showing removal) (Leads (rank 2 0 0)) (λ _. (omega arith, tt)) (λ _. (omega arith, tt))
+      cond_both (old == n) (Burying removal) (Showing removal) (Leads (rank 2 0 0)) (λ _. (omega arith, tt)) (λ _. (omega arith, tt))
 
   -- or shown to a closure
   computes_leads : (kind : Kind) (held : Remembered) (at : Place) (word : ℕ) → IsAhead how words at.table
@@ -205,7 +205,7 @@ module _ (made : Made) (how : ResizeMode) (words : At → ℕ) where
       (recalls_leads held.choice at word (pair_of word))
   computes_leads word_kinds.Marked held at word h = (omega arith, h)
   computes_leads word_kinds.Copied held at word h = (omega arith, h)
-  computes_leads word_kinds.Tombstone held at word h = (omega arith, h)
+  computes_leads word_kinds.Buried held at word h = (omega arith, h)
   computes_leads word_kinds.Closed held at word h = (omega arith, h)
 
   -- a pair that was made goes where its key is absent
@@ -483,10 +483,10 @@ module _ (words words' : At → ℕ) (m : Machine) where
       let f = written_leads made m.mode words' put.write put.pair in
       let l = f.0 in
       subst (Ends made (Putting put)) (sym done.0) (inr (omega (arith, l)), f.1)
-  ends_in made (Deleting removal) answer known read h number told =
+  ends_in made (Burying removal) answer known read h number told =
       let at : At = Slot removal.place.table removal.place.probe.i in
       let done : (answer ≡ Exchanged) × IsPut words at _ words' = exchange_done _ _ (words at) removal.word read told in
-      subst (Ends made (Deleting removal)) (sym done.0) (inr (omega arith), tt)
+      subst (Ends made (Burying removal)) (sym done.0) (inr (omega arith), tt)
   ends_in made (Counting n) answer known read h number told = subst (Ends made (Counting n)) (sym told.0) (inr (omega arith), tt)
   ends_in made (Noting n) answer known read h number told = subst (Ends made (Noting n)) (sym told.0) (inr (omega arith), tt)
   ends_in made (Uncounting n) answer known read h number told = subst (Ends made (Uncounting n)) (sym told.0) (inr (omega arith), tt)

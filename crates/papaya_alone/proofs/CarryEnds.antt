@@ -118,7 +118,7 @@ module _ (mode : ResizeMode) (words : At → ℕ) (bare : IsBare words) (slot : 
   look_within word_kinds.Live hash at found stands none here = (omega arith, (h, here))
   look_within word_kinds.Marked hash at found stands none here = (omega arith, (h, here))
   look_within word_kinds.Copied hash at found stands none here = (omega arith, (h, here))
-  look_within word_kinds.Tombstone hash at found stands none here = (omega arith, (h, here))
+  look_within word_kinds.Buried hash at found stands none here = (omega arith, (h, here))
   look_within word_kinds.Closed hash at found stands none here = let f = goes_within hash at here in let l = f.0 in (omega (arith, l), f.1)
 
   -- the keys match, or they do not

@@ -15,7 +15,7 @@ use Rattle.papaya_chain.specs.declared.ask.Answer.{Answer}
 use Rattle.papaya_chain.specs.declared.ask.Answer.TheVariants as answers
 use Rattle.papaya_law.specs.Allows.{Allows}
 use Rattle.papaya_law.specs.Code.{Coding, IsHashed, code, kind}
-use Rattle.papaya_law.specs.Exchange.{Word, Empty, Closed, Live, Marked, Copied, Tombstone, Setting, State, Exchange, after, run}
+use Rattle.papaya_law.specs.Exchange.{Word, Empty, Closed, Live, Marked, Copied, Buried, Setting, State, Exchange, after, run}
 use Rattle.papaya_law.specs.Invariant.{IsKeeping}
 use Rattle.papaya_law.proofs.Chain.{next_on}
 use Rattle.papaya_law.proofs.Codes.{code_kind}
@@ -40,7 +40,7 @@ module _ {K P : Type 0} (g : Setting K P) (c : Coding K P) (s : State P) where
   empty_none (Live p) e = absurd cc
   empty_none (Marked p) e = absurd cc
   empty_none (Copied p) e = absurd cc
-  empty_none (Tombstone p) e = absurd cc
+  empty_none (Buried p) e = absurd cc
 
   -- so the words are bare
   pub words_bare : IsBare (word_of g c s)

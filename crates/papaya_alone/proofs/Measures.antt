@@ -11,7 +11,7 @@ use Rattle.papaya_call.specs.declared.compute.Purpose.TheVariants as purposes
 use Rattle.papaya_call.specs.declared.machine.State.{State}
 use Rattle.papaya_call.specs.declared.machine.State.TheVariants.{AtRoot, Making, Opening, Searching}
 use Rattle.papaya_call.specs.declared.machine.State.TheVariants.{Writing, Offering, Showing}
-use Rattle.papaya_call.specs.declared.machine.State.TheVariants.{Pairing, Putting, Deleting}
+use Rattle.papaya_call.specs.declared.machine.State.TheVariants.{Pairing, Putting, Burying}
 use Rattle.papaya_call.specs.declared.machine.State.TheVariants.{Counting, Noting, Uncounting}
 use Rattle.papaya_call.specs.declared.machine.State.TheVariants.{Leaving, Growing, Ended}
 use Rattle.papaya_call.specs.declared.made.Made.{Made}
@@ -66,7 +66,7 @@ state_small task made (Offering (gaps.After t)) h = omega arith
 state_small task made (Showing removal) h = omega arith
 state_small task made (Pairing purpose) h = serve_small made purpose
 state_small task made (Putting put) h = omega arith
-state_small task made (Deleting removal) h = omega arith
+state_small task made (Burying removal) h = omega arith
 state_small task made (Counting n) h = omega arith
 state_small task made (Noting n) h = omega arith
 state_small task made (Uncounting n) h = omega arith

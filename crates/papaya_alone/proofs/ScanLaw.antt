@@ -22,7 +22,7 @@ use Rattle.papaya_chain.specs.Resizer as resizers
 use Rattle.papaya_law.specs.Allows.{AllAllowed}
 use Rattle.papaya_law.specs.Class.{IsOn}
 use Rattle.papaya_law.specs.Code.{Coding, IsHashed, code, kind}
-use Rattle.papaya_law.specs.Exchange.{Word, Empty, Closed, Live, Marked, Copied as Copied_word, Tombstone, Setting, State as Words, Exchange, Delete, run}
+use Rattle.papaya_law.specs.Exchange.{Word, Empty, Closed, Live, Marked, Copied as Copied_word, Buried, Setting, State as Words, Exchange, Bury, run}
 use Rattle.papaya_law.specs.Invariant.{IsKeeping, shut}
 use Rattle.papaya_law.specs.Meaning.{map_of}
 use Rattle.papaya_law.proofs.Codes.{code_kind}
@@ -42,12 +42,12 @@ use Rattle.papaya_chain.specs.declared.scan_ask.ScanAsk.{ScanAsk}
 use Rattle.papaya_chain.specs.declared.scan_ask.ScanAsk.TheVariants.{Copy}
 use Rattle.papaya_chain.specs.declared.scanner.Spot.{Spot}
 use Rattle.papaya_chain.specs.declared.scanner.State.{State}
-use Rattle.papaya_chain.specs.declared.scanner.State.TheVariants.{Copying, AtRoot, Sizing, Looking, Giving, Showing, Deleting, Uncounting, Done, Refused}
+use Rattle.papaya_chain.specs.declared.scanner.State.TheVariants.{Copying, AtRoot, Sizing, Looking, Giving, Showing, Burying, Uncounting, Done, Refused}
 use Rattle.papaya_chain.specs.declared.scanner.Scan.{Scan}
 use Rattle.papaya_chain.specs.declared.scanner.Scan.TheVariants.{Clear, Retain, Walk}
 use Rattle.papaya_chain.specs.declared.scanner.Scanner.{Scanner}
-use Rattle.papaya_chain.specs.Scanner.{after_in, asks_in, copied, copy_asks, deletes, first_in, meets, next, shown}
-use Rattle.papaya_chain_law.specs.ScanTold.{IsCopyAnswer, IsDeleted, IsFoundThere, IsScanTold, LoadedPairs}
+use Rattle.papaya_chain.specs.Scanner.{after_in, asks_in, copied, copy_asks, buries, first_in, meets, next, shown}
+use Rattle.papaya_chain_law.specs.ScanTold.{IsCopyAnswer, IsBuried, IsFoundThere, IsScanTold, LoadedPairs}
 use Rattle.papaya_chain_law.specs.Scans.{IsOfAll, ReliesState, link_in_scan}
 use Rattle.papaya_chain_law.proofs.ScanAsks.{keeps_since}
 use Rattle.papaya_chain_law.proofs.ScanOutcomes.{asked}
@@ -104,9 +104,9 @@ module _ (mode : ResizeMode) (words : At → ℕ) where
     met Closed more Clear = next_leads spot 4 (omega arith) read
     met Closed more Retain = next_leads spot 4 (omega arith) read
     met Closed more Walk = next_leads spot 4 (omega arith) read
-    met (Tombstone p) more Clear = next_leads spot 4 (omega arith) read
-    met (Tombstone p) more Retain = next_leads spot 4 (omega arith) read
-    met (Tombstone p) more Walk = next_leads spot 4 (omega arith) read
+    met (Buried p) more Clear = next_leads spot 4 (omega arith) read
+    met (Buried p) more Retain = next_leads spot 4 (omega arith) read
+    met (Buried p) more Walk = next_leads spot 4 (omega arith) read
 
 module _ {K P : Type 0} (g : Setting K P) (c : Coding K P) (hashed : IsHashed g c) (s : Words P) (m : K → Option P) (keeps : IsKeeping g s m)
     (since : List (Exchange P)) (may : AllAllowed g s since) (bounded : IsBounded g (run since s))
@@ -221,17 +221,17 @@ module _ {K P : Type 0} (g : Setting K P) (c : Coding K P) (hashed : IsHashed g 
       }
 
   -- the pair that stands in the slot is deleted
-  delete_nearer : (spot : Spot) (word : ℕ) → IsSpotRead words spot → IsDeleted g c now since spot loaded answer es loaded' → IsNearer (Deleting spot word)
-  delete_nearer spot word read t =
-      let e : Exchange P = Delete spot.table spot.slot t.pair in
+  bury_nearer : (spot : Spot) (word : ℕ) → IsSpotRead words spot → IsBuried g c now since spot loaded answer es loaded' → IsNearer (Burying spot word)
+  bury_nearer spot word read t =
+      let e : Exchange P = Bury spot.table spot.slot t.pair in
       let same : run (e ∷ []) now ≡ run (since ++ es) s = sym (ap (λ l. run (since ++ l) s) t.one ∙ run-append since (e ∷ []) s) in
       record {
-        read = subst (λ w. IsScanRead scanner.mode (word_of g c w) (Goes answer (Deleting spot word))) same
-            (subst (λ a. IsScanRead scanner.mode (word_of g c (run (e ∷ []) now)) (Goes a (Deleting spot word))) (sym t.is)
+        read = subst (λ w. IsScanRead scanner.mode (word_of g c w) (Goes answer (Burying spot word))) same
+            (subst (λ a. IsScanRead scanner.mode (word_of g c (run (e ∷ []) now)) (Goes a (Burying spot word))) (sym t.is)
             (record { root = read.root; most = read.most }));
         less = λ ask asks before later spends.
-            let one : ask ≡ Copy (deletes spot word) = cc asks in
-            inl (inr (subst (λ a. SpendsScan (Copy (deletes spot word)) a before later) t.is (subst (λ q. SpendsScan q answer before later) one spends)));
+            let one : ask ≡ Copy (buries spot word) = cc asks in
+            inl (inr (subst (λ a. SpendsScan (Copy (buries spot word)) a before later) t.is (subst (λ q. SpendsScan q answer before later) one spends)));
       }
 
   -- in each state
@@ -260,10 +260,10 @@ module _ {K P : Type 0} (g : Setting K P) (c : Coding K P) (hashed : IsHashed g 
       (next_leads scanner.mode words spot 3 (omega arith) read)
   state_nearer (Showing spot word) r made read told = quiet (Showing spot word) (answers.Call (Yes told.stays)) told.is told.none _ refl
       (λ before later e. e) (shown_leads scanner.mode words spot word read.0 read.1 told.stays)
-  state_nearer (Deleting spot word) r made read told =
-      by_test (code g c (now.slot spot.table spot.slot) == word) (IsDeleted g c now since spot loaded answer es loaded')
-      (IsFoundThere g c now since spot loaded answer es loaded') (IsNearer (Deleting spot word)) told
-      (λ _ t. delete_nearer spot word read.0 t)
+  state_nearer (Burying spot word) r made read told =
+      by_test (code g c (now.slot spot.table spot.slot) == word) (IsBuried g c now since spot loaded answer es loaded')
+      (IsFoundThere g c now since spot loaded answer es loaded') (IsNearer (Burying spot word)) told
+      (λ _ t. bury_nearer spot word read.0 t)
       (λ other t. absurd (let same = eq-eqb (code g c (now.slot spot.table spot.slot)) word read.1 in cc (other, same)))
   state_nearer (Uncounting spot) r made read told = quiet (Uncounting spot) (answers.Call Ok) told.0 told.1 _ refl (λ before later e. e)
       (next_leads scanner.mode words spot 1 (omega arith) read)

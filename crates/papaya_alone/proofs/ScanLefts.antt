@@ -15,7 +15,7 @@ use Rattle.papaya_alone.proofs.AsideRanks.{link_most}
 use Rattle.papaya_alone.proofs.Measures.{copying_small}
 use Rattle.papaya_chain.specs.declared.scanner.Spot.{Spot}
 use Rattle.papaya_chain.specs.declared.scanner.State.{State}
-use Rattle.papaya_chain.specs.declared.scanner.State.TheVariants.{Copying, AtRoot, Sizing, Looking, Giving, Showing, Deleting, Uncounting, Done, Refused}
+use Rattle.papaya_chain.specs.declared.scanner.State.TheVariants.{Copying, AtRoot, Sizing, Looking, Giving, Showing, Burying, Uncounting, Done, Refused}
 use Rattle.papaya_chain.specs.Scanner.{IsStandingIn, at_root, copied, found_by, looks, next}
 use Rattle.papaya_alone.specs.Scanners.{IsScanRead, left_in_table, left_of_scan, left_of_slot, left_of_spot}
 use Rattle.papaya_words.specs.declared.probe.ResizeMode.{ResizeMode}
@@ -108,7 +108,7 @@ module _ (words : At → ℕ) where
   scan_small mode (Looking spot) h read = slot_small spot 4 read.most (omega arith)
   scan_small mode (Giving spot word) h read = slot_small spot 3 read.most (omega arith)
   scan_small mode (Showing spot word) h read = slot_small spot 3 read.0.most (omega arith)
-  scan_small mode (Deleting spot word) h read = slot_small spot 2 read.0.most (omega arith)
+  scan_small mode (Burying spot word) h read = slot_small spot 2 read.0.most (omega arith)
   scan_small mode (Uncounting spot) h read = slot_small spot 1 read.most (omega arith)
   scan_small mode Done h read = omega arith
   scan_small mode (Refused refused) h read = omega arith

@@ -43,7 +43,7 @@ module _ (mode : ResizeMode) (words : At → ℕ) (slot : Slot) where
   settle_look_within word_kinds.Live word alive stands none is = (omega arith, (alive, stands))
   settle_look_within word_kinds.Marked word alive stands none is = (omega arith, (record { alive = alive; stands = stands; marked = is }, to_target mode))
   settle_look_within word_kinds.Copied word alive stands none is = (omega arith, alive)
-  settle_look_within word_kinds.Tombstone word alive stands none is = (omega arith, alive)
+  settle_look_within word_kinds.Buried word alive stands none is = (omega arith, alive)
   settle_look_within word_kinds.Closed word alive stands none is = (omega arith, alive)
 
   -- the pair came to a table

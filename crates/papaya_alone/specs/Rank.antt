@@ -11,7 +11,7 @@ use Rattle.papaya_call.specs.declared.machine.Machine.{Machine as Call_machine}
 use Rattle.papaya_call.specs.declared.machine.State.{State}
 use Rattle.papaya_call.specs.declared.machine.State.TheVariants.{AtRoot, Making, Opening, Searching}
 use Rattle.papaya_call.specs.declared.machine.State.TheVariants.{Writing, Offering, Showing}
-use Rattle.papaya_call.specs.declared.machine.State.TheVariants.{Pairing, Putting, Deleting}
+use Rattle.papaya_call.specs.declared.machine.State.TheVariants.{Pairing, Putting, Burying}
 use Rattle.papaya_call.specs.declared.machine.State.TheVariants.{Counting, Noting, Uncounting}
 use Rattle.papaya_call.specs.declared.machine.State.TheVariants.{Leaving, Growing, Ended}
 use Rattle.papaya_call.specs.declared.made.Made.{Made}
@@ -69,7 +69,7 @@ rank_in made (Offering gap) = rank 2 (hops_of gap) (2 ^ 68 + 10)
 rank_in made (Showing removal) = rank 1 0 9
 rank_in made (Pairing purpose) = rank_to_serve made purpose
 rank_in made (Putting put) = rank 1 0 1
-rank_in made (Deleting removal) = rank 1 0 1
+rank_in made (Burying removal) = rank 1 0 1
 rank_in made (Counting claimed) = rank 0 0 2
 rank_in made (Noting claimed) = rank 0 0 1
 rank_in made (Uncounting n) = rank 0 0 1

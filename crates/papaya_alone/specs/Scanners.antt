@@ -12,7 +12,7 @@ use Rattle.papaya_chain.specs.declared.scan_ask.ScanAsk.{ScanAsk}
 use Rattle.papaya_chain.specs.declared.scan_ask.ScanAsk.TheVariants.{Copy}
 use Rattle.papaya_chain.specs.declared.scanner.Spot.{Spot}
 use Rattle.papaya_chain.specs.declared.scanner.State.{State}
-use Rattle.papaya_chain.specs.declared.scanner.State.TheVariants.{Copying, AtRoot, Sizing, Looking, Giving, Showing, Deleting, Uncounting}
+use Rattle.papaya_chain.specs.declared.scanner.State.TheVariants.{Copying, AtRoot, Sizing, Looking, Giving, Showing, Burying, Uncounting}
 use Rattle.papaya_chain.specs.declared.scanner.Scanner.{Scanner}
 
 -- an exchange spends one, and a table that is made for the copy a table; nothing else spends
@@ -39,7 +39,7 @@ module _ (words : At → ℕ) where
   left_of_scan (Looking spot) = left_of_spot spot 4
   left_of_scan (Giving spot word) = left_of_spot spot 3
   left_of_scan (Showing spot word) = left_of_spot spot 3
-  left_of_scan (Deleting spot word) = left_of_spot spot 2
+  left_of_scan (Burying spot word) = left_of_spot spot 2
   left_of_scan (Uncounting spot) = left_of_spot spot 1
   left_of_scan _ = 0
 
@@ -65,7 +65,7 @@ module _ (mode : ResizeMode) (words : At → ℕ) where
   IsScanRead (Looking spot) = IsSpotRead words spot
   IsScanRead (Giving spot word) = IsSpotRead words spot
   IsScanRead (Showing spot word) = IsWordRead words spot word
-  IsScanRead (Deleting spot word) = IsWordRead words spot word
+  IsScanRead (Burying spot word) = IsWordRead words spot word
   IsScanRead (Uncounting spot) = IsSpotRead words spot
   IsScanRead _ = Unit {0}
 

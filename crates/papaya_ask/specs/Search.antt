@@ -4,7 +4,7 @@ use Rattle.std.specs.Int.{IsPowerOfTwo}
 use Rattle.papaya_words.specs.Word.{kind_of, pair_of, may_hold}
 use Rattle.papaya_words.specs.Probe.{place}
 use Rattle.papaya_words.specs.declared.word.Kind.{Kind}
-use Rattle.papaya_words.specs.declared.word.Kind.TheVariants.{Empty as Is_empty, Copied, Tombstone, Closed}
+use Rattle.papaya_words.specs.declared.word.Kind.TheVariants.{Empty as Is_empty, Copied, Buried, Closed}
 use Rattle.papaya_ask.specs.declared.ask.At.TheVariants.{Slot}
 use Rattle.papaya_ask.specs.declared.ask.Ask.{Ask}
 use Rattle.papaya_ask.specs.declared.ask.Ask.TheVariants.{Load, LoadHint, SameKey, SizeOf}
@@ -75,7 +75,7 @@ hinted at hash hint = if may_hold hint hash then On (Reading at) else go_on at
 -- what a word of this kind tells
 abbrev pub look_at : Kind → Place → (word : ℕ) → Probed
 look_at Is_empty at word = Empty at
-look_at Tombstone at word = go_on at
+look_at Buried at word = go_on at
 look_at Closed at word = go_on at
 look_at _ at word = On (Comparing at word)
 

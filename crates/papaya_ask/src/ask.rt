@@ -112,7 +112,7 @@ pub enum StepKind {
     /// A pair gives way to another of its key.
     Replace,
     /// A pair is removed.
-    Delete,
+    Bury,
     /// A table gets a next one.
     Link,
     /// A pair is marked to be copied.

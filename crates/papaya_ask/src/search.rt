@@ -109,7 +109,7 @@ impl Place {
         match Word(word).kind() {
             Kind::Empty => Probed::Empty(self),
             Kind::Live | Kind::Marked | Kind::Copied => Probed::On(Search::Comparing(self, word)),
-            Kind::Tombstone | Kind::Closed => self.go_on(),
+            Kind::Buried | Kind::Closed => self.go_on(),
         }
     }
 }

@@ -75,7 +75,7 @@ word_sizes h size size' places places' chunks chunks' c s (Slot t x) = named_wor
     named_word (Rattle.papaya_law.specs.Exchange.Live p) = refl
     named_word (Rattle.papaya_law.specs.Exchange.Marked p) = refl
     named_word (Rattle.papaya_law.specs.Exchange.Copied p) = refl
-    named_word (Rattle.papaya_law.specs.Exchange.Tombstone p) = refl
+    named_word (Rattle.papaya_law.specs.Exchange.Buried p) = refl
 
 module _ {K V : Type 0} (es : List (Step K V)) (e : Step K V) (w : Where Sheet) (with_it : comes e ≡ names.Table w) where
   -- the table of a number after the table came

@@ -7,7 +7,7 @@ use Rattle.papaya_words.specs.declared.word.Kind.TheVariants as kinds
 use Rattle.papaya_law.specs.Allows.{AllAllowed}
 use Rattle.papaya_law.specs.Class.{IsOn}
 use Rattle.papaya_law.specs.Code.{Coding, IsLawfulCoding, code, kind}
-use Rattle.papaya_law.specs.Exchange.{Word, Empty, Closed, Live, Marked, Copied, Tombstone, Setting, State, after, run, start}
+use Rattle.papaya_law.specs.Exchange.{Word, Empty, Closed, Live, Marked, Copied, Buried, Setting, State, after, run, start}
 use Rattle.papaya_law.specs.Grows.{Comes, brings, exchanges}
 use Rattle.papaya_law.specs.Invariant.{named}
 use Rattle.papaya_law.specs.Meaning.{IsLawful}
@@ -39,7 +39,7 @@ module _ {K V : Type 0} where
   brings_table (steps.Open w) t h = (w, cond-true (number_of w == t) (Some w) None h)
   brings_table (steps.Claim u x p) t h = absurd cc
   brings_table (steps.Replace u x p q) t h = absurd cc
-  brings_table (steps.Delete u x p) t h = absurd cc
+  brings_table (steps.Bury u x p) t h = absurd cc
   brings_table (steps.Link u w) t h = (w, cond-true (number_of w == t) (Some w) None h)
   brings_table (steps.Mark u x p) t h = absurd cc
   brings_table (steps.Close u x) t h = absurd cc
@@ -94,8 +94,8 @@ module _ {K P : Type 0} (g : Setting K P) (c : Coding K P) (lawful : IsLawfulCod
   no_pair (Marked p) (inr h) = absurd (cc h)
   no_pair (Copied p) (inl h) = absurd (cc h)
   no_pair (Copied p) (inr h) = absurd (cc h)
-  no_pair (Tombstone p) (inl h) = absurd (cc h)
-  no_pair (Tombstone p) (inr h) = absurd (cc h)
+  no_pair (Buried p) (inl h) = absurd (cc h)
+  no_pair (Buried p) (inr h) = absurd (cc h)
 
   some_pair : (w : Word P) → (kind w ≡ kinds.Empty → ⊥) → (kind w ≡ kinds.Closed → ⊥) → (p : P) × (named w ≡ Some p)
   some_pair Empty m n = absurd (m refl)
@@ -103,7 +103,7 @@ module _ {K P : Type 0} (g : Setting K P) (c : Coding K P) (lawful : IsLawfulCod
   some_pair (Live p) m n = (p, refl)
   some_pair (Marked p) m n = (p, refl)
   some_pair (Copied p) m n = (p, refl)
-  some_pair (Tombstone p) m n = (p, refl)
+  some_pair (Buried p) m n = (p, refl)
 
   -- a number that reads as Empty or Closed names nothing
   pub names_none : (w : Word P) (n : ℕ) → code g c w ≡ n → (kind_of n ≡ kinds.Empty) ⊎ (kind_of n ≡ kinds.Closed) → named w ≡ None

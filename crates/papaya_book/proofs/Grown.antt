@@ -39,7 +39,7 @@ root_stays : {K V : Type 0} (g : Setting K (Stored K V)) (s : State (Stored K V)
 root_stays g s (steps.Open w) a q h = absurd q
 root_stays g s (steps.Claim t x p) a q h = h
 root_stays g s (steps.Replace t x p p') a q h = h
-root_stays g s (steps.Delete t x p) a q h = h
+root_stays g s (steps.Bury t x p) a q h = h
 root_stays g s (steps.Link t w) a q h = absurd q
 root_stays g s (steps.Mark t x p) a q h = h
 root_stays g s (steps.Close t x) a q h = h

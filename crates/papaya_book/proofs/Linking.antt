@@ -9,7 +9,7 @@ use Rattle.papaya_ask.specs.declared.ask.At.TheVariants.{Next}
 use Rattle.papaya_ask.specs.declared.ask.StepKind.TheVariants as kinds
 use Rattle.papaya_law.specs.Allows.{AllAllowed, Allows}
 use Rattle.papaya_law.specs.Class.{IsOn}
-use Rattle.papaya_law.specs.Exchange.{Exchange, Open, Claim, Replace, Delete, Link, Mark, Close}
+use Rattle.papaya_law.specs.Exchange.{Exchange, Open, Claim, Replace, Bury, Link, Mark, Close}
 use Rattle.papaya_law.specs.Exchange.{Place, Finish, Advance, Promote, Abort, Take, Setting, State}
 use Rattle.papaya_law.specs.Exchange.{after, run, start}
 use Rattle.papaya_law.specs.Code.{IsHashed}
@@ -51,7 +51,7 @@ comes_stays g s (Open u) sound may t some (inl f) = let none = no_first g s soun
 comes_stays g s (Open u) sound may t some (inr n) = inr n
 comes_stays g s (Claim u x p) sound may t some c = c
 comes_stays g s (Replace u x p q) sound may t some c = c
-comes_stays g s (Delete u x p) sound may t some c = c
+comes_stays g s (Bury u x p) sound may t some c = c
 comes_stays g s (Link u n) sound may t some (inl f) = inl f
 comes_stays g s (Link u n) sound may t some (inr (v, e)) =
     ⊎_elim
@@ -82,7 +82,7 @@ module _ {K V : Type 0} (g : Setting K (Stored K V)) (law : IsLawful g) where
       (λ n. let none = cond-false (number_of w' == t) (Some w') None n in absurd (cc (h, none))) (cases_Bool (number_of w' == t))
   came_now s (steps.Claim u x p) t w h = absurd (cc h)
   came_now s (steps.Replace u x p q) t w h = absurd (cc h)
-  came_now s (steps.Delete u x p) t w h = absurd (cc h)
+  came_now s (steps.Bury u x p) t w h = absurd (cc h)
   came_now s (steps.Link u w') t w h =
       ⊎_elim
       (λ y. inr (u, cond-true (u == u) (number_of w') (s.next u) (same_number u) ∙ eqb-true (number_of w') t y))

@@ -6,7 +6,7 @@ use Rattle.papaya_words.specs.Word.{kind_of, pair_of}
 use Rattle.papaya_words.specs.declared.word.Kind.TheVariants as kinds
 use Rattle.papaya_ask.specs.declared.ask.At.TheVariants.{Next, Root, Slot}
 use Rattle.papaya_law.specs.Code.{code, kind}
-use Rattle.papaya_law.specs.Exchange.{Word, Empty, Closed, Live, Marked, Copied, Tombstone}
+use Rattle.papaya_law.specs.Exchange.{Word, Empty, Closed, Live, Marked, Copied, Buried}
 use Rattle.papaya_law.specs.Invariant.{named}
 use Rattle.papaya_law.proofs.Codes.{code_kind}
 use Rattle.papaya_law.specs.Code.{IsHashed}
@@ -139,7 +139,7 @@ module _ {K V S : Type 0} (eq : K → K → Bool) (hash : S → K → ℕ) (b : 
   found_by o i (Live p) e = a_pair o i (Live p) e p refl (λ k. cc k) (λ k. cc k)
   found_by o i (Marked p) e = a_pair o i (Marked p) e p refl (λ k. cc k) (λ k. cc k)
   found_by o i (Copied p) e = a_pair o i (Copied p) e p refl (λ k. cc k) (λ k. cc k)
-  found_by o i (Tombstone p) e = a_pair o i (Tombstone p) e p refl (λ k. cc k) (λ k. cc k)
+  found_by o i (Buried p) e = a_pair o i (Buried p) e p refl (λ k. cc k) (λ k. cc k)
 
   -- and it is the one that the slot names
   pub found_pair : (o : Option (Stored K V)) → IsPairOf found state o → named ((state_of log).slot t x) ≡ o

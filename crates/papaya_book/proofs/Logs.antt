@@ -133,7 +133,7 @@ module _ {K V : Type 0} where
   brings_none (steps.Open w) t q = absurd q
   brings_none (steps.Claim u x p) t q = refl
   brings_none (steps.Replace u x p p') t q = refl
-  brings_none (steps.Delete u x p) t q = refl
+  brings_none (steps.Bury u x p) t q = refl
   brings_none (steps.Link u w) t q = absurd q
   brings_none (steps.Mark u x p) t q = refl
   brings_none (steps.Close u x) t q = refl

@@ -3,7 +3,7 @@ use Rattle.std.proofs.Common.{◌≡◌, ◌⊎◌, inl, inr, ⊎_elim, ℕ, Opt
 use Rattle.boxcar.specs.Table.{Where}
 use Rattle.papaya_ask.specs.declared.ask.At.{At}
 use Rattle.papaya_ask.specs.declared.ask.At.TheVariants.{Root, Next, Aborted, Done, Slot, Made}
-use Rattle.papaya_law.specs.Exchange.{Word, Closed, Live, Marked, Copied, Tombstone, Setting, State, after, run, slot_put, start}
+use Rattle.papaya_law.specs.Exchange.{Word, Closed, Live, Marked, Copied, Buried, Setting, State, after, run, slot_put, start}
 use Rattle.papaya_law.specs.Allows.{Allows, AllAllowed}
 use Rattle.papaya_law.specs.Grows.{exchanges}
 use Rattle.papaya_law.specs.Invariant.{named}
@@ -39,7 +39,7 @@ module _ {K V : Type 0} (g : Setting K (Stored K V)) where
   stands_after s (steps.Open w) a p h = inl h
   stands_after s (steps.Claim t x q) a p h = ⊎_elim (λ i. inl i) (λ i. inr (cc i)) (put_stands s t x (Live q) p h)
   stands_after s (steps.Replace t x q r) a p h = ⊎_elim (λ i. inl i) (λ i. inr (cc i)) (put_stands s t x (Live r) p h)
-  stands_after s (steps.Delete t x q) a p h = inl (put_same s t x t x (Tombstone q) p (ap named a.live) h)
+  stands_after s (steps.Bury t x q) a p h = inl (put_same s t x t x (Buried q) p (ap named a.live) h)
   stands_after s (steps.Link t w) a p h = inl h
   stands_after s (steps.Mark t x q) a p h = inl (put_same s t x t x (Marked q) p (ap named a.live) h)
   stands_after s (steps.Close t x) a p h = inl (put_same s t x t x Closed p (ap named a.empty) h)

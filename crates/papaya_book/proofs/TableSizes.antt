@@ -60,7 +60,7 @@ module _ {K V : Type 0} where
   brings_if (steps.Open w) t = some_of w t
   brings_if (steps.Claim u x p) t = refl
   brings_if (steps.Replace u x p q) t = refl
-  brings_if (steps.Delete u x p) t = refl
+  brings_if (steps.Bury u x p) t = refl
   brings_if (steps.Link u w) t = some_of w t
   brings_if (steps.Mark u x p) t = refl
   brings_if (steps.Close u x) t = refl

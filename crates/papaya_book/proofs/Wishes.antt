@@ -13,7 +13,7 @@ abbrev pub IsOfCall : Option StepKind → Type 0
 IsOfCall (Some kinds.Open) = Unit {0}
 IsOfCall (Some kinds.Claim) = Unit {0}
 IsOfCall (Some kinds.Replace) = Unit {0}
-IsOfCall (Some kinds.Delete) = Unit {0}
+IsOfCall (Some kinds.Bury) = Unit {0}
 IsOfCall (Some kinds.Take) = Unit {0}
 IsOfCall _ = ⊥
 
@@ -36,7 +36,7 @@ module _ {K V : Type 0} (at : At) (new : ℕ) (s : State (Stored K V)) (made : O
   call_wished (Some kinds.Open) is h = ⊎_elim (λ i. i) (λ i. absurd i) h
   call_wished (Some kinds.Claim) is h = ⊎_elim (λ i. i) (λ i. absurd i) h
   call_wished (Some kinds.Replace) is h = ⊎_elim (λ i. i) (λ i. absurd i) h
-  call_wished (Some kinds.Delete) is h = ⊎_elim (λ i. i) (λ i. absurd i) h
+  call_wished (Some kinds.Bury) is h = ⊎_elim (λ i. i) (λ i. absurd i) h
   call_wished (Some kinds.Take) is h = ⊎_elim (λ i. i) (λ i. absurd i) h
   call_wished (Some kinds.Link) is h = absurd is
   call_wished (Some kinds.Mark) is h = absurd is
@@ -53,7 +53,7 @@ module _ {K V : Type 0} (at : At) (new : ℕ) (s : State (Stored K V)) (made : O
   copy_wished (Some kinds.Open) is h = absurd is
   copy_wished (Some kinds.Claim) is h = absurd is
   copy_wished (Some kinds.Replace) is h = absurd is
-  copy_wished (Some kinds.Delete) is h = absurd is
+  copy_wished (Some kinds.Bury) is h = absurd is
   copy_wished (Some kinds.Take) is h = absurd is
   copy_wished (Some kinds.Link) is h = ⊎_elim (λ i. absurd i) (λ i. i) h
   copy_wished (Some kinds.Mark) is h = ⊎_elim (λ i. absurd i) (λ i. i) h

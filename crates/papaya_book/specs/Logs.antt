@@ -66,7 +66,7 @@ module _ {K V : Type 0} where
   exchange_of (steps.Open w) = law.Open (number_of w)
   exchange_of (steps.Claim t x p) = law.Claim t x p
   exchange_of (steps.Replace t x p q) = law.Replace t x p q
-  exchange_of (steps.Delete t x p) = law.Delete t x p
+  exchange_of (steps.Bury t x p) = law.Bury t x p
   exchange_of (steps.Link t w) = law.Link t (number_of w)
   exchange_of (steps.Mark t x p) = law.Mark t x p
   exchange_of (steps.Close t x) = law.Close t x

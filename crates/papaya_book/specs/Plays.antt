@@ -8,7 +8,7 @@ use Rattle.papaya_ask.specs.declared.ask.StepKind.{StepKind}
 use Rattle.papaya_ask.specs.declared.ask.StepKind.TheVariants as kinds
 use Rattle.papaya_law.specs.Allows.{Allows}
 use Rattle.papaya_law.specs.Code.{Coding}
-use Rattle.papaya_law.specs.Exchange.{Exchange, Open, Claim, Replace, Delete, Take, Live, State, after}
+use Rattle.papaya_law.specs.Exchange.{Exchange, Open, Claim, Replace, Bury, Take, Live, State, after}
 use Rattle.papaya_call_law.specs.Copier.{IsCopyAsked}
 use Rattle.papaya_call_law.specs.Told.{IsOwnWord, IsWritten, LoadedPairs}
 use Rattle.papaya_book.specs.declared.rule.entry.Named.{Named}
@@ -48,8 +48,8 @@ IsCallAsked {K} {V} (Some kinds.Claim) (places.Slot t x) new s loaded e = (q : S
 IsCallAsked {K} {V} (Some kinds.Replace) (places.Slot t x) new s loaded e = (p : Stored K V)
     × (q : Stored K V) × (s.slot t x ≡ Live p) × IsOwnWord Numbered loaded new q
     × (q.value.key.value ≡ p.value.key.value) × (e ≡ Replace t x p q)
-IsCallAsked {K} {V} (Some kinds.Delete) (places.Slot t x) new s loaded e = (p : Stored K V)
-    × (s.slot t x ≡ Live p) × (e ≡ Delete t x p)
+IsCallAsked {K} {V} (Some kinds.Bury) (places.Slot t x) new s loaded e = (p : Stored K V)
+    × (s.slot t x ≡ Live p) × (e ≡ Bury t x p)
 IsCallAsked (Some kinds.Take) places.Made new s loaded e = e ≡ Take s.made
 IsCallAsked _ _ new s loaded e = ⊥
 

@@ -15,7 +15,7 @@ use Rattle.papaya_call.specs.declared.compute.Put.{Put}
 use Rattle.papaya_call.specs.declared.compute.Remembered.{Remembered}
 use Rattle.papaya_call.specs.declared.machine.State.{State}
 use Rattle.papaya_call.specs.declared.made.Of.{Of}
-use Rattle.papaya_call.specs.declared.machine.State.TheVariants.{Making, Offering, Pairing, Putting, Showing, Deleting, Growing, Ended}
+use Rattle.papaya_call.specs.declared.machine.State.TheVariants.{Making, Offering, Pairing, Putting, Showing, Burying, Growing, Ended}
 use Rattle.papaya_call.specs.declared.need.Need.TheVariants.{Room}
 use Rattle.papaya_call.specs.declared.remove.Removal.{Removal}
 use Rattle.papaya_ask.specs.declared.search.Place.{Place}
@@ -48,7 +48,7 @@ offered gap (Abort t) = Ended (Aborted t)
 -- what it answered where it was shown a pair
 abbrev pub chosen : Removal → OpKind → State
 chosen shown Insert = Pairing (Replace (record { place = shown.place; old = shown.word }))
-chosen shown Remove = Deleting shown
+chosen shown Remove = Burying shown
 chosen shown (Abort t) = Ended (Aborted t)
 
 -- a pair was made of the value that the closure answered
@@ -76,7 +76,7 @@ recalls None at word n = Showing (record { place = at; word = word })
 recalls (Some (To_replace old new)) at word n = if old == n then recalled new at word
     else Showing (record { place = at; word = word })
 recalls (Some (To_remove old)) at word n = if old == n
-    then Deleting (record { place = at; word = word })
+    then Burying (record { place = at; word = word })
     else Showing (record { place = at; word = word })
 
 -- a Live word names a pair with the key: the closure is shown it, unless what it answered to it

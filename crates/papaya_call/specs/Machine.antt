@@ -8,7 +8,7 @@ use Rattle.papaya_words.specs.declared.probe.Refused.TheVariants.{Capacity, Limi
 use Rattle.papaya_words.specs.declared.probe.ResizeMode.{ResizeMode}
 use Rattle.papaya_words.specs.declared.probe.ResizeMode.TheVariants.{Incremental, Blocking}
 use Rattle.papaya_words.specs.declared.word.Kind.{Kind}
-use Rattle.papaya_words.specs.declared.word.Kind.TheVariants.{Live, Tombstone}
+use Rattle.papaya_words.specs.declared.word.Kind.TheVariants.{Live, Buried}
 use Rattle.papaya_ask.specs.declared.ask.At.TheVariants.{Root, Next}
 use Rattle.papaya_ask.specs.declared.ask.Ask.{Ask}
 use Rattle.papaya_ask.specs.declared.ask.Ask.TheVariants.{Load, Exchange, LoadHint, SameKey, ShowNone, SizeOf, MakeTable, AddToShard, Done}
@@ -19,7 +19,7 @@ use Rattle.papaya_ask.specs.declared.ask.Answer.TheVariants.{Made as Made_number
 use Rattle.papaya_ask.specs.declared.ask.Answer.TheVariants.{Refused as Was_refused}
 use Rattle.papaya_ask.specs.declared.ask.OpKind.{OpKind}
 use Rattle.papaya_ask.specs.declared.ask.StepKind.{StepKind}
-use Rattle.papaya_ask.specs.declared.ask.StepKind.TheVariants.{Open, Delete}
+use Rattle.papaya_ask.specs.declared.ask.StepKind.TheVariants.{Open, Bury}
 use Rattle.papaya_ask.specs.declared.call.Reply.TheVariants.{Absent, Found, Inserted, Replaced, Occupied, Removed, Kept, Refused as Reply_refused}
 use Rattle.papaya_ask.specs.declared.call.Task.{Task}
 use Rattle.papaya_ask.specs.declared.call.Task.TheVariants.{Get, Insert, RemoveIf, Compute}
@@ -41,7 +41,7 @@ use Rattle.papaya_call.specs.declared.write.Write.{Write}
 use Rattle.papaya_call.specs.declared.machine.State.{State}
 use Rattle.papaya_call.specs.declared.machine.State.TheVariants.{AtRoot, Making, Opening, Searching}
 use Rattle.papaya_call.specs.declared.machine.State.TheVariants.{Writing, Offering, Showing}
-use Rattle.papaya_call.specs.declared.machine.State.TheVariants.{Pairing, Putting, Deleting}
+use Rattle.papaya_call.specs.declared.machine.State.TheVariants.{Pairing, Putting, Burying}
 use Rattle.papaya_call.specs.declared.machine.State.TheVariants.{Counting, Noting, Uncounting}
 use Rattle.papaya_call.specs.declared.machine.State.TheVariants.{Leaving, Growing, Ended}
 use Rattle.papaya_call.specs.declared.machine.Machine.{Machine}
@@ -83,7 +83,7 @@ asks made hash (Offering gap) = ShowNone
 asks made hash (Showing removal) = show_ask removal
 asks made hash (Pairing purpose) = pair_ask made (in_place_of purpose)
 asks made hash (Putting put) = put_ask put.write put.pair
-asks made hash (Deleting removal) = removal_ask removal
+asks made hash (Burying removal) = removal_ask removal
 asks made hash (Counting claimed) = AddToShard (pos 1)
 asks made hash (Noting claimed) = note_ask claimed hash
 asks made hash (Uncounting pair) = AddToShard (negsuc 0)
@@ -104,7 +104,7 @@ kind_asked made (Opening table) = Some Open
 kind_asked made (Writing write) = served_kind (serves made write) made write
 kind_asked made (Pairing purpose) = number_kind made.number
 kind_asked made (Putting put) = Some (write_kind put.write)
-kind_asked made (Deleting removal) = Some Delete
+kind_asked made (Burying removal) = Some Bury
 kind_asked made _ = None
 
 abbrev pub kind_of_ask : Machine → Option StepKind
@@ -223,7 +223,7 @@ write_taken (Some n) made = made
 -- a deletion found this word in the place of its own; for a removal the key was absent where
 -- another call deleted its pair
 abbrev pub beaten_by : Kind → Machine → Place → ℕ → State
-beaten_by Tombstone m at word = Ended Absent
+beaten_by Buried m at word = Ended Absent
 beaten_by _ m at word = goes m (look at word)
 
 abbrev pub beaten_as : Task → Machine → Place → ℕ → State
@@ -235,7 +235,7 @@ beaten m removal word = beaten_as m.task m removal.place word
 
 -- the closure of a removal agrees to the removal of the pair, or it doesn't
 abbrev pub agreed : Removal → Bool → State
-agreed removal true = Deleting removal
+agreed removal true = Burying removal
 agreed removal false = Ended (Kept (pair_of removal.word))
 
 abbrev pub judged : Task → Removal → Bool → State
@@ -265,7 +265,7 @@ abbrev pub at_exchanged : Made → State → State
 at_exchanged made (Opening table) = Searching (Sizing table)
 at_exchanged made (Writing write) = exchanged (serves made write) write
 at_exchanged made (Putting put) = written put.write put.pair
-at_exchanged made (Deleting removal) = Uncounting (pair_of removal.word)
+at_exchanged made (Burying removal) = Uncounting (pair_of removal.word)
 at_exchanged made state = state
 
 -- a lost exchange of a slot goes on with the word that was found there, and one of the count of
@@ -279,7 +279,7 @@ at_found m word (Opening table) = Searching (Sizing word)
 at_found m word (Writing write) = write_lost (serves m.made write) m write word
 at_found m word (Pairing purpose) = numbered (told m.made word) (Pairing purpose)
 at_found m word (Putting put) = goes m (look put.write.place word)
-at_found m word (Deleting removal) = beaten m removal word
+at_found m word (Burying removal) = beaten m removal word
 at_found m word state = state
 
 abbrev pub at_yes : Machine → Bool → State → State
@@ -447,7 +447,7 @@ IsStandingState task (Offering gap) = IsComputer task × IsGap gap
 IsStandingState task (Showing removal) = HasClosure task × IsWithin removal.place
 IsStandingState task (Pairing purpose) = IsComputer task × IsPurpose purpose
 IsStandingState task (Putting put) = IsComputer task × IsPut put
-IsStandingState task (Deleting removal) = HasClosure task × IsWithin removal.place
+IsStandingState task (Burying removal) = HasClosure task × IsWithin removal.place
 IsStandingState task (Counting claimed) = MayInsert task
 IsStandingState task (Noting claimed) = MayInsert task
 IsStandingState task (Uncounting pair) = HasClosure task

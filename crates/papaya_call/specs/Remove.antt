@@ -1,7 +1,7 @@
 -- The removal of the pair that a word names: it is shown to the closure, and its word
--- becomes Tombstone.
+-- becomes Buried.
 use Rattle.std.specs.Prelude.{ℕ}
-use Rattle.papaya_words.specs.Word.{pair_of, tombstone_word}
+use Rattle.papaya_words.specs.Word.{pair_of, buried_word}
 use Rattle.papaya_ask.specs.declared.ask.At.TheVariants.{Slot}
 use Rattle.papaya_ask.specs.declared.ask.Ask.{Ask}
 use Rattle.papaya_ask.specs.declared.ask.Ask.TheVariants.{Exchange, ShowPair}
@@ -13,7 +13,7 @@ show_ask removal = ShowPair (pair_of removal.word)
 
 -- the word of a removed pair: its number stays
 abbrev pub grave_word : ℕ → ℕ
-grave_word word = tombstone_word (pair_of word)
+grave_word word = buried_word (pair_of word)
 
 -- the pair is deleted where its word stands
 abbrev pub removal_ask : Removal → Ask

@@ -93,7 +93,7 @@ impl Remembered {
         let pair = Word(word).pair();
         match self.choice {
             Some(Choice::Replace { old, new }) if old == pair => State::recalled(new, place, word),
-            Some(Choice::Remove(old)) if old == pair => State::Deleting(Removal { place, word }),
+            Some(Choice::Remove(old)) if old == pair => State::Burying(Removal { place, word }),
             _ => State::Showing(Removal { place, word }),
         }
     }
@@ -216,7 +216,7 @@ impl State {
                 };
                 State::Pairing(Purpose::Replace(write))
             }
-            OpKind::Remove => State::Deleting(shown),
+            OpKind::Remove => State::Burying(shown),
             OpKind::Abort(with) => State::Ended(Reply::Aborted(with)),
         }
     }

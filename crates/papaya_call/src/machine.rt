@@ -42,7 +42,7 @@ pub enum State {
     /// It writes the pair that it made so.
     Putting(Put),
     /// Its closure would have this pair removed, and it removes it.
-    Deleting(Removal),
+    Burying(Removal),
     /// Its pair was claimed, and is to be counted.
     Counting(Claimed),
     /// Its pair was claimed and counted, and it writes the hint of its key.
@@ -127,7 +127,7 @@ impl Machine {
             State::Showing(removal) => removal.show(),
             State::Pairing(purpose) => self.made.ask(purpose.in_place_of()),
             State::Putting(put) => put.write.put(put.pair),
-            State::Deleting(removal) => removal.ask(),
+            State::Burying(removal) => removal.ask(),
             State::Counting(_) => Ask::AddToShard(1),
             State::Noting(claimed) => claimed.note(self.hash),
             State::Uncounting(_) => Ask::AddToShard(-1),
@@ -151,7 +151,7 @@ impl Machine {
             },
             State::Pairing(_) => self.made.kind(),
             State::Putting(put) => Some(put.write.kind()),
-            State::Deleting(_) => Some(StepKind::Delete),
+            State::Burying(_) => Some(StepKind::Bury),
             _ => None,
         }
     }
@@ -216,7 +216,7 @@ impl Machine {
             },
             State::Pairing(_) => self.made = self.made.taken(),
             State::Putting(put) => self.state = self.written(put.write, put.pair),
-            State::Deleting(removal) => self.state = State::Uncounting(removal.pair()),
+            State::Burying(removal) => self.state = State::Uncounting(removal.pair()),
             _ => {}
         }
     }
@@ -268,7 +268,7 @@ impl Machine {
             },
             State::Pairing(_) => self.told(word),
             State::Putting(put) => self.state = self.goes(put.write.place.look(word)),
-            State::Deleting(removal) => self.state = self.beaten(removal, word),
+            State::Burying(removal) => self.state = self.beaten(removal, word),
             _ => {}
         }
     }
@@ -282,7 +282,7 @@ impl Machine {
         ensures value { result ≡ beaten self.now removal word }
         ensures standing { IsStandingState self.now.task result }
     {
-        if Word(word).kind() == Kind::Tombstone && self.task != Task::Compute {
+        if Word(word).kind() == Kind::Buried && self.task != Task::Compute {
             return State::Ended(Reply::Absent);
         }
         self.goes(removal.place.look(word))
@@ -298,7 +298,7 @@ impl Machine {
             State::Searching(search) => self.goes(search.at_yes(yes)),
             State::Showing(removal) if self.task == Task::RemoveIf => {
                 if yes {
-                    State::Deleting(removal)
+                    State::Burying(removal)
                 } else {
                     State::Ended(Reply::Kept(removal.pair()))
                 }

@@ -43,7 +43,7 @@ impl Removal {
         Ask::Exchange(
             At::Slot(self.place.table, self.place.probe.i),
             self.word,
-            Word::tombstone(word.pair()).0,
+            Word::buried(word.pair()).0,
         )
     }
 }

@@ -39,7 +39,7 @@ use Rattle.papaya_call.specs.declared.machine.Machine.{Machine}
 use Rattle.papaya_call.specs.declared.machine.State.{State}
 use Rattle.papaya_call.specs.declared.machine.State.TheVariants.{AtRoot, Making, Opening, Searching}
 use Rattle.papaya_call.specs.declared.machine.State.TheVariants.{Writing, Offering, Showing}
-use Rattle.papaya_call.specs.declared.machine.State.TheVariants.{Pairing, Putting, Deleting}
+use Rattle.papaya_call.specs.declared.machine.State.TheVariants.{Pairing, Putting, Burying}
 use Rattle.papaya_call.specs.declared.machine.State.TheVariants.{Counting, Noting, Uncounting}
 use Rattle.papaya_call.specs.declared.machine.State.TheVariants.{Leaving, Growing, Ended}
 use Rattle.papaya_ask.specs.Search.{next_place, go_on, look_at, match_at, look, at_yes as search_compared, hinted}
@@ -71,7 +71,7 @@ new_filled : (n : ℕ) → kind_of (live_word n) ≡ word_kinds.Empty → ⊥
 new_filled n e = let live : kind_of (live_word n) ≡ word_kinds.Live = filled_kind 1 n (omega arith) in cc
 
 grave_filled : (word : ℕ) → kind_of (grave_word word) ≡ word_kinds.Empty → ⊥
-grave_filled word e = let tombstone : kind_of (grave_word word) ≡ word_kinds.Tombstone = filled_kind 4 (pair_of word) (omega arith) in cc
+grave_filled word e = let buried : kind_of (grave_word word) ≡ word_kinds.Buried = filled_kind 4 (pair_of word) (omega arith) in cc
 
 module _ (words words' : At → ℕ) (bare : IsBare words) where
   -- a slot that stays is as bare as before
@@ -119,7 +119,7 @@ module _ (words : At → ℕ) where
   look_there word_kinds.Live at word read bare = read
   look_there word_kinds.Marked at word read bare = read
   look_there word_kinds.Copied at word read bare = read
-  look_there word_kinds.Tombstone at word read bare = go_on_there at
+  look_there word_kinds.Buried at word read bare = go_on_there at
   look_there word_kinds.Closed at word read bare = go_on_there at
 
   match_there : (kind : Kind) (at : Place) (word : ℕ) → word_of_place words at ≡ word → IsSeenThere (match_at kind at word)
@@ -127,7 +127,7 @@ module _ (words : At → ℕ) where
   match_there word_kinds.Live at word read = read
   match_there word_kinds.Marked at word read = read
   match_there word_kinds.Copied at word read = tt
-  match_there word_kinds.Tombstone at word read = read
+  match_there word_kinds.Buried at word read = read
   match_there word_kinds.Closed at word read = read
 
   compared_there : (at : Place) (word : ℕ) (same : Bool) → word_of_place words at ≡ word → IsSeenThere (search_compared (Comparing at word) same)
@@ -139,7 +139,7 @@ module _ (words : At → ℕ) where
   replaces_read word_kinds.Live at word read = read
   replaces_read word_kinds.Marked at word read = tt
   replaces_read word_kinds.Copied at word read = tt
-  replaces_read word_kinds.Tombstone at word read = tt
+  replaces_read word_kinds.Buried at word read = tt
   replaces_read word_kinds.Closed at word read = tt
 
   removes_read : (kind : Kind) (at : Place) (word : ℕ) → word_of_place words at ≡ word → IsRead words (removes kind at word)
@@ -147,7 +147,7 @@ module _ (words : At → ℕ) where
   removes_read word_kinds.Live at word read = read
   removes_read word_kinds.Marked at word read = tt
   removes_read word_kinds.Copied at word read = tt
-  removes_read word_kinds.Tombstone at word read = tt
+  removes_read word_kinds.Buried at word read = tt
   removes_read word_kinds.Closed at word read = tt
 
   -- what is remembered of a pair is of the word that names it here
@@ -161,14 +161,14 @@ module _ (words : At → ℕ) where
       (λ _. read)
   recalls_read (Some (choices.Remove old)) at word n read =
       let removal : Removal = record { place = at; word = word } in
-      cond_both (old == n) (Deleting removal) (Showing removal) (IsRead words) (λ _. read) (λ _. read)
+      cond_both (old == n) (Burying removal) (Showing removal) (IsRead words) (λ _. read) (λ _. read)
 
   computes_read : (kind : Kind) (held : Remembered) (at : Place) (word : ℕ) → word_of_place words at ≡ word → IsRead words (computes kind held at word)
   computes_read word_kinds.Empty held at word read = tt
   computes_read word_kinds.Live held at word read = recalls_read held.choice at word (pair_of word) read
   computes_read word_kinds.Marked held at word read = tt
   computes_read word_kinds.Copied held at word read = tt
-  computes_read word_kinds.Tombstone held at word read = tt
+  computes_read word_kinds.Buried held at word read = tt
   computes_read word_kinds.Closed held at word read = tt
 
   -- a pair that was made goes where its key is absent still
@@ -336,12 +336,12 @@ module _ (words words' : At → ℕ) (m : Machine) (bare : IsBare words) where
         (offered_read words' gap (op_kinds.Abort t) (gap_there gap same read))
 
     -- a removed pair is deleted
-    deleting_stable : (removal : Removal) (answer : Answer) → IsRead words (Deleting removal)
-        → IsPrompt m.task words (asks made m.hash (Deleting removal)) answer words' → Stable made (Deleting removal) answer
-    deleting_stable removal answer read told =
+    burying_stable : (removal : Removal) (answer : Answer) → IsRead words (Burying removal)
+        → IsPrompt m.task words (asks made m.hash (Burying removal)) answer words' → Stable made (Burying removal) answer
+    burying_stable removal answer read told =
         let at : At = Slot removal.place.table removal.place.probe.i in
         let done : (answer ≡ Exchanged) × IsPut words at (grave_word removal.word) words' = exchange_done _ _ (words at) removal.word read told in
-        subst (Stable made (Deleting removal)) (sym done.0)
+        subst (Stable made (Burying removal)) (sym done.0)
         (slot_put (Uncounting (pair_of removal.word)) removal.place (grave_word removal.word) (grave_filled removal.word) done.1 made refl tt)
 
     -- the hint of a place was loaded
@@ -542,7 +542,7 @@ module _ (words words' : At → ℕ) (m : Machine) (bare : IsBare words) where
     stable_in (Showing removal) answer read told = showing_stable removal answer told.1 (there removal.place removal.word told.1 read) told.0
     stable_in (Pairing purpose) answer read told = pairing_stable purpose answer read told
     stable_in (Putting put) answer read told = putting_stable put answer read told
-    stable_in (Deleting removal) answer read told = deleting_stable removal answer read told
+    stable_in (Burying removal) answer read told = burying_stable removal answer read told
     stable_in (Counting n) answer read told = quiet made (Counting n) answer _ told.0 told.1 (known told.1) tt
     stable_in (Noting n) answer read told = quiet made (Noting n) answer _ told.0 told.1 (known told.1) tt
     stable_in (Uncounting n) answer read told = quiet made (Uncounting n) answer _ told.0 told.1 (known told.1) tt

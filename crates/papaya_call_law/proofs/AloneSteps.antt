@@ -41,7 +41,7 @@ use Rattle.papaya_call.specs.declared.machine.Machine.{Machine}
 use Rattle.papaya_call.specs.declared.machine.State.{State}
 use Rattle.papaya_call.specs.declared.machine.State.TheVariants.{AtRoot, Making, Opening, Searching}
 use Rattle.papaya_call.specs.declared.machine.State.TheVariants.{Writing, Offering, Showing}
-use Rattle.papaya_call.specs.declared.machine.State.TheVariants.{Pairing, Putting, Deleting}
+use Rattle.papaya_call.specs.declared.machine.State.TheVariants.{Pairing, Putting, Burying}
 use Rattle.papaya_call.specs.declared.machine.State.TheVariants.{Counting, Noting, Uncounting}
 use Rattle.papaya_call.specs.declared.machine.State.TheVariants.{Leaving, Growing, Ended}
 use Rattle.papaya_ask.specs.Search.{IsSize, next_place, go_on, look_at, match_at, look, at_yes as search_compared, hinted}
@@ -104,7 +104,7 @@ look_left word_kinds.Empty at word = omega arith
 look_left word_kinds.Live at word = omega arith
 look_left word_kinds.Marked at word = omega arith
 look_left word_kinds.Copied at word = omega arith
-look_left word_kinds.Tombstone at word = omega (arith, go_on_left at)
+look_left word_kinds.Buried at word = omega (arith, go_on_left at)
 look_left word_kinds.Closed at word = omega (arith, go_on_left at)
 
 match_left : (kind : Kind) (at : Place) (word : ℕ) → left_of_seen (match_at kind at word) ≤ 10
@@ -112,7 +112,7 @@ match_left word_kinds.Empty at word = omega arith
 match_left word_kinds.Live at word = omega arith
 match_left word_kinds.Marked at word = omega arith
 match_left word_kinds.Copied at word = omega arith
-match_left word_kinds.Tombstone at word = omega arith
+match_left word_kinds.Buried at word = omega arith
 match_left word_kinds.Closed at word = omega arith
 
 compared_left : (at : Place) (word : ℕ) (same : Bool) → left_of_seen (search_compared (Comparing at word) same) ≤ 10 + 3 * (at.limit - at.probe.len)
@@ -148,7 +148,7 @@ module _ (made : Made) where
   replaces_left word_kinds.Live at word = write_left made (record { place = at; old = word })
   replaces_left word_kinds.Marked at word = omega arith
   replaces_left word_kinds.Copied at word = omega arith
-  replaces_left word_kinds.Tombstone at word = omega arith
+  replaces_left word_kinds.Buried at word = omega arith
   replaces_left word_kinds.Closed at word = omega arith
 
   removes_left : (kind : Kind) (at : Place) (word : ℕ) → left_in made (removes kind at word) ≤ 10
@@ -156,7 +156,7 @@ module _ (made : Made) where
   removes_left word_kinds.Live at word = omega arith
   removes_left word_kinds.Marked at word = omega arith
   removes_left word_kinds.Copied at word = omega arith
-  removes_left word_kinds.Tombstone at word = omega arith
+  removes_left word_kinds.Buried at word = omega arith
   removes_left word_kinds.Closed at word = omega arith
 
   -- what is remembered of a pair is done, or its closure is shown it
@@ -170,14 +170,14 @@ module _ (made : Made) where
       (λ _. omega arith)
   recalls_left (Some (choices.Remove old)) at word n =
       let removal : Removal = record { place = at; word = word } in
-      cond_both (old == n) (Deleting removal) (Showing removal) (λ s. left_in made s ≤ 10) (λ _. omega arith) (λ _. omega arith)
+      cond_both (old == n) (Burying removal) (Showing removal) (λ s. left_in made s ≤ 10) (λ _. omega arith) (λ _. omega arith)
 
   computes_left : (kind : Kind) (held : Remembered) (at : Place) (word : ℕ) → left_in made (computes kind held at word) ≤ 10
   computes_left word_kinds.Empty held at word = omega arith
   computes_left word_kinds.Live held at word = recalls_left held.choice at word (pair_of word)
   computes_left word_kinds.Marked held at word = omega arith
   computes_left word_kinds.Copied held at word = omega arith
-  computes_left word_kinds.Tombstone held at word = omega arith
+  computes_left word_kinds.Buried held at word = omega arith
   computes_left word_kinds.Closed held at word = omega arith
 
   -- a pair that was made goes where its key is absent
@@ -461,10 +461,10 @@ module _ (words words' : At → ℕ) (m : Machine) where
       let at : At = Slot put.write.place.table put.write.place.probe.i in
       let done : (answer ≡ Exchanged) × IsPut words at _ words' = exchange_done _ _ (words at) put.write.old read told in
       subst (Nears made (Putting put)) (sym done.0) (written_left made put.write put.pair)
-  nears_in last made (Deleting removal) answer number read told =
+  nears_in last made (Burying removal) answer number read told =
       let at : At = Slot removal.place.table removal.place.probe.i in
       let done : (answer ≡ Exchanged) × IsPut words at _ words' = exchange_done _ _ (words at) removal.word read told in
-      subst (Nears made (Deleting removal)) (sym done.0) (omega arith)
+      subst (Nears made (Burying removal)) (sym done.0) (omega arith)
   nears_in last made (Counting n) answer number read told = subst (Nears made (Counting n)) (sym told.0) (omega arith)
   nears_in last made (Noting n) answer number read told = subst (Nears made (Noting n)) (sym told.0) (omega arith)
   nears_in last made (Uncounting n) answer number read told = subst (Nears made (Uncounting n)) (sym told.0) (omega arith)

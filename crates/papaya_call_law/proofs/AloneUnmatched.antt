@@ -25,7 +25,7 @@ use Rattle.papaya_call.specs.declared.machine.Machine.{Machine}
 use Rattle.papaya_call.specs.declared.machine.State.{State}
 use Rattle.papaya_call.specs.declared.machine.State.TheVariants.{AtRoot, Making, Opening, Searching}
 use Rattle.papaya_call.specs.declared.machine.State.TheVariants.{Writing, Offering, Showing}
-use Rattle.papaya_call.specs.declared.machine.State.TheVariants.{Pairing, Putting, Deleting}
+use Rattle.papaya_call.specs.declared.machine.State.TheVariants.{Pairing, Putting, Burying}
 use Rattle.papaya_call.specs.declared.machine.State.TheVariants.{Counting, Noting, Uncounting}
 use Rattle.papaya_call.specs.declared.machine.State.TheVariants.{Leaving, Growing, Ended}
 use Rattle.papaya_ask.specs.Search.{next_place, go_on, look_at, look, hinted}
@@ -51,7 +51,7 @@ look_none word_kinds.Empty at word = tt
 look_none word_kinds.Live at word = tt
 look_none word_kinds.Marked at word = tt
 look_none word_kinds.Copied at word = tt
-look_none word_kinds.Tombstone at word = go_on_none at
+look_none word_kinds.Buried at word = go_on_none at
 look_none word_kinds.Closed at word = go_on_none at
 
 -- a call that looks for its key ends where it is absent
@@ -124,7 +124,7 @@ module _ (m : Machine) (seeker : IsSeeker m.task) (answer : Answer) where
   meets_none_in (Showing removal) none told = absurd none
   meets_none_in (Pairing purpose) none told = absurd none
   meets_none_in (Putting put) none told = absurd none
-  meets_none_in (Deleting removal) none told = absurd none
+  meets_none_in (Burying removal) none told = absurd none
   meets_none_in (Counting n) none told = absurd none
   meets_none_in (Noting n) none told = absurd none
   meets_none_in (Uncounting n) none told = absurd none

@@ -29,7 +29,7 @@ use Rattle.papaya_copy.specs.declared.link.Link.{Link}
 use Rattle.papaya_law.specs.Class.{IsOn}
 use Rattle.papaya_law.specs.Code.{Coding, IsHashed, code, kind}
 use Rattle.papaya_law.specs.Copying.{IsPutting}
-use Rattle.papaya_law.specs.Exchange.{Word, Empty, Closed, Live, Marked, Copied, Tombstone, Setting, State}
+use Rattle.papaya_law.specs.Exchange.{Word, Empty, Closed, Live, Marked, Copied, Buried, Setting, State}
 use Rattle.papaya_law.specs.Invariant.{IsKeeping, named}
 use Rattle.papaya_law.specs.Later.{Becomes}
 use Rattle.papaya_law.specs.Hints.{IsHint}
@@ -182,7 +182,7 @@ module _ {K P : Type 0} (g : Setting K P) (c : Coding K P) (hashed : IsHashed g 
     by_kind (Live q) e = compares (Live q) q e refl
     by_kind (Marked q) e = compares (Marked q) q e refl
     by_kind (Copied q) e = compares (Copied q) q e refl
-    by_kind (Tombstone q) e = compares (Tombstone q) q e refl
+    by_kind (Buried q) e = compares (Buried q) q e refl
 
     -- what the word that stands there tells
     looks : ReliesCarried g c s (or_last (named (s.slot at.table at.probe.i)) last) kept slot word

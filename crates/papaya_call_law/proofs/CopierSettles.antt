@@ -30,7 +30,7 @@ use Rattle.papaya_law.specs.Allows.{Allows}
 use Rattle.papaya_law.specs.Class.{IsOn}
 use Rattle.papaya_law.specs.Code.{Coding, IsHashed, code, kind}
 use Rattle.papaya_law.specs.Copying.{IsSettled, IsTarget}
-use Rattle.papaya_law.specs.Exchange.{Word, Empty, Closed, Live, Marked, Copied, Tombstone, Setting}
+use Rattle.papaya_law.specs.Exchange.{Word, Empty, Closed, Live, Marked, Copied, Buried, Setting}
 use Rattle.papaya_law.specs.Exchange.{State, Exchange, Link as Link_to, Place as Place_pair, Abort}
 use Rattle.papaya_law.specs.Exchange.{after}
 use Rattle.papaya_law.specs.Invariant.{IsKeeping, named}
@@ -169,7 +169,7 @@ module _ {K P : Type 0} (g : Setting K P) (c : Coding K P) (hashed : IsHashed g 
     by_kind last kept (Live p) e = code_kind g c (Live p)
     by_kind last kept (Marked p) e = to_carry (Some p) kept p e refl (code g c (Marked p)) refl
     by_kind last kept (Copied p) e = subst (IsSettled g s slot.to) (sym e) tt
-    by_kind last kept (Tombstone p) e = subst (IsSettled g s slot.to) (sym e) tt
+    by_kind last kept (Buried p) e = subst (IsSettled g s slot.to) (sym e) tt
 
     -- what the word that stands there tells
     looks : (last kept : Option P) → ReliesSettled g c s (or_last (named (s.slot slot.from slot.index)) last) kept slot

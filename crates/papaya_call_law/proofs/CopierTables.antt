@@ -4,7 +4,7 @@ use Rattle.papaya_words.specs.Word.{hint_of}
 use Rattle.papaya_law.specs.Class.{IsOn}
 use Rattle.papaya_law.specs.Code.{Coding, code}
 use Rattle.papaya_law.specs.Copying.{IsPutting, IsSettled}
-use Rattle.papaya_law.specs.Exchange.{Word, Empty, Closed, Live, Marked, Copied, Tombstone, Setting, State}
+use Rattle.papaya_law.specs.Exchange.{Word, Empty, Closed, Live, Marked, Copied, Buried, Setting, State}
 use Rattle.papaya_law.specs.Grows.{Agrees}
 use Rattle.papaya_law.specs.Hints.{IsHint}
 use Rattle.papaya_law.specs.Invariant.{IsSound}
@@ -46,7 +46,7 @@ module _ {K P : Type 0} (g g' : Setting K P) (c : Coding K P) (s : State P) (sou
   code_same (Live p) = refl
   code_same (Marked p) = refl
   code_same (Copied p) = refl
-  code_same (Tombstone p) = refl
+  code_same (Buried p) = refl
 
   -- the hash of a pair's key
   hash_same : (p : P) (hash : ℕ) → hash ≡ c.hash (g.key p) → hash ≡ c.hash (g'.key p)

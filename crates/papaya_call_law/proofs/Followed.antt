@@ -42,7 +42,7 @@ use Rattle.papaya_call.specs.declared.machine.Machine.{Machine}
 use Rattle.papaya_call.specs.declared.machine.State.{State}
 use Rattle.papaya_call.specs.declared.machine.State.TheVariants.{AtRoot, Making, Opening, Searching}
 use Rattle.papaya_call.specs.declared.machine.State.TheVariants.{Writing, Offering, Showing}
-use Rattle.papaya_call.specs.declared.machine.State.TheVariants.{Pairing, Putting, Deleting}
+use Rattle.papaya_call.specs.declared.machine.State.TheVariants.{Pairing, Putting, Burying}
 use Rattle.papaya_call.specs.declared.machine.State.TheVariants.{Counting, Noting, Uncounting}
 use Rattle.papaya_call.specs.declared.machine.State.TheVariants.{Leaving, Growing, Ended}
 use Rattle.papaya_call.specs.declared.made.Number.{Number}
@@ -79,7 +79,7 @@ module _ (n : ℕ) (at : Place) (is : at.table ≡ n) where
   look_kind word_kinds.Live word = is
   look_kind word_kinds.Marked word = is
   look_kind word_kinds.Copied word = is
-  look_kind word_kinds.Tombstone word = on_at
+  look_kind word_kinds.Buried word = on_at
   look_kind word_kinds.Closed word = on_at
 
   match_kind : (kind : Kind) (word : ℕ) → IsSeenAt n (match_at kind at word)
@@ -87,7 +87,7 @@ module _ (n : ℕ) (at : Place) (is : at.table ≡ n) where
   match_kind word_kinds.Live word = is
   match_kind word_kinds.Marked word = is
   match_kind word_kinds.Copied word = is
-  match_kind word_kinds.Tombstone word = is
+  match_kind word_kinds.Buried word = is
   match_kind word_kinds.Closed word = is
 
   replaces_at : (kind : Kind) (word : ℕ) → IsAtTable n (replaces kind at word)
@@ -95,7 +95,7 @@ module _ (n : ℕ) (at : Place) (is : at.table ≡ n) where
   replaces_at word_kinds.Live word = is
   replaces_at word_kinds.Marked word = is
   replaces_at word_kinds.Copied word = is
-  replaces_at word_kinds.Tombstone word = is
+  replaces_at word_kinds.Buried word = is
   replaces_at word_kinds.Closed word = is
 
   removes_at : (kind : Kind) (word : ℕ) → IsAtTable n (removes kind at word)
@@ -103,7 +103,7 @@ module _ (n : ℕ) (at : Place) (is : at.table ≡ n) where
   removes_at word_kinds.Live word = is
   removes_at word_kinds.Marked word = is
   removes_at word_kinds.Copied word = is
-  removes_at word_kinds.Tombstone word = is
+  removes_at word_kinds.Buried word = is
   removes_at word_kinds.Closed word = is
 
 -- a compute of an absent key stays at the table
@@ -130,7 +130,7 @@ recalls_at n (Some (To_replace old new)) at is word i =
     (λ _. cond_both (serves_at new at.table at.probe.i) (Putting (record { write = record { place = at; old = word }; pair = new.pair }))
     (Pairing (Again (record { place = at; old = word }))) (IsAtTable n) (λ _. is) (λ _. is))
     (λ _. is)
-recalls_at n (Some (To_remove old)) at is word i = cond_both (old == i) (Deleting (record { place = at; word = word }))
+recalls_at n (Some (To_remove old)) at is word i = cond_both (old == i) (Burying (record { place = at; word = word }))
     (Showing (record { place = at; word = word })) (IsAtTable n) (λ _. is) (λ _. is)
 
 computes_at : (n : ℕ) (kind : Kind) (held : Remembered) (at : Place) → at.table ≡ n → (word : ℕ) → IsAtTable n (computes kind held at word)
@@ -138,7 +138,7 @@ computes_at n word_kinds.Empty held at is word = is
 computes_at n word_kinds.Live held at is word = recalls_at n held.choice at is word (pair_of word)
 computes_at n word_kinds.Marked held at is word = is
 computes_at n word_kinds.Copied held at is word = is
-computes_at n word_kinds.Tombstone held at is word = is
+computes_at n word_kinds.Buried held at is word = is
 computes_at n word_kinds.Closed held at is word = is
 
 -- a table that is passed
@@ -229,7 +229,7 @@ provides_at n (Replace write) i is = is
 provides_at n (Again write) i is = is
 
 beaten_at : (n : ℕ) (m : Machine) (kind : Kind) (at : Place) → at.table ≡ n → (word : ℕ) → IsAtTable n (beaten_by kind m at word)
-beaten_at n m word_kinds.Tombstone at is word = tt
+beaten_at n m word_kinds.Buried at is word = tt
 beaten_at n m word_kinds.Empty at is word = goes_at n m.task m.mode m.remembered (look at word) (look_kind n at is (kind_of word) word)
 beaten_at n m word_kinds.Live at is word = goes_at n m.task m.mode m.remembered (look at word) (look_kind n at is (kind_of word) word)
 beaten_at n m word_kinds.Marked at is word = goes_at n m.task m.mode m.remembered (look at word) (look_kind n at is (kind_of word) word)
@@ -367,15 +367,15 @@ module _ (m : Machine) (n : ℕ) where
   leads made (Showing removal) (Made_number i) is = is
   leads made (Showing removal) Ok_done is = is
   leads made (Showing removal) (Was_refused refused) is = is
-  leads made (Deleting removal) (Word_read word) is = is
-  leads made (Deleting removal) Exchanged is = tt
-  leads made (Deleting removal) (Found_instead word) is = beaten_as_at n (record m { made = made; state = Deleting removal }) m.task removal.place is word
-  leads made (Deleting removal) (Yes same) is = is
-  leads made (Deleting removal) (Op kind) is = is
-  leads made (Deleting removal) (Size slots limit) is = is
-  leads made (Deleting removal) (Made_number i) is = is
-  leads made (Deleting removal) Ok_done is = is
-  leads made (Deleting removal) (Was_refused refused) is = is
+  leads made (Burying removal) (Word_read word) is = is
+  leads made (Burying removal) Exchanged is = tt
+  leads made (Burying removal) (Found_instead word) is = beaten_as_at n (record m { made = made; state = Burying removal }) m.task removal.place is word
+  leads made (Burying removal) (Yes same) is = is
+  leads made (Burying removal) (Op kind) is = is
+  leads made (Burying removal) (Size slots limit) is = is
+  leads made (Burying removal) (Made_number i) is = is
+  leads made (Burying removal) Ok_done is = is
+  leads made (Burying removal) (Was_refused refused) is = is
   leads made (Counting i) (Word_read word) is = is
   leads made (Noting i) (Word_read word) is = is
   leads made (Counting i) Exchanged is = is
@@ -466,7 +466,7 @@ named_in made hash (Pairing purpose) n t is e = pair_holds (λ ask. table_asked 
       pair_of = λ i f. absurd cc;
     }) made (in_place_of purpose) e
 named_in made hash (Putting put) n t is e = let j : put.write.place.table ≡ t = cc e in sym j ∙ is
-named_in made hash (Deleting removal) n t is e = let j : removal.place.table ≡ t = cc e in sym j ∙ is
+named_in made hash (Burying removal) n t is e = let j : removal.place.table ≡ t = cc e in sym j ∙ is
 named_in made hash (Counting i) n t is e = absurd cc
 named_in made hash (Noting i) n t is e = let j : i.place.table ≡ t = cc e in sym j ∙ is
 named_in made hash (Uncounting i) n t is e = absurd cc
@@ -528,7 +528,7 @@ asks_in task made hash (Offering gap) stands = stands.0
 asks_in task made hash (Pairing purpose) stands = number_may task made.number made (in_place_of purpose) (computer_inserts task stands.0)
 asks_in task made hash (Putting put) stands = inl (computer_inserts task stands.0, write_kinds put.write)
 asks_in task made hash (Showing removal) stands = stands.0
-asks_in task made hash (Deleting removal) stands = inr (stands.0, refl)
+asks_in task made hash (Burying removal) stands = inr (stands.0, refl)
 asks_in task made hash (Counting i) stands = inserter_changes task stands
 asks_in task made hash (Noting i) stands = stands
 asks_in task made hash (Uncounting i) stands = closure_changes task stands
@@ -558,7 +558,7 @@ opens_in m made (Offering gap) answer t n e a f = cc e
 opens_in m made (Showing removal) answer t n e a f = cc e
 opens_in m made (Pairing purpose) answer t n e a f = subst IsPairAsk e (pairing_asks made purpose)
 opens_in m made (Putting put) answer t n e a f = cc e
-opens_in m made (Deleting removal) answer t n e a f = cc e
+opens_in m made (Burying removal) answer t n e a f = cc e
 opens_in m made (Counting i) answer t n e a f = cc e
 opens_in m made (Noting i) answer t n e a f = cc e
 opens_in m made (Uncounting i) answer t n e a f = cc e
@@ -581,7 +581,7 @@ counts_in made hash (Offering gap) change e = absurd cc
 counts_in made hash (Showing removal) change e = absurd cc
 counts_in made hash (Pairing purpose) change e = absurd cc
 counts_in made hash (Putting put) change e = absurd cc
-counts_in made hash (Deleting removal) change e = absurd cc
+counts_in made hash (Burying removal) change e = absurd cc
 counts_in made hash (Counting i) change e = tt
 counts_in made hash (Noting i) change e = tt
 counts_in made hash (Uncounting i) change e = tt

@@ -28,7 +28,7 @@ use Rattle.papaya_call.specs.declared.machine.Machine.{Machine}
 use Rattle.papaya_call.specs.declared.machine.State.{State}
 use Rattle.papaya_call.specs.declared.machine.State.TheVariants.{Making, Searching, Writing}
 use Rattle.papaya_call.specs.declared.machine.State.TheVariants.{Offering, Showing, Pairing}
-use Rattle.papaya_call.specs.declared.machine.State.TheVariants.{Putting, Deleting, Leaving}
+use Rattle.papaya_call.specs.declared.machine.State.TheVariants.{Putting, Burying, Leaving}
 use Rattle.papaya_call.specs.declared.machine.State.TheVariants.{Growing, Ended}
 use Rattle.papaya_call.specs.declared.made.Of.{Of}
 use Rattle.papaya_call.specs.Made.{serves_at}
@@ -52,7 +52,7 @@ pub record HoldsOfLeads (Holds : State → Type 0) : Type 0 where
   pub showing : (removal : Removal) → Holds (Showing removal)
   pub pairing : (purpose : Purpose) → Holds (Pairing purpose)
   pub putting : (put : Put) → Holds (Putting put)
-  pub deleting : (removal : Removal) → Holds (Deleting removal)
+  pub burying : (removal : Removal) → Holds (Burying removal)
   pub leaving : (t : ℕ) → Holds (Leaving t)
   pub growing : (need : Need) → Holds (Growing need)
 
@@ -64,7 +64,7 @@ occupies_leads Holds word_kinds.Empty at word answered needed = needed
 occupies_leads Holds word_kinds.Live at word answered needed = answered
 occupies_leads Holds word_kinds.Marked at word answered needed = needed
 occupies_leads Holds word_kinds.Copied at word answered needed = needed
-occupies_leads Holds word_kinds.Tombstone at word answered needed = needed
+occupies_leads Holds word_kinds.Buried at word answered needed = needed
 occupies_leads Holds word_kinds.Closed at word answered needed = needed
 
 module _ (Holds : State → Type 0) (each : HoldsOfLeads Holds) where
@@ -118,7 +118,7 @@ module _ (Holds : State → Type 0) (each : HoldsOfLeads Holds) where
   replaces_leads word_kinds.Live at word = each.writing (record { place = at; old = word })
   replaces_leads word_kinds.Marked at word = each.growing (Pair_at at.table at.probe.i)
   replaces_leads word_kinds.Copied at word = each.growing (Pair_at at.table at.probe.i)
-  replaces_leads word_kinds.Tombstone at word = each.growing (Pair_at at.table at.probe.i)
+  replaces_leads word_kinds.Buried at word = each.growing (Pair_at at.table at.probe.i)
   replaces_leads word_kinds.Closed at word = each.growing (Pair_at at.table at.probe.i)
 
   -- a pair that a removal shows
@@ -127,7 +127,7 @@ module _ (Holds : State → Type 0) (each : HoldsOfLeads Holds) where
   removes_leads word_kinds.Live at word = each.showing (record { place = at; word = word })
   removes_leads word_kinds.Marked at word = each.growing (Pair_at at.table at.probe.i)
   removes_leads word_kinds.Copied at word = each.growing (Pair_at at.table at.probe.i)
-  removes_leads word_kinds.Tombstone at word = each.growing (Pair_at at.table at.probe.i)
+  removes_leads word_kinds.Buried at word = each.growing (Pair_at at.table at.probe.i)
   removes_leads word_kinds.Closed at word = each.growing (Pair_at at.table at.probe.i)
 
   -- a pair of which one was made before
@@ -146,8 +146,8 @@ module _ (Holds : State → Type 0) (each : HoldsOfLeads Holds) where
       (λ _. recalled_leads new at word)
       (λ _. each.showing (record { place = at; word = word }))
   recalls_leads (Some (To_remove old)) at word n =
-      cond_both (old == n) (Deleting (record { place = at; word = word })) (Showing (record { place = at; word = word })) Holds
-      (λ _. each.deleting (record { place = at; word = word }))
+      cond_both (old == n) (Burying (record { place = at; word = word })) (Showing (record { place = at; word = word })) Holds
+      (λ _. each.burying (record { place = at; word = word }))
       (λ _. each.showing (record { place = at; word = word }))
 
   -- a pair that a compute meets
@@ -156,7 +156,7 @@ module _ (Holds : State → Type 0) (each : HoldsOfLeads Holds) where
   computes_leads word_kinds.Live held at word = recalls_leads held.choice at word (pair_of word)
   computes_leads word_kinds.Marked held at word = each.growing (Pair_at at.table at.probe.i)
   computes_leads word_kinds.Copied held at word = each.growing (Pair_at at.table at.probe.i)
-  computes_leads word_kinds.Tombstone held at word = each.growing (Pair_at at.table at.probe.i)
+  computes_leads word_kinds.Buried held at word = each.growing (Pair_at at.table at.probe.i)
   computes_leads word_kinds.Closed held at word = each.growing (Pair_at at.table at.probe.i)
 
   -- a pair with a matching key
@@ -183,7 +183,7 @@ module _ (Holds : State → Type 0) (each : HoldsOfLeads Holds) where
 
   -- a word that a deletion found in the place of its own, by its kind
   beaten_by_leads : (kd : Kind) (m : Machine) (at : Place) (word : ℕ) → Holds (beaten_by kd m at word)
-  beaten_by_leads word_kinds.Tombstone m at word = each.ended_absent
+  beaten_by_leads word_kinds.Buried m at word = each.ended_absent
   beaten_by_leads word_kinds.Empty m at word = goes_leads m.task m.mode m.remembered (look_seen at word)
   beaten_by_leads word_kinds.Live m at word = goes_leads m.task m.mode m.remembered (look_seen at word)
   beaten_by_leads word_kinds.Marked m at word = goes_leads m.task m.mode m.remembered (look_seen at word)

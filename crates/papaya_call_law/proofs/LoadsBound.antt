@@ -14,7 +14,7 @@ use Rattle.papaya_call.specs.Made.{nothing_made}
 use Rattle.papaya_call.specs.declared.machine.State.{State}
 use Rattle.papaya_call.specs.declared.machine.State.TheVariants.{AtRoot, Making, Opening, Searching}
 use Rattle.papaya_call.specs.declared.machine.State.TheVariants.{Writing, Offering, Showing}
-use Rattle.papaya_call.specs.declared.machine.State.TheVariants.{Pairing, Putting, Deleting}
+use Rattle.papaya_call.specs.declared.machine.State.TheVariants.{Pairing, Putting, Burying}
 use Rattle.papaya_call.specs.declared.machine.State.TheVariants.{Counting, Noting, Uncounting}
 use Rattle.papaya_call.specs.declared.machine.State.TheVariants.{Leaving, Growing, Ended}
 use Rattle.papaya_call.specs.declared.machine.Machine.{Machine}
@@ -101,7 +101,7 @@ module _ (limit : ℕ → ℕ) (hash initial : ℕ) (mode : ResizeMode) where
   step_by made (Showing removal) answer reader fits = absurd reader
   step_by made (Pairing purpose) answer reader fits = absurd reader
   step_by made (Putting put) answer reader fits = absurd reader
-  step_by made (Deleting removal) answer reader fits = absurd reader
+  step_by made (Burying removal) answer reader fits = absurd reader
   step_by made (Counting pair) answer reader fits = absurd reader
   step_by made (Noting pair) answer reader fits = absurd reader
   step_by made (Uncounting pair) answer reader fits = absurd reader

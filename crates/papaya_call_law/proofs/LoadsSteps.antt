@@ -23,7 +23,7 @@ use Rattle.papaya_call.specs.declared.made.Made.{Made}
 use Rattle.papaya_call.specs.declared.machine.State.{State}
 use Rattle.papaya_call.specs.declared.machine.State.TheVariants.{AtRoot, Making, Opening, Searching}
 use Rattle.papaya_call.specs.declared.machine.State.TheVariants.{Writing, Offering, Showing}
-use Rattle.papaya_call.specs.declared.machine.State.TheVariants.{Pairing, Putting, Deleting}
+use Rattle.papaya_call.specs.declared.machine.State.TheVariants.{Pairing, Putting, Burying}
 use Rattle.papaya_call.specs.declared.machine.State.TheVariants.{Counting, Noting, Uncounting}
 use Rattle.papaya_call.specs.declared.machine.State.TheVariants.{Leaving, Growing, Ended}
 use Rattle.papaya_call.specs.declared.machine.Machine.{Machine}
@@ -54,7 +54,7 @@ IsReader (Offering gap) = ⊥
 IsReader (Showing removal) = ⊥
 IsReader (Pairing purpose) = ⊥
 IsReader (Putting put) = ⊥
-IsReader (Deleting removal) = ⊥
+IsReader (Burying removal) = ⊥
 IsReader (Counting pair) = ⊥
 IsReader (Noting pair) = ⊥
 IsReader (Uncounting pair) = ⊥
@@ -148,7 +148,7 @@ module _ (limit : ℕ → ℕ) where
     leads_look kinds.Live word = follows_comparing at word le
     leads_look kinds.Marked word = follows_comparing at word le
     leads_look kinds.Copied word = follows_comparing at word le
-    leads_look kinds.Tombstone word = leads_on
+    leads_look kinds.Buried word = leads_on
     leads_look kinds.Closed word = leads_on
 
     leads_match : (kind : Kind) (word : ℕ) → Leads (match_at kind at word)
@@ -156,7 +156,7 @@ module _ (limit : ℕ → ℕ) where
     leads_match kinds.Live word = follows_ended at.table (at.limit - at.probe.len) (Found (pair_of word))
     leads_match kinds.Marked word = follows_ended at.table (at.limit - at.probe.len) (Found (pair_of word))
     leads_match kinds.Copied word = follows_passes mode at.table (at.limit - at.probe.len)
-    leads_match kinds.Tombstone word = follows_ended at.table (at.limit - at.probe.len) (Found (pair_of word))
+    leads_match kinds.Buried word = follows_ended at.table (at.limit - at.probe.len) (Found (pair_of word))
     leads_match kinds.Closed word = follows_ended at.table (at.limit - at.probe.len) (Found (pair_of word))
 
     pub leads_compared : (word : ℕ) (same : Bool) → Leads (search_compared (Comparing at word) same)

@@ -26,7 +26,7 @@ use Rattle.papaya_call.specs.declared.write.Write.{Write}
 use Rattle.papaya_call.specs.declared.machine.State.{State as Stage}
 use Rattle.papaya_call.specs.declared.machine.State.TheVariants.{AtRoot, Making, Opening, Searching}
 use Rattle.papaya_call.specs.declared.machine.State.TheVariants.{Writing, Offering, Showing}
-use Rattle.papaya_call.specs.declared.machine.State.TheVariants.{Pairing, Putting, Deleting}
+use Rattle.papaya_call.specs.declared.machine.State.TheVariants.{Pairing, Putting, Burying}
 use Rattle.papaya_call.specs.declared.machine.State.TheVariants.{Counting, Noting, Uncounting}
 use Rattle.papaya_call.specs.declared.machine.State.TheVariants.{Leaving, Growing, Ended}
 use Rattle.papaya_call.specs.declared.machine.Machine.{Machine}
@@ -187,7 +187,7 @@ module _ {K P : Type 0} (g g' : Setting K P) (c : Coding K P) (begun since since
   stage_carried task (Showing removal) r = (r.0, removal_carried removal r.1)
   stage_carried task (Pairing purpose) r = (r.0, purpose_carried purpose r.1)
   stage_carried task (Putting put) r = (r.0, write_carried true put.write r.1, for_carried put.write put.pair r.2)
-  stage_carried task (Deleting removal) r = (r.0, removal_carried removal r.1)
+  stage_carried task (Burying removal) r = (r.0, removal_carried removal r.1)
   stage_carried task (Counting claimed) r = (r.0, carried.claimed claimed r.1)
   stage_carried task (Noting claimed) r = (r.0, carried.claimed claimed r.1)
   stage_carried task (Uncounting n) r = r

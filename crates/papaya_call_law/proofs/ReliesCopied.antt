@@ -16,7 +16,7 @@ use Rattle.papaya_call.specs.declared.machine.Machine.{Machine}
 use Rattle.papaya_call.specs.declared.machine.State.{State as Stage}
 use Rattle.papaya_call.specs.declared.machine.State.TheVariants.{AtRoot, Making, Opening, Searching}
 use Rattle.papaya_call.specs.declared.machine.State.TheVariants.{Writing, Offering, Showing}
-use Rattle.papaya_call.specs.declared.machine.State.TheVariants.{Pairing, Putting, Deleting}
+use Rattle.papaya_call.specs.declared.machine.State.TheVariants.{Pairing, Putting, Burying}
 use Rattle.papaya_call.specs.declared.machine.State.TheVariants.{Counting, Noting, Uncounting}
 use Rattle.papaya_call.specs.declared.machine.State.TheVariants.{Leaving, Growing, Ended}
 use Rattle.papaya_call.specs.Compute.{in_place_of}
@@ -98,7 +98,7 @@ module _ {K P : Type 0} (g : Setting K P) (c : Coding K P) (hashed : IsHashed g 
   copied_in task hash made (Showing removal) s n e = absurd cc
   copied_in task hash made (Pairing purpose) s n e = purpose_copies purpose s.1 n (copies made (in_place_of purpose) n e)
   copied_in task hash made (Putting put) s n e = absurd cc
-  copied_in task hash made (Deleting removal) s n e = absurd cc
+  copied_in task hash made (Burying removal) s n e = absurd cc
   copied_in task hash made (Counting i) s n e = absurd cc
   copied_in task hash made (Noting i) s n e = absurd cc
   copied_in task hash made (Uncounting i) s n e = absurd cc

@@ -24,7 +24,7 @@ use Rattle.papaya_call.specs.declared.machine.Machine.{Machine}
 use Rattle.papaya_call.specs.declared.machine.State.{State as Stage}
 use Rattle.papaya_call.specs.declared.machine.State.TheVariants.{AtRoot, Making, Opening, Searching}
 use Rattle.papaya_call.specs.declared.machine.State.TheVariants.{Writing, Offering, Showing}
-use Rattle.papaya_call.specs.declared.machine.State.TheVariants.{Pairing, Putting, Deleting}
+use Rattle.papaya_call.specs.declared.machine.State.TheVariants.{Pairing, Putting, Burying}
 use Rattle.papaya_call.specs.declared.machine.State.TheVariants.{Counting, Noting, Uncounting}
 use Rattle.papaya_call.specs.declared.machine.State.TheVariants.{Leaving, Growing, Ended}
 use Rattle.papaya_law.specs.Exchange.{Setting, State, Exchange}
@@ -59,7 +59,7 @@ owed_in (Offering gap) = pos 0
 owed_in (Showing removal) = pos 0
 owed_in (Pairing purpose) = pos 0
 owed_in (Putting put) = pos 0
-owed_in (Deleting removal) = pos 0
+owed_in (Burying removal) = pos 0
 owed_in (Leaving t) = pos 0
 owed_in (Growing t) = pos 0
 owed_in (Ended reply) = pos 0
@@ -82,7 +82,7 @@ asked_in made hash (Offering gap) = refl
 asked_in made hash (Showing removal) = refl
 asked_in made hash (Pairing purpose) = pair_holds (λ ask. owed_by ask ≡ pos 0) pairs_owe made (in_place_of purpose)
 asked_in made hash (Putting put) = refl
-asked_in made hash (Deleting removal) = refl
+asked_in made hash (Burying removal) = refl
 asked_in made hash (Counting n) = refl
 asked_in made hash (Noting n) = refl
 asked_in made hash (Uncounting n) = refl
@@ -103,7 +103,7 @@ leads_owe = record {
   showing = λ removal. refl;
   pairing = λ purpose. refl;
   putting = λ put. refl;
-  deleting = λ removal. refl;
+  burying = λ removal. refl;
   leaving = λ t. refl;
   growing = λ t. refl;
 }
@@ -263,18 +263,18 @@ module _ {K P : Type 0} (g : Setting K P) (c : Coding K P) (k : K) (s : State P)
       (Owes made (Putting put) answer) h
       (λ _ h'. subst (Owes made (Putting put)) (sym h'.0) (written_owes (put.write.old == 0) put.write put.pair))
       (λ _ h'. subst (Owes made (Putting put)) (sym h'.0) (goes_owes m.task m.mode m.remembered (look_seen put.write.place word)))
-  owes_in made (Deleting removal) answer h =
+  owes_in made (Burying removal) answer h =
       let t : ℕ = removal.place.table in
       let x : ℕ = removal.place.probe.i in
       let word : ℕ = code g c (s.slot t x) in
       by_test (word == removal.word)
-      ((answer ≡ Exchanged) × ((e : Exchange P) × IsAsked g c k (Some kinds.Delete) (Slot t x) (grave_word removal.word) s loaded e × (es ≡ e ∷ []))
+      ((answer ≡ Exchanged) × ((e : Exchange P) × IsAsked g c k (Some kinds.Bury) (Slot t x) (grave_word removal.word) s loaded e × (es ≡ e ∷ []))
       × (loaded' ≡ loaded))
       ((answer ≡ Found_instead word) × (es ≡ []) × (loaded' ≡ told_of s (Slot t x) loaded))
-      (Owes made (Deleting removal) answer) h
-      (λ _ h'. subst (Owes made (Deleting removal)) (sym h'.0) refl)
-      (λ _ h'. subst (Owes made (Deleting removal)) (sym h'.0)
-      (beaten_leads (λ stage. owed_in stage ≡ pos 0) leads_owe (record m { made = made; state = Deleting removal }) removal word))
+      (Owes made (Burying removal) answer) h
+      (λ _ h'. subst (Owes made (Burying removal)) (sym h'.0) refl)
+      (λ _ h'. subst (Owes made (Burying removal)) (sym h'.0)
+      (beaten_leads (λ stage. owed_in stage ≡ pos 0) leads_owe (record m { made = made; state = Burying removal }) removal word))
   owes_in made (Counting i) answer h = subst (Owes made (Counting i)) (sym h.0) refl
   owes_in made (Noting i) answer h = subst (Owes made (Noting i)) (sym h.0) refl
   owes_in made (Uncounting i) answer h = subst (Owes made (Uncounting i)) (sym h.0) refl

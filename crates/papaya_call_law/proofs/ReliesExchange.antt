@@ -2,7 +2,7 @@
 use Rattle.std.proofs.Common.{◌≡◌, ⊎_elim, ℕ, ◌+◌, ◌<◌, ◌==◌, eqb-true, eq-eqb, Bool, true, false}
 use Rattle.std.proofs.Common.{cond, MatchBool, Option, None, Some, MatchOption, List, ◌++◌, refl}
 use Rattle.std.proofs.Common.{sym, ap, ◌∙◌, subst}
-use Rattle.papaya_words.specs.Word.{kind_of, live_word, tombstone_word}
+use Rattle.papaya_words.specs.Word.{kind_of, live_word, buried_word}
 use Rattle.papaya_words.specs.declared.word.Kind.TheVariants as word_kinds
 use Rattle.papaya_ask.specs.declared.ask.Ask.TheVariants.{Exchange as Ask_exchange}
 use Rattle.papaya_ask.specs.declared.ask.At.{At}
@@ -23,12 +23,12 @@ use Rattle.papaya_call.specs.declared.machine.Machine.{Machine}
 use Rattle.papaya_call.specs.declared.machine.State.{State as Stage}
 use Rattle.papaya_call.specs.declared.machine.State.TheVariants.{AtRoot, Making, Opening, Searching}
 use Rattle.papaya_call.specs.declared.machine.State.TheVariants.{Writing, Offering, Showing}
-use Rattle.papaya_call.specs.declared.machine.State.TheVariants.{Pairing, Putting, Deleting}
+use Rattle.papaya_call.specs.declared.machine.State.TheVariants.{Pairing, Putting, Burying}
 use Rattle.papaya_call.specs.declared.machine.State.TheVariants.{Counting, Noting, Uncounting}
 use Rattle.papaya_call.specs.declared.machine.State.TheVariants.{Leaving, Growing, Ended}
-use Rattle.papaya_law.specs.Exchange.{Word, Live, Tombstone, Setting, State, Exchange, Open, Claim, Replace, Delete, Take, after, run, slot_put, start, walk}
+use Rattle.papaya_law.specs.Exchange.{Word, Live, Buried, Setting, State, Exchange, Open, Claim, Replace, Bury, Take, after, run, slot_put, start, walk}
 use Rattle.papaya_law.specs.View.{look, beyond, IsPassed, IsReached}
-use Rattle.papaya_law.specs.Allows.{AllAllowed, Allows, MayClaim, MayReplace, MayDelete}
+use Rattle.papaya_law.specs.Allows.{AllAllowed, Allows, MayClaim, MayReplace, MayBury}
 use Rattle.papaya_law.specs.Code.{Coding, IsOfKind, code}
 use Rattle.papaya_law.specs.Invariant.{named}
 use Rattle.papaya_law.specs.Later.{Becomes, IsOfKey}
@@ -75,8 +75,8 @@ module _ {K P : Type 0} (g : Setting K P) (c : Coding K P) (hashed : IsHashed g 
     }
 
     -- a pair of the key that is Live may be deleted
-    pub may_delete : (p : P) → now.slot at.table at.probe.i ≡ Live p → g.same k (g.key p) ≡ true → MayDelete g now at.table at.probe.i p
-    may_delete p live same = record { live = live; reached = reached_pair p same }
+    pub may_bury : (p : P) → now.slot at.table at.probe.i ≡ Live p → g.same k (g.key p) ≡ true → MayBury g now at.table at.probe.i p
+    may_bury p live same = record { live = live; reached = reached_pair p same }
 
     -- at an Empty place a pair of the key may be claimed
     pub may_claim : (q : P) → g.key q ≡ k → code g c (now.slot at.table at.probe.i) ≡ 0 → MayClaim g now at.table at.probe.i q
@@ -230,25 +230,25 @@ module _ {K P : Type 0} (g : Setting K P) (c : Coding K P) (hashed : IsHashed g 
         (live_word put.pair)
     puts put r m = writes put.pair true put.write r (put.write.old == 0) refl m
 
-  -- a removed pair's word is the code of its Tombstone
-  grave_code : (p : P) (word : ℕ) → code g c (Live p) ≡ word → code g c (Tombstone p) ≡ grave_word word
-  grave_code p word e = ap tombstone_word (sym (code_pair g c hashed.coding (Live p) p refl)) ∙ ap grave_word e
+  -- a removed pair's word is that of its kind, Buried
+  grave_code : (p : P) (word : ℕ) → code g c (Live p) ≡ word → code g c (Buried p) ≡ grave_word word
+  grave_code p word e = ap buried_word (sym (code_pair g c hashed.coding (Live p) p refl)) ∙ ap grave_word e
 
   -- a pair to which the closure agreed is deleted where its word stands
-  deletes : (loaded : LoadedPairs P) (removal : Removal) → MayRemove g c begun since k loaded removal
-      → MayDo (Some kinds.Delete) loaded (Slot removal.place.table removal.place.probe.i) removal.word (grave_word removal.word)
-  deletes loaded removal r stands_there =
+  buries : (loaded : LoadedPairs P) (removal : Removal) → MayRemove g c begun since k loaded removal
+      → MayDo (Some kinds.Bury) loaded (Slot removal.place.table removal.place.probe.i) removal.word (grave_word removal.word)
+  buries loaded removal r stands_there =
       let t : ℕ = removal.place.table in
       let x : ℕ = removal.place.probe.i in
       let live : IsOfKind word_kinds.Live (now.slot t x) = subst (λ y. IsOfKind y (now.slot t x)) (ap kind_of stands_there ∙ r.live)
       (word_of_kind g c (now.slot t x)) in
       let q : P = live.0 in
       let same : g.same k (g.key q) ≡ true = live_same loaded removal r q live.1 in (
-        Delete t x q,
+        Bury t x q,
         (q, live.1, refl),
-        may_delete removal.place r.met.stands q live.1 same,
-        subst (λ y. IsWritten g c now (Slot t x) y (slot_put now t x (Tombstone q)))
-            (grave_code q removal.word (ap (code g c) (sym live.1) ∙ stands_there)) (slot_written t x (Tombstone q)),
+        may_bury removal.place r.met.stands q live.1 same,
+        subst (λ y. IsWritten g c now (Slot t x) y (slot_put now t x (Buried q)))
+            (grave_code q removal.word (ap (code g c) (sym live.1) ∙ stands_there)) (slot_written t x (Buried q)),
       )
 
   module _ (loaded : LoadedPairs P) (hash : ℕ) (task : Task) where
@@ -288,9 +288,9 @@ module _ {K P : Type 0} (g : Setting K P) (c : Coding K P) (hashed : IsHashed g 
         let write : Write = put.write in
         same_ask (Some (cond (write.old == 0) kinds.Claim kinds.Replace)) loaded (Slot write.place.table write.place.probe.i) at write.old old
         (live_word put.pair) new e (puts loaded put r.1 r.2)
-    may_do made held m (Deleting removal) r at old new e =
-        same_ask (Some kinds.Delete) loaded (Slot removal.place.table removal.place.probe.i) at removal.word old (grave_word removal.word) new e
-        (deletes loaded removal r.1)
+    may_do made held m (Burying removal) r at old new e =
+        same_ask (Some kinds.Bury) loaded (Slot removal.place.table removal.place.probe.i) at removal.word old (grave_word removal.word) new e
+        (buries loaded removal r.1)
     may_do made held m (Counting n) r at old new e = absurd cc
     may_do made held m (Noting n) r at old new e = absurd cc
     may_do made held m (Uncounting n) r at old new e = absurd cc

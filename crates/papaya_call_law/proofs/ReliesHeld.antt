@@ -26,7 +26,7 @@ use Rattle.papaya_call.specs.declared.machine.Machine.{Machine}
 use Rattle.papaya_call.specs.declared.machine.State.{State as Stage}
 use Rattle.papaya_call.specs.declared.machine.State.TheVariants.{AtRoot, Making, Opening, Searching}
 use Rattle.papaya_call.specs.declared.machine.State.TheVariants.{Writing, Offering, Showing}
-use Rattle.papaya_call.specs.declared.machine.State.TheVariants.{Pairing, Putting, Deleting}
+use Rattle.papaya_call.specs.declared.machine.State.TheVariants.{Pairing, Putting, Burying}
 use Rattle.papaya_call.specs.declared.machine.State.TheVariants.{Counting, Noting, Uncounting}
 use Rattle.papaya_call.specs.declared.machine.State.TheVariants.{Leaving, Growing, Ended}
 use Rattle.papaya_law.specs.Exchange.{Setting, Exchange}
@@ -94,7 +94,7 @@ module _ {K P : Type 0} (g : Setting K P) (c : Coding K P) (begun since : List (
   made_in task hash made held r (Showing removal) s t x old new e w = absurd cc
   made_in task hash made held r (Pairing purpose) s t x old new e w = absurd (subst IsPairAsk e (pairing_asks made purpose))
   made_in task hash made held r (Putting put) s t x old new e w = absurd (computes_not task s.0 w)
-  made_in task hash made held r (Deleting removal) s t x old new e w = absurd (not_both task s.0 w)
+  made_in task hash made held r (Burying removal) s t x old new e w = absurd (not_both task s.0 w)
   made_in task hash made held r (Counting n) s t x old new e w = absurd cc
   made_in task hash made held r (Noting n) s t x old new e w = absurd cc
   made_in task hash made held r (Uncounting n) s t x old new e w = absurd cc
@@ -125,7 +125,7 @@ module _ {K P : Type 0} (g : Setting K P) (c : Coding K P) (begun since : List (
   told_in task hash made (Showing removal) s n e = absurd cc
   told_in task hash made (Pairing purpose) s n e = absurd (subst IsPairAsk e (pairing_asks made purpose))
   told_in task hash made (Putting put) s n e = absurd cc
-  told_in task hash made (Deleting removal) s n e = absurd cc
+  told_in task hash made (Burying removal) s n e = absurd cc
   told_in task hash made (Counting i) s n e = absurd cc
   told_in task hash made (Noting i) s n e = absurd cc
   told_in task hash made (Uncounting i) s n e = absurd cc
@@ -166,7 +166,7 @@ module _ {K P : Type 0} (g : Setting K P) (c : Coding K P) (hashed : IsHashed g 
   shows_in task hash made (Showing removal) s n e = let is : pair_of removal.word ≡ n = cc e in subst IsShowing is (removal_shows removal s.1)
   shows_in task hash made (Pairing purpose) s n e = absurd (subst IsPairAsk e (pairing_asks made purpose))
   shows_in task hash made (Putting put) s n e = absurd cc
-  shows_in task hash made (Deleting removal) s n e = absurd cc
+  shows_in task hash made (Burying removal) s n e = absurd cc
   shows_in task hash made (Counting i) s n e = absurd cc
   shows_in task hash made (Noting i) s n e = absurd cc
   shows_in task hash made (Uncounting i) s n e = absurd cc
@@ -192,7 +192,7 @@ ended_in made hash (Offering gap) reply e = absurd cc
 ended_in made hash (Showing removal) reply e = absurd cc
 ended_in made hash (Pairing purpose) reply e = absurd (subst IsPairAsk e (pairing_asks made purpose))
 ended_in made hash (Putting put) reply e = absurd cc
-ended_in made hash (Deleting removal) reply e = absurd cc
+ended_in made hash (Burying removal) reply e = absurd cc
 ended_in made hash (Counting i) reply e = absurd cc
 ended_in made hash (Noting i) reply e = absurd cc
 ended_in made hash (Uncounting i) reply e = absurd cc
@@ -221,7 +221,7 @@ offering_in made hash (Offering gap) e = (gap, refl)
 offering_in made hash (Showing removal) e = absurd cc
 offering_in made hash (Pairing purpose) e = absurd (subst IsPairAsk e (pairing_asks made purpose))
 offering_in made hash (Putting put) e = absurd cc
-offering_in made hash (Deleting removal) e = absurd cc
+offering_in made hash (Burying removal) e = absurd cc
 offering_in made hash (Counting i) e = absurd cc
 offering_in made hash (Noting i) e = absurd cc
 offering_in made hash (Uncounting i) e = absurd cc
@@ -261,7 +261,7 @@ showing_in made hash (Offering gap) n e = absurd cc
 showing_in made hash (Showing removal) n e = (removal, refl)
 showing_in made hash (Pairing purpose) n e = absurd (subst IsPairAsk e (pairing_asks made purpose))
 showing_in made hash (Putting put) n e = absurd cc
-showing_in made hash (Deleting removal) n e = absurd cc
+showing_in made hash (Burying removal) n e = absurd cc
 showing_in made hash (Counting i) n e = absurd cc
 showing_in made hash (Noting i) n e = absurd cc
 showing_in made hash (Uncounting i) n e = absurd cc
@@ -301,7 +301,7 @@ pairing_in made hash (Offering gap) stands e = absurd e
 pairing_in made hash (Showing removal) stands e = absurd e
 pairing_in made hash (Pairing purpose) stands e = (purpose, refl)
 pairing_in made hash (Putting put) stands e = absurd e
-pairing_in made hash (Deleting removal) stands e = absurd e
+pairing_in made hash (Burying removal) stands e = absurd e
 pairing_in made hash (Counting i) stands e = absurd e
 pairing_in made hash (Noting i) stands e = absurd e
 pairing_in made hash (Uncounting i) stands e = absurd e
@@ -351,7 +351,7 @@ pair_waits_in m made (Showing removal) n shown makes e = makes
 pair_waits_in m made (Pairing purpose) n shown makes e = paired_waits m.task purpose n shown (pair_done made) (grown made (in_place_of purpose))
     (pair_of_grown made (in_place_of purpose) makes) e
 pair_waits_in m made (Putting put) n shown makes e = makes
-pair_waits_in m made (Deleting removal) n shown makes e = makes
+pair_waits_in m made (Burying removal) n shown makes e = makes
 pair_waits_in m made (Counting i) n shown makes e = makes
 pair_waits_in m made (Noting i) n shown makes e = makes
 pair_waits_in m made (Uncounting i) n shown makes e = makes

@@ -10,7 +10,7 @@ use Rattle.papaya_call.specs.declared.machine.Machine.{Machine}
 use Rattle.papaya_call.specs.declared.machine.State.{State as Stage}
 use Rattle.papaya_call.specs.declared.machine.State.TheVariants.{AtRoot, Making, Opening, Searching}
 use Rattle.papaya_call.specs.declared.machine.State.TheVariants.{Writing, Offering, Showing}
-use Rattle.papaya_call.specs.declared.machine.State.TheVariants.{Pairing, Putting, Deleting}
+use Rattle.papaya_call.specs.declared.machine.State.TheVariants.{Pairing, Putting, Burying}
 use Rattle.papaya_call.specs.declared.machine.State.TheVariants.{Counting, Noting, Uncounting}
 use Rattle.papaya_call.specs.declared.machine.State.TheVariants.{Leaving, Growing, Ended}
 use Rattle.papaya_call.specs.Machine.{asks, ask_of}
@@ -37,7 +37,7 @@ module _ {K P : Type 0} (g : Setting K P) (c : Coding K P) (begun since : List (
     may_hint_in made (Showing removal) r e = absurd cc
     may_hint_in made (Pairing purpose) r e = absurd (subst IsPairAsk e (pairing_asks made purpose))
     may_hint_in made (Putting put) r e = absurd cc
-    may_hint_in made (Deleting removal) r e = absurd cc
+    may_hint_in made (Burying removal) r e = absurd cc
     may_hint_in made (Counting claimed) r e = absurd cc
     may_hint_in made (Noting claimed) r e =
         let table : claimed.place.table ≡ t = cc e in

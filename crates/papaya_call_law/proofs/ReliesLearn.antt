@@ -28,7 +28,7 @@ use Rattle.papaya_call.specs.declared.machine.Machine.{Machine}
 use Rattle.papaya_call.specs.declared.machine.State.{State as Stage}
 use Rattle.papaya_call.specs.declared.machine.State.TheVariants.{AtRoot, Making, Opening, Searching}
 use Rattle.papaya_call.specs.declared.machine.State.TheVariants.{Writing, Offering, Showing}
-use Rattle.papaya_call.specs.declared.machine.State.TheVariants.{Pairing, Putting, Deleting}
+use Rattle.papaya_call.specs.declared.machine.State.TheVariants.{Pairing, Putting, Burying}
 use Rattle.papaya_call.specs.declared.machine.State.TheVariants.{Counting, Noting, Uncounting}
 use Rattle.papaya_call.specs.declared.machine.State.TheVariants.{Leaving, Growing, Ended}
 use Rattle.papaya_law.specs.Exchange.{Setting, State, Exchange, Take, run, start}
@@ -71,7 +71,7 @@ use Rattle.papaya_call_law.proofs.ReliesLearnComputes.{decided_loaded, decided_r
 use Rattle.papaya_call_law.proofs.ReliesLearnComputes.{offered_relies, pair_relies, provides_relies}
 use Rattle.papaya_call_law.proofs.ReliesLearnComputes.{purpose_more, purpose_new}
 use Rattle.papaya_call_law.proofs.ReliesLearnWrites.{IsSlotAsked, one_more, opens, puts, writes}
-use Rattle.papaya_call_law.proofs.ReliesLearnRemovals.{beaten_relies, deletes, judged_relies, uncounted}
+use Rattle.papaya_call_law.proofs.ReliesLearnRemovals.{beaten_relies, buries, judged_relies, uncounted}
 use Rattle.papaya_call.specs.declared.need.Need.{Need}
 use Rattle.papaya_call.specs.Machine.{needed}
 use Rattle.papaya_call.specs.declared.write.Claimed.{Claimed}
@@ -557,13 +557,13 @@ module _ {K P : Type 0} (g : Setting K P) (c : Coding K P) (hashed : IsHashed g 
         (λ there asked. let done = puts g c hashed begun since may k loaded m.task r.0 put r.2 (live_word put.pair) r.1 there es asked in
         (done.0, later_relies es done.0 made n (written put.write put.pair) done.1))
         (told_relies_at made n put.write.place (goes_as m.task m.mode m.remembered (look_seen put.write.place (word_at put.write.place))))
-    learns_in made n (Deleting removal) r answer es loaded' h =
-        slot_exchanged made n (Deleting removal) (Some kinds.Delete) removal.place removal.word (grave_word removal.word) r.1.met.stands answer es loaded' h
-        (λ there asked. let all = deletes g c hashed begun since may k loaded removal r.1 (grave_word removal.word) es asked in
+    learns_in made n (Burying removal) r answer es loaded' h =
+        slot_exchanged made n (Burying removal) (Some kinds.Bury) removal.place removal.word (grave_word removal.word) r.1.met.stands answer es loaded' h
+        (λ there asked. let all = buries g c hashed begun since may k loaded removal r.1 (grave_word removal.word) es asked in
         (all, later_relies es all made n (Uncounting (pair_of removal.word)) r.0))
         (λ on.
-        told_relies_at made n removal.place (beaten (in_stage made (Deleting removal)) removal (word_at removal.place))
-        (beaten_relies g c hashed begun since may k loaded removal r.1 (in_stage made (Deleting removal)) (told_at removal.place loaded)
+        told_relies_at made n removal.place (beaten (in_stage made (Burying removal)) removal (word_at removal.place))
+        (beaten_relies g c hashed begun since may k loaded removal r.1 (in_stage made (Burying removal)) (told_at removal.place loaded)
         (word_at removal.place) refl m.task r.0 on))
     learns_in made n (Uncounting i) r answer es loaded' h = quiet (in_stage made (Uncounting i)) answer Ok_done es loaded' loaded h.0 h.1.0 h.1.1
         (relies loaded made n (Ended (Removed i)) (uncounted g c hashed begun since may k loaded m.task i r))

@@ -12,7 +12,7 @@ use Rattle.papaya_call.specs.declared.compute.Gap.TheVariants.{NoRoot, At, After
 use Rattle.papaya_call.specs.declared.compute.Purpose.{Purpose}
 use Rattle.papaya_call.specs.declared.compute.Purpose.TheVariants.{Fill, Replace, Again}
 use Rattle.papaya_call.specs.declared.compute.Remembered.{Remembered}
-use Rattle.papaya_call.specs.declared.machine.State.TheVariants.{Showing, Pairing, Putting, Deleting}
+use Rattle.papaya_call.specs.declared.machine.State.TheVariants.{Showing, Pairing, Putting, Burying}
 use Rattle.papaya_call.specs.declared.remove.Removal.{Removal}
 use Rattle.papaya_ask.specs.declared.search.Place.{Place}
 use Rattle.papaya_call.specs.declared.made.Made.{Made}
@@ -81,7 +81,7 @@ module _ {K P : Type 0} (g : Setting K P) (c : Coding K P) (begun since : List (
         (λ e. recalled_relies new own)
         (λ e. (tt, removes))
     recalls_relies (Some (To_remove old)) own n =
-        cond_both (old == n) (Deleting (record { place = at; word = word })) (Showing (record { place = at; word = word }))
+        cond_both (old == n) (Burying (record { place = at; word = word })) (Showing (record { place = at; word = word }))
         (ReliesStage g c begun since k loaded Compute)
         (λ e. (tt, removes))
         (λ e. (tt, removes))

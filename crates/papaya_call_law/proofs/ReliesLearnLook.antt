@@ -6,7 +6,7 @@ use Rattle.papaya_words.specs.declared.word.Kind.TheVariants as kinds
 use Rattle.papaya_ask.specs.declared.search.Place.{Place}
 use Rattle.papaya_ask.specs.declared.search.Search.TheVariants.{Comparing, Reading}
 use Rattle.papaya_ask.specs.declared.search.Probed.TheVariants as seen
-use Rattle.papaya_law.specs.Exchange.{Word, Empty, Closed, Live, Marked, Copied, Tombstone, Setting, State, Exchange, run, start}
+use Rattle.papaya_law.specs.Exchange.{Word, Empty, Closed, Live, Marked, Copied, Buried, Setting, State, Exchange, run, start}
 use Rattle.papaya_law.specs.View.{View, Foreign, Here, Leaving, Gone, look, held, beyond, view}
 use Rattle.papaya_law.specs.Allows.{AllAllowed}
 use Rattle.papaya_law.specs.Code.{Coding, code, kind}
@@ -17,7 +17,7 @@ use Rattle.papaya_call_law.specs.Told.{LoadedPairs, or_last}
 use Rattle.papaya_law.specs.Code.{IsHashed}
 use Rattle.papaya_call_law.specs.Relies.{HasMet, IsAt}
 use Rattle.papaya_law.proofs.Codes.{code_kind}
-use Rattle.papaya_law.proofs.CodeViews.{other_key, past_tombstone}
+use Rattle.papaya_law.proofs.CodeViews.{other_key, past_buried}
 use Rattle.papaya_law.proofs.Later.{Sees, later_itself, sees_later}
 use Rattle.papaya_call_law.proofs.ReliesLearnMoments.{found_here}
 use Rattle.papaya_call_law.proofs.ReliesLearnPlaces.{ReliesProbed, goes_on, sees}
@@ -41,7 +41,7 @@ module _ {K P : Type 0} (g : Setting K P) (k : K) where
   held_pair (Live q) p n h = let is : q ≡ p = cc n in inl (one_held (g.same k (g.key q)) (Here q) h ∙ ap Here is)
   held_pair (Marked q) p n h = let is : q ≡ p = cc n in inr (one_held (g.same k (g.key q)) (Leaving q) h ∙ ap Leaving is)
   held_pair (Copied q) p n h = let e = one_held (g.same k (g.key q)) (Gone q) h in let no : held (Gone q) ≡ true = subst (λ v. held v ≡ true) e h in absurd cc
-  held_pair (Tombstone q) p n h = let e = one_held (g.same k (g.key q)) (View.Grave q) h in
+  held_pair (Buried q) p n h = let e = one_held (g.same k (g.key q)) (View.Grave q) h in
       let no : held (View.Grave q) ≡ true = subst (λ v. held v ≡ true) e h in absurd cc
 
 module _ {K P : Type 0} (g : Setting K P) (c : Coding K P) (hashed : IsHashed g c) (begun since : List (Exchange P))
@@ -52,7 +52,7 @@ module _ {K P : Type 0} (g : Setting K P) (c : Coding K P) (hashed : IsHashed g 
 
   module _ (at : Place) (r : IsAt g c begun since k at) where
     -- the pair that the word at the place names is met
-    met : (w : Word P) (p : P) → now.slot at.table at.probe.i ≡ w → named w ≡ Some p → (kind w ≡ kinds.Tombstone → ⊥)
+    met : (w : Word P) (p : P) → now.slot at.table at.probe.i ≡ w → named w ≡ Some p → (kind w ≡ kinds.Buried → ⊥)
         → HasMet g c begun since k at (code g c w) p
     met w p e n undeleted = record {
       stands = r;
@@ -69,7 +69,7 @@ module _ {K P : Type 0} (g : Setting K P) (c : Coding K P) (hashed : IsHashed g 
     }
 
     -- a filled word is compared
-    compares : (w : Word P) (p : P) → now.slot at.table at.probe.i ≡ w → named w ≡ Some p → (kind w ≡ kinds.Tombstone → ⊥) → (loaded : LoadedPairs P)
+    compares : (w : Word P) (p : P) → now.slot at.table at.probe.i ≡ w → named w ≡ Some p → (kind w ≡ kinds.Buried → ⊥) → (loaded : LoadedPairs P)
         → ReliesProbed g c hashed begun since k (told_word w loaded) (seen.On (Comparing at (code g c w)))
     compares w p e n undeleted loaded = (p, ap (λ o. or_last o loaded.last) n, met w p e n undeleted)
 
@@ -97,7 +97,7 @@ module _ {K P : Type 0} (g : Setting K P) (c : Coding K P) (hashed : IsHashed g 
     by_kind (Live p) e loaded = compares (Live p) p e refl (λ q. cc) loaded
     by_kind (Marked p) e loaded = compares (Marked p) p e refl (λ q. cc) loaded
     by_kind (Copied p) e loaded = compares (Copied p) p e refl (λ q. cc) loaded
-    by_kind (Tombstone p) e loaded = passes (Tombstone p) e (past_tombstone g c k (Tombstone p) (code_kind g c (Tombstone p))) loaded
+    by_kind (Buried p) e loaded = passes (Buried p) e (past_buried g c k (Buried p) (code_kind g c (Buried p))) loaded
 
     -- what the word that stands there tells
     pub looks : (loaded : LoadedPairs P) → ReliesProbed g c hashed begun since k (told_word (now.slot at.table at.probe.i) loaded)
@@ -131,7 +131,7 @@ module _ {K P : Type 0} (g : Setting K P) (c : Coding K P) (hashed : IsHashed g 
         let gone : look g now k at.table at.probe.len ≡ Gone q = sees g c hashed begun since k at h.stands (Copied q) (became_of (Copied q) e)
         ∙ ap (λ b. cond b (Gone q) Foreign) mine in
         (h.stands.come, inl (at.probe.len, q, h.stands.within, gone))
-    matches same loaded last (Tombstone q) e = absurd (h.undeleted (kind_then (Tombstone q) e))
+    matches same loaded last (Buried q) e = absurd (h.undeleted (kind_then (Buried q) e))
 
     -- another key's pair
     differs : g.same k (g.key p) ≡ false → (loaded : LoadedPairs P) → ReliesProbed g c hashed begun since k loaded (go_on at)

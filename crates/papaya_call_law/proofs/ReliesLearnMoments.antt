@@ -2,13 +2,13 @@
 use Rattle.std.proofs.Common.{◌≡◌, ◌⊎◌, inl, inr, ⊎_elim, ℕ, ◌<◌, true, false, Option, None, Some}
 use Rattle.std.proofs.Common.{List, [], ◌++◌, append_assoc, append-nil, refl, sym, ap, ◌∙◌, subst}
 use Rattle.std.proofs.lemmas.Bool.{cases_Bool}
-use Rattle.papaya_law.specs.Exchange.{Live, Tombstone, Setting, State, Exchange, run, start}
+use Rattle.papaya_law.specs.Exchange.{Live, Buried, Setting, State, Exchange, run, start}
 use Rattle.papaya_law.specs.View.{Free, Here, Leaving, look, beyond, IsPassed, IsReached}
 use Rattle.papaya_law.specs.Allows.{AllAllowed}
 use Rattle.papaya_law.specs.Code.{Coding}
 use Rattle.papaya_law.specs.Meaning.{map_left, map_of, IsAtMoment, IsLawful}
 use Rattle.papaya_call_law.specs.Relies.{HasComeTo, WasAtMoment}
-use Rattle.papaya_law.proofs.Deletions.{tombstone_between}
+use Rattle.papaya_law.proofs.Burials.{buried_between}
 use Rattle.papaya_law.proofs.Moments.{run-append, map_of-append, allowed_first, allowed_rest}
 use Rattle.papaya_law.proofs.Onward.{next_reached}
 use Rattle.papaya_law.proofs.OneMap.{means_map, root_is_reached, lasting, reader_found, reader_empty, reader_over}
@@ -77,13 +77,13 @@ module _ {K P : Type 0} (g : Setting K P) (c : Coding K P) (law : IsLawful g) (b
       (subst (λ l. look g (run l start) k t j ≡ Free) (split m.0 m.1 m.2) h)))
       r.is
 
-  -- a pair of the key that stood Live in a slot at a moment, and is Tombstone there now
-  pub tombstone_here : (es fs : List (Exchange P)) → es ++ fs ≡ since → (t x : ℕ) (p q : P) → (run (begun ++ es) start).slot t x ≡ Live p
-      → g.same k (g.key p) ≡ true → now.slot t x ≡ Tombstone q → WasAtMoment g c begun since k None
-  tombstone_here es fs e t x p q live same tombstone =
-      at_deeper es fs e None (tombstone_between g law t x q k fs (run (begun ++ es) start) (map_left g (begun ++ es))
+  -- a pair of the key that stood Live in a slot at a moment, and is Buried there now
+  pub buried_here : (es fs : List (Exchange P)) → es ++ fs ≡ since → (t x : ℕ) (p q : P) → (run (begun ++ es) start).slot t x ≡ Live p
+      → g.same k (g.key p) ≡ true → now.slot t x ≡ Buried q → WasAtMoment g c begun since k None
+  buried_here es fs e t x p q live same buried =
+      at_deeper es fs e None (buried_between g law t x q k fs (run (begun ++ es) start) (map_left g (begun ++ es))
       (allowed_rest g (begun ++ es) fs start (may-split es fs e)) p live same
-      (ap (λ s. s.slot t x) (sym (run-append (begun ++ es) fs start)) ∙ (ap (λ l. (run l start).slot t x) (sym (split es fs e)) ∙ tombstone)))
+      (ap (λ s. s.slot t x) (sym (run-append (begun ++ es) fs start)) ∙ (ap (λ l. (run l start).slot t x) (sym (split es fs e)) ∙ buried)))
 
   -- with blocking, a passed table
   pub over_blocking : (t : ℕ) → HasComeTo g c begun since k t → g.blocking ≡ true → IsPassed g.places (look g now k) t → WasAtMoment g c begun since k None

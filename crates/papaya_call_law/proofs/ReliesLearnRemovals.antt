@@ -21,10 +21,10 @@ use Rattle.papaya_call_law.specs.Told.{LoadedPairs}
 use Rattle.papaya_law.specs.Code.{IsHashed}
 use Rattle.papaya_call_law.specs.Relies.{MayRemove, ReliesStage, WasAtMoment}
 use Rattle.papaya_law.proofs.CodeViews.{word_of_kind}
-use Rattle.papaya_call_law.proofs.ReliesExchange.{may_delete}
+use Rattle.papaya_call_law.proofs.ReliesExchange.{may_bury}
 use Rattle.papaya_call_law.proofs.ReliesLearnGoes.{had_pair}
 use Rattle.papaya_call_law.proofs.ReliesLearnLook.{became_of}
-use Rattle.papaya_call_law.proofs.ReliesLearnMoments.{tombstone_here}
+use Rattle.papaya_call_law.proofs.ReliesLearnMoments.{buried_here}
 use Rattle.papaya_call_law.proofs.ReliesLearnWrites.{IsSlotAsked, one_more}
 
 module _ {K P : Type 0} (g : Setting K P) (c : Coding K P) (hashed : IsHashed g c) (begun since : List (Exchange P))
@@ -59,12 +59,12 @@ module _ {K P : Type 0} (g : Setting K P) (c : Coding K P) (hashed : IsHashed g 
     same_now q is = let kept : g.key q ≡ g.key r.pair = subst (Becomes g (Live r.pair)) is became in subst (λ l. g.same k l ≡ true) (sym kept) r.same
 
     -- the deletion that was asked for is allowed
-    pub deletes : (new : ℕ) (es : List (Exchange P)) → IsSlotAsked g c hashed begun since may k (Some kinds.Delete) removal.place new loaded es
+    pub buries : (new : ℕ) (es : List (Exchange P)) → IsSlotAsked g c hashed begun since may k (Some kinds.Bury) removal.place new loaded es
         → AllAllowed g start (begun ++ (since ++ es))
-    deletes new es h =
+    buries new es h =
         let p : P = (h.1).0 in
         let allows : Allows g now h.0 = subst (Allows g now) (sym (h.1).2)
-        (may_delete g c hashed begun since may k removal.place r.met.stands p (h.1).1 (same_now p (h.1).1)) in
+        (may_bury g c hashed begun since may k removal.place r.met.stands p (h.1).1 (same_now p (h.1).1)) in
         subst (λ l. AllAllowed g start (begun ++ (since ++ l))) (sym h.2) (one_more g c hashed begun since may k h.0 allows)
 
     -- where the closure agrees the pair is to be deleted, and where it doesn't, the map had the pair
@@ -80,17 +80,17 @@ module _ {K P : Type 0} (g : Setting K P) (c : Coding K P) (hashed : IsHashed g 
     judged_relies Compute is agrees = (tt, r)
 
     -- another call deleted the pair
-    tombstone_absent : IsOfKind word_kinds.Tombstone (now.slot removal.place.table removal.place.probe.i) → WasAtMoment g c begun since k None
-    tombstone_absent b =
+    buried_absent : IsOfKind word_kinds.Buried (now.slot removal.place.table removal.place.probe.i) → WasAtMoment g c begun since k None
+    buried_absent b =
         let m = r.met.stood in
-        tombstone_here g c hashed.lawful begun since may k m.0 (m.1).0 (m.1).1 removal.place.table removal.place.probe.i r.pair b.0
+        buried_here g c hashed.lawful begun since may k m.0 (m.1).0 (m.1).1 removal.place.table removal.place.probe.i r.pair b.0
         ((m.1).2 ∙ was_live) r.same b.1
 
     module _ (m : Machine) (loaded' : LoadedPairs P) (word : ℕ) (is : word ≡ code g c (now.slot removal.place.table removal.place.probe.i)) where
-      -- so where another word stands, a removal is over if that is Tombstone, and else goes on as its search does
+      -- so where another word stands, a removal is over if that is Buried, and else goes on as its search does
       by_kind : ReliesStage g c begun since k loaded' RemoveIf (goes m (look_seen removal.place word)) → (y : Kind) → kind_of word ≡ y
           → ReliesStage g c begun since k loaded' RemoveIf (beaten_by y m removal.place word)
-      by_kind on word_kinds.Tombstone e = tombstone_absent
+      by_kind on word_kinds.Buried e = buried_absent
           (subst (λ y. IsOfKind y (now.slot removal.place.table removal.place.probe.i)) (ap kind_of (sym is) ∙ e)
           (word_of_kind g c (now.slot removal.place.table removal.place.probe.i)))
       by_kind on word_kinds.Empty e = on

@@ -14,7 +14,7 @@ use Rattle.papaya_call.specs.declared.write.Write.{Write}
 use Rattle.papaya_call.specs.declared.machine.State.{State as Stage}
 use Rattle.papaya_call.specs.declared.machine.State.TheVariants.{AtRoot, Making, Opening, Searching}
 use Rattle.papaya_call.specs.declared.machine.State.TheVariants.{Writing, Offering, Showing}
-use Rattle.papaya_call.specs.declared.machine.State.TheVariants.{Pairing, Putting, Deleting}
+use Rattle.papaya_call.specs.declared.machine.State.TheVariants.{Pairing, Putting, Burying}
 use Rattle.papaya_call.specs.declared.machine.State.TheVariants.{Counting, Noting, Uncounting}
 use Rattle.papaya_call.specs.declared.machine.State.TheVariants.{Leaving, Growing, Ended}
 use Rattle.papaya_law.specs.Exchange.{Setting, Exchange, run, start}
@@ -120,7 +120,7 @@ module _ {K P : Type 0} (g : Setting K P) (c : Coding K P) (h : IsHashed g c) (b
     ask_named made (Showing removal) r = tt
     ask_named made (Pairing purpose) r = pair_holds IsNamed pair_named made (in_place_of purpose)
     ask_named made (Putting put) r = place_within put.write.place (r.1).stands
-    ask_named made (Deleting removal) r = place_within removal.place (r.1).met.stands
+    ask_named made (Burying removal) r = place_within removal.place (r.1).met.stands
     ask_named made (Counting n) r = tt
     ask_named made (Noting claimed) r = place_within claimed.place r.1.stands
     ask_named made (Uncounting n) r = tt

@@ -31,7 +31,7 @@ use Rattle.papaya_call.specs.declared.machine.Machine.{Machine}
 use Rattle.papaya_call.specs.declared.machine.State.{State as Stage}
 use Rattle.papaya_call.specs.declared.machine.State.TheVariants.{AtRoot, Making, Opening, Searching}
 use Rattle.papaya_call.specs.declared.machine.State.TheVariants.{Writing, Offering, Showing}
-use Rattle.papaya_call.specs.declared.machine.State.TheVariants.{Pairing, Putting, Deleting}
+use Rattle.papaya_call.specs.declared.machine.State.TheVariants.{Pairing, Putting, Burying}
 use Rattle.papaya_call.specs.declared.machine.State.TheVariants.{Counting, Noting, Uncounting}
 use Rattle.papaya_call.specs.declared.machine.State.TheVariants.{Leaving, Growing, Ended}
 use Rattle.papaya_call.specs.Compute.{in_place_of, offered}
@@ -71,7 +71,7 @@ opening_asked made hash (Offering gap) = refl
 opening_asked made hash (Showing removal) = refl
 opening_asked made hash (Pairing purpose) = pair_holds (λ ask. opening_of ask ≡ None) pairs_open_none made (in_place_of purpose)
 opening_asked made hash (Putting put) = refl
-opening_asked made hash (Deleting removal) = refl
+opening_asked made hash (Burying removal) = refl
 opening_asked made hash (Counting n) = refl
 opening_asked made hash (Noting n) = refl
 opening_asked made hash (Uncounting n) = refl
@@ -96,7 +96,7 @@ leads_open_none = record {
   showing = λ removal. refl;
   pairing = λ purpose. refl;
   putting = λ put. refl;
-  deleting = λ removal. refl;
+  burying = λ removal. refl;
   leaving = λ t. refl;
   growing = λ t. refl;
 }
@@ -192,11 +192,11 @@ module _ (m : Machine) (t : ℕ) where
       none_opened (Putting put) (Found_instead word) (opening_in (goes_as m.task m.mode m.remembered (look_seen put.write.place word)))
       (goes_open_none m.task m.mode m.remembered (look_seen put.write.place word)) e
   opened_in made (Putting put) answer e = absurd cc
-  opened_in made (Deleting removal) (Found_instead word) e =
-      let machine : Machine = record m { made = made; state = Deleting removal } in
-      none_opened (Deleting removal) (Found_instead word) (opening_in (beaten machine removal word))
+  opened_in made (Burying removal) (Found_instead word) e =
+      let machine : Machine = record m { made = made; state = Burying removal } in
+      none_opened (Burying removal) (Found_instead word) (opening_in (beaten machine removal word))
       (beaten_leads OpensNone leads_open_none machine removal word) e
-  opened_in made (Deleting removal) answer e = absurd cc
+  opened_in made (Burying removal) answer e = absurd cc
   opened_in made (Counting n) Ok_done e = absurd cc
   opened_in made (Noting n) Ok_done e = absurd cc
   opened_in made (Counting n) answer e = absurd cc

@@ -26,7 +26,7 @@ use Rattle.papaya_call.specs.declared.machine.Machine.{Machine}
 use Rattle.papaya_call.specs.declared.machine.State.{State as Stage}
 use Rattle.papaya_call.specs.declared.machine.State.TheVariants.{AtRoot, Making, Opening, Searching}
 use Rattle.papaya_call.specs.declared.machine.State.TheVariants.{Writing, Offering, Showing}
-use Rattle.papaya_call.specs.declared.machine.State.TheVariants.{Pairing, Putting, Deleting}
+use Rattle.papaya_call.specs.declared.machine.State.TheVariants.{Pairing, Putting, Burying}
 use Rattle.papaya_call.specs.declared.machine.State.TheVariants.{Counting, Noting, Uncounting}
 use Rattle.papaya_call.specs.declared.machine.State.TheVariants.{Leaving, Growing, Ended}
 use Rattle.papaya_law.specs.Exchange.{Setting, State, Exchange}
@@ -65,7 +65,7 @@ leads_unchanged = record {
   showing = λ removal. refl;
   pairing = λ purpose. refl;
   putting = λ put. refl;
-  deleting = λ removal. refl;
+  burying = λ removal. refl;
   leaving = λ t. refl;
   growing = λ t. refl;
 }
@@ -215,18 +215,18 @@ module _ {K P : Type 0} (g : Setting K P) (c : Coding K P) (hashed : IsHashed g 
       (Changes made (Putting put) answer) h
       (λ _ h'. subst (Changes made (Putting put)) (sym h'.0) (written_changes (write.old == 0) write put.pair))
       (λ _ h'. subst (Changes made (Putting put)) (sym h'.0) (goes_unchanged m.task m.mode m.remembered (look_seen write.place word)))
-  changes_in made (Deleting removal) answer h =
+  changes_in made (Burying removal) answer h =
       let t : ℕ = removal.place.table in
       let x : ℕ = removal.place.probe.i in
       let word : ℕ = code g c (s.slot t x) in
       by_test (word == removal.word)
-      ((answer ≡ Exchanged) × ((e : Exchange P) × IsAsked g c k (Some kinds.Delete) (Slot t x) (grave_word removal.word) s loaded e × (es ≡ e ∷ []))
+      ((answer ≡ Exchanged) × ((e : Exchange P) × IsAsked g c k (Some kinds.Bury) (Slot t x) (grave_word removal.word) s loaded e × (es ≡ e ∷ []))
       × (loaded' ≡ loaded))
       ((answer ≡ Found_instead word) × (es ≡ []) × (loaded' ≡ told_of s (Slot t x) loaded))
-      (Changes made (Deleting removal) answer) h
-      (λ _ h'. subst (Changes made (Deleting removal)) (sym h'.0) refl)
-      (λ _ h'. subst (Changes made (Deleting removal)) (sym h'.0)
-      (beaten_leads IsUnchanged leads_unchanged (record m { made = made; state = Deleting removal }) removal word))
+      (Changes made (Burying removal) answer) h
+      (λ _ h'. subst (Changes made (Burying removal)) (sym h'.0) refl)
+      (λ _ h'. subst (Changes made (Burying removal)) (sym h'.0)
+      (beaten_leads IsUnchanged leads_unchanged (record m { made = made; state = Burying removal }) removal word))
   changes_in made (Uncounting i) answer h = subst (Changes made (Uncounting i)) (sym h.0) refl
   changes_in made (Leaving t) answer h = subst (Changes made (Leaving t)) (sym h.0)
       (left_leads IsUnchanged leads_unchanged m.task m.remembered.fill t (s.next t))
@@ -259,7 +259,7 @@ machine_replies g c begun since k m loaded r reply e = replies_in m.made m.state
     replies_in made (Offering gap) s is = absurd cc
     replies_in made (Showing removal) s is = absurd cc
     replies_in made (Putting put) s is = absurd cc
-    replies_in made (Deleting removal) s is = absurd cc
+    replies_in made (Burying removal) s is = absurd cc
     replies_in made (Counting claimed) s is = absurd cc
     replies_in made (Noting claimed) s is = absurd cc
     replies_in made (Uncounting n) s is = absurd cc

@@ -32,7 +32,7 @@ use Rattle.papaya_call.specs.declared.machine.Machine.{Machine}
 use Rattle.papaya_call.specs.declared.machine.State.{State as Stage}
 use Rattle.papaya_call.specs.declared.machine.State.TheVariants.{AtRoot, Making, Opening, Searching}
 use Rattle.papaya_call.specs.declared.machine.State.TheVariants.{Writing, Offering, Showing}
-use Rattle.papaya_call.specs.declared.machine.State.TheVariants.{Pairing, Putting, Deleting}
+use Rattle.papaya_call.specs.declared.machine.State.TheVariants.{Pairing, Putting, Burying}
 use Rattle.papaya_call.specs.declared.machine.State.TheVariants.{Counting, Noting, Uncounting}
 use Rattle.papaya_call.specs.declared.machine.State.TheVariants.{Leaving, Growing, Ended}
 use Rattle.papaya_call.specs.Compute.{in_place_of, provides}
@@ -101,7 +101,7 @@ module _ (made : Made) (hash : ℕ) where
     showing = λ removal. refl;
     pairing = pairing_unrefused made;
     putting = λ put. refl;
-    deleting = λ removal. refl;
+    burying = λ removal. refl;
     leaving = λ t. refl;
     growing = λ t. refl;
   }
@@ -307,11 +307,11 @@ module _ (m : Machine) (refused : Refused) where
       (refusal_of (asks (made_decided m.task kind made) m.hash (decided m.task removal kind)))
       (decided_unrefused (made_decided m.task kind made) m.hash m.task removal kind) e
   refused_in made (Showing removal) answer open_still e = absurd cc
-  refused_in made (Deleting removal) (Found_instead word) open_still e =
-      let machine : Machine = record m { made = made; state = Deleting removal } in
-      unrefused made (Deleting removal) (Found_instead word) (refusal_of (asks made m.hash (beaten machine removal word)))
+  refused_in made (Burying removal) (Found_instead word) open_still e =
+      let machine : Machine = record m { made = made; state = Burying removal } in
+      unrefused made (Burying removal) (Found_instead word) (refusal_of (asks made m.hash (beaten machine removal word)))
       (beaten_leads (IsUnrefused made m.hash) (leads_unrefused made m.hash) machine removal word) e
-  refused_in made (Deleting removal) answer open_still e = absurd cc
+  refused_in made (Burying removal) answer open_still e = absurd cc
   refused_in made (Uncounting n) Ok_done open_still e = absurd cc
   refused_in made (Uncounting n) answer open_still e = absurd cc
   refused_in made (Leaving t) (Word_read word) open_still e = unrefused made (Leaving t) (Word_read word)

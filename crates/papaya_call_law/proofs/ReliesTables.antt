@@ -5,7 +5,7 @@ use Rattle.papaya_ask.specs.declared.call.Task.{Task}
 use Rattle.papaya_ask.specs.declared.call.Task.TheVariants.{Get, Insert, RemoveIf, Compute}
 use Rattle.papaya_ask.specs.declared.search.Place.{Place}
 use Rattle.papaya_call.specs.declared.machine.Machine.{Machine}
-use Rattle.papaya_law.specs.Exchange.{Word, Empty, Closed, Live, Marked, Copied, Tombstone, Setting, Exchange, start}
+use Rattle.papaya_law.specs.Exchange.{Word, Empty, Closed, Live, Marked, Copied, Buried, Setting, Exchange, start}
 use Rattle.papaya_law.specs.View.{Leaving as View_leaving, Gone, held, beyond, look, IsPassed}
 use Rattle.papaya_law.specs.Class.{IsOn}
 use Rattle.papaya_law.specs.Allows.{AllAllowed}
@@ -79,7 +79,7 @@ module _ {K P : Type 0} (g g' : Setting K P) (c : Coding K P) (h : IsHashed g c)
   code_same (Live p) = refl
   code_same (Marked p) = refl
   code_same (Copied p) = refl
-  code_same (Tombstone p) = refl
+  code_same (Buried p) = refl
 
   -- it met the pair
   met_carries : (at : Place) (word : ℕ) (p : P) → HasMet g c begun since k at word p → HasMet g' c begun since k at word p

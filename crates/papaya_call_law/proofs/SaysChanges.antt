@@ -34,7 +34,7 @@ use Rattle.papaya_call.specs.declared.machine.Machine.{Machine}
 use Rattle.papaya_call.specs.declared.machine.State.{State as Stage}
 use Rattle.papaya_call.specs.declared.machine.State.TheVariants.{AtRoot, Making, Opening, Searching}
 use Rattle.papaya_call.specs.declared.machine.State.TheVariants.{Writing, Offering, Showing}
-use Rattle.papaya_call.specs.declared.machine.State.TheVariants.{Pairing, Putting, Deleting}
+use Rattle.papaya_call.specs.declared.machine.State.TheVariants.{Pairing, Putting, Burying}
 use Rattle.papaya_call.specs.declared.machine.State.TheVariants.{Counting, Noting, Uncounting}
 use Rattle.papaya_call.specs.declared.machine.State.TheVariants.{Leaving, Growing, Ended}
 use Rattle.papaya_call.specs.Compute.{chosen, in_place_of, offered, provides}
@@ -81,7 +81,7 @@ abort_asked made hash (Offering gap) = refl
 abort_asked made hash (Showing removal) = refl
 abort_asked made hash (Pairing purpose) = pair_holds (λ ask. abort_of ask ≡ None) pairs_unaborted made (in_place_of purpose)
 abort_asked made hash (Putting put) = refl
-abort_asked made hash (Deleting removal) = refl
+abort_asked made hash (Burying removal) = refl
 abort_asked made hash (Counting n) = refl
 abort_asked made hash (Noting n) = refl
 abort_asked made hash (Uncounting n) = refl
@@ -106,7 +106,7 @@ leads_idle = record {
   showing = λ removal. (refl, refl);
   pairing = λ purpose. (refl, refl);
   putting = λ put. (refl, refl);
-  deleting = λ removal. (refl, refl);
+  burying = λ removal. (refl, refl);
   leaving = λ t. (refl, refl);
   growing = λ t. (refl, refl);
 }
@@ -189,19 +189,19 @@ module _ (m : Machine) where
   }
 
   -- a pair that was deleted
-  delete_change : (task : Task) (made : Made) (removal : Removal) → HasClosure task
-      → IsSaidChange task (on task made (Deleting removal)) (Some (pair_of removal.word)) None
-  delete_change Get made removal is = absurd is
-  delete_change (Insert replace) made removal is = absurd is
-  delete_change RemoveIf made removal is = inl refl
-  delete_change Compute made removal is = inl refl
+  bury_change : (task : Task) (made : Made) (removal : Removal) → HasClosure task
+      → IsSaidChange task (on task made (Burying removal)) (Some (pair_of removal.word)) None
+  bury_change Get made removal is = absurd is
+  bury_change (Insert replace) made removal is = absurd is
+  bury_change RemoveIf made removal is = inl refl
+  bury_change Compute made removal is = inl refl
 
   -- by its exchange
-  delete_right : (task : Task) (made : Made) (removal : Removal) → IsRight task made (Deleting removal) Exchanged (Uncounting (pair_of removal.word))
-  delete_right task made removal = record {
+  bury_right : (task : Task) (made : Made) (removal : Removal) → IsRight task made (Burying removal) Exchanged (Uncounting (pair_of removal.word))
+  bury_right task made removal = record {
     change = λ old new is before e.
         let gone : (Some (pair_of removal.word), None) ≡ (old, new) = cc e in
-        subst (λ (c : Option ℕ × Option ℕ). IsSaidChange task (on task made (Deleting removal)) c.0 c.1) gone (delete_change task made removal is.0);
+        subst (λ (c : Option ℕ × Option ℕ). IsSaidChange task (on task made (Burying removal)) c.0 c.1) gone (bury_change task made removal is.0);
     abort = λ with open_still e. absurd cc;
   }
 
@@ -217,7 +217,7 @@ module _ (m : Machine) where
   -- to a pair that it was shown
   chosen_right : (made : Made) (removal : Removal) (kind : OpKind) → IsRight Compute made (Showing removal) (Op kind) (chosen removal kind)
   chosen_right made removal ops.Insert = idle Compute made (Showing removal) (Op ops.Insert) (chosen removal ops.Insert) (refl, refl)
-  chosen_right made removal ops.Remove = idle Compute made (Showing removal) (Op ops.Remove) (Deleting removal) (refl, refl)
+  chosen_right made removal ops.Remove = idle Compute made (Showing removal) (Op ops.Remove) (Burying removal) (refl, refl)
   chosen_right made removal (ops.Abort t) = record {
     change = λ old new is before e. absurd cc;
     abort = λ with open_still e. let is : t ≡ with = cc e in (Some (pair_of removal.word), refl, ap (λ n. Op (ops.Abort n)) is);
@@ -267,7 +267,7 @@ module _ (m : Machine) where
   right_in task made (Writing write) answer = stable task made (Writing write) answer refl
   right_in task made (Offering gap) (Op kind) = offered_right task made gap kind
   right_in task made (Offering gap) answer = stable task made (Offering gap) answer refl
-  right_in RemoveIf made (Showing removal) (Yes true) = idle RemoveIf made (Showing removal) (Yes true) (Deleting removal) (refl, refl)
+  right_in RemoveIf made (Showing removal) (Yes true) = idle RemoveIf made (Showing removal) (Yes true) (Burying removal) (refl, refl)
   right_in RemoveIf made (Showing removal) (Yes false) = idle RemoveIf made (Showing removal) (Yes false) (Ended (Kept (pair_of removal.word))) (refl, refl)
   right_in Get made (Showing removal) (Yes same) = stable Get made (Showing removal) (Yes same) refl
   right_in (Insert replace) made (Showing removal) (Yes same) = stable (Insert replace) made (Showing removal) (Yes same) refl
@@ -291,11 +291,11 @@ module _ (m : Machine) where
       idle task made (Putting put) (Found_instead word) (goes_as task m.mode m.remembered (look_seen put.write.place word))
       (goes_idle task m.mode m.remembered (look_seen put.write.place word))
   right_in task made (Putting put) answer = stable task made (Putting put) answer refl
-  right_in task made (Deleting removal) Exchanged = delete_right task made removal
-  right_in task made (Deleting removal) (Found_instead word) =
-      idle task made (Deleting removal) (Found_instead word) (beaten (on task made (Deleting removal)) removal word)
-      (beaten_leads IsIdle leads_idle (on task made (Deleting removal)) removal word)
-  right_in task made (Deleting removal) answer = stable task made (Deleting removal) answer refl
+  right_in task made (Burying removal) Exchanged = bury_right task made removal
+  right_in task made (Burying removal) (Found_instead word) =
+      idle task made (Burying removal) (Found_instead word) (beaten (on task made (Burying removal)) removal word)
+      (beaten_leads IsIdle leads_idle (on task made (Burying removal)) removal word)
+  right_in task made (Burying removal) answer = stable task made (Burying removal) answer refl
   right_in task made (Counting n) Ok_done = record { change = λ old new is before e. absurd (cc before); abort = λ with open_still e. absurd cc }
   right_in task made (Noting n) Ok_done = record { change = λ old new is before e. absurd (cc before); abort = λ with open_still e. absurd cc }
   right_in task made (Counting n) answer = stable task made (Counting n) answer refl

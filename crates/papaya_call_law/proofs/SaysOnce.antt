@@ -38,7 +38,7 @@ use Rattle.papaya_call.specs.declared.machine.Machine.{Machine}
 use Rattle.papaya_call.specs.declared.machine.State.{State as Stage}
 use Rattle.papaya_call.specs.declared.machine.State.TheVariants.{AtRoot, Making, Opening, Searching}
 use Rattle.papaya_call.specs.declared.machine.State.TheVariants.{Writing, Offering, Showing}
-use Rattle.papaya_call.specs.declared.machine.State.TheVariants.{Pairing, Putting, Deleting}
+use Rattle.papaya_call.specs.declared.machine.State.TheVariants.{Pairing, Putting, Burying}
 use Rattle.papaya_call.specs.declared.machine.State.TheVariants.{Counting, Noting, Uncounting}
 use Rattle.papaya_call.specs.declared.machine.State.TheVariants.{Leaving, Growing, Ended}
 use Rattle.papaya_call.specs.declared.made.Grown.{Grown}
@@ -67,7 +67,7 @@ asks_other made hash fill (Offering gap) h e = h
 asks_other made hash fill (Showing removal) h e = cc e
 asks_other made hash fill (Pairing purpose) h e = subst IsPairAsk e (pairing_asks made purpose)
 asks_other made hash fill (Putting put) h e = cc e
-asks_other made hash fill (Deleting removal) h e = cc e
+asks_other made hash fill (Burying removal) h e = cc e
 asks_other made hash fill (Counting n) h e = cc e
 asks_other made hash fill (Noting n) h e = cc e
 asks_other made hash fill (Uncounting n) h e = cc e
@@ -97,7 +97,7 @@ recalls_shown fill (Some (To_replace old new)) at word pair h =
     (λ _. cond_both (serves_at new at.table at.probe.i) (Putting (record { write = record { place = at; old = word }; pair = new.pair }))
     (Pairing (Again (record { place = at; old = word }))) (HasShownNone fill) (λ _. h) (λ _. h))
     (λ _. h)
-recalls_shown fill (Some (To_remove old)) at word pair h = cond_both (old == pair) (Deleting (record { place = at; word = word }))
+recalls_shown fill (Some (To_remove old)) at word pair h = cond_both (old == pair) (Burying (record { place = at; word = word }))
     (Showing (record { place = at; word = word })) (HasShownNone fill) (λ _. h) (λ _. h)
 
 -- nor one that a compute found
@@ -106,7 +106,7 @@ computes_shown word_kinds.Empty held at word h = h
 computes_shown word_kinds.Live held at word h = recalls_shown held.fill held.choice at word (pair_of word) h
 computes_shown word_kinds.Marked held at word h = h
 computes_shown word_kinds.Copied held at word h = h
-computes_shown word_kinds.Tombstone held at word h = h
+computes_shown word_kinds.Buried held at word h = h
 computes_shown word_kinds.Closed held at word h = h
 
 -- nor one that a removal found
@@ -115,7 +115,7 @@ removes_shown fill word_kinds.Empty at word h = h
 removes_shown fill word_kinds.Live at word h = h
 removes_shown fill word_kinds.Marked at word h = h
 removes_shown fill word_kinds.Copied at word h = h
-removes_shown fill word_kinds.Tombstone at word h = h
+removes_shown fill word_kinds.Buried at word h = h
 removes_shown fill word_kinds.Closed at word h = h
 
 -- nor one that an insertion replaces
@@ -124,7 +124,7 @@ replaces_shown fill word_kinds.Empty at word h = h
 replaces_shown fill word_kinds.Live at word h = h
 replaces_shown fill word_kinds.Marked at word h = h
 replaces_shown fill word_kinds.Copied at word h = h
-replaces_shown fill word_kinds.Tombstone at word h = h
+replaces_shown fill word_kinds.Buried at word h = h
 replaces_shown fill word_kinds.Closed at word h = h
 
 -- after a search
@@ -162,7 +162,7 @@ next_shown task fill t word h = cond_both (word == 0) (absent task fill (After t
 
 -- after a deletion that was lost
 beaten_shown : (kd : Kind) (m : Machine) (at : Place) (word : ℕ) → IsFilled m.remembered.fill → HasShownNone m.remembered.fill (beaten_by kd m at word)
-beaten_shown word_kinds.Tombstone m at word h = tt
+beaten_shown word_kinds.Buried m at word h = tt
 beaten_shown word_kinds.Empty m at word h = goes_shown m.task m.mode m.remembered (look_seen at word) h
 beaten_shown word_kinds.Live m at word h = goes_shown m.task m.mode m.remembered (look_seen at word) h
 beaten_shown word_kinds.Marked m at word h = goes_shown m.task m.mode m.remembered (look_seen at word) h
@@ -181,10 +181,10 @@ module _ (m : Machine) where
 
   -- by the task
   beaten_task_shown : (task : Task) (made : Made) (removal : Removal) (word : ℕ) → IsFilled m.remembered.fill
-      → HasShownNone m.remembered.fill (beaten_as task (on task made (Deleting removal)) removal.place word)
-  beaten_task_shown Get made removal word h = beaten_shown (kind_of word) (on Get made (Deleting removal)) removal.place word h
-  beaten_task_shown (Insert replace) made removal word h = beaten_shown (kind_of word) (on (Insert replace) made (Deleting removal)) removal.place word h
-  beaten_task_shown RemoveIf made removal word h = beaten_shown (kind_of word) (on RemoveIf made (Deleting removal)) removal.place word h
+      → HasShownNone m.remembered.fill (beaten_as task (on task made (Burying removal)) removal.place word)
+  beaten_task_shown Get made removal word h = beaten_shown (kind_of word) (on Get made (Burying removal)) removal.place word h
+  beaten_task_shown (Insert replace) made removal word h = beaten_shown (kind_of word) (on (Insert replace) made (Burying removal)) removal.place word h
+  beaten_task_shown RemoveIf made removal word h = beaten_shown (kind_of word) (on RemoveIf made (Burying removal)) removal.place word h
   beaten_task_shown Compute made removal word h = goes_shown Compute m.mode m.remembered (look_seen removal.place word) h
 
   -- a machine has shown None
@@ -244,8 +244,8 @@ module _ (m : Machine) where
   shown_in task made (Putting put) Exchanged h = written_shown m.remembered.fill put.write put.pair h
   shown_in task made (Putting put) (Found_instead word) h = goes_shown task m.mode m.remembered (look_seen put.write.place word) h
   shown_in task made (Putting put) answer h = h
-  shown_in task made (Deleting removal) (Found_instead word) h = beaten_task_shown task made removal word h
-  shown_in task made (Deleting removal) answer h = h
+  shown_in task made (Burying removal) (Found_instead word) h = beaten_task_shown task made removal word h
+  shown_in task made (Burying removal) answer h = h
   shown_in task made (Counting n) Ok_done h = h
   shown_in task made (Noting n) Ok_done h = tt
   shown_in task made (Counting n) answer h = h

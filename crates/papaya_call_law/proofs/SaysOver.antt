@@ -28,7 +28,7 @@ use Rattle.papaya_call_law.proofs.Makings.{IsPairAsk, IsWriteAsk, pair_made, pai
 use Rattle.papaya_call.specs.declared.write.Write.{Write}
 use Rattle.papaya_call.specs.declared.machine.Machine.{Machine}
 use Rattle.papaya_call.specs.declared.machine.State.{State as Stage}
-use Rattle.papaya_call.specs.declared.machine.State.TheVariants.{Searching, Writing, Showing, Pairing, Putting, Deleting, Ended}
+use Rattle.papaya_call.specs.declared.machine.State.TheVariants.{Searching, Writing, Showing, Pairing, Putting, Burying, Ended}
 use Rattle.papaya_call.specs.declared.made.Grown.{Grown}
 use Rattle.papaya_call.specs.declared.made.Grown.TheVariants.{On as More, Pair}
 use Rattle.papaya_call.specs.Made.{grown, paired as pair_done}
@@ -229,7 +229,7 @@ module _ (m : Machine) where
       let number : put.pair ≡ pair_of new = sym (pair_of-live_word put.pair) ∙ ap pair_of word in
       subst (λ o. IsSaidExchange (on made (Putting put)) o (pair_of new)) (ap pair_of same)
       (subst (λ n. IsSaidExchange (on made (Putting put)) (pair_of put.write.old) n) number (puts_said made put))
-  exchanges_said_in made (Deleting removal) t x old new fits is e =
+  exchanges_said_in made (Burying removal) t x old new fits is e =
       let same : removal.word ≡ old = cc e in
       inr (inr (refl, inl (ap (λ w. Some (Removes (pair_of w))) same)))
   exchanges_said_in made (Writing write) t x old new fits is e = absurd is.0

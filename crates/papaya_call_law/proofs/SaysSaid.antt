@@ -37,7 +37,7 @@ use Rattle.papaya_call.specs.declared.machine.Machine.{Machine}
 use Rattle.papaya_call.specs.declared.machine.State.{State as Stage}
 use Rattle.papaya_call.specs.declared.machine.State.TheVariants.{AtRoot, Making, Opening, Searching}
 use Rattle.papaya_call.specs.declared.machine.State.TheVariants.{Writing, Offering, Showing}
-use Rattle.papaya_call.specs.declared.machine.State.TheVariants.{Pairing, Putting, Deleting}
+use Rattle.papaya_call.specs.declared.machine.State.TheVariants.{Pairing, Putting, Burying}
 use Rattle.papaya_call.specs.declared.machine.State.TheVariants.{Counting, Noting, Uncounting}
 use Rattle.papaya_call.specs.declared.machine.State.TheVariants.{Leaving, Growing, Ended}
 use Rattle.papaya_call.specs.declared.made.Grown.{Grown}
@@ -99,7 +99,7 @@ recalls_held fill (Some (To_replace old new)) at word some =
     (λ _ said e. absurd cc))
     (λ _ said e. absurd cc)
 recalls_held fill (Some (To_remove old)) at word some =
-    cond_both (old == pair_of word) (Deleting (record { place = at; word = word })) (Showing (record { place = at; word = word }))
+    cond_both (old == pair_of word) (Burying (record { place = at; word = word })) (Showing (record { place = at; word = word }))
     (IsHeld Compute fill (Some (To_remove old)))
     (λ same said e. inr (ap (λ n. Some (Removes n)) (eqb-true old (pair_of word) same) ∙ e))
     (λ _ said e. absurd cc)
@@ -110,7 +110,7 @@ computes_held word_kinds.Empty held at word is said e = absurd cc
 computes_held word_kinds.Live held at word is said e = recalls_held held.fill held.choice at word (live_is_some word is) said e
 computes_held word_kinds.Marked held at word is said e = absurd cc
 computes_held word_kinds.Copied held at word is said e = absurd cc
-computes_held word_kinds.Tombstone held at word is said e = absurd cc
+computes_held word_kinds.Buried held at word is said e = absurd cc
 computes_held word_kinds.Closed held at word is said e = absurd cc
 
 -- an insertion and a removal stand on nothing before an answer of their own
@@ -119,7 +119,7 @@ removes_silent word_kinds.Empty at word said e = cc e
 removes_silent word_kinds.Live at word said e = cc e
 removes_silent word_kinds.Marked at word said e = cc e
 removes_silent word_kinds.Copied at word said e = cc e
-removes_silent word_kinds.Tombstone at word said e = cc e
+removes_silent word_kinds.Buried at word said e = cc e
 removes_silent word_kinds.Closed at word said e = cc e
 
 -- an insertion stands on nothing at all
@@ -128,7 +128,7 @@ replaces_silent word_kinds.Empty at word said e = cc e
 replaces_silent word_kinds.Live at word said e = cc e
 replaces_silent word_kinds.Marked at word said e = cc e
 replaces_silent word_kinds.Copied at word said e = cc e
-replaces_silent word_kinds.Tombstone at word said e = cc e
+replaces_silent word_kinds.Buried at word said e = cc e
 replaces_silent word_kinds.Closed at word said e = cc e
 
 -- what a search leads to
@@ -243,7 +243,7 @@ module _ (m : Machine) (held : Remembered) where
   -- a deletion that was lost
   beaten_held : (kd : Kind) (task : Task) (made : Made) (at : Place) (stage : Stage) (word : ℕ)
       → IsHeld task held.fill held.choice (beaten_by kd (on task made stage) at word)
-  beaten_held word_kinds.Tombstone task made at stage word = λ said e. let nothing_is : None ≡ Some said = sym (absent_silent task) ∙ e in absurd cc
+  beaten_held word_kinds.Buried task made at stage word = λ said e. let nothing_is : None ≡ Some said = sym (absent_silent task) ∙ e in absurd cc
   beaten_held word_kinds.Empty task made at stage word = goes_held task m.mode held (look_seen at word)
   beaten_held word_kinds.Live task made at stage word = goes_held task m.mode held (look_seen at word)
   beaten_held word_kinds.Marked task made at stage word = goes_held task m.mode held (look_seen at word)
@@ -252,10 +252,10 @@ module _ (m : Machine) (held : Remembered) where
 
   -- by the task
   beaten_task_held : (task : Task) (made : Made) (removal : Removal) (word : ℕ)
-      → IsHeld task held.fill held.choice (beaten_as task (on task made (Deleting removal)) removal.place word)
-  beaten_task_held Get made removal word = beaten_held (kind_of word) Get made removal.place (Deleting removal) word
-  beaten_task_held (Insert replace) made removal word = beaten_held (kind_of word) (Insert replace) made removal.place (Deleting removal) word
-  beaten_task_held RemoveIf made removal word = beaten_held (kind_of word) RemoveIf made removal.place (Deleting removal) word
+      → IsHeld task held.fill held.choice (beaten_as task (on task made (Burying removal)) removal.place word)
+  beaten_task_held Get made removal word = beaten_held (kind_of word) Get made removal.place (Burying removal) word
+  beaten_task_held (Insert replace) made removal word = beaten_held (kind_of word) (Insert replace) made removal.place (Burying removal) word
+  beaten_task_held RemoveIf made removal word = beaten_held (kind_of word) RemoveIf made removal.place (Burying removal) word
   beaten_task_held Compute made removal word = goes_held Compute m.mode held (look_seen removal.place word)
 
   -- a pair is asked for, for this
@@ -415,10 +415,10 @@ module _ (m : Machine) (held : Remembered) where
       by_held task made (Putting put) (Found_instead word) (goes_as task m.mode held (look_seen put.write.place word))
       (goes_held task m.mode held (look_seen put.write.place word)) said e
   said_in_stage task made (Putting put) answer is shows said e = inl (inl e)
-  said_in_stage task made (Deleting removal) (Found_instead word) is shows said e =
-      by_held task made (Deleting removal) (Found_instead word) (beaten_as task (on task made (Deleting removal)) removal.place word)
+  said_in_stage task made (Burying removal) (Found_instead word) is shows said e =
+      by_held task made (Burying removal) (Found_instead word) (beaten_as task (on task made (Burying removal)) removal.place word)
       (beaten_task_held task made removal word) said e
-  said_in_stage task made (Deleting removal) answer is shows said e = inl (inl e)
+  said_in_stage task made (Burying removal) answer is shows said e = inl (inl e)
   said_in_stage task made (Counting n) Ok_done is shows said e = inl (inl e)
   said_in_stage task made (Noting n) Ok_done is shows said e = inl (inl (sym (claim_replies task n.pair) ∙ e))
   said_in_stage task made (Counting n) answer is shows said e = inl (inl e)

@@ -27,7 +27,7 @@ use Rattle.papaya_call.specs.declared.machine.Machine.{Machine}
 use Rattle.papaya_call.specs.declared.machine.State.{State as Stage}
 use Rattle.papaya_call.specs.declared.machine.State.TheVariants.{AtRoot, Making, Opening, Searching}
 use Rattle.papaya_call.specs.declared.machine.State.TheVariants.{Writing, Offering, Showing}
-use Rattle.papaya_call.specs.declared.machine.State.TheVariants.{Pairing, Putting, Deleting}
+use Rattle.papaya_call.specs.declared.machine.State.TheVariants.{Pairing, Putting, Burying}
 use Rattle.papaya_call.specs.declared.machine.State.TheVariants.{Counting, Noting, Uncounting}
 use Rattle.papaya_call.specs.declared.machine.State.TheVariants.{Leaving, Growing, Ended}
 use Rattle.papaya_call.specs.Compute.{in_place_of}
@@ -111,7 +111,7 @@ module _ (m : Machine) where
     word_valued (Offering gap) count v = v
     word_valued (Showing removal) count v = v
     word_valued (Putting put) count v = v
-    word_valued (Deleting removal) count v = v
+    word_valued (Burying removal) count v = v
     word_valued (Counting claimed) count v = v
     word_valued (Noting claimed) count v = v
     word_valued (Uncounting n) count v = v
@@ -142,7 +142,7 @@ module _ (m : Machine) where
     word_waits (Offering gap) count a = absurd a
     word_waits (Showing removal) count a = absurd a
     word_waits (Putting put) count a = absurd a
-    word_waits (Deleting removal) count a = absurd a
+    word_waits (Burying removal) count a = absurd a
     word_waits (Counting claimed) count a = absurd a
     word_waits (Noting claimed) count a = absurd a
     word_waits (Uncounting n) count a = absurd a
@@ -164,7 +164,7 @@ module _ (m : Machine) where
   waiting Holds fill replace ended (Offering gap) a = absurd a
   waiting Holds fill replace ended (Showing removal) a = absurd a
   waiting Holds fill replace ended (Putting put) a = absurd a
-  waiting Holds fill replace ended (Deleting removal) a = absurd a
+  waiting Holds fill replace ended (Burying removal) a = absurd a
   waiting Holds fill replace ended (Counting claimed) a = absurd a
   waiting Holds fill replace ended (Noting claimed) a = absurd a
   waiting Holds fill replace ended (Uncounting n) a = absurd a
@@ -205,7 +205,7 @@ module _ (m : Machine) where
   made_value made (Offering gap) n h old new e = ⊎_elim (λ v. inl v) (λ a. absurd a) (h old new e)
   made_value made (Showing removal) n h old new e = ⊎_elim (λ v. inl v) (λ a. absurd a) (h old new e)
   made_value made (Putting put) n h old new e = ⊎_elim (λ v. inl v) (λ a. absurd a) (h old new e)
-  made_value made (Deleting removal) n h old new e = ⊎_elim (λ v. inl v) (λ a. absurd a) (h old new e)
+  made_value made (Burying removal) n h old new e = ⊎_elim (λ v. inl v) (λ a. absurd a) (h old new e)
   made_value made (Counting claimed) n h old new e = ⊎_elim (λ v. inl v) (λ a. absurd a) (h old new e)
   made_value made (Noting claimed) n h old new e = ⊎_elim (λ v. inl v) (λ a. absurd a) (h old new e)
   made_value made (Uncounting i) n h old new e = ⊎_elim (λ v. inl v) (λ a. absurd a) (h old new e)
@@ -234,7 +234,7 @@ module _ (m : Machine) where
   op_value made (Writing write) kind h = h
   op_value made (Pairing purpose) kind h = h
   op_value made (Putting put) kind h = h
-  op_value made (Deleting removal) kind h = h
+  op_value made (Burying removal) kind h = h
   op_value made (Counting claimed) kind h = h
   op_value made (Noting claimed) kind h = h
   op_value made (Uncounting i) kind h = h

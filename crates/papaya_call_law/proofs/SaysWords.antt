@@ -34,7 +34,7 @@ use Rattle.papaya_call.specs.declared.machine.Machine.{Machine}
 use Rattle.papaya_call.specs.declared.machine.State.{State as Stage}
 use Rattle.papaya_call.specs.declared.machine.State.TheVariants.{AtRoot, Making, Opening, Searching}
 use Rattle.papaya_call.specs.declared.machine.State.TheVariants.{Writing, Offering, Showing}
-use Rattle.papaya_call.specs.declared.machine.State.TheVariants.{Pairing, Putting, Deleting}
+use Rattle.papaya_call.specs.declared.machine.State.TheVariants.{Pairing, Putting, Burying}
 use Rattle.papaya_call.specs.declared.machine.State.TheVariants.{Counting, Noting, Uncounting}
 use Rattle.papaya_call.specs.declared.machine.State.TheVariants.{Leaving, Growing, Ended}
 use Rattle.papaya_call.specs.Compute.{fills, in_place_of, recalled, recalls}
@@ -82,7 +82,7 @@ recalls_shows (Some (To_replace old new)) at word some =
     (Pairing (Again (record { place = at; old = word }))) (ShowsIn choice) (λ _. tt) (λ _. (some, (new, is))))
     (λ _. some)
 recalls_shows (Some (To_remove old)) at word some =
-    cond_both (old == pair_of word) (Deleting (record { place = at; word = word })) (Showing (record { place = at; word = word }))
+    cond_both (old == pair_of word) (Burying (record { place = at; word = word })) (Showing (record { place = at; word = word }))
     (ShowsIn (Some (To_remove old))) (λ _. tt) (λ _. some)
 
 -- nor does a compute show an empty word
@@ -91,7 +91,7 @@ computes_shows word_kinds.Empty held at word e = tt
 computes_shows word_kinds.Live held at word e = recalls_shows held.choice at word (live_is_some word e)
 computes_shows word_kinds.Marked held at word e = tt
 computes_shows word_kinds.Copied held at word e = tt
-computes_shows word_kinds.Tombstone held at word e = tt
+computes_shows word_kinds.Buried held at word e = tt
 computes_shows word_kinds.Closed held at word e = tt
 
 -- nor does a removal
@@ -100,7 +100,7 @@ removes_shows choice word_kinds.Empty at word e = tt
 removes_shows choice word_kinds.Live at word e = live_is_some word e
 removes_shows choice word_kinds.Marked at word e = tt
 removes_shows choice word_kinds.Copied at word e = tt
-removes_shows choice word_kinds.Tombstone at word e = tt
+removes_shows choice word_kinds.Buried at word e = tt
 removes_shows choice word_kinds.Closed at word e = tt
 
 -- and an insertion shows nothing
@@ -109,7 +109,7 @@ replaces_shows choice word_kinds.Empty at word = tt
 replaces_shows choice word_kinds.Live at word = tt
 replaces_shows choice word_kinds.Marked at word = tt
 replaces_shows choice word_kinds.Copied at word = tt
-replaces_shows choice word_kinds.Tombstone at word = tt
+replaces_shows choice word_kinds.Buried at word = tt
 replaces_shows choice word_kinds.Closed at word = tt
 
 -- what a search leads to
@@ -147,7 +147,7 @@ next_shows choice task fill t word = cond_both (word == 0) (absent task fill (Af
 
 -- and a deletion that was lost
 beaten_shows : (kd : Kind) (m : Machine) (at : Place) (word : ℕ) → ShowsIn m.remembered.choice (beaten_by kd m at word)
-beaten_shows word_kinds.Tombstone m at word = tt
+beaten_shows word_kinds.Buried m at word = tt
 beaten_shows word_kinds.Empty m at word = goes_shows m.task m.mode m.remembered (look_seen at word)
 beaten_shows word_kinds.Live m at word = goes_shows m.task m.mode m.remembered (look_seen at word)
 beaten_shows word_kinds.Marked m at word = goes_shows m.task m.mode m.remembered (look_seen at word)
@@ -166,10 +166,10 @@ module _ (m : Machine) where
 
   -- by the task
   beaten_task_shows : (task : Task) (made : Made) (removal : Removal) (word : ℕ)
-      → ShowsIn m.remembered.choice (beaten_as task (on task made (Deleting removal)) removal.place word)
-  beaten_task_shows Get made removal word = beaten_shows (kind_of word) (on Get made (Deleting removal)) removal.place word
-  beaten_task_shows (Insert replace) made removal word = beaten_shows (kind_of word) (on (Insert replace) made (Deleting removal)) removal.place word
-  beaten_task_shows RemoveIf made removal word = beaten_shows (kind_of word) (on RemoveIf made (Deleting removal)) removal.place word
+      → ShowsIn m.remembered.choice (beaten_as task (on task made (Burying removal)) removal.place word)
+  beaten_task_shows Get made removal word = beaten_shows (kind_of word) (on Get made (Burying removal)) removal.place word
+  beaten_task_shows (Insert replace) made removal word = beaten_shows (kind_of word) (on (Insert replace) made (Burying removal)) removal.place word
+  beaten_task_shows RemoveIf made removal word = beaten_shows (kind_of word) (on RemoveIf made (Burying removal)) removal.place word
   beaten_task_shows Compute made removal word = goes_shows Compute m.mode m.remembered (look_seen removal.place word)
 
   -- something was made for a compute
@@ -223,8 +223,8 @@ module _ (m : Machine) where
   shows_in task made (Putting put) Exchanged h = written_shows m.remembered.choice put.write put.pair
   shows_in task made (Putting put) (Found_instead word) h = goes_shows task m.mode m.remembered (look_seen put.write.place word)
   shows_in task made (Putting put) answer h = tt
-  shows_in task made (Deleting removal) (Found_instead word) h = beaten_task_shows task made removal word
-  shows_in task made (Deleting removal) answer h = tt
+  shows_in task made (Burying removal) (Found_instead word) h = beaten_task_shows task made removal word
+  shows_in task made (Burying removal) answer h = tt
   shows_in task made (Counting n) Exchanged h = tt
   shows_in task made (Noting n) Exchanged h = tt
   shows_in task made (Counting n) answer h = tt

@@ -38,7 +38,7 @@ use Rattle.papaya_call.specs.declared.machine.Machine.{Machine}
 use Rattle.papaya_call.specs.declared.machine.State.{State}
 use Rattle.papaya_call.specs.declared.machine.State.TheVariants.{AtRoot, Making, Opening, Searching}
 use Rattle.papaya_call.specs.declared.machine.State.TheVariants.{Writing, Offering, Showing}
-use Rattle.papaya_call.specs.declared.machine.State.TheVariants.{Pairing, Putting, Deleting}
+use Rattle.papaya_call.specs.declared.machine.State.TheVariants.{Pairing, Putting, Burying}
 use Rattle.papaya_call.specs.declared.machine.State.TheVariants.{Counting, Noting, Uncounting}
 use Rattle.papaya_call.specs.declared.machine.State.TheVariants.{Leaving, Growing, Ended}
 use Rattle.papaya_ask.specs.Search.{IsSize, IsWithin, IsSearching, IsProbed, next_place, go_on}
@@ -92,7 +92,7 @@ look_seen word_kinds.Empty at word within = within
 look_seen word_kinds.Live at word within = within
 look_seen word_kinds.Marked at word within = within
 look_seen word_kinds.Copied at word within = within
-look_seen word_kinds.Tombstone at word within = go_on_seen at within
+look_seen word_kinds.Buried at word within = go_on_seen at within
 look_seen word_kinds.Closed at word within = go_on_seen at within
 
 match_seen : (kind : Kind) (at : Place) (word : ℕ) → IsWithin at → IsProbed (match_at kind at word)
@@ -100,7 +100,7 @@ match_seen word_kinds.Empty at word within = within
 match_seen word_kinds.Live at word within = within
 match_seen word_kinds.Marked at word within = within
 match_seen word_kinds.Copied at word within = tt
-match_seen word_kinds.Tombstone at word within = within
+match_seen word_kinds.Buried at word within = within
 match_seen word_kinds.Closed at word within = within
 
 loaded_seen : (search : Search) (hash word : ℕ) → IsSearching search → IsProbed (search_loaded search hash word)
@@ -122,7 +122,7 @@ replaces_stands word_kinds.Empty at word within = tt
 replaces_stands word_kinds.Live at word within = (tt, within)
 replaces_stands word_kinds.Marked at word within = tt
 replaces_stands word_kinds.Copied at word within = tt
-replaces_stands word_kinds.Tombstone at word within = tt
+replaces_stands word_kinds.Buried at word within = tt
 replaces_stands word_kinds.Closed at word within = tt
 
 removes_stands : (kind : Kind) (at : Place) (word : ℕ) → IsWithin at → IsStandingState RemoveIf (removes kind at word)
@@ -130,7 +130,7 @@ removes_stands word_kinds.Empty at word within = tt
 removes_stands word_kinds.Live at word within = (tt, within)
 removes_stands word_kinds.Marked at word within = tt
 removes_stands word_kinds.Copied at word within = tt
-removes_stands word_kinds.Tombstone at word within = tt
+removes_stands word_kinds.Buried at word within = tt
 removes_stands word_kinds.Closed at word within = tt
 
 -- a pair goes where its key is absent
@@ -151,7 +151,7 @@ recalls_stands (Some (To_replace old new)) at word n held within =
     (λ _. cond_both (serves_at new at.table at.probe.i) (Putting (record { write = record { place = at; old = word }; pair = new.pair }))
     (Pairing (Again (record { place = at; old = word }))) (IsStandingState Compute) (λ _. (tt, record { within = within; pair = held })) (λ _. (tt, within)))
     (λ _. (tt, within))
-recalls_stands (Some (To_remove old)) at word n held within = cond_both (old == n) (Deleting (record { place = at; word = word }))
+recalls_stands (Some (To_remove old)) at word n held within = cond_both (old == n) (Burying (record { place = at; word = word }))
     (Showing (record { place = at; word = word })) (IsStandingState Compute) (λ _. (tt, within)) (λ _. (tt, within))
 
 computes_stands : (kind : Kind) (held : Remembered) (at : Place) (word : ℕ) → IsRemembered held → IsWithin at
@@ -160,7 +160,7 @@ computes_stands word_kinds.Empty held at word is within = tt
 computes_stands word_kinds.Live held at word is within = recalls_stands held.choice at word (pair_of word) is.choice within
 computes_stands word_kinds.Marked held at word is within = tt
 computes_stands word_kinds.Copied held at word is within = tt
-computes_stands word_kinds.Tombstone held at word is within = tt
+computes_stands word_kinds.Buried held at word is within = tt
 computes_stands word_kinds.Closed held at word is within = tt
 
 absent_stands : (task : Task) (fill : Option ℕ) (gap : Gap) → IsFill fill → IsGap gap → IsStandingState task (absent task fill gap)
@@ -327,7 +327,7 @@ module _ (m : Machine) (held : IsRemembered m.remembered) where
   word_stands word (Counting pair) stands = stands
   word_stands word (Noting pair) stands = stands
   word_stands word (Showing removal) stands = stands
-  word_stands word (Deleting removal) stands = stands
+  word_stands word (Burying removal) stands = stands
   word_stands word (Uncounting pair) stands = stands
   word_stands word (Offering gap) stands = stands
   word_stands word (Pairing purpose) stands = numbered_leads (IsStandingState m.task) tt (Pairing purpose) stands (told m.made word)
@@ -339,7 +339,7 @@ module _ (m : Machine) (held : IsRemembered m.remembered) where
   exchanged_stands made (Writing write) stands = exchanged_leads (IsStandingState m.task) write stands
       (λ n. written_stands m.task write n (writer_inserts m.task stands.0)) (serves made write)
   exchanged_stands made (Putting put) stands = written_stands m.task put.write put.pair (computer_inserts m.task stands.0)
-  exchanged_stands made (Deleting removal) stands = stands.0
+  exchanged_stands made (Burying removal) stands = stands.0
   exchanged_stands made AtRoot stands = stands
   exchanged_stands made Making stands = stands
   exchanged_stands made (Searching search) stands = stands
@@ -359,7 +359,7 @@ module _ (m : Machine) (held : IsRemembered m.remembered) where
 
   -- a removal that was beaten goes on from its place, or has ended
   beaten_stands : (kind : Kind) (removal : Removal) (word : ℕ) → IsWithin removal.place → IsStandingState m.task (beaten_by kind m removal.place word)
-  beaten_stands word_kinds.Tombstone removal word within = tt
+  beaten_stands word_kinds.Buried removal word within = tt
   beaten_stands word_kinds.Empty removal word within = look_goes removal.place word within
   beaten_stands word_kinds.Live removal word within = look_goes removal.place word within
   beaten_stands word_kinds.Marked removal word within = look_goes removal.place word within
@@ -377,7 +377,7 @@ module _ (m : Machine) (held : IsRemembered m.remembered) where
   found_stands word (Writing write) stands = lost_leads (IsStandingState m.task) tt write stands m word (look_goes write.place word stands.1)
       (serves m.made write)
   found_stands word (Putting put) stands = look_goes put.write.place word stands.1.within
-  found_stands word (Deleting removal) stands = beaten_stands_as m.task removal word stands.1
+  found_stands word (Burying removal) stands = beaten_stands_as m.task removal word stands.1
   found_stands word AtRoot stands = stands
   found_stands word Making stands = stands
   found_stands word (Searching search) stands = stands
@@ -435,7 +435,7 @@ module _ (m : Machine) (held : IsRemembered m.remembered) where
   yes_stands same (Counting pair) stands = stands
   yes_stands same (Noting pair) stands = stands
   yes_stands same (Leaving table) stands = stands
-  yes_stands same (Deleting removal) stands = stands
+  yes_stands same (Burying removal) stands = stands
   yes_stands same (Uncounting pair) stands = stands
   yes_stands same (Offering gap) stands = stands
   yes_stands same (Pairing purpose) stands = stands
@@ -458,7 +458,7 @@ module _ (m : Machine) (held : IsRemembered m.remembered) where
   size_stands slots limit size (Noting pair) stands = stands
   size_stands slots limit size (Leaving table) stands = stands
   size_stands slots limit size (Showing removal) stands = stands
-  size_stands slots limit size (Deleting removal) stands = stands
+  size_stands slots limit size (Burying removal) stands = stands
   size_stands slots limit size (Uncounting pair) stands = stands
   size_stands slots limit size (Offering gap) stands = stands
   size_stands slots limit size (Pairing purpose) stands = stands
@@ -480,7 +480,7 @@ module _ (m : Machine) (held : IsRemembered m.remembered) where
   ok_stands (Writing write) stands = stands
   ok_stands (Leaving table) stands = stands
   ok_stands (Showing removal) stands = stands
-  ok_stands (Deleting removal) stands = stands
+  ok_stands (Burying removal) stands = stands
   ok_stands (Growing table) stands = stands
   ok_stands (Ended reply) stands = stands
 
@@ -494,7 +494,7 @@ module _ (m : Machine) (held : IsRemembered m.remembered) where
   refused_stands made refused (Noting pair) stands = stands
   refused_stands made refused (Leaving table) stands = stands
   refused_stands made refused (Showing removal) stands = stands
-  refused_stands made refused (Deleting removal) stands = stands
+  refused_stands made refused (Burying removal) stands = stands
   refused_stands made refused (Uncounting pair) stands = stands
   refused_stands made refused (Offering gap) stands = stands
   refused_stands made refused (Pairing purpose) stands = tt
@@ -514,7 +514,7 @@ module _ (m : Machine) (held : IsRemembered m.remembered) where
   made_fits made n (Noting pair) fit is = is
   made_fits made n (Leaving table) fit is = is
   made_fits made n (Showing removal) fit is = is
-  made_fits made n (Deleting removal) fit is = is
+  made_fits made n (Burying removal) fit is = is
   made_fits made n (Uncounting pair) fit is = is
   made_fits made n (Offering gap) fit is = is
   made_fits made n (Putting put) fit is = is
@@ -537,7 +537,7 @@ module _ (m : Machine) (held : IsRemembered m.remembered) where
   word_fits made word (Noting pair) is = is
   word_fits made word (Leaving table) is = is
   word_fits made word (Showing removal) is = is
-  word_fits made word (Deleting removal) is = is
+  word_fits made word (Burying removal) is = is
   word_fits made word (Uncounting pair) is = is
   word_fits made word (Offering gap) is = is
   word_fits made word (Putting put) is = is
@@ -560,7 +560,7 @@ module _ (m : Machine) (held : IsRemembered m.remembered) where
   exchange_fits made (Noting pair) is = is
   exchange_fits made (Leaving table) is = is
   exchange_fits made (Showing removal) is = is
-  exchange_fits made (Deleting removal) is = is
+  exchange_fits made (Burying removal) is = is
   exchange_fits made (Uncounting pair) is = is
   exchange_fits made (Offering gap) is = is
   exchange_fits made (Putting put) is = is
@@ -591,7 +591,7 @@ module _ (m : Machine) (held : IsRemembered m.remembered) where
   op_made_fits made kind (Counting pair) is = is
   op_made_fits made kind (Noting pair) is = is
   op_made_fits made kind (Leaving table) is = is
-  op_made_fits made kind (Deleting removal) is = is
+  op_made_fits made kind (Burying removal) is = is
   op_made_fits made kind (Uncounting pair) is = is
   op_made_fits made kind (Putting put) is = is
   op_made_fits made kind (Growing table) is = is
@@ -607,7 +607,7 @@ module _ (m : Machine) (held : IsRemembered m.remembered) where
   made_stands n fit (Noting pair) stands = stands
   made_stands n fit (Leaving table) stands = stands
   made_stands n fit (Showing removal) stands = stands
-  made_stands n fit (Deleting removal) stands = stands
+  made_stands n fit (Burying removal) stands = stands
   made_stands n fit (Uncounting pair) stands = stands
   made_stands n fit (Offering gap) stands = stands
   made_stands n fit (Pairing purpose) stands = paired_stands (grown m.made (in_place_of purpose)) purpose n fit stands
@@ -625,7 +625,7 @@ module _ (m : Machine) (held : IsRemembered m.remembered) where
   op_stands kind (Showing removal) stands = decided_stands m.task removal kind stands
   op_stands kind (Pairing purpose) stands = stands
   op_stands kind (Putting put) stands = stands
-  op_stands kind (Deleting removal) stands = stands
+  op_stands kind (Burying removal) stands = stands
   op_stands kind (Counting pair) stands = stands
   op_stands kind (Noting pair) stands = stands
   op_stands kind (Uncounting pair) stands = stands
@@ -649,7 +649,7 @@ module _ (m : Machine) (held : IsRemembered m.remembered) where
   op_fits kind (Showing removal) = decided_fits m.task removal kind
   op_fits kind (Pairing purpose) = held
   op_fits kind (Putting put) = held
-  op_fits kind (Deleting removal) = held
+  op_fits kind (Burying removal) = held
   op_fits kind (Counting pair) = held
   op_fits kind (Noting pair) = held
   op_fits kind (Uncounting pair) = held
@@ -667,7 +667,7 @@ module _ (m : Machine) (held : IsRemembered m.remembered) where
   held_fits n fit (Showing removal) = held
   held_fits n fit (Pairing purpose) = paired_fits (grown m.made (in_place_of purpose)) purpose n fit
   held_fits n fit (Putting put) = held
-  held_fits n fit (Deleting removal) = held
+  held_fits n fit (Burying removal) = held
   held_fits n fit (Counting pair) = held
   held_fits n fit (Noting pair) = held
   held_fits n fit (Uncounting pair) = held
@@ -737,7 +737,7 @@ asks_fit made hash (Offering gap) = tt
 asks_fit made hash (Showing removal) = tt
 asks_fit made hash (Pairing purpose) = pair_holds IsFitAsk pairs_fit made (in_place_of purpose)
 asks_fit made hash (Putting put) = tt
-asks_fit made hash (Deleting removal) = tt
+asks_fit made hash (Burying removal) = tt
 asks_fit made hash (Uncounting pair) = tt
 asks_fit made hash (Growing table) = tt
 asks_fit made hash (Ended reply) = tt

@@ -28,7 +28,7 @@ use Rattle.papaya_call.specs.declared.machine.Machine.{Machine}
 use Rattle.papaya_call.specs.declared.machine.State.{State}
 use Rattle.papaya_call.specs.declared.machine.State.TheVariants.{AtRoot, Making, Opening, Searching}
 use Rattle.papaya_call.specs.declared.machine.State.TheVariants.{Writing, Offering, Showing}
-use Rattle.papaya_call.specs.declared.machine.State.TheVariants.{Pairing, Putting, Deleting}
+use Rattle.papaya_call.specs.declared.machine.State.TheVariants.{Pairing, Putting, Burying}
 use Rattle.papaya_call.specs.declared.machine.State.TheVariants.{Counting, Leaving, Ended}
 use Rattle.papaya_ask.specs.declared.search.Place.{Place}
 use Rattle.papaya_ask.specs.declared.search.Search.{Search}
@@ -119,7 +119,7 @@ IsRead words (Offering gap) = IsGapRead words gap
 IsRead words (Showing removal) = word_of_place words removal.place ≡ removal.word
 IsRead words (Pairing purpose) = IsPurposeRead words purpose
 IsRead words (Putting put) = word_of_place words put.write.place ≡ put.write.old
-IsRead words (Deleting removal) = word_of_place words removal.place ≡ removal.word
+IsRead words (Burying removal) = word_of_place words removal.place ≡ removal.word
 IsRead words _ = Unit {0}
 
 -- the word of an empty slot says nothing else: a write finds there the word that it looks for
@@ -189,7 +189,7 @@ left_in made (Offering gap) = 6 + left_to_fill gap
 left_in made (Showing removal) = 10
 left_in made (Pairing purpose) = left_to_pair made (in_place_of purpose) + left_to_serve purpose
 left_in made (Putting put) = 3
-left_in made (Deleting removal) = 2
+left_in made (Burying removal) = 2
 left_in made (Counting claimed) = 2
 left_in made (Leaving t) = 8
 left_in made (Ended reply) = 0

@@ -20,7 +20,7 @@ use Rattle.papaya_ask.specs.declared.search.Search.TheVariants.{Sizing, Looking,
 use Rattle.papaya_call.specs.declared.machine.State.{State}
 use Rattle.papaya_call.specs.declared.machine.State.TheVariants.{Searching, Writing, Offering}
 use Rattle.papaya_call.specs.declared.machine.State.TheVariants.{Showing, Pairing, Putting}
-use Rattle.papaya_call.specs.declared.machine.State.TheVariants.{Deleting, Counting, Noting}
+use Rattle.papaya_call.specs.declared.machine.State.TheVariants.{Burying, Counting, Noting}
 use Rattle.papaya_call.specs.declared.machine.State.TheVariants.{Leaving, Growing}
 use Rattle.papaya_call.specs.Machine.{HasClosure, IsChanger, IsComputer, MayInsert, needed}
 
@@ -50,7 +50,7 @@ IsAtTable n (Offering gap) = IsGapAt n gap
 IsAtTable n (Showing removal) = removal.place.table ≡ n
 IsAtTable n (Pairing purpose) = IsPurposeAt n purpose
 IsAtTable n (Putting put) = put.write.place.table ≡ n
-IsAtTable n (Deleting removal) = removal.place.table ≡ n
+IsAtTable n (Burying removal) = removal.place.table ≡ n
 IsAtTable n (Counting claimed) = claimed.place.table ≡ n
 IsAtTable n (Noting claimed) = claimed.place.table ≡ n
 IsAtTable n (Leaving t) = t ≡ n
@@ -99,7 +99,7 @@ MayAsk task kind (Load Made_word) = MayInsert task
 MayAsk task kind (Exchange Root old new) = MayInsert task × (kind ≡ Some kinds.Open) × (old ≡ 0)
 MayAsk task kind (Exchange (Slot t x) old new) =
     (MayInsert task × ((kind ≡ Some kinds.Claim) ⊎ (kind ≡ Some kinds.Replace)))
-    ⊎ (HasClosure task × (kind ≡ Some kinds.Delete))
+    ⊎ (HasClosure task × (kind ≡ Some kinds.Bury))
 MayAsk task kind (Exchange (Next t) old new) = ⊥
 MayAsk task kind (Exchange (Aborted t) old new) = ⊥
 MayAsk task kind (Exchange (Done_word t chunk) old new) = ⊥

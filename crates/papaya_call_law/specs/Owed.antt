@@ -16,7 +16,7 @@ owed_by _ = pos 0
 -- one less
 abbrev pub grows_of : Option StepKind → ℤ
 grows_of (Some kinds.Claim) = pos 1
-grows_of (Some kinds.Delete) = negsuc 0
+grows_of (Some kinds.Bury) = negsuc 0
 grows_of _ = pos 0
 
 -- by how many pairs the map grows where an ask is answered so

@@ -39,7 +39,7 @@ use Rattle.papaya_call.specs.declared.write.Write.{Write}
 use Rattle.papaya_call.specs.declared.machine.State.{State as Stage}
 use Rattle.papaya_call.specs.declared.machine.State.TheVariants.{AtRoot, Making, Opening, Searching}
 use Rattle.papaya_call.specs.declared.machine.State.TheVariants.{Writing, Offering, Showing}
-use Rattle.papaya_call.specs.declared.machine.State.TheVariants.{Pairing, Putting, Deleting}
+use Rattle.papaya_call.specs.declared.machine.State.TheVariants.{Pairing, Putting, Burying}
 use Rattle.papaya_call.specs.declared.machine.State.TheVariants.{Counting, Noting, Uncounting}
 use Rattle.papaya_call.specs.declared.machine.State.TheVariants.{Leaving, Growing, Ended}
 use Rattle.papaya_call.specs.declared.machine.Machine.{Machine}
@@ -104,8 +104,8 @@ module _ {K P : Type 0} (g : Setting K P) (c : Coding K P) (begun since : List (
     pub was : Word P
     pub as_loaded : word ≡ code g c was
     pub names : named was ≡ Some p
-    -- a Tombstone isn't compared
-    pub undeleted : kind_of word ≡ word_kinds.Tombstone → ⊥
+    -- a Buried word isn't compared
+    pub undeleted : kind_of word ≡ word_kinds.Buried → ⊥
     -- it stood there at a moment of the call
     pub stood : (so_far : List (Exchange P)) × ((rest : List (Exchange P))
         × (so_far ++ rest ≡ since) × ((run (begun ++ so_far) start).slot at.table at.probe.i ≡ was))
@@ -260,7 +260,7 @@ module _ {K P : Type 0} (g : Setting K P) (c : Coding K P) (begun since : List (
   ReliesStage loaded task (Pairing purpose) = IsComputer task × ReliesPurpose loaded purpose
   ReliesStage loaded task (Putting put) = IsComputer task × MayWrite loaded true put.write
       × IsPairFor loaded put.write put.pair
-  ReliesStage loaded task (Deleting removal) = HasClosure task × MayRemove loaded removal
+  ReliesStage loaded task (Burying removal) = HasClosure task × MayRemove loaded removal
   ReliesStage loaded task (Counting claimed) = MayInsert task × HasClaimed loaded claimed
   ReliesStage loaded task (Noting claimed) = MayInsert task × HasClaimed loaded claimed
   ReliesStage loaded task (Uncounting n) = HasClosure task
@@ -309,7 +309,7 @@ change_in _ = None
 abbrev pub change_of_kind : Option StepKind → (old new : ℕ) → Change
 change_of_kind (Some kinds.Claim) old new = Some (None, Some (pair_of new))
 change_of_kind (Some kinds.Replace) old new = Some (Some (pair_of old), Some (pair_of new))
-change_of_kind (Some kinds.Delete) old new = Some (Some (pair_of old), None)
+change_of_kind (Some kinds.Bury) old new = Some (Some (pair_of old), None)
 change_of_kind _ old new = None
 
 -- the change that a call has made after one of its asks was answered so, where it had made this

@@ -18,7 +18,7 @@ use Rattle.papaya_call.specs.declared.compute.Purpose.TheVariants.{Fill, Replace
 use Rattle.papaya_call.specs.declared.machine.Machine.{Machine}
 use Rattle.papaya_call.specs.declared.made.Of.{Of}
 use Rattle.papaya_call.specs.declared.machine.State.{State}
-use Rattle.papaya_call.specs.declared.machine.State.TheVariants.{Offering, Showing, Pairing, Putting, Deleting, Counting, Noting, Uncounting, Ended}
+use Rattle.papaya_call.specs.declared.machine.State.TheVariants.{Offering, Showing, Pairing, Putting, Burying, Counting, Noting, Uncounting, Ended}
 use Rattle.papaya_call.specs.Machine.{after, ask_of, kind_of_ask}
 
 -- What a closure said. Where its key was absent it was shown None, and else the pair of
@@ -77,7 +77,7 @@ said_for (Again write) = None
 abbrev pub said_in : Task → State → Option Said
 said_in task (Pairing purpose) = said_for purpose
 said_in task (Putting put) = Some (Makes (shown_by put.write.old) put.pair)
-said_in task (Deleting removal) = said_to_remove task (pair_of removal.word)
+said_in task (Burying removal) = said_to_remove task (pair_of removal.word)
 said_in task (Counting claimed) = said_to_claim task claimed.pair
 said_in task (Noting claimed) = said_to_claim task claimed.pair
 said_in task (Uncounting n) = said_to_remove task n
@@ -179,7 +179,7 @@ abbrev pub IsSaidExchange : Machine → (old new : ℕ) → Type 0
 IsSaidExchange m old new =
     ((kind_of_ask m ≡ Some kinds.Claim) × StandsOn m (Makes None new))
     ⊎ ((kind_of_ask m ≡ Some kinds.Replace) × StandsOn m (Makes (Some old) new))
-    ⊎ ((kind_of_ask m ≡ Some kinds.Delete) × StandsOn m (Removes old))
+    ⊎ ((kind_of_ask m ≡ Some kinds.Bury) × StandsOn m (Removes old))
 
 -- a change of a call that has a closure: what goes and what comes is what the closure said
 abbrev pub IsSaidChange : Task → Machine → (old new : Option ℕ) → Type 0

@@ -18,7 +18,7 @@ use Rattle.papaya_ask.specs.declared.ask.Answer.TheVariants.{Refused as Was_refu
 use Rattle.papaya_ask.specs.declared.ask.OpKind.{OpKind}
 use Rattle.papaya_ask.specs.declared.ask.StepKind.{StepKind}
 use Rattle.papaya_ask.specs.declared.ask.StepKind.TheVariants as kinds
-use Rattle.papaya_law.specs.Exchange.{Live, Setting, State, Exchange, Open, Claim, Replace, Delete, Take}
+use Rattle.papaya_law.specs.Exchange.{Live, Setting, State, Exchange, Open, Claim, Replace, Bury, Take}
 use Rattle.papaya_law.specs.Invariant.{named}
 use Rattle.papaya_law.specs.Code.{Coding, code}
 use Rattle.papaya_law.specs.Hints.{IsHint}
@@ -79,8 +79,8 @@ module _ {K P : Type 0} (g : Setting K P) (c : Coding K P) (k : K) where
   IsAsked (Some kinds.Replace) (Slot t x) new s loaded e = (p : P) × (q : P)
       × (s.slot t x ≡ Live p) × IsOwnWord c loaded new q × (g.key q ≡ g.key p)
       × (e ≡ Replace t x p q)
-  IsAsked (Some kinds.Delete) (Slot t x) new s loaded e = (p : P) × (s.slot t x ≡ Live p)
-      × (e ≡ Delete t x p)
+  IsAsked (Some kinds.Bury) (Slot t x) new s loaded e = (p : P) × (s.slot t x ≡ Live p)
+      × (e ≡ Bury t x p)
   IsAsked (Some kinds.Take) Made_word new s loaded e = e ≡ Take s.made
   IsAsked _ _ new s loaded e = ⊥
 

@@ -11,7 +11,7 @@ use Rattle.papaya_ask.specs.declared.ask.Answer.{Answer as Call_answer}
 use Rattle.papaya_ask.specs.declared.ask.Answer.TheVariants.{Word, Exchanged, Found, Yes, Size, Ok}
 use Rattle.papaya_ask.specs.declared.ask.At.TheVariants.{Root, Slot}
 use Rattle.papaya_ask.specs.declared.ask.StepKind.{StepKind}
-use Rattle.papaya_ask.specs.declared.ask.StepKind.TheVariants.{Delete}
+use Rattle.papaya_ask.specs.declared.ask.StepKind.TheVariants.{Bury}
 use Rattle.papaya_ask.specs.declared.call.Reply.{Reply}
 use Rattle.papaya_ask.specs.declared.call.Reply.TheVariants as replies
 use Rattle.papaya_ask.specs.declared.copy_ask.CopyAsk.{CopyAsk}
@@ -25,10 +25,10 @@ use Rattle.papaya_chain.specs.declared.resizer.State.{State as Stage}
 use Rattle.papaya_chain.specs.declared.resizer.State.TheVariants as stages
 use Rattle.papaya_chain.specs.Resizer as resizers
 use Rattle.papaya_chain.specs.declared.scan_ask.ScanAsk.{ScanAsk}
-use Rattle.papaya_chain.specs.declared.scan_ask.ScanAsk.TheVariants.{Copy, Show, Give, AddToShard}
+use Rattle.papaya_chain.specs.declared.scan_ask.ScanAsk.TheVariants.{Copy, Show, Given, AddToShard}
 use Rattle.papaya_chain.specs.declared.scanner.Spot.{Spot}
 use Rattle.papaya_chain.specs.declared.scanner.State.{State}
-use Rattle.papaya_chain.specs.declared.scanner.State.TheVariants.{Copying, AtRoot, Sizing, Looking, Giving, Showing, Deleting, Uncounting, Done, Refused}
+use Rattle.papaya_chain.specs.declared.scanner.State.TheVariants.{Copying, AtRoot, Sizing, Looking, Giving, Showing, Burying, Uncounting, Done, Refused}
 use Rattle.papaya_chain.specs.declared.scanner.Scan.{Scan}
 use Rattle.papaya_chain.specs.declared.scanner.Scan.TheVariants.{Clear, Retain, Walk}
 use Rattle.papaya_chain.specs.declared.scanner.Scanner.{Scanner}
@@ -63,8 +63,8 @@ copy_asks None = None
 copy_asks (Some ask) = Some (Copy ask)
 
 -- the pair of this word is deleted
-abbrev pub deletes : Spot → (word : ℕ) → CopyAsk
-deletes spot word = Exchange (Slot spot.table spot.slot) word (grave_word word)
+abbrev pub buries : Spot → (word : ℕ) → CopyAsk
+buries spot word = Exchange (Slot spot.table spot.slot) word (grave_word word)
 
 -- what is asked, if anything
 abbrev pub asks_in : State → Option ScanAsk
@@ -72,9 +72,9 @@ asks_in (Copying stage) = copy_asks (resizers.asks_in stage)
 asks_in AtRoot = Some (Copy (Load Root))
 asks_in (Sizing table) = Some (Copy (SizeOf table))
 asks_in (Looking spot) = Some (Copy (Load (Slot spot.table spot.slot)))
-asks_in (Giving spot word) = Some (Give (pair_of word))
+asks_in (Giving spot word) = Some (Given (pair_of word))
 asks_in (Showing spot word) = Some (Show (pair_of word))
-asks_in (Deleting spot word) = Some (Copy (deletes spot word))
+asks_in (Burying spot word) = Some (Copy (buries spot word))
 asks_in (Uncounting spot) = Some (AddToShard (negsuc 0))
 asks_in _ = None
 
@@ -93,7 +93,7 @@ reply_of scanner = reply_in scanner.state
 -- the kind of the exchange that is asked for
 abbrev pub kind_in : State → Option StepKind
 kind_in (Copying stage) = resizers.kind_in stage
-kind_in (Deleting spot word) = Some Delete
+kind_in (Burying spot word) = Some Bury
 kind_in _ = None
 
 abbrev pub kind_of_ask : Scanner → Option StepKind
@@ -124,7 +124,7 @@ next spot = looks (record spot { slot = spot.slot + 1 })
 
 -- a word of this kind stands in the slot; a copier's work sends clear and retain to the next root
 abbrev pub meets : Scan → Spot → (word : ℕ) → Kind → State
-meets Clear spot word kinds.Live = Deleting spot word
+meets Clear spot word kinds.Live = Burying spot word
 meets Retain spot word kinds.Live = Showing spot word
 meets Walk spot word kinds.Live = Giving spot word
 meets Walk spot word kinds.Marked = Giving spot word
@@ -136,7 +136,7 @@ meets _ spot word _ = next spot
 -- the closure answered whether the pair stays
 abbrev pub shown : Spot → (word : ℕ) → Bool → State
 shown spot word true = next spot
-shown spot word false = Deleting spot word
+shown spot word false = Burying spot word
 
 -- an answer to what is asked while nothing is copied; one that was not asked for leads nowhere
 abbrev pub told : Scan → State → Call_answer → State
@@ -145,8 +145,8 @@ told scan (Sizing table) (Size slots limit) = looks (first_in table slots)
 told scan (Looking spot) (Word word) = meets scan spot word (kind_of word)
 told scan (Giving spot word) Ok = next spot
 told scan (Showing spot word) (Yes stays) = shown spot word stays
-told scan (Deleting spot word) Exchanged = Uncounting spot
-told scan (Deleting spot word) (Found other) = meets scan spot other (kind_of other)
+told scan (Burying spot word) Exchanged = Uncounting spot
+told scan (Burying spot word) (Found other) = meets scan spot other (kind_of other)
 told scan (Uncounting spot) Ok = next spot
 told scan state answer = state
 
@@ -187,7 +187,7 @@ IsStandingIn (Copying stage) = resizers.IsStandingIn stage
 IsStandingIn (Looking spot) = IsStandingSpot spot
 IsStandingIn (Giving spot word) = IsStandingSpot spot
 IsStandingIn (Showing spot word) = IsStandingSpot spot
-IsStandingIn (Deleting spot word) = IsStandingSpot spot
+IsStandingIn (Burying spot word) = IsStandingSpot spot
 IsStandingIn (Uncounting spot) = IsStandingSpot spot
 IsStandingIn _ = Unit {0}
 

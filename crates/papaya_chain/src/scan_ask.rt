@@ -10,7 +10,7 @@ pub enum ScanAsk {
     /// by `Yes`.
     Show(u64),
     /// The caller gets the pair of this number. Answered by `Ok`.
-    Give(u64),
+    Given(u64),
     /// Add to the count of pairs, in the caller's shard. Answered by `Ok`.
     AddToShard(i64),
 }

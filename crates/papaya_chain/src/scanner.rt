@@ -7,7 +7,7 @@ ghost use Rattle.papaya_ask.specs.Search.{IsSize};
 ghost use Rattle.papaya_chain.specs.Machine.{IsFit};
 ghost use Rattle.papaya_chain.specs.Resizer.{IsStandingIn as IsStandingStage, IsStandingResizer};
 ghost use Rattle.papaya_chain.specs.Scanner.{IsStandingIn, IsStandingScanner, IsStandingSpot};
-ghost use Rattle.papaya_chain.specs.Scanner.{after, ask_of, at_root, begun, copied, deletes};
+ghost use Rattle.papaya_chain.specs.Scanner.{after, ask_of, at_root, begun, copied, buries};
 ghost use Rattle.papaya_chain.specs.Scanner.{follows_of, found_by, kind_of_ask, looks, meets};
 ghost use Rattle.papaya_chain.specs.Scanner.{next, reply_of, resizer_of, scanned};
 
@@ -59,7 +59,7 @@ pub enum State {
     /// It shows the pair of this word to the closure.
     Showing(Spot, u64),
     /// It deletes the pair of this word.
-    Deleting(Spot, u64),
+    Burying(Spot, u64),
     /// It has deleted a pair, and takes 1 from the count.
     Uncounting(Spot),
     /// Each slot was scanned.
@@ -82,11 +82,11 @@ impl Spot {
     }
 
     /// Deletes the pair of this word: its number stays in the slot.
-    fn delete(self, word: u64) -> CopyAsk
-        ensures { result ≡ deletes self word }
+    fn bury(self, word: u64) -> CopyAsk
+        ensures { result ≡ buries self word }
     {
-        let tombstone = Word::tombstone(Word(word).pair());
-        CopyAsk::Exchange(At::Slot(self.table, self.slot), word, tombstone.0)
+        let buried = Word::buried(Word(word).pair());
+        CopyAsk::Exchange(At::Slot(self.table, self.slot), word, buried.0)
     }
 
     /// The slot after this one.
@@ -112,13 +112,13 @@ impl Scan {
         ensures standing { IsStandingIn result }
     {
         match (Word(word).kind(), self) {
-            (Kind::Live, Scan::Clear) => State::Deleting(spot, word),
+            (Kind::Live, Scan::Clear) => State::Burying(spot, word),
             (Kind::Live, Scan::Retain) => State::Showing(spot, word),
             (Kind::Live | Kind::Marked | Kind::Copied, Scan::Walk) => State::Giving(spot, word),
             (Kind::Marked | Kind::Copied, Scan::Clear | Scan::Retain) => {
                 State::Copying(Stage::AtRoot)
             }
-            (Kind::Empty | Kind::Tombstone | Kind::Closed, _) => spot.next(),
+            (Kind::Empty | Kind::Buried | Kind::Closed, _) => spot.next(),
         }
     }
 }
@@ -225,9 +225,9 @@ impl Scanner {
             State::Looking(spot) => Some(ScanAsk::Copy(CopyAsk::Load(At::Slot(
                 spot.table, spot.slot,
             )))),
-            State::Giving(_, word) => Some(ScanAsk::Give(Word(word).pair())),
+            State::Giving(_, word) => Some(ScanAsk::Given(Word(word).pair())),
             State::Showing(_, word) => Some(ScanAsk::Show(Word(word).pair())),
-            State::Deleting(spot, word) => Some(ScanAsk::Copy(spot.delete(word))),
+            State::Burying(spot, word) => Some(ScanAsk::Copy(spot.bury(word))),
             State::Uncounting(_) => Some(ScanAsk::AddToShard(-1)),
             State::Done | State::Refused(_) => None,
         }
@@ -251,7 +251,7 @@ impl Scanner {
     {
         match self.state {
             State::Copying(stage) => self.resizer(stage).kind(),
-            State::Deleting(_, _) => Some(StepKind::Delete),
+            State::Burying(_, _) => Some(StepKind::Bury),
             _ => None,
         }
     }
@@ -288,9 +288,9 @@ impl Scanner {
             (State::Looking(spot), CallAnswer::Word(word)) => self.scan.meet(spot, word),
             (State::Giving(spot, _), CallAnswer::Ok) => spot.next(),
             (State::Showing(spot, _), CallAnswer::Yes(true)) => spot.next(),
-            (State::Showing(spot, word), CallAnswer::Yes(false)) => State::Deleting(spot, word),
-            (State::Deleting(spot, _), CallAnswer::Exchanged) => State::Uncounting(spot),
-            (State::Deleting(spot, _), CallAnswer::Found(word)) => self.scan.meet(spot, word),
+            (State::Showing(spot, word), CallAnswer::Yes(false)) => State::Burying(spot, word),
+            (State::Burying(spot, _), CallAnswer::Exchanged) => State::Uncounting(spot),
+            (State::Burying(spot, _), CallAnswer::Found(word)) => self.scan.meet(spot, word),
             (State::Uncounting(spot), CallAnswer::Ok) => spot.next(),
             (state, _) => state,
         }
@@ -314,7 +314,7 @@ impl Scanner {
             | State::Looking(_)
             | State::Giving(_, _)
             | State::Showing(_, _)
-            | State::Deleting(_, _)
+            | State::Burying(_, _)
             | State::Uncounting(_)
             | State::Done
             | State::Refused(_) => self.scanned(answer),

@@ -169,7 +169,7 @@ hinted_none hash at mode hint = cond_both (may_hold hint hash) (carried.On (carr
 look_none : (kind : Kind) (hash : ℕ) (at : Place) (mode : ResizeMode) (word : ℕ) → of_carried (carry.look_at kind hash at mode word) ≡ None
 look_none word_kinds.Empty hash at mode word = refl
 look_none word_kinds.Closed hash at mode word = goes_on_none hash at mode
-look_none word_kinds.Tombstone hash at mode word = refl
+look_none word_kinds.Buried hash at mode word = refl
 look_none word_kinds.Live hash at mode word = refl
 look_none word_kinds.Marked hash at mode word = refl
 look_none word_kinds.Copied hash at mode word = refl
@@ -218,7 +218,7 @@ seen_none word_kinds.Empty slot word = refl
 seen_none word_kinds.Live slot word = refl
 seen_none word_kinds.Marked slot word = refl
 seen_none word_kinds.Copied slot word = refl
-seen_none word_kinds.Tombstone slot word = refl
+seen_none word_kinds.Buried slot word = refl
 seen_none word_kinds.Closed slot word = refl
 
 settle_word_none : (goes : Settle) (slot : Slot) (mode : ResizeMode) (word : ℕ) → of_settled (settle.at_word goes slot mode word) ≡ None

@@ -142,7 +142,7 @@ carry_hints hash at mode hint within = cond_both (may_hold hint hash) (carried.O
 carry_looks : (kind : Kind) (hash : ℕ) (at : Place) (mode : ResizeMode) (word : ℕ) → IsWithin at → IsStandingCarried (carries.look_at kind hash at mode word)
 carry_looks word_kinds.Empty hash at mode word within = within
 carry_looks word_kinds.Closed hash at mode word within = carry_goes_on hash at mode within
-carry_looks word_kinds.Tombstone hash at mode word within = within
+carry_looks word_kinds.Buried hash at mode word within = within
 carry_looks word_kinds.Live hash at mode word within = within
 carry_looks word_kinds.Marked hash at mode word within = within
 carry_looks word_kinds.Copied hash at mode word within = within
@@ -210,7 +210,7 @@ settle_looks word_kinds.Empty slot word = tt
 settle_looks word_kinds.Live slot word = tt
 settle_looks word_kinds.Marked slot word = tt
 settle_looks word_kinds.Copied slot word = tt
-settle_looks word_kinds.Tombstone slot word = tt
+settle_looks word_kinds.Buried slot word = tt
 settle_looks word_kinds.Closed slot word = tt
 
 settle_finishes : (word : ℕ) (mode : ResizeMode) → IsStandingSettled (settles.finishes word mode)

@@ -135,7 +135,7 @@ module _ (Holds : Link → Type 0) (Told New : Link → ℕ → Type 0) (stable 
   looked : (kind : Kind) (hash : ℕ) (at : Place) (mode : ResizeMode) (word : ℕ) → Carried_holds (carry.look_at kind hash at mode word)
   looked word_kinds.Empty hash at mode word = tt
   looked word_kinds.Closed hash at mode word = goes_on hash at mode
-  looked word_kinds.Tombstone hash at mode word = tt
+  looked word_kinds.Buried hash at mode word = tt
   looked word_kinds.Live hash at mode word = tt
   looked word_kinds.Marked hash at mode word = tt
   looked word_kinds.Copied hash at mode word = tt
@@ -208,7 +208,7 @@ module _ (Holds : Link → Type 0) (Told New : Link → ℕ → Type 0) (stable 
   seen word_kinds.Live slot word = tt
   seen word_kinds.Marked slot word = tt
   seen word_kinds.Copied slot word = tt
-  seen word_kinds.Tombstone slot word = tt
+  seen word_kinds.Buried slot word = tt
   seen word_kinds.Closed slot word = tt
 
   settle_hash : (goes : Settle) (hash : ℕ) → HoldsIn (link_in_settle goes) → HoldsIn (link_in_settle (settle.at_hash goes hash))

@@ -1,6 +1,6 @@
 -- What a scan names is there, and what it exchanges is allowed.
 use Rattle.std.proofs.Common.{◌≡◌, ℕ, ◌<◌, true, Option, None, Some, List, ◌++◌, append_assoc, refl, sym, ap, ◌∙◌, subst}
-use Rattle.papaya_words.specs.Word.{kind_of, pair_of, tombstone_word}
+use Rattle.papaya_words.specs.Word.{kind_of, pair_of, buried_word}
 use Rattle.papaya_words.specs.declared.word.Kind.TheVariants as kinds
 use Rattle.papaya_ask.specs.declared.ask.At.{At}
 use Rattle.papaya_ask.specs.declared.ask.At.TheVariants.{Root, Next, Aborted, Done as Done_word, Slot, Made as Made_word}
@@ -12,7 +12,7 @@ use Rattle.papaya_chain.specs.Resizer as resizers
 use Rattle.papaya_law.specs.Allows.{AllAllowed, Allows}
 use Rattle.papaya_law.specs.Class.{IsOn}
 use Rattle.papaya_law.specs.Code.{Coding, IsHashed, IsOfKind, code}
-use Rattle.papaya_law.specs.Exchange.{Word, Live, Tombstone, Setting, State as Words, Exchange, Delete, after as state_after, run, slot_put}
+use Rattle.papaya_law.specs.Exchange.{Word, Live, Buried, Setting, State as Words, Exchange, Bury, after as state_after, run, slot_put}
 use Rattle.papaya_law.specs.Invariant.{IsKeeping}
 use Rattle.papaya_law.specs.Meaning.{IsAtMoment, map_of}
 use Rattle.papaya_law.specs.View.{IsReached}
@@ -25,12 +25,12 @@ use Rattle.papaya_call_law.specs.Told.{IsWritten, word_of}
 use Rattle.papaya_chain_law.specs.Resizers.{ReliesStage, link_of}
 use Rattle.papaya_chain_law.proofs.ResizerRelies.{stage_may, stage_there, stage_may_hint}
 use Rattle.papaya_chain.specs.declared.scan_ask.ScanAsk.{ScanAsk}
-use Rattle.papaya_chain.specs.declared.scan_ask.ScanAsk.TheVariants.{Copy, Show, Give, AddToShard}
+use Rattle.papaya_chain.specs.declared.scan_ask.ScanAsk.TheVariants.{Copy, Show, Given, AddToShard}
 use Rattle.papaya_chain.specs.declared.scanner.Spot.{Spot}
 use Rattle.papaya_chain.specs.declared.scanner.State.{State}
-use Rattle.papaya_chain.specs.declared.scanner.State.TheVariants.{Copying, AtRoot, Sizing, Looking, Giving, Showing, Deleting, Uncounting, Done, Refused}
+use Rattle.papaya_chain.specs.declared.scanner.State.TheVariants.{Copying, AtRoot, Sizing, Looking, Giving, Showing, Burying, Uncounting, Done, Refused}
 use Rattle.papaya_chain.specs.declared.scanner.Scan.{Scan}
-use Rattle.papaya_chain.specs.Scanner.{asks_in, copy_asks, deletes}
+use Rattle.papaya_chain.specs.Scanner.{asks_in, copy_asks, buries}
 use Rattle.papaya_chain_law.specs.ScanTold.{LoadedPairs}
 use Rattle.papaya_chain_law.specs.Scans.{HadPair, IsMeeting, IsNamed, IsScanAsked, IsSpot, IsTaking, ReliesState, link_in_scan}
 use Rattle.papaya_chain_law.proofs.ScanSlots.{reached_now, was_now}
@@ -135,14 +135,14 @@ module _ {K P : Type 0} (g : Setting K P) (c : Coding K P) (hashed : IsHashed g 
     state_named (Sizing table) r ask e = let v = r.1 in let is : Copy (SizeOf table) ≡ ask = cc e in subst Named is (table_on table loaded v.es v.fs v.taken)
     state_named (Looking spot) r ask e = let v = r.1 in let is : Copy (Load (Slot spot.table spot.slot)) ≡ ask = cc e in
         subst Named is (spot_there spot r.0 (table_on spot.table loaded v.es v.fs v.taken))
-    state_named (Giving spot word) r ask e = let is : Give (pair_of word) ≡ ask = cc e in subst Named is (had_met scan loaded spot word r.2)
+    state_named (Giving spot word) r ask e = let is : Given (pair_of word) ≡ ask = cc e in subst Named is (had_met scan loaded spot word r.2)
     state_named (Showing spot word) r ask e = let is : Show (pair_of word) ≡ ask = cc e in subst Named is (had_met scan loaded spot word r.3)
-    state_named (Deleting spot word) r ask e = let v = r.3 in let is : Copy (deletes spot word) ≡ ask = cc e in
+    state_named (Burying spot word) r ask e = let v = r.3 in let is : Copy (buries spot word) ≡ ask = cc e in
         subst Named is (spot_there spot r.0 (table_on spot.table loaded v.es v.fs v.taken))
     state_named (Uncounting spot) r (AddToShard by) e = tt
     state_named (Uncounting spot) r (Copy ask) e = absurd cc
     state_named (Uncounting spot) r (Show n) e = absurd cc
-    state_named (Uncounting spot) r (Give n) e = absurd cc
+    state_named (Uncounting spot) r (Given n) e = absurd cc
     state_named Done r ask e = absurd cc
     state_named (Refused refused) r ask e = absurd cc
 
@@ -151,28 +151,28 @@ module _ {K P : Type 0} (g : Setting K P) (c : Coding K P) (hashed : IsHashed g 
     May state at old new = word_of g c now at ≡ old → (e : Exchange P) × IsScanAsked g c s m since scan state at new loaded e × Allows g now e
         × IsWritten g c now at new (state_after now e)
 
-    -- a deleted pair's word is the code of its Tombstone
-    grave_code : (p : P) (word : ℕ) → code g c (Live p) ≡ word → code g c (Tombstone p) ≡ grave_word word
-    grave_code p word e = ap tombstone_word (sym (code_pair g c hashed.coding (Live p) p refl)) ∙ ap grave_word e
+    -- a deleted pair's word is that of its kind, Buried
+    grave_code : (p : P) (word : ℕ) → code g c (Live p) ≡ word → code g c (Buried p) ≡ grave_word word
+    grave_code p word e = ap buried_word (sym (code_pair g c hashed.coding (Live p) p refl)) ∙ ap grave_word e
 
     -- the pair that stands in the slot is deleted
-    pub delete_may : (spot : Spot) (word : ℕ) → ReliesState g c s m since scan loaded (Deleting spot word) → (p : P)
-        → now.slot spot.table spot.slot ≡ Live p → Allows g now (Delete spot.table spot.slot p)
-    delete_may spot word r p live = let v = r.3 in record { live = live; reached = table_reached spot.table loaded v.es v.fs v.taken (g.key p) }
+    pub bury_may : (spot : Spot) (word : ℕ) → ReliesState g c s m since scan loaded (Burying spot word) → (p : P)
+        → now.slot spot.table spot.slot ≡ Live p → Allows g now (Bury spot.table spot.slot p)
+    bury_may spot word r p live = let v = r.3 in record { live = live; reached = table_reached spot.table loaded v.es v.fs v.taken (g.key p) }
 
-    deletes_pair : (spot : Spot) (word : ℕ) → ReliesState g c s m since scan loaded (Deleting spot word)
-        → May (Deleting spot word) (Slot spot.table spot.slot) word (grave_word word)
-    deletes_pair spot word r stands =
+    buries_pair : (spot : Spot) (word : ℕ) → ReliesState g c s m since scan loaded (Burying spot word)
+        → May (Burying spot word) (Slot spot.table spot.slot) word (grave_word word)
+    buries_pair spot word r stands =
         let t : ℕ = spot.table in
         let x : ℕ = spot.slot in
         let live : IsOfKind kinds.Live (now.slot t x) = subst (λ y. IsOfKind y (now.slot t x)) (ap kind_of stands ∙ r.1) (word_of_kind g c (now.slot t x)) in
         let p : P = live.0 in
         let is : code g c (Live p) ≡ word = ap (code g c) (sym live.1) ∙ stands in
         let number : c.number p ≡ pair_of word = sym (code_pair g c hashed.coding (Live p) p refl) ∙ ap pair_of is in (
-          Delete t x p,
+          Bury t x p,
           (r.2, (p, live.1, number, refl)),
-          delete_may spot word r p live.1,
-          subst (λ y. IsWritten g c now (Slot t x) y (slot_put now t x (Tombstone p))) (grave_code p word is) (slot_written g c now t x (Tombstone p)),
+          bury_may spot word r p live.1,
+          subst (λ y. IsWritten g c now (Slot t x) y (slot_put now t x (Buried p))) (grave_code p word is) (slot_written g c now t x (Buried p)),
         )
 
     -- the copy exchanges a word
@@ -186,13 +186,13 @@ module _ {K P : Type 0} (g : Setting K P) (c : Coding K P) (hashed : IsHashed g 
     pub state_may : (state : State) → ReliesState g c s m since scan loaded state → HasWords g (link_in_scan state) → (at : At) (old new : ℕ)
         → asks_in state ≡ Some (Copy (Ask_exchange at old new)) → May state at old new
     state_may (Copying stage) r words at old new e = copy_may stage r words (resizers.asks_in stage) refl at old new e
-    state_may (Deleting spot word) r words at old new e =
+    state_may (Burying spot word) r words at old new e =
         let same_at : Slot spot.table spot.slot ≡ at = cc e in
         let same_old : word ≡ old = cc e in
         let same_new : grave_word word ≡ new = cc e in
-        subst (λ y. May (Deleting spot word) y old new) same_at
-        (subst (λ y. May (Deleting spot word) (Slot spot.table spot.slot) y new) same_old
-        (subst (May (Deleting spot word) (Slot spot.table spot.slot) word) same_new (deletes_pair spot word r)))
+        subst (λ y. May (Burying spot word) y old new) same_at
+        (subst (λ y. May (Burying spot word) (Slot spot.table spot.slot) y new) same_old
+        (subst (May (Burying spot word) (Slot spot.table spot.slot) word) same_new (buries_pair spot word r)))
     state_may AtRoot r words at old new e = absurd cc
     state_may (Sizing table) r words at old new e = absurd cc
     state_may (Looking spot) r words at old new e = absurd cc
@@ -213,7 +213,7 @@ module _ {K P : Type 0} (g : Setting K P) (c : Coding K P) (hashed : IsHashed g 
     pub state_may_hint : (mode : ResizeMode) → IsModeOf mode g.blocking → (state : State) → ReliesState g c s m since scan loaded state → (t x n : ℕ)
         → asks_in state ≡ Some (Copy (WriteHint t x n)) → IsHint g c now t x n
     state_may_hint mode moded (Copying stage) r t x n e = copy_hint stage r mode moded (resizers.asks_in stage) refl t x n e
-    state_may_hint mode moded (Deleting spot word) r t x n e = absurd cc
+    state_may_hint mode moded (Burying spot word) r t x n e = absurd cc
     state_may_hint mode moded AtRoot r t x n e = absurd cc
     state_may_hint mode moded (Sizing table) r t x n e = absurd cc
     state_may_hint mode moded (Looking spot) r t x n e = absurd cc

@@ -8,7 +8,7 @@ use Rattle.papaya_law.specs.Class.{IsOn, IsOwner, IsTied}
 use Rattle.papaya_law.specs.ClassBlocking.{IsRootOwner, IsRootTied}
 use Rattle.papaya_law.specs.Code.{Coding}
 use Rattle.papaya_law.specs.Exchange.{Setting, State as Words, Exchange, Open, Claim, Replace}
-use Rattle.papaya_law.specs.Exchange.{Delete, Link, Mark, Close, Place, Finish, Advance, Promote}
+use Rattle.papaya_law.specs.Exchange.{Bury, Link, Mark, Close, Place, Finish, Advance, Promote}
 use Rattle.papaya_law.specs.Exchange.{Abort, Take, after, run}
 use Rattle.papaya_law.specs.Invariant.{IsKeeping}
 use Rattle.papaya_law.specs.Meaning.{IsLawful, IsLegal, map_after, map_of}
@@ -63,7 +63,7 @@ module _ {K P : Type 0} (g : Setting K P) (law : IsLawful g) where
       (λ (same : g.same k (g.key p) ≡ true). inr (inl same))
       (λ (other : g.same k (g.key p) ≡ false). inr (inr (cond-false (g.same k (g.key p)) (Some q) (m k) other)))
       (cases_Bool (g.same k (g.key p)))
-  one_leaves s m keeps (Delete t x p) legal k =
+  one_leaves s m keeps (Bury t x p) legal k =
       ⊎_elim
       (λ (same : g.same k (g.key p) ≡ true). inr (inl same))
       (λ (other : g.same k (g.key p) ≡ false). inr (inr (cond-false (g.same k (g.key p)) None (m k) other)))

@@ -23,7 +23,7 @@ use Rattle.papaya_chain.specs.Resizer as resizers
 use Rattle.papaya_law.specs.Allows.{AllAllowed}
 use Rattle.papaya_law.specs.Class.{IsOn}
 use Rattle.papaya_law.specs.Code.{Coding, IsHashed, code, kind}
-use Rattle.papaya_law.specs.Exchange.{Word, Empty, Closed, Live, Marked, Copied as Copied_word, Tombstone, Setting, State as Words, Exchange, Delete, run}
+use Rattle.papaya_law.specs.Exchange.{Word, Empty, Closed, Live, Marked, Copied as Copied_word, Buried, Setting, State as Words, Exchange, Bury, run}
 use Rattle.papaya_law.specs.Invariant.{IsKeeping, named}
 use Rattle.papaya_law.specs.Meaning.{IsAtMoment, map_of}
 use Rattle.papaya_law.proofs.Codes.{code_kind, code_pair}
@@ -41,17 +41,17 @@ use Rattle.papaya_chain_law.proofs.ResizerRelies.{stage_learns, told_of_ask}
 use Rattle.papaya_chain.specs.declared.scan_ask.ScanAsk.TheVariants.{Copy}
 use Rattle.papaya_chain.specs.declared.scanner.Spot.{Spot}
 use Rattle.papaya_chain.specs.declared.scanner.State.{State}
-use Rattle.papaya_chain.specs.declared.scanner.State.TheVariants.{Copying, AtRoot, Sizing, Looking, Giving, Showing, Deleting, Uncounting, Done, Refused}
+use Rattle.papaya_chain.specs.declared.scanner.State.TheVariants.{Copying, AtRoot, Sizing, Looking, Giving, Showing, Burying, Uncounting, Done, Refused}
 use Rattle.papaya_chain.specs.declared.scanner.Scan.{Scan}
 use Rattle.papaya_chain.specs.declared.scanner.Scan.TheVariants.{Clear, Retain, Walk}
 use Rattle.papaya_chain.specs.Scanner.{after_in, asks_in, at_root, copied, first_in, looks, meets, next}
-use Rattle.papaya_chain_law.specs.ScanTold.{IsCopyAnswer, IsDeleted, IsFoundThere, IsGiven, IsScanTold, IsShown, IsWordAnswer, LoadedPairs, last_of}
+use Rattle.papaya_chain_law.specs.ScanTold.{IsCopyAnswer, IsBuried, IsFoundThere, IsGiven, IsScanTold, IsShown, IsWordAnswer, LoadedPairs, last_of}
 use Rattle.papaya_chain_law.specs.Scans.{GivesNone, IsDealtWith, IsMeeting, IsMetIn, IsScannedTo}
 use Rattle.papaya_chain_law.specs.Scans.{IsScanning, IsSpot, IsTaking, MayTake, ReliesState, Takes}
 use Rattle.papaya_chain_law.specs.Scans.{link_in_scan}
-use Rattle.papaya_chain_law.proofs.ScanAsks.{delete_may, keeps_since, keeps_then, may_before, may_then, now_is}
+use Rattle.papaya_chain_law.proofs.ScanAsks.{bury_may, keeps_since, keeps_then, may_before, may_then, now_is}
 use Rattle.papaya_chain_law.proofs.ScanEnds.{rootless_over, table_over}
-use Rattle.papaya_chain_law.proofs.ScanSlots.{IsPast, met_had, scan_begins, scan_deletes, scan_drops, scan_gives, scan_keeps, scan_meets, scan_passes}
+use Rattle.papaya_chain_law.proofs.ScanSlots.{IsPast, met_had, scan_begins, scan_buries, scan_drops, scan_gives, scan_keeps, scan_meets, scan_passes}
 use Rattle.papaya_chain_law.proofs.ScanStable.{taking_stable}
 
 module _ {K P : Type 0} (g : Setting K P) (c : Coding K P) (hashed : IsHashed g c) (s : Words P) (m : K → Option P) (keeps : IsKeeping g s m)
@@ -194,13 +194,13 @@ module _ {K P : Type 0} (g : Setting K P) (c : Coding K P) (hashed : IsHashed g 
     by_word : (is : Scan) → scan ≡ is → (w : Word P) → now.slot spot.table spot.slot ≡ w → Relies loaded_now (meets is spot word_now (kind w))
     by_word Clear e Empty at = past_relies Empty at tt
     by_word Clear e Closed at = past_relies Closed at tt
-    by_word Clear e (Tombstone p) at = past_relies (Tombstone p) at tt
+    by_word Clear e (Buried p) at = past_relies (Buried p) at tt
     by_word Retain e Empty at = past_relies Empty at tt
     by_word Retain e Closed at = past_relies Closed at tt
-    by_word Retain e (Tombstone p) at = past_relies (Tombstone p) at tt
+    by_word Retain e (Buried p) at = past_relies (Buried p) at tt
     by_word Walk e Empty at = past_relies Empty at tt
     by_word Walk e Closed at = past_relies Closed at tt
-    by_word Walk e (Tombstone p) at = past_relies (Tombstone p) at tt
+    by_word Walk e (Buried p) at = past_relies (Buried p) at tt
     by_word Clear e (Live p) at = (
       there,
       is_live at,
@@ -379,25 +379,25 @@ module _ {K P : Type 0} (g : Setting K P) (c : Coding K P) (hashed : IsHashed g 
       may_takes Clear word more takes = tt
       may_takes Retain word more takes = tt
 
-      delete_learns : GivesNone g c s m since scan loaded → (spot : Spot) (word : ℕ) → Relies loaded (Deleting spot word)
-          → IsScanTold g c now since (Deleting spot word) loaded answer es loaded' → Learned (Deleting spot word) answer es loaded'
-      delete_learns gives spot word r told =
-          by_test (code g c (now.slot spot.table spot.slot) == word) (IsDeleted g c now since spot loaded answer es loaded')
-          (IsFoundThere g c now since spot loaded answer es loaded') (Learned (Deleting spot word) answer es loaded') told
-          (λ stands t. tombstone t)
-          (λ other t. quiet (Deleting spot word) answer (answers.Call (Found (code g c (now.slot spot.table spot.slot)))) es loaded'
+      bury_learns : GivesNone g c s m since scan loaded → (spot : Spot) (word : ℕ) → Relies loaded (Burying spot word)
+          → IsScanTold g c now since (Burying spot word) loaded answer es loaded' → Learned (Burying spot word) answer es loaded'
+      bury_learns gives spot word r told =
+          by_test (code g c (now.slot spot.table spot.slot) == word) (IsBuried g c now since spot loaded answer es loaded')
+          (IsFoundThere g c now since spot loaded answer es loaded') (Learned (Burying spot word) answer es loaded') told
+          (λ stands t. buried t)
+          (λ other t. quiet (Burying spot word) answer (answers.Call (Found (code g c (now.slot spot.table spot.slot)))) es loaded'
           (loaded_now loaded gives spot r.0 r.3) t.is t.none t.handed (meets_relies loaded gives spot r.0 r.3))
         where
           v : IsScanning g c s m since scan loaded spot.table spot.slot
           v = r.3
 
-          tombstone : IsDeleted g c now since spot loaded answer es loaded' → Learned (Deleting spot word) answer es loaded'
-          tombstone t =
-              let e : Exchange P = Delete spot.table spot.slot t.pair in
-              subst (λ y. Learned (Deleting spot word) y es loaded') (sym t.is)
-              (subst (λ y. Learned (Deleting spot word) (answers.Call Exchanged) y loaded') (sym t.one)
-              (subst (λ y. Learned (Deleting spot word) (answers.Call Exchanged) (e ∷ []) y) (sym t.handed) (
-                allowed_append g since (e ∷ []) s may (delete_may g c hashed s m keeps since may scan loaded spot word r t.pair t.live, tt),
+          buried : IsBuried g c now since spot loaded answer es loaded' → Learned (Burying spot word) answer es loaded'
+          buried t =
+              let e : Exchange P = Bury spot.table spot.slot t.pair in
+              subst (λ y. Learned (Burying spot word) y es loaded') (sym t.is)
+              (subst (λ y. Learned (Burying spot word) (answers.Call Exchanged) y loaded') (sym t.one)
+              (subst (λ y. Learned (Burying spot word) (answers.Call Exchanged) (e ∷ []) y) (sym t.handed) (
+                allowed_append g since (e ∷ []) s may (bury_may g c hashed s m keeps since may scan loaded spot word r t.pair t.live, tt),
                 (
                   r.0,
                   may_takes scan word (since ++ e ∷ []) r.2,
@@ -405,7 +405,7 @@ module _ {K P : Type 0} (g : Setting K P) (c : Coding K P) (hashed : IsHashed g 
                     es = v.es;
                     fs = v.fs ++ e ∷ [];
                     taken = taking_stable g c s m since (e ∷ []) spot.table loaded v.es v.fs v.taken;
-                    each = λ k. scan_deletes g hashed.lawful (run v.es s) (map_of g m v.es)
+                    each = λ k. scan_buries g hashed.lawful (run v.es s) (map_of g m v.es)
                         (keeps_then g c hashed s m keeps since may spot.table loaded v.es v.fs v.taken) spot.table v.taken.root v.taken.some
                         v.taken.last v.fs (may_then g c hashed s m keeps since may spot.table loaded v.es v.fs v.taken) scan loaded spot.slot t.pair
                         (slot_then loaded gives spot r.0 v (Live t.pair) t.live) (not_walk (may_takes scan word since r.2)) k (v.each k);
@@ -485,7 +485,7 @@ module _ {K P : Type 0} (g : Setting K P) (c : Coding K P) (hashed : IsHashed g 
       state_learns gives (Looking spot) r words told = look_learns gives spot r told
       state_learns gives (Giving spot word) r words told = give_learns spot word r told
       state_learns gives (Showing spot word) r words told = show_learns spot word r told
-      state_learns gives (Deleting spot word) r words told = delete_learns gives spot word r told
+      state_learns gives (Burying spot word) r words told = bury_learns gives spot word r told
       state_learns gives (Uncounting spot) r words told = uncount_learns spot r told
       state_learns gives Done r words told = let e = told.asks in absurd (cc e)
       state_learns gives (Refused refused) r words told = let e = told.asks in absurd (cc e)
@@ -504,8 +504,8 @@ module _ {K P : Type 0} (g : Setting K P) (c : Coding K P) (hashed : IsHashed g 
       state_gives gives (Looking spot) r told = gives_same scan (ap (λ h. h.given) told.handed) gives
       state_gives gives (Giving spot word) r told = subst (λ a. GivesNone g c s m (since ++ es) a loaded') (sym r.1) tt
       state_gives gives (Showing spot word) r told = gives_same scan (ap (λ h. h.given) told.handed) gives
-      state_gives gives (Deleting spot word) r told =
-          by_test (code g c (now.slot spot.table spot.slot) == word) (IsDeleted g c now since spot loaded answer es loaded')
+      state_gives gives (Burying spot word) r told =
+          by_test (code g c (now.slot spot.table spot.slot) == word) (IsBuried g c now since spot loaded answer es loaded')
           (IsFoundThere g c now since spot loaded answer es loaded') (GivesNone g c s m (since ++ es) scan loaded') told
           (λ stands t. gives_same scan (ap (λ h. h.given) t.handed) gives)
           (λ other t. gives_same scan (ap (λ h. h.given) t.handed) gives)

@@ -23,7 +23,7 @@ use Rattle.papaya_chain.specs.declared.resizer.State.{State as Stage}
 use Rattle.papaya_chain.specs.declared.resizer.State.TheVariants as stages
 use Rattle.papaya_chain.specs.Resizer as resizers
 use Rattle.papaya_law.specs.Code.{Coding, code}
-use Rattle.papaya_law.specs.Exchange.{Setting, State as Words, Exchange, Delete, run}
+use Rattle.papaya_law.specs.Exchange.{Setting, State as Words, Exchange, Bury, run}
 use Rattle.papaya_call_law.specs.Copier.{IsCopyAsked}
 use Rattle.papaya_call_law.specs.Told.{word_of}
 use Rattle.papaya_call_law.proofs.ReliesLearn.{by_test}
@@ -35,14 +35,14 @@ use Rattle.papaya_chain.specs.declared.scan_ask.ScanAsk.TheVariants.{Copy}
 use Rattle.papaya_chain.specs.declared.scanner.Spot.{Spot}
 use Rattle.papaya_chain.specs.declared.scanner.State.{State}
 use Rattle.papaya_chain.specs.declared.scanner.State.TheVariants.{Copying, AtRoot, Sizing, Looking}
-use Rattle.papaya_chain.specs.declared.scanner.State.TheVariants.{Giving, Showing, Deleting}
+use Rattle.papaya_chain.specs.declared.scanner.State.TheVariants.{Giving, Showing, Burying}
 use Rattle.papaya_chain.specs.declared.scanner.State.TheVariants.{Uncounting, Done}
 use Rattle.papaya_chain.specs.declared.scanner.State.TheVariants.{Refused as Ended_refused}
 use Rattle.papaya_chain.specs.declared.scanner.Scan.{Scan}
 use Rattle.papaya_chain.specs.declared.scanner.Scan.TheVariants.{Clear, Retain, Walk}
 use Rattle.papaya_chain.specs.declared.scanner.Scanner.{Scanner}
 use Rattle.papaya_chain.specs.Scanner.{after_in, asks_in, at_root, copied, first_in, found_by, looks, meets, next, reply_in, resizer_of, shown}
-use Rattle.papaya_chain_law.specs.ScanTold.{IsCopyAnswer, IsDeleted, IsFoundThere, IsScanTold, IsWordAnswer, LoadedPairs}
+use Rattle.papaya_chain_law.specs.ScanTold.{IsCopyAnswer, IsBuried, IsFoundThere, IsScanTold, IsWordAnswer, LoadedPairs}
 use Rattle.papaya_chain_law.specs.Scans.{IsOfAll, MayTake, ReliesState}
 use Rattle.papaya_chain_law.specs.ScanOutcomes.{IsScanCause, LeavesMap, owes_in}
 
@@ -76,13 +76,13 @@ meets_on Clear spot word kinds.Copied = copy_on stages.AtRoot
 meets_on Retain spot word kinds.Marked = copy_on stages.AtRoot
 meets_on Retain spot word kinds.Copied = copy_on stages.AtRoot
 meets_on Clear spot word kinds.Empty = next_on spot
-meets_on Clear spot word kinds.Tombstone = next_on spot
+meets_on Clear spot word kinds.Buried = next_on spot
 meets_on Clear spot word kinds.Closed = next_on spot
 meets_on Retain spot word kinds.Empty = next_on spot
-meets_on Retain spot word kinds.Tombstone = next_on spot
+meets_on Retain spot word kinds.Buried = next_on spot
 meets_on Retain spot word kinds.Closed = next_on spot
 meets_on Walk spot word kinds.Empty = next_on spot
-meets_on Walk spot word kinds.Tombstone = next_on spot
+meets_on Walk spot word kinds.Buried = next_on spot
 meets_on Walk spot word kinds.Closed = next_on spot
 
 shown_on : (spot : Spot) (word : ℕ) (stays : Bool) → GoesOn (shown spot word stays)
@@ -190,10 +190,10 @@ module _ {K P : Type 0} (g : Setting K P) (c : Coding K P) (s : Words P) (m : K 
       let word : ℕ = code g c (now.slot spot.table spot.slot) in
       record { none = h.1; on = goes_as (Looking spot) (answers.Call (Word_read word)) h.0 (meets_on scanner.scan spot word (kind_of word)) }
 
-  found_quiet : (spot : Spot) (word : ℕ) → IsFoundThere g c now since spot loaded answer es loaded' → IsQuiet (Deleting spot word)
+  found_quiet : (spot : Spot) (word : ℕ) → IsFoundThere g c now since spot loaded answer es loaded' → IsQuiet (Burying spot word)
   found_quiet spot word t =
       let other : ℕ = code g c (now.slot spot.table spot.slot) in
-      record { none = t.none; on = goes_as (Deleting spot word) (answers.Call (Found other)) t.is (meets_on scanner.scan spot other (kind_of other)) }
+      record { none = t.none; on = goes_as (Burying spot word) (answers.Call (Found other)) t.is (meets_on scanner.scan spot other (kind_of other)) }
 
   module _ (refused : Refused) where
     -- why a state goes there refused
@@ -223,12 +223,12 @@ module _ {K P : Type 0} (g : Setting K P) (c : Coding K P) (s : Words P) (m : K 
         (record { none = told.none; on = goes_as (Giving spot word) (answers.Call Ok) told.is (next_on spot) }) at e
     state_why (Showing spot word) told at e = never (Showing spot word)
         (record { none = told.none; on = goes_as (Showing spot word) (answers.Call (Yes told.stays)) told.is (shown_on spot word told.stays) }) at e
-    state_why (Deleting spot word) told at e =
-        by_test (code g c (now.slot spot.table spot.slot) == word) (IsDeleted g c now since spot loaded answer es loaded')
+    state_why (Burying spot word) told at e =
+        by_test (code g c (now.slot spot.table spot.slot) == word) (IsBuried g c now since spot loaded answer es loaded')
         (IsFoundThere g c now since spot loaded answer es loaded') (IsScanCause scanner answer refused) told
-        (λ _ t. let to : reply_in (Goes (answers.Call Exchanged) (Deleting spot word)) ≡ Some (Reply_refused refused) = ap
-        (λ a. reply_in (Goes a (Deleting spot word))) (sym t.is) ∙ e in absurd (cc to))
-        (λ _ t. never (Deleting spot word) (found_quiet spot word t) at e)
+        (λ _ t. let to : reply_in (Goes (answers.Call Exchanged) (Burying spot word)) ≡ Some (Reply_refused refused) = ap
+        (λ a. reply_in (Goes a (Burying spot word))) (sym t.is) ∙ e in absurd (cc to))
+        (λ _ t. never (Burying spot word) (found_quiet spot word t) at e)
     state_why (Uncounting spot) told at e = never (Uncounting spot)
         (record { none = told.1; on = goes_as (Uncounting spot) (answers.Call Ok) told.0 (next_on spot) }) at e
     state_why Done told at e = let no = told.asks in absurd (cc no)
@@ -238,7 +238,7 @@ module _ {K P : Type 0} (g : Setting K P) (c : Coding K P) (s : Words P) (m : K 
   abbrev DoneIn : State → Type 0
   DoneIn state = ((es ≡ []) × (owes_in (Goes answer state) ≡ false))
       ⊎ ((e : Exchange P) × (es ≡ e ∷ []) × LeavesMap g e × (owes_in (Goes answer state) ≡ false))
-      ⊎ ((t : ℕ) × (x : ℕ) × (p : P) × (es ≡ Delete t x p ∷ []) × (scanner.scan ≡ Walk → ⊥) × (owes_in (Goes answer state) ≡ true))
+      ⊎ ((t : ℕ) × (x : ℕ) × (p : P) × (es ≡ Bury t x p ∷ []) × (scanner.scan ≡ Walk → ⊥) × (owes_in (Goes answer state) ≡ true))
 
   quiet_done : (state : State) → IsQuiet state → DoneIn state
   quiet_done state r = inl (r.none, r.on.owes)
@@ -284,11 +284,11 @@ module _ {K P : Type 0} (g : Setting K P) (c : Coding K P) (s : Words P) (m : K 
       (record { none = told.none; on = goes_as (Giving spot word) (answers.Call Ok) told.is (next_on spot) })
   state_done (Showing spot word) r told = quiet_done (Showing spot word)
       (record { none = told.none; on = goes_as (Showing spot word) (answers.Call (Yes told.stays)) told.is (shown_on spot word told.stays) })
-  state_done (Deleting spot word) r told =
-      by_test (code g c (now.slot spot.table spot.slot) == word) (IsDeleted g c now since spot loaded answer es loaded')
-      (IsFoundThere g c now since spot loaded answer es loaded') (DoneIn (Deleting spot word)) told
-      (λ _ t. inr (inr (spot.table, spot.slot, t.pair, t.one, takes_none word scanner.scan r.2, ap (λ a. owes_in (Goes a (Deleting spot word))) t.is)))
-      (λ _ t. quiet_done (Deleting spot word) (found_quiet spot word t))
+  state_done (Burying spot word) r told =
+      by_test (code g c (now.slot spot.table spot.slot) == word) (IsBuried g c now since spot loaded answer es loaded')
+      (IsFoundThere g c now since spot loaded answer es loaded') (DoneIn (Burying spot word)) told
+      (λ _ t. inr (inr (spot.table, spot.slot, t.pair, t.one, takes_none word scanner.scan r.2, ap (λ a. owes_in (Goes a (Burying spot word))) t.is)))
+      (λ _ t. quiet_done (Burying spot word) (found_quiet spot word t))
   state_done (Uncounting spot) r told = quiet_done (Uncounting spot)
       (record { none = told.1; on = goes_as (Uncounting spot) (answers.Call Ok) told.0 (next_on spot) })
   state_done Done r told = let no = told.asks in absurd (cc no)

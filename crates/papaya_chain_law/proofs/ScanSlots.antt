@@ -5,7 +5,7 @@ use Rattle.std.proofs.Common.{refl, sym, ap, ◌∙◌, subst, arith}
 use Rattle.std.proofs.lemmas.Bool.{cases_Bool, cases_order, cond-true, cond-false}
 use Rattle.papaya_law.specs.Allows.{AllAllowed}
 use Rattle.papaya_law.specs.Class.{IsBase, IsOn}
-use Rattle.papaya_law.specs.Exchange.{Word, Empty, Closed, Live, Marked, Copied, Tombstone, Setting, State as Words, Exchange, Delete, run}
+use Rattle.papaya_law.specs.Exchange.{Word, Empty, Closed, Live, Marked, Copied, Buried, Setting, State as Words, Exchange, Bury, run}
 use Rattle.papaya_law.specs.Invariant.{IsKeeping, named, shut}
 use Rattle.papaya_law.specs.Later.{Becomes, IsLater}
 use Rattle.papaya_law.specs.Meaning.{IsAtMoment, IsLawful, map_of}
@@ -23,7 +23,7 @@ use Rattle.papaya_chain.specs.declared.scanner.Scan.TheVariants.{Clear, Retain, 
 use Rattle.papaya_chain_law.specs.ScanTaken.{IsTakenOut}
 use Rattle.papaya_chain_law.specs.ScanTold.{LoadedPairs, count_of}
 use Rattle.papaya_chain_law.specs.Scans.{IsDealtWith, IsHeldIn, IsKept, IsMetIn, IsOut, IsPairOf, IsScannedTo}
-use Rattle.papaya_chain_law.proofs.ScanTaken.{last_taken, live_or_taken, taken_same, taken_stable, tombstone_taken}
+use Rattle.papaya_chain_law.proofs.ScanTaken.{last_taken, live_or_taken, taken_same, taken_stable, buried_taken}
 
 -- a moment is one for good
 pub moment_stable : {K P : Type 0} (g : Setting K P) (m : K → Option P) (fs es : List (Exchange P)) (k : K) (v : Option P) → IsAtMoment g m fs k v
@@ -72,7 +72,7 @@ module _ {K P : Type 0} (g : Setting K P) (s : Words P) (m : K → Option P) (ta
 abbrev pub IsPast : {P : Type 0} → Word P → Type 0
 IsPast Empty = Unit {0}
 IsPast Closed = Unit {0}
-IsPast (Tombstone p) = Unit {0}
+IsPast (Buried p) = Unit {0}
 IsPast _ = ⊥
 
 module _ {K P : Type 0} (g : Setting K P) (s : Words P) (m : K → Option P) (fs : List (Exchange P)) (table : ℕ) where
@@ -164,37 +164,37 @@ module _ {K P : Type 0} (g : Setting K P) (law : IsLawful g) (s : Words P) (m : 
         by_old p same (inl h) (Live q) e = (q, refl, still p q same (became slot (Live p) (Live q) h e))
         by_old p same (inl h) (Marked q) e = (q, refl, still p q same (became slot (Live p) (Marked q) h e))
         by_old p same (inl h) (Copied q) e = (q, refl, still p q same (became slot (Live p) (Copied q) h e))
-        by_old p same (inl h) (Tombstone q) e = (q, refl, still p q same (became slot (Live p) (Tombstone q) h e))
+        by_old p same (inl h) (Buried q) e = (q, refl, still p q same (became slot (Live p) (Buried q) h e))
         by_old p same (inr h) w e = (p, ⊎_elim (λ a. ap named a) (λ a. ap named a) (became slot (Marked p) w h e), same)
 
     -- where it was deleted since, its pair was taken out
-    tombstone_out : (q : P) → now.slot table slot ≡ Tombstone q → IsTakenOut g fs k
-    tombstone_out q e =
+    buried_out : (q : P) → now.slot table slot ≡ Buried q → IsTakenOut g fs k
+    buried_out q e =
         let (p, h, same) = was_held in
         ⊎_elim
-        (λ live. tombstone_taken g law k table slot p q fs s may same live e)
-        (λ marked. absurd (⊎_elim (λ a. cc a) (λ a. cc a) (became slot (Marked p) (Tombstone q) marked e)))
+        (λ live. buried_taken g law k table slot p q fs s may same live e)
+        (λ marked. absurd (⊎_elim (λ a. cc a) (λ a. cc a) (became slot (Marked p) (Buried q) marked e)))
         h
 
     -- so where no pair is in the slot any more, nothing is owed
     past_out : (scan : Scan) (w : Word P) → now.slot table slot ≡ w → IsPast w → IsOut g s m fs table scan k
     past_out scan Empty e past = let (q, n, same) = names_same Empty e in absurd (cc n)
     past_out scan Closed e past = let (q, n, same) = names_same Closed e in absurd (cc n)
-    past_out Walk (Tombstone q) e past =
+    past_out Walk (Buried q) e past =
         ⊎_elim
         (λ on. absurd (not_active q (subst (λ x. active (view g k (now.slot table x)) ≡ true) r.is on) e))
         (λ none. none)
         (still_there g law m k table r.at fs s may r.has)
       where
-        not_active : (q : P) → active (view g k (now.slot table slot)) ≡ true → now.slot table slot ≡ Tombstone q → ⊥
+        not_active : (q : P) → active (view g k (now.slot table slot)) ≡ true → now.slot table slot ≡ Buried q → ⊥
         not_active q on e =
-            let there : active (view g k (Tombstone q)) ≡ true = subst (λ w. active (view g k w) ≡ true) e on in
+            let there : active (view g k (Buried q)) ≡ true = subst (λ w. active (view g k w) ≡ true) e on in
             ⊎_elim
             (λ y. let f = cond-true (g.same k (g.key q)) (Grave q) Foreign y in let n = ap active f in cc)
             (λ y. let f = cond-false (g.same k (g.key q)) (Grave q) Foreign y in let n = ap active f in cc)
             (cases_Bool (g.same k (g.key q)))
-    past_out Clear (Tombstone q) e past = inr (tombstone_out q e)
-    past_out Retain (Tombstone q) e past = inr (tombstone_out q e)
+    past_out Clear (Buried q) e past = inr (buried_out q e)
+    past_out Retain (Buried q) e past = inr (buried_out q e)
     past_out scan (Live q) e past = absurd past
     past_out scan (Marked q) e past = absurd past
     past_out scan (Copied q) e past = absurd past
@@ -211,10 +211,10 @@ module _ {K P : Type 0} (g : Setting K P) (law : IsLawful g) (s : Words P) (m : 
       (cases_order slot upto)
 
   -- and past one whose pair is deleted
-  pub scan_deletes : (scan : Scan) (loaded : LoadedPairs P) (upto : ℕ) (p : P) → now.slot table upto ≡ Live p → (scan ≡ Walk → ⊥) → (k : K)
-      → IsScannedTo g s m fs table scan loaded upto k → IsScannedTo g s m (fs ++ Delete table upto p ∷ []) table scan loaded (suc upto) k
-  scan_deletes scan loaded upto p live takes k (inl out) = inl (out_stable g s m table fs (Delete table upto p ∷ []) scan k out)
-  scan_deletes scan loaded upto p live takes k (inr (slot, r, dealt)) =
+  pub scan_buries : (scan : Scan) (loaded : LoadedPairs P) (upto : ℕ) (p : P) → now.slot table upto ≡ Live p → (scan ≡ Walk → ⊥) → (k : K)
+      → IsScannedTo g s m fs table scan loaded upto k → IsScannedTo g s m (fs ++ Bury table upto p ∷ []) table scan loaded (suc upto) k
+  scan_buries scan loaded upto p live takes k (inl out) = inl (out_stable g s m table fs (Bury table upto p ∷ []) scan k out)
+  scan_buries scan loaded upto p live takes k (inr (slot, r, dealt)) =
       ⊎_elim
       (λ (is : slot ≡ upto).
       let (q, name, same) = names_same k slot r (Live p) (ap (now.slot table) is ∙ live) in
@@ -224,15 +224,15 @@ module _ {K P : Type 0} (g : Setting K P) (law : IsLawful g) (s : Words P) (m : 
       inr (
         slot,
         r,
-        dealt_stable g s m table fs (Delete table upto p ∷ []) scan loaded slot (suc upto) k
+        dealt_stable g s m table fs (Bury table upto p ∷ []) scan loaded slot (suc upto) k
             (dealt_on g s m fs table scan loaded slot upto k other dealt),
       ))
       (cases_order slot upto)
     where
-      taken_out : (scan : Scan) → (scan ≡ Walk → ⊥) → g.same k (g.key p) ≡ true → IsOut g s m (fs ++ Delete table upto p ∷ []) table scan k
+      taken_out : (scan : Scan) → (scan ≡ Walk → ⊥) → g.same k (g.key p) ≡ true → IsOut g s m (fs ++ Bury table upto p ∷ []) table scan k
       taken_out Walk takes same = absurd (takes refl)
-      taken_out Clear takes same = inr (last_taken g (Delete table upto p) fs k same)
-      taken_out Retain takes same = inr (last_taken g (Delete table upto p) fs k same)
+      taken_out Clear takes same = inr (last_taken g (Bury table upto p) fs k same)
+      taken_out Retain takes same = inr (last_taken g (Bury table upto p) fs k same)
 
   -- at one moment a table has one slot in which a key's pair is, or was until it was copied
   one_slot : (k : K) (i j : ℕ) → i < g.places table → j < g.places table → active (look g now k table i) ≡ true → active (look g now k table j) ≡ true
@@ -270,7 +270,7 @@ module _ {K P : Type 0} (g : Setting K P) (law : IsLawful g) (s : Words P) (m : 
       by_word : (w : Word P) → now.slot table slot ≡ w → IsOut g s m fs table scan k ⊎ (active (look g now k table r.at) ≡ true)
       by_word Empty e = inl (past_out k slot r scan Empty e tt)
       by_word Closed e = inl (past_out k slot r scan Closed e tt)
-      by_word (Tombstone q) e = inl (past_out k slot r scan (Tombstone q) e tt)
+      by_word (Buried q) e = inl (past_out k slot r scan (Buried q) e tt)
       by_word (Live q) e = inr (on (Live q) q e (inl refl))
       by_word (Marked q) e = inr (on (Marked q) q e (inr (inl refl)))
       by_word (Copied q) e = inr (on (Copied q) q e (inr (inr refl)))

@@ -14,7 +14,7 @@ use Rattle.papaya_chain_law.specs.Resizers.{ReliesStage}
 use Rattle.papaya_chain_law.proofs.ResizerRelies.{stage_stable}
 use Rattle.papaya_chain.specs.declared.scanner.Spot.{Spot}
 use Rattle.papaya_chain.specs.declared.scanner.State.{State}
-use Rattle.papaya_chain.specs.declared.scanner.State.TheVariants.{Copying, AtRoot, Sizing, Looking, Giving, Showing, Deleting, Uncounting, Done, Refused}
+use Rattle.papaya_chain.specs.declared.scanner.State.TheVariants.{Copying, AtRoot, Sizing, Looking, Giving, Showing, Burying, Uncounting, Done, Refused}
 use Rattle.papaya_chain.specs.declared.scanner.Scan.{Scan}
 use Rattle.papaya_chain.specs.declared.scanner.Scan.TheVariants.{Clear, Retain, Walk}
 use Rattle.papaya_chain_law.specs.ScanTold.{LoadedPairs}
@@ -107,7 +107,7 @@ module _ {K P : Type 0} (g : Setting K P) (c : Coding K P) (s : Words P) (m : K 
     state_stable scan loaded (Looking spot) r = (r.0, scanning_stable scan loaded spot.table spot.slot r.1)
     state_stable scan loaded (Giving spot word) r = (r.0, r.1, meeting_stable scan loaded spot word r.2)
     state_stable scan loaded (Showing spot word) r = (r.0, r.1, r.2, meeting_stable scan loaded spot word r.3)
-    state_stable scan loaded (Deleting spot word) r = (r.0, r.1, take_stable scan r.2, scanning_stable scan loaded spot.table spot.slot r.3)
+    state_stable scan loaded (Burying spot word) r = (r.0, r.1, take_stable scan r.2, scanning_stable scan loaded spot.table spot.slot r.3)
       where
         take_stable : (scan : Scan) → MayTake g c s m since scan loaded word → MayTake g c s m (since ++ more) scan loaded word
         take_stable Walk t = absurd t

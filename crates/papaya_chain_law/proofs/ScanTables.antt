@@ -6,7 +6,7 @@ use Rattle.papaya_law.specs.Allows.{AllAllowed}
 use Rattle.papaya_law.specs.Class.{IsOn}
 use Rattle.papaya_law.specs.Code.{Coding, IsHashed}
 use Rattle.papaya_law.specs.Exchange.{Setting, State as Words, Exchange, Open, Claim, Replace}
-use Rattle.papaya_law.specs.Exchange.{Delete, Link, Mark, Close, Place, Finish, Advance, Promote}
+use Rattle.papaya_law.specs.Exchange.{Bury, Link, Mark, Close, Place, Finish, Advance, Promote}
 use Rattle.papaya_law.specs.Exchange.{Abort, Take, run}
 use Rattle.papaya_law.specs.Grows.{Agrees}
 use Rattle.papaya_law.specs.Invariant.{IsKeeping}
@@ -18,7 +18,7 @@ use Rattle.papaya_law.proofs.OneMap.{keeping_sound}
 use Rattle.papaya_chain_law.proofs.ResizerRelies.{stage_carries}
 use Rattle.papaya_chain.specs.declared.scanner.Spot.{Spot}
 use Rattle.papaya_chain.specs.declared.scanner.State.{State}
-use Rattle.papaya_chain.specs.declared.scanner.State.TheVariants.{Copying, AtRoot, Sizing, Looking, Giving, Showing, Deleting, Uncounting, Done, Refused}
+use Rattle.papaya_chain.specs.declared.scanner.State.TheVariants.{Copying, AtRoot, Sizing, Looking, Giving, Showing, Burying, Uncounting, Done, Refused}
 use Rattle.papaya_chain.specs.declared.scanner.Scan.{Scan}
 use Rattle.papaya_chain.specs.declared.scanner.Scan.TheVariants.{Clear, Retain, Walk}
 use Rattle.papaya_chain_law.specs.ScanTaken.{IsTakenOut, takes_out}
@@ -36,7 +36,7 @@ module _ {K P : Type 0} (g g' : Setting K P) (On : ℕ → Type 0) (agrees : Agr
   -- which exchange takes out a key's pair
   takes_carries : (e : Exchange P) (k : K) → takes_out g' e k ≡ takes_out g e k
   takes_carries (Replace t x p q) k = same_key k p
-  takes_carries (Delete t x p) k = same_key k p
+  takes_carries (Bury t x p) k = same_key k p
   takes_carries (Open t) k = refl
   takes_carries (Claim t x p) k = refl
   takes_carries (Link t n) k = refl
@@ -249,7 +249,7 @@ module _ {K P : Type 0} (g g' : Setting K P) (c : Coding K P) (hashed : IsHashed
   state_carries scan loaded (Looking spot) r = (spot_carries scan loaded spot spot.slot r.1 r.0, scanning_carries scan loaded spot.table spot.slot r.1)
   state_carries scan loaded (Giving spot word) r = (spot_met scan loaded spot word r.2 r.0, r.1, meeting_carries scan loaded spot word r.2)
   state_carries scan loaded (Showing spot word) r = (spot_met scan loaded spot word r.3 r.0, r.1, r.2, meeting_carries scan loaded spot word r.3)
-  state_carries scan loaded (Deleting spot word)
+  state_carries scan loaded (Burying spot word)
       r = (spot_carries scan loaded spot spot.slot r.3 r.0, r.1, take_carries scan loaded word r.2, scanning_carries scan loaded spot.table spot.slot r.3)
   state_carries scan loaded (Uncounting spot)
       r = (spot_carries scan loaded spot (suc spot.slot) r.2 r.0, takes_carry scan r.1, scanning_carries scan loaded spot.table (suc spot.slot) r.2)

@@ -1,8 +1,8 @@
 -- A slot that had a key's pair Live has it still, or some exchange took it out.
 use Rattle.std.proofs.Common.{◌≡◌, ◌⊎◌, inl, inr, ⊎_elim, ℕ, true, List, [], ◌∷◌, ◌++◌, append_assoc, refl, sym, ap, ◌∙◌, subst}
 use Rattle.papaya_law.specs.Allows.{Allows, AllAllowed}
-use Rattle.papaya_law.specs.Exchange.{Live, Marked, Copied, Tombstone, Closed, Setting, State}
-use Rattle.papaya_law.specs.Exchange.{Exchange, Open, Claim, Replace, Delete, Link, Mark, Close}
+use Rattle.papaya_law.specs.Exchange.{Live, Marked, Copied, Buried, Closed, Setting, State}
+use Rattle.papaya_law.specs.Exchange.{Exchange, Open, Claim, Replace, Bury, Link, Mark, Close}
 use Rattle.papaya_law.specs.Exchange.{Place, Finish, Advance, Promote, Abort, Take, after, run}
 use Rattle.papaya_law.specs.Later.{Becomes}
 use Rattle.papaya_law.specs.Meaning.{IsLawful}
@@ -49,7 +49,7 @@ module _ {K P : Type 0} (g : Setting K P) (law : IsLawful g) where
   -- what takes out a key's pair takes out that of each equal key
   takes_same : (k l : K) → g.same k l ≡ true → (e : Exchange P) → takes_out g e l ≡ true → takes_out g e k ≡ true
   takes_same k l h (Replace t x p q) out = law.through k l (g.key p) h out
-  takes_same k l h (Delete t x p) out = law.through k l (g.key p) h out
+  takes_same k l h (Bury t x p) out = law.through k l (g.key p) h out
   takes_same k l h (Open t) out = absurd cc
   takes_same k l h (Claim t x p) out = absurd cc
   takes_same k l h (Link t n) out = absurd cc
@@ -85,9 +85,9 @@ module _ {K P : Type 0} (g : Setting K P) (law : IsLawful g) where
   one s t x p (Replace u y q r) may live =
       ⊎_elim (λ h. inl (h.0 ∙ live)) (λ h. let a = h.0 in let b = h.1 in let m = may.live in let is : q ≡ p = cc (a, b, m, live) in
       inr (inl (ap (λ z. g.same (g.key p) (g.key z)) is ∙ law.itself (g.key p)))) (slot_cases s u y (Live r) t x)
-  one s t x p (Delete u y q) may live = ⊎_elim (λ h. inl (h.0 ∙ live))
+  one s t x p (Bury u y q) may live = ⊎_elim (λ h. inl (h.0 ∙ live))
       (λ h. let a = h.0 in let b = h.1 in let m = may.live in let is : q ≡ p = cc (a, b, m, live) in
-      inr (inl (ap (λ z. g.same (g.key p) (g.key z)) is ∙ law.itself (g.key p)))) (slot_cases s u y (Tombstone q) t x)
+      inr (inl (ap (λ z. g.same (g.key p) (g.key z)) is ∙ law.itself (g.key p)))) (slot_cases s u y (Buried q) t x)
   one s t x p (Mark u y q) may live = ⊎_elim (λ h. inl (h.0 ∙ live))
       (λ h. let a = h.0 in let b = h.1 in let m = may.live in let is : q ≡ p = cc (a, b, m, live) in inr (inr (h.2 ∙ ap Marked is)))
       (slot_cases s u y (Marked q) t x)
@@ -106,13 +106,13 @@ module _ {K P : Type 0} (g : Setting K P) (law : IsLawful g) where
       absurd (⊎_elim (λ h. cc (h, end)) (λ h. cc (h, end)) b)))
       (one s t x p e may.0 live)
 
-  -- what stood Live and is Tombstone was taken out
-  pub tombstone_taken : (k : K) (t x : ℕ) (p q : P) (fs : List (Exchange P)) (s : State P) → AllAllowed g s fs → g.same k (g.key p) ≡ true
-      → s.slot t x ≡ Live p → (run fs s).slot t x ≡ Tombstone q → IsTakenOut g fs k
-  tombstone_taken k t x p q [] s may same live end = absurd (cc (live, end))
-  tombstone_taken k t x p q (e ∷ fs) s may same live end =
+  -- what stood Live and is Buried was taken out
+  pub buried_taken : (k : K) (t x : ℕ) (p q : P) (fs : List (Exchange P)) (s : State P) → AllAllowed g s fs → g.same k (g.key p) ≡ true
+      → s.slot t x ≡ Live p → (run fs s).slot t x ≡ Buried q → IsTakenOut g fs k
+  buried_taken k t x p q [] s may same live end = absurd (cc (live, end))
+  buried_taken k t x p q (e ∷ fs) s may same live end =
       ⊎_elim
-      (λ live'. later_taken g e fs k (tombstone_taken k t x p q fs (after s e) may.1 same live' end))
+      (λ live'. later_taken g e fs k (buried_taken k t x p q fs (after s e) may.1 same live' end))
       (⊎_elim
       (λ out. first_taken g e fs k (takes_same k (g.key p) same e out))
       (λ marked.

@@ -14,19 +14,19 @@ use Rattle.papaya_chain.specs.declared.ask.Answer.TheVariants as answers
 use Rattle.papaya_chain.specs.declared.resizer.State.{State as Stage}
 use Rattle.papaya_chain.specs.declared.resizer.State.TheVariants as stages
 use Rattle.papaya_law.specs.Code.{Coding, code, kind}
-use Rattle.papaya_law.specs.Exchange.{Word, Empty, Closed, Live, Marked, Copied as Copied_word, Tombstone, Setting, State as Words, Exchange, Delete, run}
+use Rattle.papaya_law.specs.Exchange.{Word, Empty, Closed, Live, Marked, Copied as Copied_word, Buried, Setting, State as Words, Exchange, Bury, run}
 use Rattle.papaya_law.proofs.Codes.{code_kind}
 use Rattle.papaya_law.proofs.Moments.{run-append}
 use Rattle.papaya_call_law.proofs.ReliesLearn.{by_test}
 use Rattle.papaya_chain_law.proofs.ResizerRelies.{told_of_ask}
 use Rattle.papaya_chain.specs.declared.scanner.Spot.{Spot}
 use Rattle.papaya_chain.specs.declared.scanner.State.{State}
-use Rattle.papaya_chain.specs.declared.scanner.State.TheVariants.{Copying, AtRoot, Sizing, Looking, Giving, Showing, Deleting, Uncounting, Done, Refused}
+use Rattle.papaya_chain.specs.declared.scanner.State.TheVariants.{Copying, AtRoot, Sizing, Looking, Giving, Showing, Burying, Uncounting, Done, Refused}
 use Rattle.papaya_chain.specs.declared.scanner.Scan.{Scan}
 use Rattle.papaya_chain.specs.declared.scanner.Scan.TheVariants.{Clear, Retain, Walk}
 use Rattle.papaya_chain.specs.declared.scanner.Scanner.{Scanner}
 use Rattle.papaya_chain.specs.Scanner.{after_in, at_root, begun_in, copied, first_in, looks, meets, next, reply_in, shown}
-use Rattle.papaya_chain_law.specs.ScanTold.{IsCopyAnswer, IsDeleted, IsFoundThere, IsScanTold, LoadedPairs}
+use Rattle.papaya_chain_law.specs.ScanTold.{IsCopyAnswer, IsBuried, IsFoundThere, IsScanTold, LoadedPairs}
 use Rattle.papaya_chain_law.specs.Scans.{ReliesState}
 use Rattle.papaya_chain_law.specs.ScanOutcomes.{StandsAtRoot}
 use Rattle.papaya_chain_law.proofs.ScanOutcomes.{asked}
@@ -45,7 +45,7 @@ root_unrefused s (Sizing table) refused at e = cc e
 root_unrefused s (Looking spot) refused at e = cc e
 root_unrefused s (Giving spot word) refused at e = cc e
 root_unrefused s (Showing spot word) refused at e = cc e
-root_unrefused s (Deleting spot word) refused at e = cc e
+root_unrefused s (Burying spot word) refused at e = cc e
 root_unrefused s (Uncounting spot) refused at e = cc e
 root_unrefused s Done refused at e = cc e
 
@@ -77,13 +77,13 @@ module _ {P : Type 0} (s : Words P) where
   meets_at Retain spot word at (Copied_word p) = tt
   meets_at Clear spot word at Empty = next_at spot at
   meets_at Clear spot word at Closed = next_at spot at
-  meets_at Clear spot word at (Tombstone p) = next_at spot at
+  meets_at Clear spot word at (Buried p) = next_at spot at
   meets_at Retain spot word at Empty = next_at spot at
   meets_at Retain spot word at Closed = next_at spot at
-  meets_at Retain spot word at (Tombstone p) = next_at spot at
+  meets_at Retain spot word at (Buried p) = next_at spot at
   meets_at Walk spot word at Empty = next_at spot at
   meets_at Walk spot word at Closed = next_at spot at
-  meets_at Walk spot word at (Tombstone p) = next_at spot at
+  meets_at Walk spot word at (Buried p) = next_at spot at
 
 module _ {K P : Type 0} (g : Setting K P) (c : Coding K P) (s : Words P) (m : K → Option P) (since : List (Exchange P)) (scanner : Scanner)
     (loaded : LoadedPairs P) (answer : Answer) (es : List (Exchange P)) (loaded' : LoadedPairs P) where
@@ -151,15 +151,15 @@ module _ {K P : Type 0} (g : Setting K P) (c : Coding K P) (s : Words P) (m : K 
     state_stands (Giving spot word) r at told = quiet (Giving spot word) (answers.Call Ok) told.is told.none (next_at now spot at)
     state_stands (Showing spot word) r at told = quiet (Showing spot word) (answers.Call (Yes told.stays)) told.is told.none
         (shown_at now spot word told.stays at)
-    state_stands (Deleting spot word) r at told =
-        by_test (code g c (now.slot spot.table spot.slot) == word) (IsDeleted g c now since spot loaded answer es loaded')
-        (IsFoundThere g c now since spot loaded answer es loaded') (Stands (run (since ++ es) s) answer (Deleting spot word)) told
+    state_stands (Burying spot word) r at told =
+        by_test (code g c (now.slot spot.table spot.slot) == word) (IsBuried g c now since spot loaded answer es loaded')
+        (IsFoundThere g c now since spot loaded answer es loaded') (Stands (run (since ++ es) s) answer (Burying spot word)) told
         (λ _ t.
-        let e : Exchange P = Delete spot.table spot.slot t.pair in
+        let e : Exchange P = Bury spot.table spot.slot t.pair in
         let same : run (since ++ es) s ≡ run (e ∷ []) now = ap (λ l. run (since ++ l) s) t.one ∙ run-append since (e ∷ []) s in
-        subst (λ w. Stands w answer (Deleting spot word)) (sym same)
-        (calm, subst (λ a. StandsAtRoot (run (e ∷ []) now) (Goes a (Deleting spot word))) (sym t.is) at))
-        (λ _ t. quiet (Deleting spot word) (answers.Call (Found (code g c (now.slot spot.table spot.slot)))) t.is t.none (word_at spot at))
+        subst (λ w. Stands w answer (Burying spot word)) (sym same)
+        (calm, subst (λ a. StandsAtRoot (run (e ∷ []) now) (Goes a (Burying spot word))) (sym t.is) at))
+        (λ _ t. quiet (Burying spot word) (answers.Call (Found (code g c (now.slot spot.table spot.slot)))) t.is t.none (word_at spot at))
     state_stands (Uncounting spot) r at told = quiet (Uncounting spot) (answers.Call Ok) told.0 told.1 (next_at now spot at)
     state_stands Done r at told = let no = told.asks in absurd (cc no)
     state_stands (Refused refused) r at told = absurd at

@@ -4,11 +4,11 @@ use Rattle.papaya_words.specs.declared.probe.Refused.{Refused as Cause}
 use Rattle.papaya_chain.specs.declared.ask.Answer.{Answer}
 use Rattle.papaya_chain.specs.declared.resizer.State.{State as Stage}
 use Rattle.papaya_chain.specs.declared.resizer.State.TheVariants as stages
-use Rattle.papaya_law.specs.Exchange.{Setting, State as Words, Exchange, Delete}
+use Rattle.papaya_law.specs.Exchange.{Setting, State as Words, Exchange, Bury}
 use Rattle.papaya_law.specs.Meaning.{map_after}
 use Rattle.papaya_chain_law.specs.Resizers.{WasNotMade, WouldBeTooLong}
 use Rattle.papaya_chain.specs.declared.scanner.State.{State}
-use Rattle.papaya_chain.specs.declared.scanner.State.TheVariants.{Copying, AtRoot, Sizing, Looking, Giving, Showing, Deleting, Uncounting, Done, Refused}
+use Rattle.papaya_chain.specs.declared.scanner.State.TheVariants.{Copying, AtRoot, Sizing, Looking, Giving, Showing, Burying, Uncounting, Done, Refused}
 use Rattle.papaya_chain.specs.declared.scanner.Scan.TheVariants.{Walk}
 use Rattle.papaya_chain.specs.declared.scanner.Scanner.{Scanner}
 use Rattle.papaya_chain.specs.Scanner.{after, resizer_of}
@@ -29,7 +29,7 @@ HasDone {P = P} g scanner answer es =
     ((es ≡ []) × (owes_in (after scanner answer).state ≡ false))
     ⊎ ((e : Exchange P) × (es ≡ e ∷ []) × LeavesMap g e
     × (owes_in (after scanner answer).state ≡ false))
-    ⊎ ((t : ℕ) × (x : ℕ) × (p : P) × (es ≡ Delete t x p ∷ []) × (scanner.scan ≡ Walk → ⊥)
+    ⊎ ((t : ℕ) × (x : ℕ) × (p : P) × (es ≡ Bury t x p ∷ []) × (scanner.scan ≡ Walk → ⊥)
     × (owes_in (after scanner answer).state ≡ true))
 
 -- why an answer ends a scanner refused: its copy of all was refused a table, or the next one would
@@ -50,7 +50,7 @@ StandsAtRoot s (Sizing table) = s.root ≡ table
 StandsAtRoot s (Looking spot) = s.root ≡ spot.table
 StandsAtRoot s (Giving spot word) = s.root ≡ spot.table
 StandsAtRoot s (Showing spot word) = s.root ≡ spot.table
-StandsAtRoot s (Deleting spot word) = s.root ≡ spot.table
+StandsAtRoot s (Burying spot word) = s.root ≡ spot.table
 StandsAtRoot s (Uncounting spot) = s.root ≡ spot.table
 StandsAtRoot s Done = Unit {0}
 StandsAtRoot s (Refused refused) = ⊥

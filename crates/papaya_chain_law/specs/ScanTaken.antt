@@ -1,11 +1,11 @@
 -- Which exchanges take a key's pair out of the map.
 use Rattle.std.specs.Prelude.{◌≡◌, ◌++◌, Bool, true, false, List, ◌∷◌}
-use Rattle.papaya_law.specs.Exchange.{Setting, Exchange, Open, Claim, Replace, Delete, Link, Mark, Close, Place, Finish, Advance, Promote, Abort, Take}
+use Rattle.papaya_law.specs.Exchange.{Setting, Exchange, Open, Claim, Replace, Bury, Link, Mark, Close, Place, Finish, Advance, Promote, Abort, Take}
 
 -- the exchange takes out the key's pair
 abbrev pub takes_out : {K P : Type 0} → Setting K P → Exchange P → K → Bool
 takes_out g (Replace t x p q) k = g.same k (g.key p)
-takes_out g (Delete t x p) k = g.same k (g.key p)
+takes_out g (Bury t x p) k = g.same k (g.key p)
 takes_out g (Open t) k = false
 takes_out g (Claim t x p) k = false
 takes_out g (Link t n) k = false

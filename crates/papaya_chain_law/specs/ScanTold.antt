@@ -7,7 +7,7 @@ use Rattle.papaya_chain.specs.declared.ask.Answer.{Answer}
 use Rattle.papaya_chain.specs.declared.ask.Answer.TheVariants as answers
 use Rattle.papaya_chain.specs.declared.resizer.State.{State as Stage}
 use Rattle.papaya_law.specs.Code.{Coding, code}
-use Rattle.papaya_law.specs.Exchange.{Live, Setting, State as Words, Exchange, Delete}
+use Rattle.papaya_law.specs.Exchange.{Live, Setting, State as Words, Exchange, Bury}
 use Rattle.papaya_call_law.specs.Copier.{told_last}
 use Rattle.papaya_chain_law.specs.Resizers.{IsStageTold}
 use Rattle.papaya_chain_law.specs.Told.{IsCopyTold, told_of}
@@ -15,7 +15,7 @@ use Rattle.papaya_chain_law.specs.Told as copies
 use Rattle.papaya_chain.specs.declared.scan_ask.ScanAsk.TheVariants.{Copy}
 use Rattle.papaya_chain.specs.declared.scanner.Spot.{Spot}
 use Rattle.papaya_chain.specs.declared.scanner.State.{State}
-use Rattle.papaya_chain.specs.declared.scanner.State.TheVariants.{Copying, AtRoot, Giving, Showing, Deleting, Uncounting}
+use Rattle.papaya_chain.specs.declared.scanner.State.TheVariants.{Copying, AtRoot, Giving, Showing, Burying, Uncounting}
 use Rattle.papaya_chain.specs.Scanner.{asks_in}
 
 -- how many of these pairs have the key
@@ -85,13 +85,13 @@ module _ {K P : Type 0} (g : Setting K P) (c : Coding K P) (s : Words P)
     pub handed : loaded' ≡ record loaded { shown = (pair, stays) ∷ loaded.shown }
 
   -- the pair that stands in the slot was deleted
-  pub record IsDeleted (spot : Spot) (loaded : LoadedPairs P) (answer : Answer)
+  pub record IsBuried (spot : Spot) (loaded : LoadedPairs P) (answer : Answer)
       (es : List (Exchange P))
       (loaded' : LoadedPairs P) : Type 0 where
     pub pair : P
     pub live : s.slot spot.table spot.slot ≡ Live pair
     pub is : answer ≡ answers.Call Exchanged
-    pub one : es ≡ Delete spot.table spot.slot pair ∷ []
+    pub one : es ≡ Bury spot.table spot.slot pair ∷ []
     pub handed : loaded' ≡ loaded
 
   -- or another word was found there
@@ -111,9 +111,9 @@ module _ {K P : Type 0} (g : Setting K P) (c : Coding K P) (s : Words P)
   IsScanTold (Copying stage) loaded answer es loaded' = IsCopyAnswer stage loaded answer es loaded'
   IsScanTold (Giving spot word) loaded answer es loaded' = IsGiven loaded answer es loaded'
   IsScanTold (Showing spot word) loaded answer es loaded' = IsShown loaded answer es loaded'
-  IsScanTold (Deleting spot word) loaded answer es loaded' =
+  IsScanTold (Burying spot word) loaded answer es loaded' =
       MatchBool (code g c (s.slot spot.table spot.slot) == word)
-      (IsDeleted spot loaded answer es loaded') (IsFoundThere spot loaded answer es loaded')
+      (IsBuried spot loaded answer es loaded') (IsFoundThere spot loaded answer es loaded')
   IsScanTold (Uncounting spot) loaded answer es loaded' = (answer ≡ answers.Call Ok) × (es ≡ [])
       × (loaded' ≡ loaded)
   IsScanTold AtRoot loaded answer es loaded' =

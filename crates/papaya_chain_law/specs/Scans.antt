@@ -6,7 +6,7 @@ use Rattle.papaya_ask.specs.declared.ask.At.{At}
 use Rattle.papaya_chain.specs.declared.resizer.State.{State as Stage}
 use Rattle.papaya_chain.specs.declared.resizer.State.TheVariants as stages
 use Rattle.papaya_law.specs.Code.{Coding}
-use Rattle.papaya_law.specs.Exchange.{Live, Setting, State as Words, Exchange, Delete, run}
+use Rattle.papaya_law.specs.Exchange.{Live, Setting, State as Words, Exchange, Bury, run}
 use Rattle.papaya_law.specs.Meaning.{IsAtMoment, map_of}
 use Rattle.papaya_law.specs.View.{held, look}
 use Rattle.papaya_call_law.specs.Copier.{AreThere}
@@ -15,10 +15,10 @@ use Rattle.papaya_call_law.specs.Told.{IsOneOf}
 use Rattle.papaya_copy.specs.declared.link.Link.{Link}
 use Rattle.papaya_chain_law.specs.Resizers.{IsStageAsked, ReliesStage, link_of}
 use Rattle.papaya_chain.specs.declared.scan_ask.ScanAsk.{ScanAsk}
-use Rattle.papaya_chain.specs.declared.scan_ask.ScanAsk.TheVariants.{Copy, Show, Give, AddToShard}
+use Rattle.papaya_chain.specs.declared.scan_ask.ScanAsk.TheVariants.{Copy, Show, Given, AddToShard}
 use Rattle.papaya_chain.specs.declared.scanner.Spot.{Spot}
 use Rattle.papaya_chain.specs.declared.scanner.State.{State}
-use Rattle.papaya_chain.specs.declared.scanner.State.TheVariants.{Copying, AtRoot, Sizing, Looking, Giving, Showing, Deleting, Uncounting, Done, Refused}
+use Rattle.papaya_chain.specs.declared.scanner.State.TheVariants.{Copying, AtRoot, Sizing, Looking, Giving, Showing, Burying, Uncounting, Done, Refused}
 use Rattle.papaya_chain.specs.declared.scanner.Scan.{Scan}
 use Rattle.papaya_chain.specs.declared.scanner.Scan.TheVariants.{Clear, Retain, Walk}
 use Rattle.papaya_chain.specs.declared.scanner.Scanner.{Scanner}
@@ -171,7 +171,7 @@ module _ {K P : Type 0} (g : Setting K P) (c : Coding K P) (s : Words P) (m : K 
       × IsMeeting scan loaded spot word
   ReliesState scan loaded (Showing spot word) = IsSpot spot × (scan ≡ Retain)
       × (kind_of word ≡ kinds.Live) × IsMeeting scan loaded spot word
-  ReliesState scan loaded (Deleting spot word) = IsSpot spot × (kind_of word ≡ kinds.Live)
+  ReliesState scan loaded (Burying spot word) = IsSpot spot × (kind_of word ≡ kinds.Live)
       × MayTake scan loaded word × IsScanning scan loaded spot.table spot.slot
   ReliesState scan loaded (Uncounting spot) = IsSpot spot × Takes scan
       × IsScanning scan loaded spot.table (suc spot.slot)
@@ -204,16 +204,16 @@ module _ {K P : Type 0} (g : Setting K P) (c : Coding K P) (s : Words P) (m : K 
   abbrev pub IsNamed : LoadedPairs P → ScanAsk → Type 0
   IsNamed loaded (Copy ask) = AreThere g c now loaded.copy.call.last loaded.copy.kept ask
   IsNamed loaded (Show n) = HadPair loaded n
-  IsNamed loaded (Give n) = HadPair loaded n
+  IsNamed loaded (Given n) = HadPair loaded n
   IsNamed loaded (AddToShard by) = Unit {0}
 
   -- The exchange of the law that a scanner asks for: one of the copy, or the deletion of the pair
   -- that stands in its slot.
   abbrev pub IsScanAsked : Scan → State → At → ℕ → LoadedPairs P → Exchange P → Type 0
   IsScanAsked scan (Copying stage) at new loaded e = IsStageAsked g c now stage at new loaded.copy e
-  IsScanAsked scan (Deleting spot word) at new loaded e = MayTake scan loaded word
+  IsScanAsked scan (Burying spot word) at new loaded e = MayTake scan loaded word
       × ((p : P) × (now.slot spot.table spot.slot ≡ Live p) × (c.number p ≡ pair_of word)
-      × (e ≡ Delete spot.table spot.slot p))
+      × (e ≡ Bury spot.table spot.slot p))
   IsScanAsked scan state at new loaded e = ⊥
 
 -- the making of a table that is under way for the copy of all, if one is

@@ -4,7 +4,7 @@ ghost use Rattle.std.specs.Prelude.{◌≡◌, ◌++◌, ℕ, List, [], Option, 
 ghost use Rattle.papaya_words.specs.declared.probe.ResizeMode.{ResizeMode};
 ghost use Rattle.papaya_words.specs.declared.probe.Refused.{Refused};
 ghost use Rattle.papaya_ask.specs.declared.ask.Answer.TheVariants.{Exchanged};
-ghost use Rattle.papaya_ask.specs.declared.ask.StepKind.TheVariants.{Delete};
+ghost use Rattle.papaya_ask.specs.declared.ask.StepKind.TheVariants.{Bury};
 ghost use Rattle.papaya_ask.specs.declared.call.Reply.TheVariants.{Done, Refused as Reply_refused};
 ghost use Rattle.papaya_ask.specs.declared.copy_ask.CopyAsk.TheVariants.{Exchange as Ask_exchange, WriteHint};
 ghost use Rattle.papaya_law.specs.Allows.{AllAllowed, Allows};
@@ -145,5 +145,5 @@ pub fn scanners_end<K, P>()
     ensures leaves { (g : Setting K P) (c : Coding K P) (s : State P) (m : K → Option P)
         (since : List (Exchange P)) (scanner : Scanner) (loaded : LoadedPairs P)
         → ReliesScanner g c s m since scanner loaded → scanner.scan ≡ Scan.Walk
-        → kind_of_ask scanner ≡ Some Delete → ⊥ }
+        → kind_of_ask scanner ≡ Some Bury → ⊥ }
 {}

@@ -35,7 +35,7 @@ use Rattle.papaya_chain_law.proofs.Replies.{aside_asks}
 use Rattle.papaya_call.specs.declared.machine.State.{State}
 use Rattle.papaya_call.specs.declared.machine.State.TheVariants.{AtRoot, Making, Opening, Searching}
 use Rattle.papaya_call.specs.declared.machine.State.TheVariants.{Writing, Offering, Showing}
-use Rattle.papaya_call.specs.declared.machine.State.TheVariants.{Pairing, Putting, Deleting}
+use Rattle.papaya_call.specs.declared.machine.State.TheVariants.{Pairing, Putting, Burying}
 use Rattle.papaya_call.specs.declared.machine.State.TheVariants.{Counting, Noting, Uncounting}
 use Rattle.papaya_call.specs.declared.machine.State.TheVariants.{Leaving, Growing, Ended}
 use Rattle.papaya_call.specs.declared.compute.Purpose.{Purpose}
@@ -82,7 +82,7 @@ leads_unchanged = record {
   showing = λ removal. refl;
   pairing = λ purpose. refl;
   putting = λ put. refl;
-  deleting = λ removal. refl;
+  burying = λ removal. refl;
   leaving = λ t. refl;
   growing = λ t. refl;
 }
@@ -188,9 +188,9 @@ module _ (m : Machine) where
         (Rattle.papaya_words.specs.Word.pair_of put.write.old) put.pair,
   )
   step made (Putting put) answer = refl
-  step made (Deleting removal) (Found_instead word) = beaten_leads IsUnchanged leads_unchanged (record m { made = made; state = Deleting removal }) removal word
-  step made (Deleting removal) Exchanged = (refl, refl)
-  step made (Deleting removal) answer = refl
+  step made (Burying removal) (Found_instead word) = beaten_leads IsUnchanged leads_unchanged (record m { made = made; state = Burying removal }) removal word
+  step made (Burying removal) Exchanged = (refl, refl)
+  step made (Burying removal) answer = refl
   step made (Counting n) Ok_done = refl
   step made (Noting n) Ok_done = refl
   step made (Counting n) answer = refl
@@ -425,7 +425,7 @@ replied_in made hash (Offering gap) reply e = absurd (cc e)
 replied_in made hash (Showing removal) reply e = absurd (cc e)
 replied_in made hash (Pairing purpose) reply e = absurd (subst IsPairAsk e (pairing_asks made purpose))
 replied_in made hash (Putting put) reply e = absurd (cc e)
-replied_in made hash (Deleting removal) reply e = absurd (cc e)
+replied_in made hash (Burying removal) reply e = absurd (cc e)
 replied_in made hash (Counting n) reply e = absurd (cc e)
 replied_in made hash (Noting n) reply e = absurd (cc e)
 replied_in made hash (Uncounting n) reply e = absurd (cc e)

@@ -21,7 +21,7 @@ use Rattle.papaya_chain.specs.Machine.{after, ask_of, kind_of_ask}
 use Rattle.papaya_chain_law.proofs.Names.{call_asks}
 use Rattle.papaya_law.specs.Allows.{AllAllowed, Allows}
 use Rattle.papaya_law.specs.Code.{Coding, code}
-use Rattle.papaya_law.specs.Exchange.{Exchange, Setting, Word, Live, Delete, start}
+use Rattle.papaya_law.specs.Exchange.{Exchange, Setting, Word, Live, Bury, start}
 use Rattle.papaya_law.specs.Further.{same_with}
 use Rattle.papaya_law.specs.Invariant.{named}
 use Rattle.papaya_call_law.specs.Relies.{change_of_kind}
@@ -50,11 +50,11 @@ use Rattle.papaya_lookup.proofs.Readings.{IsQuery}
 use Rattle.papaya_book.proofs.Settings.{is_hashed}
 
 -- nothing comes with a deletion
-nothing_comes : {K V : Type 0} (e : Step K V) (t x : ℕ) (p : Stored K V) → exchange_of e ≡ Delete t x p → comes e ≡ names.Nothing
+nothing_comes : {K V : Type 0} (e : Step K V) (t x : ℕ) (p : Stored K V) → exchange_of e ≡ Bury t x p → comes e ≡ names.Nothing
 nothing_comes (steps.Open w) t x p is = absurd (cc is)
 nothing_comes (steps.Claim u y q) t x p is = absurd (cc is)
 nothing_comes (steps.Replace u y q r) t x p is = absurd (cc is)
-nothing_comes (steps.Delete u y q) t x p is = refl
+nothing_comes (steps.Bury u y q) t x p is = refl
 nothing_comes (steps.Link u w) t x p is = absurd (cc is)
 nothing_comes (steps.Mark u y q) t x p is = refl
 nothing_comes (steps.Close u y) t x p is = refl
@@ -165,7 +165,7 @@ module _ {K V S H : Type 0} (eq : K → K → Bool) (input : K → List (List �
                 same = class q has;
               });
         }
-    changes (Some kinds.Delete) (p, live, is) claims class change said =
+    changes (Some kinds.Bury) (p, live, is) claims class change said =
         let some : pair ≡ Some p = sym names ∙ ap named live in
         let no_put : put ≡ None = none_handed put (sym handed ∙ nothing_comes by t x p is) in
         let two : (Some (pair_of old), None) ≡ change = cc said in record {

@@ -21,7 +21,7 @@ pub mod InsertingHelped
 pub mod Seeking
 pub mod Claiming
 pub mod Replacing
-pub mod Deleting
+pub mod Burying
 pub mod Trading
 pub mod Logged
 pub mod Onward

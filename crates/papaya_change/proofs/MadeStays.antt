@@ -22,7 +22,7 @@ use Rattle.papaya_call.specs.declared.machine.Machine.{Machine}
 use Rattle.papaya_call.specs.declared.machine.State.{State as Stage}
 use Rattle.papaya_call.specs.declared.machine.State.TheVariants.{AtRoot, Making, Opening, Searching}
 use Rattle.papaya_call.specs.declared.machine.State.TheVariants.{Writing, Offering, Showing}
-use Rattle.papaya_call.specs.declared.machine.State.TheVariants.{Pairing, Putting, Deleting}
+use Rattle.papaya_call.specs.declared.machine.State.TheVariants.{Pairing, Putting, Burying}
 use Rattle.papaya_call.specs.declared.machine.State.TheVariants.{Counting, Noting, Uncounting}
 use Rattle.papaya_call.specs.declared.machine.State.TheVariants.{Leaving, Growing, Ended}
 use Rattle.papaya_call.specs.declared.write.Write.{Write}
@@ -252,7 +252,7 @@ module _ {K P : Type 0} (g : Setting K P) (c : Coding K P) (begun since : List (
   pairs_write made (Showing removal) r makes = absurd makes
   pairs_write made (Pairing purpose) r makes = absurd r.0
   pairs_write made (Putting put) r makes = absurd makes
-  pairs_write made (Deleting removal) r makes = absurd makes
+  pairs_write made (Burying removal) r makes = absurd makes
   pairs_write made (Counting i) r makes = absurd makes
   pairs_write made (Noting i) r makes = absurd makes
   pairs_write made (Uncounting i) r makes = absurd makes

@@ -67,7 +67,7 @@ use Rattle.papaya_change.proofs.StepsOfOwn.{own_kind, own_order}
 use Rattle.papaya_call.specs.Machine.{MayInsert}
 use Rattle.papaya_change.proofs.Refusals.{limit_inserts, refused_for, shows_none}
 use Rattle.papaya_call_law.proofs.Silent.{IsSilent, not_done}
-use Rattle.papaya_lookup.proofs.Driving.{can_delete}
+use Rattle.papaya_lookup.proofs.Driving.{can_bury}
 use Rattle.papaya_change.proofs.Exchanging.{exchanged, lost}
 use Rattle.papaya_lookup.proofs.Histories.{history_since}
 use Rattle.papaya_lookup.proofs.Readings.{IsQuery, fed, hashed_with}
@@ -278,55 +278,55 @@ module _ {K V S H F : Type 0} (eq : K → K → Bool) (input : K → List (List 
 
       module _ (t i old new : ℕ) (tries : ask_of m ≡ Call (Ask_exchange (Slot t i) old new)) where
         -- the slot is one of the table that is held
-        pub delete_held : IsHeldAt (Slot t i) log x.call.table
-        delete_held = slot_table eq input build write finish classes respects b matches query lawful None name begun log m x.call.table x.call.copier.last
+        pub bury_held : IsHeldAt (Slot t i) log x.call.table
+        bury_held = slot_table eq input build write finish classes respects b matches query lawful None name begun log m x.call.table x.call.copier.last
             x.call.copier.kept [] x.call.taken x.call.put x.call.copier.fresh r.calling t i (inr (old, new, tries))
 
         -- a removal's exchange of a slot deletes
         its_own : (m.phase ≡ Calling) × (calls.ask_of m.call ≡ Ask_exchange (Slot t i) old new)
         its_own = call_asks m (Ask_exchange (Slot t i) old new) tries
 
-        delete_kind : calls.kind_of_ask m.call ≡ Some kinds.Delete
-        delete_kind =
+        bury_kind : calls.kind_of_ask m.call ≡ Some kinds.Bury
+        bury_kind =
             ⊎_elim (λ h. absurd (h.0)) (λ h. h.1) (subst (λ (a : Ask). MayAsk RemoveIf (calls.kind_of_ask m.call) a) its_own.1
             (subst (λ (z : Task). MayAsk z (calls.kind_of_ask m.call) (calls.ask_of m.call)) r.task_is (asked_of_task m.call standing.call)))
 
-        pub delete_can : CanExchange eq hash b (Slot t i) (kind_of_ask m) old new None names.Nothing log
-        delete_can =
+        pub bury_can : CanExchange eq hash b (Slot t i) (kind_of_ask m) old new None names.Nothing log
+        bury_can =
             subst (λ (z : Option StepKind). CanExchange eq hash b (Slot t i) z old new None names.Nothing log) (sym (own_kind m its_own.0))
-            (can_delete eq input build write finish classes respects b matches query lawful None (exchanges_of begun) log r.calling.lawful m.call
+            (can_bury eq input build write finish classes respects b matches query lawful None (exchanges_of begun) log r.calling.lawful m.call
             loaded (call_relies eq input build write finish classes respects b matches query lawful None name begun log m x.call.table x.call.copier.last
-            x.call.copier.kept [] x.call.taken x.call.put x.call.copier.fresh r.calling) t i old new its_own.1 delete_kind)
+            x.call.copier.kept [] x.call.taken x.call.put x.call.copier.fresh r.calling) t i old new its_own.1 bury_kind)
 
         module _ (log' : List (Event K V S)) (pre : IsPrefix log log') (found : ℕ) (pair : Option (Stored K V))
             (s : IsSlotTried eq hash b name t i (kind_of_ask m) old new None names.Nothing log found log' pair) where
           -- it was deleted
-          tombstone : (found == old) ≡ true → RemovingOn log' (record x { call = record x.call { taken = pair; put = None } }) f (Some Exchanged)
-          tombstone is = goes_on log' pre (record x.call { taken = pair; put = None }) Exchanged refl tt (λ cause e. cc e)
+          buried : (found == old) ≡ true → RemovingOn log' (record x { call = record x.call { taken = pair; put = None } }) f (Some Exchanged)
+          buried is = goes_on log' pre (record x.call { taken = pair; put = None }) Exchanged refl tt (λ cause e. cc e)
               (Ask_exchange (Slot t i) old new) tries tt
               (exchanged eq input build write finish classes respects b matches query lawful None name begun log log' m x.call.table x.call.copier.last
               x.call.copier.kept [] x.call.taken x.call.put x.call.copier.fresh r.calling t i old new found None pair tries s (λ q none. absurd (cc none))
               (λ claim q none. absurd (cc none)) is)
 
           -- it was not
-          not_tombstone : (found == old) ≡ false → RemovingOn log' (record x { call = record x.call { copier = record x.call.copier { last = or_last pair x.call.copier.last } } }) f
+          not_buried : (found == old) ≡ false → RemovingOn log' (record x { call = record x.call { copier = record x.call.copier { last = or_last pair x.call.copier.last } } }) f
               (Some (Found_instead found))
-          not_tombstone is = goes_on log' pre (record x.call { copier = record x.call.copier { last = or_last pair x.call.copier.last } }) (Found_instead found) refl tt (λ cause e. cc e)
+          not_buried is = goes_on log' pre (record x.call { copier = record x.call.copier { last = or_last pair x.call.copier.last } }) (Found_instead found) refl tt (λ cause e. cc e)
               (Ask_exchange (Slot t i) old new) tries tt
               (lost eq input build write finish classes respects b matches query lawful None name begun log log' m x.call.table x.call.copier.last
               x.call.copier.kept [] x.call.taken x.call.put x.call.copier.fresh r.calling t i old new found None pair tries s is)
 
           -- as the call holds it afterwards
-          abbrev AfterDelete : Bool → Driver K V S H → Answer → Type 0
-          AfterDelete z y answer = MatchBool z ((answer ≡ Exchanged) × (y ≡ record x.call { taken = pair; put = None }))
+          abbrev AfterBury : Bool → Driver K V S H → Answer → Type 0
+          AfterBury z y answer = MatchBool z ((answer ≡ Exchanged) × (y ≡ record x.call { taken = pair; put = None }))
               ((answer ≡ Found_instead found) × (y ≡ record x.call { copier = record x.call.copier { last = or_last pair x.call.copier.last } }))
 
-          pub delete_on : (y : Driver K V S H) (answer : Answer) → AfterDelete (found == old) y answer → RemovingOn log' (record x { call = y }) f (Some answer)
-          delete_on y answer h =
+          pub bury_on : (y : Driver K V S H) (answer : Answer) → AfterBury (found == old) y answer → RemovingOn log' (record x { call = y }) f (Some answer)
+          bury_on y answer h =
               ⊎_elim
-              (λ is. let g = subst (λ (z : Bool). AfterDelete z y answer) is h in
-              subst (λ (z : Driver K V S H × Answer). RemovingOn log' (record x { call = z.0 }) f (Some z.1)) (λ j. (sym g.1 j, sym g.0 j)) (tombstone is))
-              (λ is. let g = subst (λ (z : Bool). AfterDelete z y answer) is h in
+              (λ is. let g = subst (λ (z : Bool). AfterBury z y answer) is h in
+              subst (λ (z : Driver K V S H × Answer). RemovingOn log' (record x { call = z.0 }) f (Some z.1)) (λ j. (sym g.1 j, sym g.0 j)) (buried is))
+              (λ is. let g = subst (λ (z : Bool). AfterBury z y answer) is h in
               subst (λ (z : Driver K V S H × Answer). RemovingOn log' (record x { call = z.0 }) f (Some z.1)) (λ j. (sym g.1 j, sym g.0 j))
-              (not_tombstone is))
+              (not_buried is))
               (cases_Bool (found == old))

@@ -17,7 +17,7 @@ use Rattle.papaya_ask.specs.declared.ask.StepKind.TheVariants as steps
 use Rattle.papaya_ask.specs.declared.call.Reply.TheVariants.{Kept, Removed}
 use Rattle.papaya_ask.specs.declared.call.Task.TheVariants.{RemoveIf}
 use Rattle.papaya_call.specs.declared.machine.State.{State}
-use Rattle.papaya_call.specs.declared.machine.State.TheVariants.{Deleting, Showing, Uncounting}
+use Rattle.papaya_call.specs.declared.machine.State.TheVariants.{Burying, Showing, Uncounting}
 use Rattle.papaya_call.specs.declared.remove.Removal.{Removal as Shown}
 use Rattle.papaya_call.specs.Machine.{IsStandingState, started}
 use Rattle.papaya_call.specs.Remove.{grave_word}
@@ -50,7 +50,7 @@ use Rattle.papaya_call.specs.Made.{IsLimit, IsNumber, wanted}
 use Rattle.papaya_call_law.proofs.ReliesLearnPairs.{wanted_relies}
 use Rattle.papaya_lookup.specs.Lookups.{coding_for, setting_for}
 use Rattle.papaya_change.proofs.Changing.{mode_is}
-use Rattle.papaya_change.proofs.Removing.{Removing, counted_on, delete_can, delete_held, delete_on, shown_on}
+use Rattle.papaya_change.proofs.Removing.{Removing, counted_on, bury_can, bury_held, bury_on, shown_on}
 use Rattle.papaya_change.proofs.RemovingReplies.{answered, removal_since}
 use Rattle.papaya_change.proofs.Showings.{all_shown, held_wider, shown_each}
 
@@ -199,8 +199,8 @@ module _ {K V S H F : Type 0} (eq : K → K → Bool) (input : K → List (List 
 
     -- it agrees
     module _ (g : F) (judged : judges first p true g) where
-      abbrev deletes : Removal K V S H
-      deletes = asked true g judged
+      abbrev buries : Removal K V S H
+      buries = asked true g judged
 
       abbrev t : ℕ
       t = met.place.table
@@ -208,17 +208,17 @@ module _ {K V S H F : Type 0} (eq : K → K → Bool) (input : K → List (List 
       abbrev i : ℕ
       i = met.place.probe.i
 
-      stands : IsStanding deletes.call.machine
-      stands = standing (Deleting place) (tt, hit.within)
+      stands : IsStanding buries.call.machine
+      stands = standing (Burying place) (tt, hit.within)
 
       -- the pair may be deleted
-      pub hit_can : CanExchange eq hash b (Slot t i) (Some steps.Delete) met.word (grave_word met.word) None names.Nothing log
-      hit_can = delete_can eq input build write finish classes respects b name matches query lawful judges first begun log deletes g
+      pub hit_can : CanExchange eq hash b (Slot t i) (Some steps.Bury) met.word (grave_word met.word) None names.Nothing log
+      hit_can = bury_can eq input build write finish classes respects b name matches query lawful judges first begun log buries g
           (said true g judged) stands t i met.word (grave_word met.word) refl
 
       -- the table has its slot
       pub hit_held : IsTable log t lent.now × (i < length lent.now.slots)
-      hit_held = delete_held eq input build write finish classes respects b name matches query lawful judges first begun log deletes g
+      hit_held = bury_held eq input build write finish classes respects b name matches query lawful judges first begun log buries g
           (said true g judged) stands t i met.word (grave_word met.word) refl
 
       -- it was held since the search began
@@ -232,24 +232,24 @@ module _ {K V S H F : Type 0} (eq : K → K → Bool) (input : K → List (List 
 
       -- it was deleted
       module _ (log' : List (Event K V S)) (pre : IsPrefix log log') (found : ℕ) (pair : Option (Stored K V))
-          (s : IsSlotTried eq hash b name t i (Some steps.Delete) met.word (grave_word met.word) None names.Nothing log found log' pair)
+          (s : IsSlotTried eq hash b name t i (Some steps.Bury) met.word (grave_word met.word) None names.Nothing log found log' pair)
           (is : (found == met.word) ≡ true) where
-        abbrev tombstone : Removal K V S H
-        tombstone = removal_with (after deletes.call.machine (answers.Call Exchanged)) (Some p) pair
+        abbrev buried : Removal K V S H
+        buried = removal_with (after buries.call.machine (answers.Call Exchanged)) (Some p) pair
 
-        went : Goes log' tombstone g
-        went = (delete_on eq input build write finish classes respects b name matches query lawful judges first begun log deletes g
-            (said true g judged) stands t i met.word (grave_word met.word) refl log' pre found pair s (record deletes.call { taken = pair; put = None }) Exchanged
+        went : Goes log' buried g
+        went = (bury_on eq input build write finish classes respects b name matches query lawful judges first begun log buries g
+            (said true g judged) stands t i met.word (grave_word met.word) refl log' pre found pair s (record buries.call { taken = pair; put = None }) Exchanged
             (subst (λ (z : Bool). MatchBool z ((Exchanged ≡ Exchanged)
-            × (record deletes.call { taken = pair; put = None } ≡ record deletes.call { taken = pair; put = None }))
-            ((Exchanged ≡ Found_instead found) × (record deletes.call { taken = pair; put = None }
-            ≡ record deletes.call { copier = record deletes.call.copier { last = or_last pair (Some p) } }))) (sym is) (refl, refl))).0
+            × (record buries.call { taken = pair; put = None } ≡ record buries.call { taken = pair; put = None }))
+            ((Exchanged ≡ Found_instead found) × (record buries.call { taken = pair; put = None }
+            ≡ record buries.call { copier = record buries.call.copier { last = or_last pair (Some p) } }))) (sym is) (refl, refl))).0
 
         abbrev pub ended : Removal K V S H
-        ended = removal_with (after tombstone.call.machine (answers.Call Ok_done)) (Some p) pair
+        ended = removal_with (after buried.call.machine (answers.Call Ok_done)) (Some p) pair
 
         counted : Goes log' ended g
-        counted = (counted_on eq input build write finish classes respects b name matches query lawful judges first begun log' tombstone g went
+        counted = (counted_on eq input build write finish classes respects b name matches query lawful judges first begun log' buried g went
             (standing (Uncounting (pair_of met.word)) tt) _ refl).0
 
         -- which is the call's change

@@ -90,7 +90,7 @@ module _ (M : Type 0) where
   fewer_at kinds.Live at word low = fewer_none at low
   fewer_at kinds.Marked at word low = fewer_none at low
   fewer_at kinds.Copied at word low = fewer_none at low
-  fewer_at kinds.Tombstone at word low = fewer_on at low
+  fewer_at kinds.Buried at word low = fewer_on at low
   fewer_at kinds.Closed at word low = fewer_on at low
 
   pub fewer_look : (at : Place) (word : ℕ) → at.probe.len ≤ at.limit → Left (look at word) < left_at at
@@ -101,7 +101,7 @@ module _ (M : Type 0) where
   fewer_match kinds.Live at word low = fewer_none at low
   fewer_match kinds.Marked at word low = fewer_none at low
   fewer_match kinds.Copied at word low = fewer_none at low
-  fewer_match kinds.Tombstone at word low = fewer_none at low
+  fewer_match kinds.Buried at word low = fewer_none at low
   fewer_match kinds.Closed at word low = fewer_none at low
 
   pub fewer_yes : (at : Place) (word : ℕ) (same : Bool) → at.probe.len ≤ at.limit → Left (at_yes (Comparing at word) same) < left_at at
@@ -129,7 +129,7 @@ module _ (M : Type 0) where
   stays_hinted at hash hint = chosen (StaysIn at) (may_hold hint hash) (On (Reading at)) (go_on at) (λ _ next e. absurd (cc e)) (λ _. stays_on at)
 
   stays_at : (kind : Kind) (at : Place) (word : ℕ) → StaysIn at (look_at kind at word)
-  stays_at kinds.Tombstone at word = stays_on at
+  stays_at kinds.Buried at word = stays_on at
   stays_at kinds.Closed at word = stays_on at
   stays_at kind at word = λ next e. absurd (cc e)
 

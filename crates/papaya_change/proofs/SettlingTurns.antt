@@ -204,7 +204,7 @@ looked_past word_kinds.Empty slot word empty live marked = absurd (empty refl)
 looked_past word_kinds.Live slot word empty live marked = absurd (live refl)
 looked_past word_kinds.Marked slot word empty live marked = absurd (marked refl)
 looked_past word_kinds.Copied slot word empty live marked = refl
-looked_past word_kinds.Tombstone slot word empty live marked = refl
+looked_past word_kinds.Buried slot word empty live marked = refl
 looked_past word_kinds.Closed slot word empty live marked = refl
 
 -- Each answer that leads the copy of a slot on.

@@ -22,7 +22,7 @@ use Rattle.papaya_call.specs.declared.machine.Machine.{Machine as Call_machine}
 use Rattle.papaya_call.specs.declared.machine.State.{State}
 use Rattle.papaya_call.specs.declared.machine.State.TheVariants.{AtRoot, Making, Opening, Searching}
 use Rattle.papaya_call.specs.declared.machine.State.TheVariants.{Writing, Offering, Showing}
-use Rattle.papaya_call.specs.declared.machine.State.TheVariants.{Pairing, Putting, Deleting}
+use Rattle.papaya_call.specs.declared.machine.State.TheVariants.{Pairing, Putting, Burying}
 use Rattle.papaya_call.specs.declared.machine.State.TheVariants.{Counting, Noting, Uncounting}
 use Rattle.papaya_call.specs.declared.machine.State.TheVariants.{Leaving, Growing, Ended}
 use Rattle.papaya_call.specs.declared.need.Need.{Need}
@@ -83,7 +83,7 @@ IsCallKind None = Unit {0}
 IsCallKind (Some kinds.Open) = Unit {0}
 IsCallKind (Some kinds.Claim) = Unit {0}
 IsCallKind (Some kinds.Replace) = Unit {0}
-IsCallKind (Some kinds.Delete) = Unit {0}
+IsCallKind (Some kinds.Bury) = Unit {0}
 IsCallKind (Some kinds.Take) = Unit {0}
 IsCallKind _ = ⊥
 
@@ -106,7 +106,7 @@ kind_asked_is made (Offering gap) = tt
 kind_asked_is made (Showing removal) = tt
 kind_asked_is made (Pairing purpose) = number_kind_is made.number
 kind_asked_is made (Putting put) = cond_both (put.write.old == 0) kinds.Claim kinds.Replace (λ z. IsCallKind (Some z)) (λ _. tt) (λ _. tt)
-kind_asked_is made (Deleting removal) = tt
+kind_asked_is made (Burying removal) = tt
 kind_asked_is made (Counting n) = tt
 kind_asked_is made (Noting n) = tt
 kind_asked_is made (Uncounting n) = tt
@@ -127,7 +127,7 @@ asked_by_call None own at new s made e (inr copies) = absurd copies
 asked_by_call (Some kinds.Open) own at new s made e (inr copies) = absurd copies
 asked_by_call (Some kinds.Claim) own at new s made e (inr copies) = absurd copies
 asked_by_call (Some kinds.Replace) own at new s made e (inr copies) = absurd copies
-asked_by_call (Some kinds.Delete) own at new s made e (inr copies) = absurd copies
+asked_by_call (Some kinds.Bury) own at new s made e (inr copies) = absurd copies
 asked_by_call (Some kinds.Take) own at new s made e (inr copies) = absurd copies
 asked_by_call (Some kinds.Link) own at new s made e (inr copies) = absurd own
 asked_by_call (Some kinds.Mark) own at new s made e (inr copies) = absurd own

@@ -55,7 +55,7 @@ use Rattle.papaya_change.proofs.Changing.{loaded_lawful, loads, noted, size_tabl
 use Rattle.papaya_change.proofs.Changing.{slot_table}
 use Rattle.papaya_change.proofs.StepsOfOwn.{own_kind}
 use Rattle.papaya_lookup.proofs.AskedPairs.{asked_kind}
-use Rattle.papaya_lookup.proofs.Driving.{IsRelying, can_delete, can_put}
+use Rattle.papaya_lookup.proofs.Driving.{IsRelying, can_bury, can_put}
 use Rattle.papaya_lookup.specs.History.{key_of}
 use Rattle.papaya_change.proofs.Exchanging.{exchanged, lost}
 use Rattle.papaya_change.proofs.Opens.{beaten}
@@ -314,11 +314,11 @@ module _ {K V S H : Type 0} (eq : K → K → Bool) (input : K → List (List �
           ) number)
 
       -- and a pair may be deleted
-      pub delete_can : kind_of_ask m ≡ Some kinds.Delete → CanExchange eq hash b (Slot t i) (kind_of_ask m) old new None names.Nothing log
-      delete_can kind =
+      pub bury_can : kind_of_ask m ≡ Some kinds.Bury → CanExchange eq hash b (Slot t i) (kind_of_ask m) old new None names.Nothing log
+      bury_can kind =
           let same = own_kind m its_own.0 in
           subst (λ (z : Option StepKind). CanExchange eq hash b (Slot t i) z old new None names.Nothing log) (sym same)
-          (can_delete eq input build write finish classes respects b (eq key) (input key) query (Some key) (exchanges_of begun) log r.calling.lawful
+          (can_bury eq input build write finish classes respects b (eq key) (input key) query (Some key) (exchanges_of begun) log r.calling.lawful
           m.call (call_loaded eq input build write finish classes respects b (eq key) (input key) query (Some key) name begun w.call.copier.last made)
           relying t i old new its_own.1 (sym same ∙ kind))
 

@@ -1,6 +1,6 @@
 -- What came of a pair that was logged for a place that a search had found.
 use Rattle.std.specs.Prelude.{◌≡◌, ℕ, ◌==◌, Bool, true, false, Option, None, Some, List}
-use Rattle.papaya_ask.specs.declared.ask.StepKind.TheVariants.{Delete}
+use Rattle.papaya_ask.specs.declared.ask.StepKind.TheVariants.{Bury}
 use Rattle.papaya_call.specs.declared.machine.State.{State}
 use Rattle.papaya_call.specs.Remove.{grave_word}
 use Rattle.papaya_book.specs.declared.keyed.Keyed as keyed
@@ -57,15 +57,15 @@ module _ {K V S H : Type 0} {d : keyed.Ghosts S K H} where
       × IsChangeOf (d.keys.eq key) (history_of begun) (past w') (Some taken) None
 
   -- the pair that a search has met may be deleted
-  abbrev pub CanDelete : Window K V S H d → Met K V → Type 0
-  CanDelete w met = CanTrySlot w met.place.table met.place.probe.i (Some Delete)
+  abbrev pub CanBury : Window K V S H d → Met K V → Type 0
+  CanBury w met = CanTrySlot w met.place.table met.place.probe.i (Some Bury)
       (met.word, grave_word met.word)
 
   -- Its deletion was tried. The pair that went, if one did, is the very one that was met.
-  pub record TriesDeletion (w w' : Window K V S H d) (met : Met K V) (went : Bool) : Type 0 where
+  pub record TriesBurial (w w' : Window K V S H d) (met : Met K V) (went : Bool) : Type 0 where
     pub found : ℕ
     pub before : Option (Stored K V)
-    pub tried : TriesSlot w w' met.place.table met.place.probe.i (Some Delete)
+    pub tried : TriesSlot w w' met.place.table met.place.probe.i (Some Bury)
         (met.word, grave_word met.word) found before
     pub went_is : went ≡ (found == met.word)
     pub same : went ≡ true → (taken : Stored K V) × (before ≡ Some taken)

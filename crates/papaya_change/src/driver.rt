@@ -13,7 +13,7 @@ ghost use Rattle.papaya_book.specs.Windows.{CanTrySlot, Does, IsHint, MayHint, S
 ghost use Rattle.papaya_change.specs.Doing.{was_made};
 ghost use Rattle.papaya_change.specs.Window.Driver.{Holds, Loads};
 ghost use Rattle.papaya_change.specs.Window.LookingOn.{CanLookOn, GoesOver, LooksOn};
-ghost use Rattle.papaya_change.specs.Window.Steps.{CanTake, Deletes, HasTried, IsSizeOf, Takes};
+ghost use Rattle.papaya_change.specs.Window.Steps.{CanTake, Buries, HasTried, IsSizeOf, Takes};
 
 use crate::copier::Copier;
 use crate::fast_path::pass_over;
@@ -214,7 +214,7 @@ impl<'a, K: Hash + Eq, V, S: BuildHasher> Driver<'a, K, V, S> {
     }
 
     /// Tries to delete the pair that a slot holds.
-    pub fn delete(
+    pub fn bury(
         &mut self,
         number: u64,
         place: usize,
@@ -226,7 +226,7 @@ impl<'a, K: Hash + Eq, V, S: BuildHasher> Driver<'a, K, V, S> {
         ensures sees { Sees window.old window.new }
         ensures does { Does (was_made result) window.old window.new }
         ensures machine { self.new.machine ≡ self.old.machine }
-        ensures deletes { Deletes number place words window.old self.old window.new self.new
+        ensures buries { Buries number place words window.old self.old window.new self.new
             result }
     {
         let Some(table) = self.table else {

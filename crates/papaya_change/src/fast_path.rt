@@ -5,7 +5,7 @@ ghost use Rattle.std.specs.Prelude.{◌≡◌, ◌==◌, ◌<◌, true, is_ok, l
 ghost use Rattle.std.specs.Prelude.{Ok, Err, IfErr, IfOk, None, Some};
 ghost use Rattle.std.specs.Int.{IsPowerOfTwo};
 ghost use Rattle.papaya_ask.specs.Search.{IsWithin};
-ghost use Rattle.papaya_ask.specs.declared.ask.StepKind.TheVariants.{Delete};
+ghost use Rattle.papaya_ask.specs.declared.ask.StepKind.TheVariants.{Bury};
 ghost use Rattle.papaya_ask.specs.declared.search.Search.TheVariants.{Looking, Reading};
 ghost use Rattle.papaya_call.specs.Remove.{grave_word};
 ghost use Rattle.papaya_call.specs.declared.machine.State.TheVariants.{Searching};
@@ -22,7 +22,7 @@ ghost use Rattle.papaya_change.specs.Seeking.{left_at, left_to, turn_of};
 ghost use Rattle.papaya_change.specs.Showings.{IsSamePair};
 ghost use Rattle.papaya_change.specs.Window.Seeking.{HasWritten, IsFoundFor, LooksAt, ReadsAt, StandsBy};
 ghost use Rattle.papaya_change.specs.Window.Seeking.{Turns};
-ghost use Rattle.papaya_change.specs.Tries.{CanDelete, Offers, ShowsMet, TakesOut, TriesDeletion};
+ghost use Rattle.papaya_change.specs.Tries.{CanBury, Offers, ShowsMet, TakesOut, TriesBurial};
 ghost use Rattle.papaya_change.specs.declared.fast_path.Tried.TheVariants.{Back, Put};
 ghost use Rattle.papaya_change.specs.declared.fast_path.Turn.TheVariants.{Empty, Next};
 ghost use Rattle.papaya_change.specs.declared.fast_path.Turn.TheVariants.{Met as MetPair};
@@ -378,11 +378,11 @@ pub fn replace<K: Hash + Eq + Drop, V: Drop, S: BuildHasher>(
     Tried::Put(pair)
 }
 
-/// Tries to exchange the word of a slot, which names this pair, for the pair's tombstone: the word
+/// Tries to exchange the word of a slot, which names this pair, for its buried word: the word
 /// that was found there, and the pair that it names. Where the exchange was made, the count has one
 /// pair less, and the pair that went is this one.
 #[inline(always)]
-pub fn delete_slot<K: Hash + Eq, V, S: BuildHasher>(
+pub fn bury_slot<K: Hash + Eq, V, S: BuildHasher>(
     shard: &Shard<'_>,
     window: &mut Window<'_, K, V, S>,
     table: &Table<K, V, S>,
@@ -393,19 +393,19 @@ pub fn delete_slot<K: Hash + Eq, V, S: BuildHasher>(
 ) -> (u64, Option<Stored<K, V>>)
     requires table { IsTable window.old number table.now }
     requires place { place < length table.now.slots }
-    requires can { CanTrySlot window.old number place (Some Delete) (word, grave_word word) }
+    requires can { CanTrySlot window.old number place (Some Bury) (word, grave_word word) }
     requires placed { IsIn window.old (PairNamed shown.now) }
     requires number { shown.now.index ≡ pair_of word }
     ensures sees { Sees window.old window.new }
     ensures does { Does (result.0 == word) window.old window.new }
-    ensures tried { TriesSlot window.old window.new number place (Some Delete)
+    ensures tried { TriesSlot window.old window.new number place (Some Bury)
         (word, grave_word word) result.0 result.1 }
     ensures same { (result.0 == word) ≡ true → (taken : _) × (result.1 ≡ Some taken)
         × IsSamePair shown.now taken }
 {
-    let grave = Word::tombstone(Word(word).pair());
+    let grave = Word::buried(Word(word).pair());
     let words = (word, grave.0);
-    let (found, before) = window.exchange_slot(table, number, place, Some(StepKind::Delete), words);
+    let (found, before) = window.exchange_slot(table, number, place, Some(StepKind::Bury), words);
     if found == word {
         shard.add(place as u64, -1);
         let Some(taken) = &before else { unreachable!() };
@@ -414,10 +414,10 @@ pub fn delete_slot<K: Hash + Eq, V, S: BuildHasher>(
     (found, before)
 }
 
-/// Tries to put the tombstone of a pair that a search has met in its place: whether its word stood
+/// Tries to bury the pair that a search has met: whether its word stood
 /// there still. The count then has one pair less, and the pair that went is the one that was met.
 #[inline(always)]
-pub(crate) fn exchange_for_tombstone<K: Hash + Eq, V, S: BuildHasher>(
+pub(crate) fn bury_met<K: Hash + Eq, V, S: BuildHasher>(
     shard: &Shard<'_>,
     window: &mut Window<'_, K, V, S>,
     table: &Table<K, V, S>,
@@ -425,23 +425,23 @@ pub(crate) fn exchange_for_tombstone<K: Hash + Eq, V, S: BuildHasher>(
 ) -> bool
     requires table { IsTable window.old met.now.place.table table.now }
     requires place { met.now.place.probe.i < length table.now.slots }
-    requires can { CanDelete window.old met.now }
+    requires can { CanBury window.old met.now }
     requires placed { IsIn window.old (PairNamed met.now.stored) }
     requires number { met.now.stored.index ≡ pair_of met.now.word }
     ensures sees { Sees window.old window.new }
-    ensures tried { TriesDeletion window.old window.new met.now result }
+    ensures tried { TriesBurial window.old window.new met.now result }
     ensures does { Does result window.old window.new }
 {
     let (place, word) = (met.place, met.word);
     let slot = place.probe.i;
-    let (found, _) = delete_slot(shard, window, table, place.table, slot, word, &met.stored);
+    let (found, _) = bury_slot(shard, window, table, place.table, slot, word, &met.stored);
     found == word
 }
 
 /// Tries to delete the live pair that a compute's search has met: whether its word stood there
 /// still.
 #[inline(always)]
-pub fn delete<K: Hash + Eq, V, S: BuildHasher>(
+pub fn bury<K: Hash + Eq, V, S: BuildHasher>(
     shard: &Shard<'_>,
     window: &mut Window<'_, K, V, S>,
     table: &Table<K, V, S>,
@@ -453,7 +453,7 @@ pub fn delete<K: Hash + Eq, V, S: BuildHasher>(
         met.now }
     ensures does { Does result window.old window.new }
 {
-    exchange_for_tombstone(shard, window, table, met)
+    bury_met(shard, window, table, met)
 }
 
 /// Inserts a pair at the empty place that a search has found for it. Where another word stands

@@ -7,7 +7,7 @@ ghost use Rattle.papaya_lookup.specs.Drivers.{past};
 ghost use Rattle.papaya_change.specs.RemovalAnswers.{IsTriedRemoval, went_fast};
 ghost use Rattle.papaya_change.specs.Showings.{Judges};
 
-use crate::fast_path::exchange_for_tombstone;
+use crate::fast_path::bury_met;
 use crate::means::Means;
 use crate::resizing::copy_chunk;
 use papaya_book::book::Book;
@@ -84,7 +84,7 @@ pub fn remove_fast<
     if !agrees(stored_key, value) {
         return Some(Err((stored_key, value)));
     }
-    if !exchange_for_tombstone(means.shard, window, table, &met) {
+    if !bury_met(means.shard, window, table, &met) {
         return None;
     }
     help(means, window.book, later);

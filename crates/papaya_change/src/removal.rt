@@ -138,7 +138,7 @@ impl<'a, K: Hash + Eq, V, S: BuildHasher> Removal<'a, K, V, S> {
             CallAsk::SameKey(_) => Some(self.same(key, window)),
             CallAsk::ShowPair(_) => Some(self.show(agrees, window)),
             CallAsk::Exchange(At::Slot(number, place), old, new) => {
-                Some(self.call.delete(number, place, (old, new), window))
+                Some(self.call.bury(number, place, (old, new), window))
             }
             CallAsk::AddToShard(by) => {
                 shard.add(self.call.machine.call.hash, by);

@@ -12,7 +12,7 @@ ghost use Rattle.papaya_ask.specs.Search.{IsSize};
 ghost use Rattle.papaya_ask.specs.declared.ask.Ask.TheVariants.{Exchange, Load, LoadHint, MakeTable, SameKey, SizeOf, WriteHint};
 ghost use Rattle.papaya_ask.specs.declared.ask.Ask.TheVariants.{MakeKey, MakePair, MakePairOf, MakeValue};
 ghost use Rattle.papaya_ask.specs.declared.ask.At.TheVariants.{Made as MadeWord, Root, Slot};
-ghost use Rattle.papaya_ask.specs.declared.ask.StepKind.TheVariants.{Delete};
+ghost use Rattle.papaya_ask.specs.declared.ask.StepKind.TheVariants.{Bury};
 ghost use Rattle.papaya_words.specs.Word.{pair_of};
 ghost use Rattle.papaya_book.specs.Plays.{IsPutting};
 ghost use Rattle.papaya_lookup.specs.History.{key_of};
@@ -294,7 +294,7 @@ impl<'a, K: Hash + Eq + Drop, V: Drop, S: BuildHasher> Writer<'a, K, V, S> {
     }
 
     /// Tries to delete the pair that a slot holds.
-    pub fn delete(
+    pub fn bury(
         &mut self,
         number: u64,
         place: usize,
@@ -302,11 +302,11 @@ impl<'a, K: Hash + Eq + Drop, V: Drop, S: BuildHasher> Writer<'a, K, V, S> {
         window: &mut Window<'a, K, V, S>,
     ) -> Answer
         requires waits { Waits window.old self.old (Exchange (Slot number place) words.0 words.1) }
-        requires kind { kind_of_ask self.old.call.machine ≡ Some Delete }
+        requires kind { kind_of_ask self.old.call.machine ≡ Some Bury }
         requires standing { IsStanding self.old.call.machine }
         ensures tries { Tries window.old self.old None window.new self.new result }
         ensures writes { Writes window.old self.old window.new self.new result }
     {
-        self.call.delete(number, place, words, window)
+        self.call.bury(number, place, words, window)
     }
 }

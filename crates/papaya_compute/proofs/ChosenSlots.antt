@@ -36,7 +36,7 @@ use Rattle.papaya_call.specs.declared.machine.Machine.{Machine}
 use Rattle.papaya_call.specs.declared.machine.State.{State}
 use Rattle.papaya_call.specs.declared.machine.State.TheVariants.{AtRoot, Making, Opening, Searching}
 use Rattle.papaya_call.specs.declared.machine.State.TheVariants.{Writing, Offering, Showing}
-use Rattle.papaya_call.specs.declared.machine.State.TheVariants.{Pairing, Putting, Deleting}
+use Rattle.papaya_call.specs.declared.machine.State.TheVariants.{Pairing, Putting, Burying}
 use Rattle.papaya_call.specs.declared.machine.State.TheVariants.{Counting, Noting, Uncounting}
 use Rattle.papaya_call.specs.declared.machine.State.TheVariants.{Leaving, Growing, Ended}
 use Rattle.papaya_call.specs.declared.made.Grown.{Grown}
@@ -87,7 +87,7 @@ recalls_puts (Some (To_replace old new)) at word =
     (λ _. tt))
     (λ _. tt)
 recalls_puts (Some (To_remove old)) at word =
-    cond_both (old == pair_of word) (Deleting (record { place = at; word = word })) (Showing (record { place = at; word = word }))
+    cond_both (old == pair_of word) (Burying (record { place = at; word = word })) (Showing (record { place = at; word = word }))
     (PutsIn (Some (To_remove old))) (λ _. tt) (λ _. tt)
 
 -- so it is where a pair is met
@@ -96,7 +96,7 @@ computes_puts word_kinds.Empty held at word = tt
 computes_puts word_kinds.Live held at word = recalls_puts held.choice at word
 computes_puts word_kinds.Marked held at word = tt
 computes_puts word_kinds.Copied held at word = tt
-computes_puts word_kinds.Tombstone held at word = tt
+computes_puts word_kinds.Buried held at word = tt
 computes_puts word_kinds.Closed held at word = tt
 
 goes_puts : (mode : ResizeMode) (held : Remembered) (s : Probed) → PutsIn held.choice (goes_as Compute mode held s)
@@ -158,8 +158,8 @@ module _ (m : Machine) where
   puts_in made (Putting put) Exchanged is h = written_puts m.remembered.choice put.write put.pair
   puts_in made (Putting put) (Found_instead word) is h = goes_puts m.mode m.remembered (look_seen put.write.place word)
   puts_in made (Putting put) answer is h = h
-  puts_in made (Deleting removal) (Found_instead word) is h = goes_puts m.mode m.remembered (look_seen removal.place word)
-  puts_in made (Deleting removal) answer is h = tt
+  puts_in made (Burying removal) (Found_instead word) is h = goes_puts m.mode m.remembered (look_seen removal.place word)
+  puts_in made (Burying removal) answer is h = tt
   puts_in made (Counting claimed) Exchanged is h = tt
   puts_in made (Counting claimed) answer is h = tt
   puts_in made (Noting claimed) Exchanged is h = tt
@@ -250,7 +250,7 @@ module _ (m : Machine) (t x old new : ℕ) where
   slot_in : (stage : State) → IsStandingState Compute stage → PutsIn m.remembered.choice stage
       → asks m.made m.hash stage ≡ Ask_exchange (Slot t x) old new → kind_asked m.made stage ≡ Some kinds.Replace → 0 < old → ForSlot stage
   slot_in (Putting put) is puts e kind some = put_slot put puts e some
-  slot_in (Deleting removal) is puts e kind some = absurd cc
+  slot_in (Burying removal) is puts e kind some = absurd cc
   slot_in (Writing write) is puts e kind some = absurd is.0
   slot_in (Pairing purpose) is puts e kind some = absurd (subst IsPairAsk e (pairing_asks m.made purpose))
   slot_in (Searching (Sizing u)) is puts e kind some = absurd cc

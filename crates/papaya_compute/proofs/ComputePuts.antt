@@ -126,7 +126,7 @@ module _ {K V S T H : Type 0} (eq : K → K → Bool) (input : K → List (List 
       kind
 
   -- an exchange that does not delete puts a pair in
-  pub puts : (kind_of_ask m ≡ Some kinds.Delete → ⊥) → IsPutting (kind_of_ask m)
+  pub puts : (kind_of_ask m ≡ Some kinds.Bury → ⊥) → IsPutting (kind_of_ask m)
   puts never =
       let kind = own_kind m own.0 in
       ⊎_elim (λ h. inl (kind ∙ h.0)) (λ o. ⊎_elim (λ h. inr (kind ∙ h.0)) (λ h. absurd (never (kind ∙ h.0))) o) is_said

@@ -420,7 +420,7 @@ impl<'a, K: Hash + Eq + Drop, V: Drop, S: BuildHasher, T: Drop> Computing<'a, K,
         ensures computes { Computes window.old self.old window.new self.new (Some result) }
     {
         match self.writer.call.machine.kind() {
-            Some(StepKind::Delete) => self.writer.delete(number, place, words, window),
+            Some(StepKind::Bury) => self.writer.bury(number, place, words, window),
             _ => self.put(number, place, words, window),
         }
     }

@@ -21,7 +21,7 @@ use papaya_book::rule::entry::Stored;
 use papaya_book::table::Table;
 use papaya_book::window::Window;
 use papaya_call::answers::Operation;
-use papaya_change::fast_path::{Live, Spot, Tried, claim, delete, find_place, replace};
+use papaya_change::fast_path::{Live, Spot, Tried, bury, claim, find_place, replace};
 use papaya_change::means::Means;
 use papaya_change::removal::{entry, value_of};
 use papaya_keys::compute::Compute;
@@ -214,7 +214,7 @@ pub fn renew<'a, R: Wait, K: Hash + Eq + Drop, V: Drop, S: BuildHasher, T: Drop>
             }
         }
         Operation::Remove => {
-            if !delete(means.shard, window, table, live.met()) {
+            if !bury(means.shard, window, table, live.met()) {
                 let shown = live.into_met().stored;
                 return First::On(Start::Removing { key, hash, shown });
             }

@@ -78,11 +78,11 @@ goes_on hash at mode = if nat_lt at.probe.len at.limit then On (Looking hash (ne
 abbrev pub hinted : (hash : ℕ) → Place → ResizeMode → (hint : ℕ) → Carried
 hinted hash at mode hint = if may_hold hint hash then On (Reading hash at) else goes_on hash at mode
 
--- what a word of this kind tells: one of the pair's key is met whatever its kind, Tombstone too
+-- what a word of this kind tells: one of the pair's key is met whatever its kind, Buried too
 abbrev pub look_at : Kind → (hash : ℕ) → Place → ResizeMode → ℕ → Carried
 look_at word_kinds.Empty hash at mode word = On (Placing hash at)
 look_at word_kinds.Closed hash at mode word = goes_on hash at mode
-look_at word_kinds.Tombstone hash at mode word = On (Comparing hash at word)
+look_at word_kinds.Buried hash at mode word = On (Comparing hash at word)
 look_at _ hash at mode word = On (Comparing hash at word)
 
 abbrev pub look : (hash : ℕ) → Place → ResizeMode → ℕ → Carried

@@ -265,7 +265,7 @@ impl Carry {
 }
 
 impl Carry {
-    /// This hint stands at the place. A slot with a tombstone keeps its key's, so it is met too.
+    /// This hint stands at the place. A buried slot keeps its key's, so it is met too.
     #[inline]
     fn hinted(hash: u64, place: Place, mode: ResizeMode, found: u64) -> Carried
         requires { IsWithin place }
@@ -290,7 +290,7 @@ impl Carry {
         match Word(word).kind() {
             Kind::Empty => Carried::On(Carry::Placing { hash, place }),
             Kind::Closed => Carry::goes_on(hash, place, mode),
-            Kind::Live | Kind::Marked | Kind::Copied | Kind::Tombstone => {
+            Kind::Live | Kind::Marked | Kind::Copied | Kind::Buried => {
                 Carried::On(Carry::Comparing { hash, place, word })
             }
         }

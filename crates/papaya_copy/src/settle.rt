@@ -270,7 +270,7 @@ impl Settle {
             Kind::Empty => Settled::On(Settle::Closing),
             Kind::Live => Settled::On(Settle::Marking(word)),
             Kind::Marked => Settled::On(Settle::Carrying(word, Carry::Hashing(slot.to))),
-            Kind::Copied | Kind::Tombstone | Kind::Closed => Settled::Settled,
+            Kind::Copied | Kind::Buried | Kind::Closed => Settled::Settled,
         }
     }
 

@@ -23,7 +23,7 @@ use Rattle.papaya_call.specs.declared.machine.Machine.{Machine as Call_machine}
 use Rattle.papaya_call.specs.declared.machine.State.{State as Stage}
 use Rattle.papaya_call.specs.declared.machine.State.TheVariants.{AtRoot, Making, Opening, Searching}
 use Rattle.papaya_call.specs.declared.machine.State.TheVariants.{Writing, Offering, Showing}
-use Rattle.papaya_call.specs.declared.machine.State.TheVariants.{Pairing, Putting, Deleting}
+use Rattle.papaya_call.specs.declared.machine.State.TheVariants.{Pairing, Putting, Burying}
 use Rattle.papaya_call.specs.declared.machine.State.TheVariants.{Counting, Noting, Uncounting}
 use Rattle.papaya_call.specs.declared.machine.State.TheVariants.{Leaving, Growing, Ended}
 use Rattle.papaya_call.specs.declared.write.Write.{Write}
@@ -125,7 +125,7 @@ module _ (m : Call_machine) where
   numbering (Offering gap) n = absurd n
   numbering (Showing removal) n = absurd n
   numbering (Putting put) n = absurd n
-  numbering (Deleting removal) n = absurd n
+  numbering (Burying removal) n = absurd n
   numbering (Counting claimed) n = absurd n
   numbering (Noting claimed) n = absurd n
   numbering (Uncounting pair) n = absurd n

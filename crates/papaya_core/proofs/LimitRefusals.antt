@@ -61,7 +61,7 @@ refuses_other most count told (inr (capacity, full)) e = absurd (cc (capacity, e
 
 -- a scan is told nothing where its list could not grow
 unheard_told : (ask : ScanAsk) (answer : Answer) → unheard ask answer ≡ Some Limit → answer ≡ answers.Call (Was_refused Limit)
-unheard_told (scan_asks.Give n) (answers.Call (Was_refused refused)) e = let f : refused ≡ Limit = cc e in ap (λ y. answers.Call (Was_refused y)) f
+unheard_told (scan_asks.Given n) (answers.Call (Was_refused refused)) e = let f : refused ≡ Limit = cc e in ap (λ y. answers.Call (Was_refused y)) f
 unheard_told ask answer e = absurd cc
 
 module _ {K V S : Type 0} (eq : K → K → Bool) (hash : S → K → ℕ) (refuse : Bool) (s : StoreState K V S) (answer : Answer) (s' : StoreState K V S) where
@@ -90,8 +90,8 @@ module _ {K V S A : Type 0} (eq : K → K → Bool) (says : Says K V A) (hash : 
   scan_other v v' answer (scan_asks.Copy ask) (h, same) e = copy_other eq hash refuse s answer s' ask h e
   scan_other v v' answer (scan_asks.Show n) ((told, is, inl (none, ok, same)), stays) e = absurd (cc (is, ok, e))
   scan_other v v' answer (scan_asks.Show n) ((told, is, inr (a, p, keeps, left, had, logged, says_so, answered, then)), stays) e = absurd (cc (is, answered, e))
-  scan_other v v' answer (scan_asks.Give n) ((told, is, inl (ok, given)), stays) e = absurd (cc (is, ok, e))
-  scan_other v v' answer (scan_asks.Give n) ((told, is, inr (refused, scanner, left, same)), stays) e = absurd (cc (is, refused, e))
+  scan_other v v' answer (scan_asks.Given n) ((told, is, inl (ok, given)), stays) e = absurd (cc (is, ok, e))
+  scan_other v v' answer (scan_asks.Given n) ((told, is, inr (refused, scanner, left, same)), stays) e = absurd (cc (is, refused, e))
   scan_other v v' answer (scan_asks.AddToShard by) (is, counted, same) e = absurd (cc (is, e))
 
   module _ (r : Running K V A) (told : Call_answer) (r' : Running K V A) where

@@ -2,7 +2,7 @@
 use Rattle.std.proofs.Common.{◌≡◌, ℕ, ◌+◌, ◌<◌, ◌≤◌, Bool, List, [], ◌∷◌, Option, None, Some, MatchOption, sym, ◌∙◌, ap, subst, arith}
 use Rattle.papaya_ask.specs.declared.ask.At.TheVariants.{Made}
 use Rattle.papaya_law.specs.Allows.{Allows, AllAllowed}
-use Rattle.papaya_law.specs.Exchange.{Setting, State, Exchange, Open, Claim, Replace, Delete, Link}
+use Rattle.papaya_law.specs.Exchange.{Setting, State, Exchange, Open, Claim, Replace, Bury, Link}
 use Rattle.papaya_law.specs.Exchange.{Mark, Close, Place, Finish, Advance, Promote, Abort, Take}
 use Rattle.papaya_law.specs.Exchange.{after, run, start}
 use Rattle.papaya_call.specs.declared.made.Number.TheVariants.{Free}
@@ -40,7 +40,7 @@ module _ {K P : Type 0} (g : Setting K P) where
   once_within s (Open t) may within = within
   once_within s (Claim t x p) may within = within
   once_within s (Replace t x p q) may within = within
-  once_within s (Delete t x p) may within = within
+  once_within s (Bury t x p) may within = within
   once_within s (Link t n) may within = within
   once_within s (Mark t x p) may within = within
   once_within s (Close t x) may within = within

@@ -7,7 +7,7 @@ use Rattle.papaya_chain.specs.declared.ask.Answer.TheVariants as answers
 use Rattle.papaya_store.specs.Store.{StoreState}
 use Rattle.papaya_timeline.specs.ScanGoes.{unheard}
 use Rattle.papaya_chain.specs.declared.scan_ask.ScanAsk.{ScanAsk}
-use Rattle.papaya_chain.specs.declared.scan_ask.ScanAsk.TheVariants.{AddToShard, Copy, Give, Show}
+use Rattle.papaya_chain.specs.declared.scan_ask.ScanAsk.TheVariants.{AddToShard, Copy, Given, Show}
 use Rattle.papaya_store.specs.declared.scans.Scanning.{Scanning}
 use Rattle.papaya_store.specs.Scans.{PerformsScan}
 use Rattle.papaya_timeline.specs.Outcomes.{given_by}
@@ -24,9 +24,9 @@ module _ {K V S A : Type 0} (eq : K → K → Bool) (says : Says K V A) (hash : 
   given_is (Show n) ((told, is, inl (nothing, ok, same)), stays) heard = same_given same
   given_is (Show n) ((told, is, inr (left, p, keeps, fewer, had, logged, says_so, answered, then)), stays) heard = ap (λ (y : Scanning A). y.given)
       then ∙ sym (append-nil v.given)
-  given_is (Give n) ((told, is, inl (ok, more)), stays) heard = more.given
-  given_is (Give n) ((told, is, inr (refused, scanner, left, same)), stays) heard =
-      let over : unheard (Give n) a ≡ Some Memory = ap (unheard (Give n)) (is ∙ ap (λ y. answers.Call y) refused) in
+  given_is (Given n) ((told, is, inl (ok, more)), stays) heard = more.given
+  given_is (Given n) ((told, is, inr (refused, scanner, left, same)), stays) heard =
+      let over : unheard (Given n) a ≡ Some Memory = ap (unheard (Given n)) (is ∙ ap (λ y. answers.Call y) refused) in
       let none : None ≡ Some Memory = sym heard ∙ over in
       absurd cc
   given_is (AddToShard by) (ok, counted, same) heard = same_given same

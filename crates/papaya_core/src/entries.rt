@@ -23,7 +23,7 @@ fn exchange_event(kind: StepKind, old: u64, new: u64) -> Event
     match kind {
         StepKind::Claim => Event::Changed(kind, None, Some(new)),
         StepKind::Replace => Event::Changed(kind, Some(old), Some(new)),
-        StepKind::Delete => Event::Changed(kind, Some(old), None),
+        StepKind::Bury => Event::Changed(kind, Some(old), None),
         _ => Event::Moved(kind),
     }
 }
@@ -95,7 +95,7 @@ pub(crate) fn event_of_scan(kind: Option<StepKind>, ask: ScanAsk, answer: Answer
     match (ask, answer) {
         (ScanAsk::Copy(ask), answer) => copy_event(kind, ask, answer),
         (ScanAsk::Show(pair), answer) => shown_event(Some(pair), answer),
-        (ScanAsk::Give(pair), CallAnswer::Ok) => Event::Gave(pair),
+        (ScanAsk::Given(pair), CallAnswer::Ok) => Event::Gave(pair),
         _ => Event::Other,
     }
 }

@@ -30,7 +30,7 @@ fn unheard(ask: ScanAsk, answer: Answer) -> Option<Refused>
     ensures { result ≡ unheard ask answer }
 {
     match (ask, answer) {
-        (ScanAsk::Give(_), Answer::Call(CallAnswer::Refused(refused))) => Some(refused),
+        (ScanAsk::Given(_), Answer::Call(CallAnswer::Refused(refused))) => Some(refused),
         _ => None,
     }
 }

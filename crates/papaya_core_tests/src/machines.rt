@@ -141,12 +141,12 @@ fn lookup_follows_a_copied_pair(rt: HostRuntime) {
 }
 
 /// The machine tries to delete the pair at the first place of table 1.
-fn deletes(rt: &impl Abort, machine: &mut Machine, old: u64, new: u64, answer: Answer)
+fn buries(rt: &impl Abort, machine: &mut Machine, old: u64, new: u64, answer: Answer)
     requires standing { IsStanding machine.old }
     requires fit { IsFit answer }
     ensures { IsStanding machine.new }
 {
-    is(rt, machine.kind() == Some(StepKind::Delete), true);
+    is(rt, machine.kind() == Some(StepKind::Bury), true);
     told(rt, machine, Ask::Exchange(At::Slot(1, 2), old, new), answer);
 }
 
@@ -222,7 +222,7 @@ fn compute_remembers_what_it_inserts(rt: HostRuntime) {
     claims(&rt, &mut compute, 2, LIVE_12, Answer::Found(LIVE));
     compares(&rt, &mut compute, 3, true);
     decides(&rt, &mut compute, 3, OpKind::Remove);
-    deletes(&rt, &mut compute, LIVE, TOMBSTONE, Answer::Found(TOMBSTONE));
+    buries(&rt, &mut compute, LIVE, TOMBSTONE, Answer::Found(TOMBSTONE));
     loads(&rt, &mut compute, 1, 3, EMPTY);
     claims(&rt, &mut compute, 3, LIVE_12, Answer::Exchanged);
     told(&rt, &mut compute, Ask::AddToShard(1), Answer::Ok);

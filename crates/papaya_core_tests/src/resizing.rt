@@ -97,7 +97,7 @@ fn asks_once(rt: &impl Abort, alloc: Global, core: &mut Numbers) -> Result<(), F
     for (number, found) in asked.iter().enumerate() {
         is_at(rt, number, *found, (number as u64, false));
     }
-    let counted = (asked.len(), times(&trace, StepKind::Delete));
+    let counted = (asked.len(), times(&trace, StepKind::Bury));
     is(rt, counted, (KEYS as usize, KEYS as usize));
     is_gone(rt, alloc, core, 0)
 }

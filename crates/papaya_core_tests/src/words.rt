@@ -73,7 +73,7 @@ fn words_of_slots(rt: HostRuntime) {
     is(&rt, Word::live(3), Word(3073));
     is(&rt, Word::marked(3), Word(3074));
     is(&rt, Word::copied(3), Word(3075));
-    is(&rt, Word::tombstone(3), Word(3076));
+    is(&rt, Word::buried(3), Word(3076));
     is(&rt, Word(3073).pair(), 3);
 }
 
@@ -84,7 +84,7 @@ fn kinds_of_words(rt: HostRuntime) {
         (Word(3073), Kind::Live),
         (Word(3074), Kind::Marked),
         (Word(3075), Kind::Copied),
-        (Word(3076), Kind::Tombstone),
+        (Word(3076), Kind::Buried),
         (Word::CLOSED, Kind::Closed),
     ] {
         is(&rt, word.kind(), kind);
@@ -109,7 +109,7 @@ fn steps_of_slots(rt: HostRuntime) {
         (Word::EMPTY, one),
         (Word::EMPTY, Word::CLOSED),
         (one, other),
-        (one, Word::tombstone(3)),
+        (one, Word::buried(3)),
         (one, Word::marked(3)),
         (Word::marked(3), Word::copied(3)),
     ] {
@@ -122,9 +122,9 @@ fn steps_of_slots(rt: HostRuntime) {
 fn no_steps_of_slots(rt: HostRuntime) {
     let one = Word::live(3);
     for (old, new) in [
-        (one, Word::tombstone(4)),
+        (one, Word::buried(4)),
         (one, Word::CLOSED),
-        (Word::tombstone(3), one),
+        (Word::buried(3), one),
     ] {
         assert!(rt; !legal(old, new), "{old:?} to {new:?}");
     }

@@ -1,7 +1,7 @@
 -- Two settings that see pairs alike allow the same exchanges, whatever types their keys have: an exchange asks of keys only what the pairs' keys are to each other and where their places are.
 use Rattle.std.proofs.Common.{MatchOption, true, ◌≡◌, inl, inr, ⊎_elim, ℕ, suc, ◌<◌, Bool, cond, List, [], ◌∷◌, refl, sym, ap, ◌∙◌, subst}
-use Rattle.papaya_law.specs.Exchange.{Word, Empty, Closed, Live, Marked, Copied, Tombstone, Setting}
-use Rattle.papaya_law.specs.Exchange.{State, Exchange, Open, Claim, Replace, Delete, Link, Mark}
+use Rattle.papaya_law.specs.Exchange.{Word, Empty, Closed, Live, Marked, Copied, Buried, Setting}
+use Rattle.papaya_law.specs.Exchange.{State, Exchange, Open, Claim, Replace, Bury, Link, Mark}
 use Rattle.papaya_law.specs.Exchange.{Close, Place, Finish, Advance, Promote, Abort, Take, after}
 use Rattle.papaya_law.specs.Exchange.{walk}
 use Rattle.papaya_law.specs.View.{View, Foreign, Here, Leaving, Gone, Grave, beyond, foreign, view, look, IsPassed, IsFull, HasWord, IsNextPlace, IsReached}
@@ -45,7 +45,7 @@ module _ {K K' P : Type 0} (g : Setting K P) (g' : Setting K' P) (alike : AreAli
   view_alike p (Live q) = ap (λ b. cond b (Here q) Foreign) (alike.same p q)
   view_alike p (Marked q) = ap (λ b. cond b (Leaving q) Foreign) (alike.same p q)
   view_alike p (Copied q) = ap (λ b. cond b (Gone q) Foreign) (alike.same p q)
-  view_alike p (Tombstone q) = ap (λ b. cond b (Grave q) Foreign) (alike.same p q)
+  view_alike p (Buried q) = ap (λ b. cond b (Grave q) Foreign) (alike.same p q)
 
   module _ (s : State P) where
     -- a pair's key sees the same at each place
@@ -108,7 +108,7 @@ module _ {K K' P : Type 0} (g : Setting K P) (g' : Setting K' P) (alike : AreAli
     settled_alike n (Live p) h = h
     settled_alike n (Marked p) h = (alike.blocking ∙ h.0, said_alike p (λ k V. HasWord k V n) h.1)
     settled_alike n (Copied p) h = h
-    settled_alike n (Tombstone p) h = h
+    settled_alike n (Buried p) h = h
 
     -- an exchange that is allowed under the one is allowed under the other
     pub allows_alike : (e : Exchange P) → Allows g s e → Allows g' s e
@@ -121,7 +121,7 @@ module _ {K K' P : Type 0} (g : Setting K P) (g' : Setting K' P) (alike : AreAli
           ∙ may.same;
       kept = alike.kept p q may.kept;
     }
-    allows_alike (Delete t x p) may = record { live = may.live; reached = reached_alike p t may.reached }
+    allows_alike (Bury t x p) may = record { live = may.live; reached = reached_alike p t may.reached }
     allows_alike (Link t n) may = record {
       last = may.last;
       on = may.on;

@@ -1,6 +1,6 @@
 -- What is kept and seen under one setting is kept and seen under each that agrees with it on the tables of the chain.
 use Rattle.std.proofs.Common.{true, ◌≡◌, ◌⊎◌, inl, inr, ⊎_elim, ℕ, ◌<◌, Bool, cond, Option, None, Some, refl, sym, ap, ◌∙◌, subst}
-use Rattle.papaya_law.specs.Exchange.{Word, Empty, Closed, Live, Marked, Copied, Tombstone, Setting, State}
+use Rattle.papaya_law.specs.Exchange.{Word, Empty, Closed, Live, Marked, Copied, Buried, Setting, State}
 use Rattle.papaya_law.specs.View.{View, Foreign, Here, Leaving, Gone, Grave, own, view, look, IsPassed, IsFull, HasWord}
 use Rattle.papaya_law.specs.Copying.{IsSettled, IsTarget, Covers}
 use Rattle.papaya_law.specs.Class.{IsOn, IsBase, AllFull, IsCopy, IsGoneTo, IsTied, IsIncrementalClass}
@@ -128,7 +128,7 @@ empty_or_not Closed = inr (λ e. cc)
 empty_or_not (Live p) = inr (λ e. cc)
 empty_or_not (Marked p) = inr (λ e. cc)
 empty_or_not (Copied p) = inr (λ e. cc)
-empty_or_not (Tombstone p) = inr (λ e. cc)
+empty_or_not (Buried p) = inr (λ e. cc)
 
 module _ {K P : Type 0} (g g' : Setting K P) (s : State P) (sound : IsSound g s) (agrees : Agrees (IsOn s.first s.next) g g') where
   -- a key is a pair's under both or neither
@@ -142,7 +142,7 @@ module _ {K P : Type 0} (g g' : Setting K P) (s : State P) (sound : IsSound g s)
   view_agrees k (Live p) = ap (λ b. cond b (Here p) Foreign) (same_key k p)
   view_agrees k (Marked p) = ap (λ b. cond b (Leaving p) Foreign) (same_key k p)
   view_agrees k (Copied p) = ap (λ b. cond b (Gone p) Foreign) (same_key k p)
-  view_agrees k (Tombstone p) = ap (λ b. cond b (Grave p) Foreign) (same_key k p)
+  view_agrees k (Buried p) = ap (λ b. cond b (Grave p) Foreign) (same_key k p)
 
   -- each key sees the same at each place: of a table off the chain nothing but Empty
   look_at : (k : K) (t j : ℕ) → look g' s k t j ≡ look g s k t j
@@ -184,7 +184,7 @@ module _ {K P : Type 0} (g g' : Setting K P) (s : State P) (sound : IsSound g s)
   settled_carries t on (Live p) h = h
   settled_carries t on (Marked p) h = (agrees.blocking ∙ h.0, has_carries (look g s (g.key p)) (look g' s (g'.key p)) (look_pair p) t on h.1)
   settled_carries t on (Copied p) h = h
-  settled_carries t on (Tombstone p) h = h
+  settled_carries t on (Buried p) h = h
 
   -- of the words themselves
   sound_carries : IsSound g' s

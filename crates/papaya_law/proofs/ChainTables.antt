@@ -5,7 +5,7 @@ use Rattle.std.proofs.Common.{arith}
 use Rattle.std.proofs.lemmas.Bool.{cases_lt}
 use Rattle.std.proofs.lemmas.List.{append-nil, length-append}
 use mathlib.Core.Path.{fun_ext}
-use Rattle.papaya_law.specs.Exchange.{Word, Empty, Closed, Live, Marked, Copied, Tombstone, Setting, State, walk}
+use Rattle.papaya_law.specs.Exchange.{Word, Empty, Closed, Live, Marked, Copied, Buried, Setting, State, walk}
 use Rattle.papaya_law.specs.Meaning.{IsLawful}
 use Rattle.papaya_law.specs.Class.{Rises, IsOn}
 use Rattle.papaya_law.specs.Invariant.{IsKeeping}
@@ -34,7 +34,7 @@ word_few Closed = omega arith
 word_few (Live p) = omega arith
 word_few (Marked p) = omega arith
 word_few (Copied p) = omega arith
-word_few (Tombstone p) = omega arith
+word_few (Buried p) = omega arith
 
 -- so a table has no more pairs than slots
 table_few : {P : Type 0} → (slot : ℕ → Word P) (n : ℕ) → length (pairs_in slot n) ≤ n

@@ -1,8 +1,8 @@
 -- Each exchange of a slot is a legal step of the numbers that stand for its words.
 use Rattle.std.proofs.Common.{◌≡◌, ℕ, Some, refl, sym, ◌∙◌, subst}
 use Rattle.papaya_words.specs.Word.{IsSlotStep, MayBecome, NamesSamePair, kind_of}
-use Rattle.papaya_law.specs.Exchange.{Word, Empty, Closed, Live, Marked, Copied, Tombstone, Setting}
-use Rattle.papaya_law.specs.Exchange.{State, Exchange, Open, Claim, Replace, Delete, Link, Mark}
+use Rattle.papaya_law.specs.Exchange.{Word, Empty, Closed, Live, Marked, Copied, Buried, Setting}
+use Rattle.papaya_law.specs.Exchange.{State, Exchange, Open, Claim, Replace, Bury, Link, Mark}
 use Rattle.papaya_law.specs.Exchange.{Close, Place, Finish, Advance, Promote, Abort, Take, after}
 use Rattle.papaya_law.specs.Exchange.{slot_put}
 use Rattle.papaya_law.specs.Allows.{Allows}
@@ -38,7 +38,7 @@ module _ {K P : Type 0} (g : Setting K P) (c : Coding K P) where
     code_step s (Open u) may t x is = absurd is
     code_step s (Claim u y p) may t x is = step_there s u y Empty (Live p) t x may.empty is refl
     code_step s (Replace u y p q) may t x is = step_there s u y (Live p) (Live q) t x may.live is tt
-    code_step s (Delete u y p) may t x is = step_there s u y (Live p) (Tombstone p) t x may.live is (same_pair (Live p) (Tombstone p) p refl refl)
+    code_step s (Bury u y p) may t x is = step_there s u y (Live p) (Buried p) t x may.live is (same_pair (Live p) (Buried p) p refl refl)
     code_step s (Link u n) may t x is = absurd is
     code_step s (Mark u y p) may t x is = step_there s u y (Live p) (Marked p) t x may.live is (same_pair (Live p) (Marked p) p refl refl)
     code_step s (Close u y) may t x is = step_there s u y Empty Closed t x may.empty is (refl, refl)
@@ -54,7 +54,7 @@ pub code_stays : {P : Type 0} → (s : State P) (e : Exchange P) (t x : ℕ) →
 code_stays s (Open u) t x other = refl
 code_stays s (Claim u y p) t x other = put_elsewhere s u y (Live p) t x other
 code_stays s (Replace u y p q) t x other = put_elsewhere s u y (Live q) t x other
-code_stays s (Delete u y p) t x other = put_elsewhere s u y (Tombstone p) t x other
+code_stays s (Bury u y p) t x other = put_elsewhere s u y (Buried p) t x other
 code_stays s (Link u n) t x other = refl
 code_stays s (Mark u y p) t x other = put_elsewhere s u y (Marked p) t x other
 code_stays s (Close u y) t x other = put_elsewhere s u y Closed t x other

@@ -1,7 +1,7 @@
 -- What a number that stands for a word of the law says: its kind and the pair's number.
 use Rattle.std.proofs.Common.{◌≡◌, ℕ, ◌%◌, ◌^◌, ◌<◌, Some, refl, sym, ap, ◌∙◌, arith}
 use Rattle.papaya_words.specs.Word.{kind_of, kind_of_code, pair_of, filled_word}
-use Rattle.papaya_law.specs.Exchange.{Word, Empty, Closed, Live, Marked, Copied, Tombstone, Setting}
+use Rattle.papaya_law.specs.Exchange.{Word, Empty, Closed, Live, Marked, Copied, Buried, Setting}
 use Rattle.papaya_law.specs.Invariant.{named}
 use Rattle.papaya_law.specs.Code.{Coding, IsLawfulCoding, AreAlike, code, kind}
 
@@ -29,7 +29,7 @@ module _ {K P : Type 0} (g : Setting K P) (c : Coding K P) where
   code_kind (Live p) = ap kind_of_code (filled_kind 1 (c.number p) (omega arith))
   code_kind (Marked p) = ap kind_of_code (filled_kind 2 (c.number p) (omega arith))
   code_kind (Copied p) = ap kind_of_code (filled_kind 3 (c.number p) (omega arith))
-  code_kind (Tombstone p) = ap kind_of_code (filled_kind 4 (c.number p) (omega arith))
+  code_kind (Buried p) = ap kind_of_code (filled_kind 4 (c.number p) (omega arith))
 
   -- only an Empty word is 0
   pub code_empty : (w : Word P) → code g c w ≡ 0 → w ≡ Empty
@@ -38,7 +38,7 @@ module _ {K P : Type 0} (g : Setting K P) (c : Coding K P) where
   code_empty (Live p) e = absurd (filled_some 1 (c.number p) (omega arith) e)
   code_empty (Marked p) e = absurd (filled_some 2 (c.number p) (omega arith) e)
   code_empty (Copied p) e = absurd (filled_some 3 (c.number p) (omega arith) e)
-  code_empty (Tombstone p) e = absurd (filled_some 4 (c.number p) (omega arith) e)
+  code_empty (Buried p) e = absurd (filled_some 4 (c.number p) (omega arith) e)
 
   module _ (law : IsLawfulCoding g c) where
     -- of a filled word
@@ -52,7 +52,7 @@ module _ {K P : Type 0} (g : Setting K P) (c : Coding K P) where
     code_pair (Live q) p e = of_pair 1 q p (omega arith) cc
     code_pair (Marked q) p e = of_pair 2 q p (omega arith) cc
     code_pair (Copied q) p e = of_pair 3 q p (omega arith) cc
-    code_pair (Tombstone q) p e = of_pair 4 q p (omega arith) cc
+    code_pair (Buried q) p e = of_pair 4 q p (omega arith) cc
 
     -- it fits into 64 bits where the pair's number fits into 54
     pub code_fits : (w : Word P) → ((p : P) → named w ≡ Some p → c.number p < 2 ^ 54) → code g c w < 2 ^ 64
@@ -61,7 +61,7 @@ module _ {K P : Type 0} (g : Setting K P) (c : Coding K P) where
     code_fits (Live p) short = filled_fits 1 (c.number p) (omega arith) (short p refl)
     code_fits (Marked p) short = filled_fits 2 (c.number p) (omega arith) (short p refl)
     code_fits (Copied p) short = filled_fits 3 (c.number p) (omega arith) (short p refl)
-    code_fits (Tombstone p) short = filled_fits 4 (c.number p) (omega arith) (short p refl)
+    code_fits (Buried p) short = filled_fits 4 (c.number p) (omega arith) (short p refl)
 
     -- words with one number are alike
     pub code_alike : (v w : Word P) → code g c v ≡ code g c w → AreAlike g c v w

@@ -1,7 +1,7 @@
 -- What the table of the root has is the map, as a list in which no key stands twice.
 use Rattle.std.proofs.Common.{◌≡◌, ◌⊎◌, inl, inr, ⊎_elim, ℕ, ◌<◌, true, false, Option, None, Some, [], refl, sym, ap, ◌∙◌, arith}
 use Rattle.std.proofs.lemmas.Bool.{cases_Bool, cases_lt, cond-true, cond-false}
-use Rattle.papaya_law.specs.Exchange.{Word, Empty, Closed, Live, Marked, Copied, Tombstone, Setting, State}
+use Rattle.papaya_law.specs.Exchange.{Word, Empty, Closed, Live, Marked, Copied, Buried, Setting, State}
 use Rattle.papaya_law.specs.View.{View, Free, Foreign, Here, Leaving, Gone, Grave, view, look, held}
 use Rattle.papaya_law.specs.Meaning.{IsLawful}
 use Rattle.papaya_law.specs.Class.{IsOn, IsBase}
@@ -75,7 +75,7 @@ module _ {K P : Type 0} (g : Setting K P) where
         by_word (Live p) e = not_empty (Live p) e (λ z. cc z)
         by_word (Marked p) e = not_empty (Marked p) e (λ z. cc z)
         by_word (Copied p) e = not_empty (Copied p) e (λ z. cc z)
-        by_word (Tombstone p) e = not_empty (Tombstone p) e (λ z. cc z)
+        by_word (Buried p) e = not_empty (Buried p) e (λ z. cc z)
 
     -- before there is a root there is no pair
     pub no_content : s.root ≡ 0 → content g s ≡ []

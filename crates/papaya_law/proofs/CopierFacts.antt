@@ -1,7 +1,7 @@
 -- What a copier that has gathered its facts can count on: which tables it names, and that its facts last.
 use Rattle.std.proofs.Common.{◌≡◌, ◌⊎◌, inl, inr, ⊎_elim, ℕ, suc, ◌<◌, ◌≤◌, true, false, Option, Some, sym, ap, ◌∙◌, subst, arith}
 use Rattle.std.proofs.lemmas.Bool.{cases_order, cond-true}
-use Rattle.papaya_law.specs.Exchange.{Word, Empty, Closed, Live, Marked, Copied, Tombstone, Setting, State}
+use Rattle.papaya_law.specs.Exchange.{Word, Empty, Closed, Live, Marked, Copied, Buried, Setting, State}
 use Rattle.papaya_law.specs.View.{Foreign, Here, Leaving, Gone, Grave, look, view, own, foreign, IsPassed}
 use Rattle.papaya_law.specs.Copying.{IsTaker, IsTarget, IsPutting, IsSettled}
 use Rattle.papaya_law.specs.Class.{IsOn, Rises}
@@ -83,7 +83,7 @@ module _ {K P : Type 0} (g : Setting K P) (law : IsLawful g) (k : K) where
   named_own (Live q) p e n = let is : q ≡ p = cc e in ap own (cond-true (g.same k (g.key q)) (Here q) Foreign (ap (λ r. g.same k (g.key r)) is ∙ n))
   named_own (Marked q) p e n = let is : q ≡ p = cc e in ap own (cond-true (g.same k (g.key q)) (Leaving q) Foreign (ap (λ r. g.same k (g.key r)) is ∙ n))
   named_own (Copied q) p e n = let is : q ≡ p = cc e in ap own (cond-true (g.same k (g.key q)) (Gone q) Foreign (ap (λ r. g.same k (g.key r)) is ∙ n))
-  named_own (Tombstone q) p e n = let is : q ≡ p = cc e in ap own (cond-true (g.same k (g.key q)) (Grave q) Foreign (ap (λ r. g.same k (g.key r)) is ∙ n))
+  named_own (Buried q) p e n = let is : q ≡ p = cc e in ap own (cond-true (g.same k (g.key q)) (Grave q) Foreign (ap (λ r. g.same k (g.key r)) is ∙ n))
 
   -- a word whose pair was compared, whatever came of it since: it is the key's
   pub compared_own : (was w : Word P) (p : P) → Becomes g was w → named was ≡ Some p → g.same k (g.key p) ≡ true → own (view g k w) ≡ true

@@ -1,7 +1,7 @@
 -- How many pairs one table has after each exchange, while no table has a next one.
 use Rattle.std.proofs.Common.{◌≡◌, ⊎_elim, ℕ, zero, suc, ◌+◌, ◌<◌, Option, Some, length, refl, sym, ap, ◌∙◌, subst, arith}
-use Rattle.papaya_law.specs.Exchange.{Word, Live, Tombstone, Setting, State, Exchange, Open, Claim}
-use Rattle.papaya_law.specs.Exchange.{Replace, Delete, Link, Mark, Close, Place, Finish, Advance}
+use Rattle.papaya_law.specs.Exchange.{Word, Live, Buried, Setting, State, Exchange, Open, Claim}
+use Rattle.papaya_law.specs.Exchange.{Replace, Bury, Link, Mark, Close, Place, Finish, Advance}
 use Rattle.papaya_law.specs.Exchange.{Promote, Abort, Take, after, slot_put, walk}
 use Rattle.papaya_law.specs.View.{IsReached}
 use Rattle.papaya_law.specs.Allows.{Allows}
@@ -75,8 +75,8 @@ module _ {K P : Type 0} (g : Setting K P) (law : IsLawful g) (s : State P) (m : 
       let c = put_count t x (Live q) (reached_root (g.key p) t may.reached) (slot_within t x p (Live p) may.live refl) in
       let old : length (pairs_of_word (s.slot t x)) ≡ 1 = ap (λ w. length (pairs_of_word w)) may.live in
       omega (arith, c, old)
-  count_after (Delete t x p) may =
-      let c = put_count t x (Tombstone p) (reached_root (g.key p) t may.reached) (slot_within t x p (Live p) may.live refl) in
+  count_after (Bury t x p) may =
+      let c = put_count t x (Buried p) (reached_root (g.key p) t may.reached) (slot_within t x p (Live p) may.live refl) in
       let old : length (pairs_of_word (s.slot t x)) ≡ 1 = ap (λ w. length (pairs_of_word w)) may.live in
       omega (arith, c, old)
   count_after (Link t n) may = refl

@@ -1,7 +1,7 @@
 -- Lists in which no key stands twice: those of one map are of one length, which an exchange changes as it changes the map.
 use Rattle.std.proofs.Common.{◌≡◌, ⊎_elim, suc, true, false, cond, Option, None, Some, List, [], ◌∷◌, length, refl, sym, ap, ◌∙◌, subst}
 use Rattle.std.proofs.lemmas.Bool.{cases_Bool, cond-true, cond-false}
-use Rattle.papaya_law.specs.Exchange.{Setting, State, Exchange, Open, Claim, Replace, Delete, Link, Mark, Close, Place, Finish, Advance, Promote, Abort, Take}
+use Rattle.papaya_law.specs.Exchange.{Setting, State, Exchange, Open, Claim, Replace, Bury, Link, Mark, Close, Place, Finish, Advance, Promote, Abort, Take}
 use Rattle.papaya_law.specs.Allows.{Allows}
 use Rattle.papaya_law.specs.Meaning.{IsLawful, IsLegal, map_after}
 use Rattle.papaya_law.specs.Content.{lookup, AreApart, IsCountAfter}
@@ -154,7 +154,7 @@ module _ {K P : Type 0} (g : Setting K P) where
           without_length b (g.key p) q here
           ∙ (ap suc (sym (but_one (g.key p) (λ l n. now l ∙ cond-false (g.same l (g.key p)) (Some q) (m l) n)))
           ∙ sym (without_length a (g.key p) p (before (g.key p) ∙ legal)))
-      length_after (Delete t x p) legal now =
+      length_after (Bury t x p) legal now =
           let gone : lookup g.same g.key b (g.key p) ≡ None = now (g.key p)
           ∙ cond-true (g.same (g.key p) (g.key p)) None (m (g.key p)) (law.itself (g.key p)) in
           ap suc (sym (without_none b (g.key p) gone) ∙ sym (but_one (g.key p) (λ l n. now l ∙ cond-false (g.same l (g.key p)) None (m l) n)))
@@ -176,8 +176,8 @@ module _ {K P : Type 0} (g : Setting K P) where
       list_claim p none k = ap (cond (g.same k (g.key p)) (Some p)) (before k)
 
       -- a deletion takes its pair out
-      list_delete : (p : P) (k : K) → lookup g.same g.key (without a (g.key p)) k ≡ cond (g.same k (g.key p)) None (m k)
-      list_delete p k =
+      list_bury : (p : P) (k : K) → lookup g.same g.key (without a (g.key p)) k ≡ cond (g.same k (g.key p)) None (m k)
+      list_bury p k =
           ⊎_elim
           (λ (y : g.same k (g.key p) ≡ true). without_same a (g.key p) k ha y ∙ sym (cond-true (g.same k (g.key p)) None (m k) y))
           (λ (n : g.same k (g.key p) ≡ false). without_other a (g.key p) k n ∙ (before k ∙ sym (cond-false (g.same k (g.key p)) None (m k) n)))
@@ -208,7 +208,7 @@ module _ {K P : Type 0} (g : Setting K P) where
         (without_same a (g.key p) (g.key q) ha (law.back (g.key p) (g.key q) may.same), without_apart a (g.key p) ha),
         list_replace p q may.same,
       )
-      list_after s (Delete t x p) may legal = (without a (g.key p), without_apart a (g.key p) ha, list_delete p)
+      list_after s (Bury t x p) may legal = (without a (g.key p), without_apart a (g.key p) ha, list_bury p)
       list_after s (Open t) may legal = (a, ha, before)
       list_after s (Link t n) may legal = (a, ha, before)
       list_after s (Mark t x p) may legal = (a, ha, before)

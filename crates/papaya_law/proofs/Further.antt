@@ -2,7 +2,7 @@
 use Rattle.std.proofs.Common.{◌≡◌, ℕ, ◌+◌, ◌^◌, ◌<◌, Bool, true, Option, None, Some, refl, sym, ap, ◌∙◌}
 use Rattle.std.proofs.Math.Nat.{mod-lt}
 use Rattle.papaya_words.specs.Probe.{place, triangular}
-use Rattle.papaya_law.specs.Exchange.{Word, Empty, Closed, Live, Marked, Copied, Tombstone, Setting}
+use Rattle.papaya_law.specs.Exchange.{Word, Empty, Closed, Live, Marked, Copied, Buried, Setting}
 use Rattle.papaya_law.specs.Code.{Coding, code}
 use Rattle.papaya_law.specs.Grows.{Agrees, planned}
 use Rattle.papaya_law.specs.Hashing.{hashed}
@@ -39,7 +39,7 @@ module _ {K P : Type 0} (g : Setting K P) (matches : K → Bool) (hash : ℕ) wh
   key_code c (Live p) = refl
   key_code c (Marked p) = refl
   key_code c (Copied p) = refl
-  key_code c (Tombstone p) = refl
+  key_code c (Buried p) = refl
 
   module _ (c : Coding K P) (law : IsHashed g c) where
     -- each key's places come from its hash

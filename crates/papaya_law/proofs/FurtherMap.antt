@@ -1,6 +1,6 @@
 -- The map in a setting with one further key: the map itself and, for that key, what the map has for those that it matches.
 use Rattle.std.proofs.Common.{◌≡◌, ◌↔◌, ℕ, Bool, true, false, cond, Option, None, Some, List, [], ◌∷◌, ◌++◌, refl, sym, ap, ◌∙◌, subst}
-use Rattle.papaya_law.specs.Exchange.{Setting, State, Exchange, Open, Claim, Replace, Delete, Link}
+use Rattle.papaya_law.specs.Exchange.{Setting, State, Exchange, Open, Claim, Replace, Bury, Link}
 use Rattle.papaya_law.specs.Exchange.{Mark, Close, Place, Finish, Advance, Promote, Abort, Take}
 use Rattle.papaya_law.specs.Exchange.{after, run, start}
 use Rattle.papaya_law.specs.Allows.{Allows, AllAllowed}
@@ -16,7 +16,7 @@ module _ {K P : Type 0} (g : Setting K P) (matches : K → Bool) (hash : ℕ) wh
   own_after m m' own (Open t) k = own k
   own_after m m' own (Claim t x p) k = ap (cond (g.same k (g.key p)) (Some p)) (own k)
   own_after m m' own (Replace t x p q) k = ap (cond (g.same k (g.key p)) (Some q)) (own k)
-  own_after m m' own (Delete t x p) k = ap (cond (g.same k (g.key p)) None) (own k)
+  own_after m m' own (Bury t x p) k = ap (cond (g.same k (g.key p)) None) (own k)
   own_after m m' own (Link t n) k = own k
   own_after m m' own (Mark t x p) k = own k
   own_after m m' own (Close t x) k = own k
@@ -39,7 +39,7 @@ module _ {K P : Type 0} (g : Setting K P) (matches : K → Bool) (hash : ℕ) wh
   key_legal m m' own (Open t) = (λ h. h, λ h. h)
   key_legal m m' own (Claim t x p) = (λ h. own (g.key p) ∙ h, λ h. sym (own (g.key p)) ∙ h)
   key_legal m m' own (Replace t x p q) = (λ h. own (g.key p) ∙ h, λ h. sym (own (g.key p)) ∙ h)
-  key_legal m m' own (Delete t x p) = (λ h. own (g.key p) ∙ h, λ h. sym (own (g.key p)) ∙ h)
+  key_legal m m' own (Bury t x p) = (λ h. own (g.key p) ∙ h, λ h. sym (own (g.key p)) ∙ h)
   key_legal m m' own (Link t n) = (λ h. h, λ h. h)
   key_legal m m' own (Mark t x p) = (λ h. h, λ h. h)
   key_legal m m' own (Close t x) = (λ h. h, λ h. h)
@@ -66,7 +66,7 @@ module _ {K P : Type 0} (g : Setting K P) (matches : K → Bool) (hash : ℕ) wh
     matched_after m m' k h is (Open t) = is
     matched_after m m' k h is (Claim t x p) = ap (λ b. cond b (Some p) (m' None)) (form.class k h (g.key p)) ∙ ap (cond (g.same k (g.key p)) (Some p)) is
     matched_after m m' k h is (Replace t x p q) = ap (λ b. cond b (Some q) (m' None)) (form.class k h (g.key p)) ∙ ap (cond (g.same k (g.key p)) (Some q)) is
-    matched_after m m' k h is (Delete t x p) = ap (λ b. cond b None (m' None)) (form.class k h (g.key p)) ∙ ap (cond (g.same k (g.key p)) None) is
+    matched_after m m' k h is (Bury t x p) = ap (λ b. cond b None (m' None)) (form.class k h (g.key p)) ∙ ap (cond (g.same k (g.key p)) None) is
     matched_after m m' k h is (Link t n) = is
     matched_after m m' k h is (Mark t x p) = is
     matched_after m m' k h is (Close t x) = is
@@ -100,7 +100,7 @@ module _ {K P : Type 0} (g : Setting K P) (matches : K → Bool) (hash : ℕ) wh
         (λ h q e. let is : p ≡ q = cc e in ap (λ r. matches (g.key r)) (sym is) ∙ h) f
     found_after s m' f (Replace t x p q) may = finding_cond (matches (g.key p)) (Some q) (m' None)
         (λ h r e. let is : q ≡ r = cc e in ap (λ y. matches (g.key y)) (sym is) ∙ (form.class (g.key p) h (g.key q) ∙ may.same)) f
-    found_after s m' f (Delete t x p) may = finding_cond (matches (g.key p)) None (m' None) (λ h q e. absurd (cc e)) f
+    found_after s m' f (Bury t x p) may = finding_cond (matches (g.key p)) None (m' None) (λ h q e. absurd (cc e)) f
     found_after s m' f (Link t n) may = f
     found_after s m' f (Mark t x p) may = f
     found_after s m' f (Close t x) may = f

@@ -3,8 +3,8 @@ use Rattle.std.proofs.Common.{MatchOption, ◌≡◌, inl, inr, ⊎_elim, ℕ, s
 use Rattle.std.proofs.Common.{true, cond, Option, None, Some, List, [], ◌∷◌, refl, sym, ap, ◌∙◌}
 use Rattle.std.proofs.Common.{subst, arith, eqb-true, eq-eqb}
 use Rattle.std.proofs.lemmas.Bool.{cond-true}
-use Rattle.papaya_law.specs.Exchange.{Word, Empty, Closed, Live, Tombstone, Marked, Copied, Setting}
-use Rattle.papaya_law.specs.Exchange.{Exchange, Open, Claim, Replace, Delete, Link, Mark, Close}
+use Rattle.papaya_law.specs.Exchange.{Word, Empty, Closed, Live, Buried, Marked, Copied, Setting}
+use Rattle.papaya_law.specs.Exchange.{Exchange, Open, Claim, Replace, Bury, Link, Mark, Close}
 use Rattle.papaya_law.specs.Exchange.{Place, Finish, Advance, Promote, Abort, Take, State, after}
 use Rattle.papaya_law.specs.Exchange.{at_put, run, walk}
 use Rattle.papaya_law.specs.View.{View, beyond, foreign, look, IsNextPlace, IsReached}
@@ -112,7 +112,7 @@ module _ {K P : Type 0} (g g' : Setting K P) (s : State P) (sound : IsSound g s)
     same = agrees.same (g'.key p) (g'.key q) ∙ (ap (λ k. g.same k (g'.key q)) (agrees.key p) ∙ (ap (g.same (g.key p)) (agrees.key q) ∙ may.same));
     kept = agrees.key q ∙ may.kept ∙ sym (agrees.key p);
   }
-  allows_carries (Delete t x p) chunks may = record { live = may.live; reached = reached_pair p t may.reached }
+  allows_carries (Bury t x p) chunks may = record { live = may.live; reached = reached_pair p t may.reached }
   allows_carries (Link t n) chunks may =
       let on = linking_on g s sound may.from t may.on may.linking in
       record {
@@ -207,10 +207,10 @@ module _ {K P : Type 0} (g g' : Setting K P) (On : ℕ → Type 0) (agrees : Agr
   becomes_carries (Live p) (Live q) b = same_pairs p q b
   becomes_carries (Live p) (Marked q) b = same_pairs p q b
   becomes_carries (Live p) (Copied q) b = same_pairs p q b
-  becomes_carries (Live p) (Tombstone q) b = same_pairs p q b
+  becomes_carries (Live p) (Buried q) b = same_pairs p q b
   becomes_carries (Marked p) w b = b
   becomes_carries (Copied p) w b = b
-  becomes_carries (Tombstone p) w b = b
+  becomes_carries (Buried p) w b = b
 
   -- a later state stays later
   pub later_carries : (s s' : State P) → IsLater g s s' → IsLater g' s s'
@@ -229,7 +229,7 @@ module _ {K P : Type 0} (g g' : Setting K P) (On : ℕ → Type 0) (agrees : Agr
   map_after_at m (Open t) k = refl
   map_after_at m (Claim t x p) k = ap (λ b. cond b (Some p) (m k)) (agrees.same k (g'.key p) ∙ ap (g.same k) (agrees.key p))
   map_after_at m (Replace t x p q) k = ap (λ b. cond b (Some q) (m k)) (agrees.same k (g'.key p) ∙ ap (g.same k) (agrees.key p))
-  map_after_at m (Delete t x p) k = ap (λ b. cond b None (m k)) (agrees.same k (g'.key p) ∙ ap (g.same k) (agrees.key p))
+  map_after_at m (Bury t x p) k = ap (λ b. cond b None (m k)) (agrees.same k (g'.key p) ∙ ap (g.same k) (agrees.key p))
   map_after_at m (Link t n) k = refl
   map_after_at m (Mark t x p) k = refl
   map_after_at m (Close t x) k = refl
@@ -251,7 +251,7 @@ module _ {K P : Type 0} (g : Setting K P) (law : IsLawful g) where
   on_after s sound (Open u) may t on = absurd (no_root g s sound may.0 t on)
   on_after s sound (Claim u x p) may t on = on
   on_after s sound (Replace u x p q) may t on = on
-  on_after s sound (Delete u x p) may t on = on
+  on_after s sound (Bury u x p) may t on = on
   on_after s sound (Link u n) may t on = link_more g s sound u n may.last may.on.0 may.rises t on
   on_after s sound (Mark u x p) may t on = on
   on_after s sound (Close u x) may t on = on
@@ -273,7 +273,7 @@ module _ {K P : Type 0} (g : Setting K P) (law : IsLawful g) where
       (link_more g s sound u n may.last may.on.0 may.rises u may.on) up)
   brought_on s sound (Claim u x p) may t b = absurd cc
   brought_on s sound (Replace u x p q) may t b = absurd cc
-  brought_on s sound (Delete u x p) may t b = absurd cc
+  brought_on s sound (Bury u x p) may t b = absurd cc
   brought_on s sound (Mark u x p) may t b = absurd cc
   brought_on s sound (Close u x) may t b = absurd cc
   brought_on s sound (Place n x p) may t b = absurd cc

@@ -2,7 +2,7 @@
 use Rattle.std.proofs.Common.{◌≡◌, ◌⊎◌, inl, inr, ⊎_elim, ℕ, true, false, refl, sym, ap, ◌∙◌, subst, ◌==◌, eq-eqb}
 use Rattle.std.proofs.lemmas.Bool.{cases_Bool, cond-false, or_parts}
 use Rattle.papaya_words.specs.Word.{hint_of, may_hold}
-use Rattle.papaya_law.specs.Exchange.{Word, Empty, Closed, Live, Marked, Copied, Tombstone, Setting, State}
+use Rattle.papaya_law.specs.Exchange.{Word, Empty, Closed, Live, Marked, Copied, Buried, Setting, State}
 use Rattle.papaya_law.specs.View.{Foreign, Here, Leaving, Gone, Grave, view}
 use Rattle.papaya_law.specs.Code.{Coding, IsLawfulCoding}
 use Rattle.papaya_law.specs.Hints.{IsHintOf, IsHint, hint_of_pair}
@@ -22,7 +22,7 @@ module _ {K P : Type 0} (g : Setting K P) (c : Coding K P) where
   hint_none (Live p) = inl refl
   hint_none (Marked p) = inl refl
   hint_none (Copied p) = inl refl
-  hint_none (Tombstone p) = inl refl
+  hint_none (Buried p) = inl refl
 
   module _ (law : IsLawfulCoding g c) where
     -- pairs of one key have one hint
@@ -42,10 +42,10 @@ module _ {K P : Type 0} (g : Setting K P) (c : Coding K P) where
     hint_becomes (Live p) (Live q) n b h = hint_by p q n b h
     hint_becomes (Live p) (Marked q) n b h = hint_by p q n b h
     hint_becomes (Live p) (Copied q) n b h = hint_by p q n b h
-    hint_becomes (Live p) (Tombstone q) n b h = hint_by p q n b h
+    hint_becomes (Live p) (Buried q) n b h = hint_by p q n b h
     hint_becomes (Marked p) w n b h = ⊎_elim (λ e. subst (λ y. IsHintOf g c y n) (sym e) h) (λ e. subst (λ y. IsHintOf g c y n) (sym e) h) b
     hint_becomes (Copied p) w n b h = subst (λ y. IsHintOf g c y n) (sym b) h
-    hint_becomes (Tombstone p) w n b h = subst (λ y. IsHintOf g c y n) (sym b) h
+    hint_becomes (Buried p) w n b h = subst (λ y. IsHintOf g c y n) (sym b) h
 
     -- whatever others exchange
     pub hint_lasts : (s s' : State P) → IsLater g s s' → (t x n : ℕ) → IsHint g c s t x n → IsHint g c s' t x n
@@ -67,7 +67,7 @@ module _ {K P : Type 0} (g : Setting K P) (c : Coding K P) where
     hint_passes k (Live p) n h other = cond-false (g.same k (g.key p)) (Here p) Foreign (other_pair k p n other h)
     hint_passes k (Marked p) n h other = cond-false (g.same k (g.key p)) (Leaving p) Foreign (other_pair k p n other h)
     hint_passes k (Copied p) n h other = cond-false (g.same k (g.key p)) (Gone p) Foreign (other_pair k p n other h)
-    hint_passes k (Tombstone p) n h other = cond-false (g.same k (g.key p)) (Grave p) Foreign (other_pair k p n other h)
+    hint_passes k (Buried p) n h other = cond-false (g.same k (g.key p)) (Grave p) Foreign (other_pair k p n other h)
 
     -- a slot that a pair of the key fills has the key's hint
     pub hint_fills : (k : K) (w : Word P) (p : P) → w ≡ Live p → g.same k (g.key p) ≡ true → IsHintOf g c w (hint_of (c.hash k))
@@ -84,4 +84,4 @@ module _ {K P : Type 0} (g g' : Setting K P) (c : Coding K P) (keys : (p : P) �
   hint_agrees (Live p) n h = pair_agrees p n h
   hint_agrees (Marked p) n h = pair_agrees p n h
   hint_agrees (Copied p) n h = pair_agrees p n h
-  hint_agrees (Tombstone p) n h = pair_agrees p n h
+  hint_agrees (Buried p) n h = pair_agrees p n h

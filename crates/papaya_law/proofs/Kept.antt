@@ -1,6 +1,6 @@
 -- The key of a filled slot never changes.
 use Rattle.std.proofs.Common.{◌≡◌, ⊎_elim, ℕ, Some, refl, sym, ap, ◌∙◌, subst}
-use Rattle.papaya_law.specs.Exchange.{Word, Empty, Closed, Live, Marked, Copied, Tombstone, Setting, State}
+use Rattle.papaya_law.specs.Exchange.{Word, Empty, Closed, Live, Marked, Copied, Buried, Setting, State}
 use Rattle.papaya_law.specs.Invariant.{named}
 use Rattle.papaya_law.specs.Later.{Becomes, IsLater, IsOfKey}
 
@@ -18,13 +18,13 @@ module _ {K P : Type 0} (g : Setting K P) where
   becomes_keeps (Live p) (Live q) k b h = (q, refl, live_keeps p q k b h.0 h.1 h.2)
   becomes_keeps (Live p) (Marked q) k b h = (q, refl, live_keeps p q k b h.0 h.1 h.2)
   becomes_keeps (Live p) (Copied q) k b h = (q, refl, live_keeps p q k b h.0 h.1 h.2)
-  becomes_keeps (Live p) (Tombstone q) k b h = (q, refl, live_keeps p q k b h.0 h.1 h.2)
+  becomes_keeps (Live p) (Buried q) k b h = (q, refl, live_keeps p q k b h.0 h.1 h.2)
   becomes_keeps (Marked p) w k b h = ⊎_elim
       (λ e. subst (λ y. IsOfKey g y k) (sym e) h)
       (λ e. subst (λ y. IsOfKey g y k) (sym e) (h.0, h.1, h.2))
       b
   becomes_keeps (Copied p) w k b h = subst (λ y. IsOfKey g y k) (sym b) h
-  becomes_keeps (Tombstone p) w k b h = subst (λ y. IsOfKey g y k) (sym b) h
+  becomes_keeps (Buried p) w k b h = subst (λ y. IsOfKey g y k) (sym b) h
 
   -- so it is with a slot
   pub key_stable : (s s' : State P) → IsLater g s s' → (t x : ℕ) (k : K) → IsOfKey g (s.slot t x) k → IsOfKey g (s'.slot t x) k

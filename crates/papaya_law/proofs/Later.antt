@@ -2,8 +2,8 @@
 use Rattle.std.proofs.Common.{◌≡◌, ◌⊎◌, inl, inr, ⊎_elim, ℕ, zero, suc, ◌<◌, ◌≤◌, Bool, true, false}
 use Rattle.std.proofs.Common.{cond, ◌==◌, List, [], ◌∷◌, refl, sym, ap, ◌∙◌, subst, arith, eqb-true}
 use Rattle.std.proofs.lemmas.Bool.{cases_lt, cases_Bool, cond-true, cond-false}
-use Rattle.papaya_law.specs.Exchange.{Word, Empty, Closed, Live, Marked, Copied, Tombstone, Setting}
-use Rattle.papaya_law.specs.Exchange.{State, Exchange, Open, Claim, Replace, Delete, Link, Mark}
+use Rattle.papaya_law.specs.Exchange.{Word, Empty, Closed, Live, Marked, Copied, Buried, Setting}
+use Rattle.papaya_law.specs.Exchange.{State, Exchange, Open, Claim, Replace, Bury, Link, Mark}
 use Rattle.papaya_law.specs.Exchange.{Close, Place, Finish, Advance, Promote, Abort, Take, slot_put}
 use Rattle.papaya_law.specs.Exchange.{at_put, after, run, walk}
 use Rattle.papaya_law.specs.View.{View, Free, Foreign, Here, Leaving, Gone, Grave, view, look, own, beyond, foreign, IsPassed, IsFull, HasWord, IsReached}
@@ -66,7 +66,7 @@ module _ {K P : Type 0} (g : Setting K P) (law : IsLawful g) where
   becomes_itself (Live p) = refl
   becomes_itself (Marked p) = inl refl
   becomes_itself (Copied p) = refl
-  becomes_itself (Tombstone p) = refl
+  becomes_itself (Buried p) = refl
 
   -- of a pair that gave way to one of an equal key
   live_through : (p q : P) → g.key q ≡ g.key p → (w : Word P) → Becomes g (Live q) w → Becomes g (Live p) w
@@ -75,7 +75,7 @@ module _ {K P : Type 0} (g : Setting K P) (law : IsLawful g) where
   live_through p q h (Live r) b = b ∙ h
   live_through p q h (Marked r) b = b ∙ h
   live_through p q h (Copied r) b = b ∙ h
-  live_through p q h (Tombstone r) b = b ∙ h
+  live_through p q h (Buried r) b = b ∙ h
 
   -- in two steps
   pub becomes_through : (u v w : Word P) → Becomes g u v → Becomes g v w → Becomes g u w
@@ -86,10 +86,10 @@ module _ {K P : Type 0} (g : Setting K P) (law : IsLawful g) where
   becomes_through (Live p) (Live q) w a b = live_through p q a w b
   becomes_through (Live p) (Marked q) w a b = ⊎_elim (λ e. subst (Becomes g (Live p)) (sym e) a) (λ e. subst (Becomes g (Live p)) (sym e) a) b
   becomes_through (Live p) (Copied q) w a b = subst (Becomes g (Live p)) (sym b) a
-  becomes_through (Live p) (Tombstone q) w a b = subst (Becomes g (Live p)) (sym b) a
+  becomes_through (Live p) (Buried q) w a b = subst (Becomes g (Live p)) (sym b) a
   becomes_through (Marked p) v w a b = ⊎_elim (λ e. subst (λ y. Becomes g y w) e b) (λ e. inr (subst (λ y. Becomes g y w) e b)) a
   becomes_through (Copied p) v w a b = subst (λ y. Becomes g y w) a b
-  becomes_through (Tombstone p) v w a b = subst (λ y. Becomes g y w) a b
+  becomes_through (Buried p) v w a b = subst (λ y. Becomes g y w) a b
 
   -- a state is later than itself
   pub later_itself : (s : State P) → IsLater g s s
@@ -134,7 +134,7 @@ module _ {K P : Type 0} (g : Setting K P) (law : IsLawful g) where
       record { was = put_on s.was_root t; next = l.next; aborted = l.aborted; done = l.done; made = l.made; words = l.words }
   later_step s (Claim t x p) may = slot_later s t x Empty (Live p) may.empty tt
   later_step s (Replace t x p q) may = slot_later s t x (Live p) (Live q) may.live may.kept
-  later_step s (Delete t x p) may = slot_later s t x (Live p) (Tombstone p) may.live refl
+  later_step s (Bury t x p) may = slot_later s t x (Live p) (Buried p) may.live refl
   later_step s (Link t n) may = let l = later_itself s in record {
     was = l.was;
     aborted = l.aborted;
@@ -192,7 +192,7 @@ module _ {K P : Type 0} (g : Setting K P) (law : IsLawful g) where
   sees_later k (Live p) (Live q) b = at_live k p q (Here q) (kept_same p q b) refl
   sees_later k (Live p) (Marked q) b = at_live k p q (Leaving q) (kept_same p q b) refl
   sees_later k (Live p) (Copied q) b = at_live k p q (Gone q) (kept_same p q b) refl
-  sees_later k (Live p) (Tombstone q) b = at_live k p q (Grave q) (kept_same p q b) refl
+  sees_later k (Live p) (Buried q) b = at_live k p q (Grave q) (kept_same p q b) refl
   sees_later k (Marked p) w b = marked (g.same k (g.key p)) refl
     where
       marked : (c : Bool) → g.same k (g.key p) ≡ c → Sees (cond c (Leaving p) Foreign) (view g k w)
@@ -201,7 +201,7 @@ module _ {K P : Type 0} (g : Setting K P) (law : IsLawful g) where
       marked false e = ⊎_elim (λ h. ap (view g k) h ∙ cond-false (g.same k (g.key p)) (Leaving p) Foreign e)
           (λ h. ap (view g k) h ∙ cond-false (g.same k (g.key p)) (Gone p) Foreign e) b
   sees_later k (Copied p) w b = sees_itself (Gone p) (g.same k (g.key p)) (view g k w) (ap (view g k) b) refl (λ u e. e)
-  sees_later k (Tombstone p) w b = sees_itself (Grave p) (g.same k (g.key p)) (view g k w) (ap (view g k) b) refl (λ u e. e)
+  sees_later k (Buried p) w b = sees_itself (Grave p) (g.same k (g.key p)) (view g k w) (ap (view g k) b) refl (λ u e. e)
 
   -- a caller's facts stay
   module _ (s s' : State P) (zero' : s.next 0 ≡ 0) (l : IsLater g s s') where
@@ -296,7 +296,7 @@ module _ {K P : Type 0} (g : Setting K P) (law : IsLawful g) where
     settled_later n (Marked p) w' b h = ⊎_elim (λ e. subst (IsSettled g s' n) (sym e) (h.0, has_later (g.key p) n h.1))
         (λ e. subst (IsSettled g s' n) (sym e) tt) b
     settled_later n (Copied p) w' b h = subst (IsSettled g s' n) (sym b) tt
-    settled_later n (Tombstone p) w' b h = subst (IsSettled g s' n) (sym b) tt
+    settled_later n (Buried p) w' b h = subst (IsSettled g s' n) (sym b) tt
 
     -- a mark stood
     stood_later : (t x : ℕ) (p : P) → (s.slot t x ≡ Marked p) ⊎ (s.slot t x ≡ Copied p) → (s'.slot t x ≡ Marked p) ⊎ (s'.slot t x ≡ Copied p)

@@ -14,7 +14,7 @@ pub mod Blocking
 pub mod Later
 pub mod Moments
 pub mod Readers
-pub mod Deletions
+pub mod Burials
 -- the law, and that nothing else has the meaning
 pub mod Apart
 pub mod OneMap

@@ -4,7 +4,7 @@ use Rattle.std.proofs.Common.{false, Option, None, Some, List, [], ◌∷◌, le
 use Rattle.std.proofs.Common.{subst, arith}
 use Rattle.std.proofs.lemmas.List.{append-nil, length-append}
 use Rattle.std.proofs.lemmas.Bool.{cases_Bool, cases_lt, cond-true, cond-false}
-use Rattle.papaya_law.specs.Exchange.{Word, Empty, Closed, Live, Marked, Copied, Tombstone, Setting}
+use Rattle.papaya_law.specs.Exchange.{Word, Empty, Closed, Live, Marked, Copied, Buried, Setting}
 use Rattle.papaya_law.specs.Content.{pairs_of_word, pairs_in, lookup, AreApart}
 
 -- a search that comes to the word finds p
@@ -54,7 +54,7 @@ module _ {K P : Type 0} (g : Setting K P) where
   word_found (Live q) k p e = let r = one_found q k p e in (inl (ap Live r.0), r.1)
   word_found (Marked q) k p e = let r = one_found q k p e in (inr (ap Marked r.0), r.1)
   word_found (Copied q) k p e = absurd cc
-  word_found (Tombstone q) k p e = absurd cc
+  word_found (Buried q) k p e = absurd cc
 
   -- where nothing is found, the word's pair has another key
   word_none : (w : Word P) (k : K) (p : P) → lookup g.same g.key (pairs_of_word w) k ≡ None → Holds w p → g.same k (g.key p) ≡ false
@@ -165,4 +165,4 @@ module _ {K P : Type 0} (g : Setting K P) where
       by_word ih (Live q) e = subst (λ w. AreApart g.same g.key (pairs_in slot n ++ pairs_of_word w)) (sym e) (with_pair ih q (inl e))
       by_word ih (Marked q) e = subst (λ w. AreApart g.same g.key (pairs_in slot n ++ pairs_of_word w)) (sym e) (with_pair ih q (inr e))
       by_word ih (Copied q) e = subst (λ w. AreApart g.same g.key (pairs_in slot n ++ pairs_of_word w)) (sym e) (without ih)
-      by_word ih (Tombstone q) e = subst (λ w. AreApart g.same g.key (pairs_in slot n ++ pairs_of_word w)) (sym e) (without ih)
+      by_word ih (Buried q) e = subst (λ w. AreApart g.same g.key (pairs_in slot n ++ pairs_of_word w)) (sym e) (without ih)

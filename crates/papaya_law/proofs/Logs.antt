@@ -1,7 +1,7 @@
 -- The setting that a log gives: its later entries change nothing of the tables that its earlier ones brought onto the chain.
 use Rattle.std.proofs.Common.{◌≡◌, ◌⊎◌, inl, inr, ⊎_elim, ℕ, zero, suc, ◌<◌, ◌==◌, true, None, List, [], ◌∷◌, ◌++◌, refl, sym, ap, ◌∙◌, subst, arith, eq-eqb}
 use Rattle.std.proofs.lemmas.Bool.{cases_Bool, cond-true, cond-false, or_cases, or_left, or_right}
-use Rattle.papaya_law.specs.Exchange.{Exchange, Open, Claim, Replace, Delete, Link, Mark, Close}
+use Rattle.papaya_law.specs.Exchange.{Exchange, Open, Claim, Replace, Bury, Link, Mark, Close}
 use Rattle.papaya_law.specs.Exchange.{Place, Finish, Advance, Promote, Abort, Take, State, start}
 use Rattle.papaya_law.specs.Exchange.{after, run, walk}
 use Rattle.papaya_law.specs.Allows.{Allows, AllAllowed}
@@ -20,7 +20,7 @@ comes_after s (Open u) t (inl e) = inl (eq-eqb u t e)
 comes_after s (Open u) t (inr c) = inr (inr c)
 comes_after s (Claim u x p) t c = inr c
 comes_after s (Replace u x p q) t c = inr c
-comes_after s (Delete u x p) t c = inr c
+comes_after s (Bury u x p) t c = inr c
 comes_after s (Link u n) t (inl e) = inr (inl e)
 comes_after s (Link u n) t (inr (v, e)) =
     ⊎_elim (λ h. inl (eq-eqb n t (sym (cond-true (v == u) n (s.next v) h) ∙ e))) (λ h. inr (inr (v, sym (cond-false (v == u) n (s.next v) h) ∙ e)))

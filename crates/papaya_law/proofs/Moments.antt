@@ -1,7 +1,7 @@
 -- Moments of a list of exchanges, and what a caller that is slow finds with blocking.
 use Rattle.std.proofs.Common.{◌≡◌, ◌⊎◌, inl, inr, ⊎_elim, ℕ, ◌<◌, true, false, Option, List, [], ◌∷◌, ◌++◌, refl, sym, ap, ◌∙◌, subst, arith}
-use Rattle.papaya_law.specs.Exchange.{Word, Empty, Closed, Live, Marked, Copied, Tombstone, Setting}
-use Rattle.papaya_law.specs.Exchange.{State, Exchange, Open, Claim, Replace, Delete, Link, Mark}
+use Rattle.papaya_law.specs.Exchange.{Word, Empty, Closed, Live, Marked, Copied, Buried, Setting}
+use Rattle.papaya_law.specs.Exchange.{State, Exchange, Open, Claim, Replace, Bury, Link, Mark}
 use Rattle.papaya_law.specs.Exchange.{Close, Place, Finish, Advance, Promote, Abort, Take, after}
 use Rattle.papaya_law.specs.Exchange.{run}
 use Rattle.papaya_law.specs.View.{view, look}
@@ -66,14 +66,14 @@ module _ {K P : Type 0} (g : Setting K P) where
     stands (Live p) w h c b = absurd cc
     stands (Marked p) w h c b = ⊎_elim (λ e. e) (λ e. absurd (c p e)) b
     stands (Copied p) w h c b = b
-    stands (Tombstone p) w h c b = b
+    stands (Buried p) w h c b = b
 
     -- an exchange leaves the root, or promotes it
     keeps_root : (s : State P) (t : ℕ) → s.root ≡ t → 0 < t → (e : Exchange P) → Allows g s e → ((after s e).root ≡ t) ⊎ ((n : ℕ) × MayPromote g s t n)
     keeps_root s t is some (Open u) may = absurd (let z = may.0 in omega arith)
     keeps_root s t is some (Claim u x p) may = inl is
     keeps_root s t is some (Replace u x p q) may = inl is
-    keeps_root s t is some (Delete u x p) may = inl is
+    keeps_root s t is some (Bury u x p) may = inl is
     keeps_root s t is some (Link u n) may = inl is
     keeps_root s t is some (Mark u x p) may = inl is
     keeps_root s t is some (Close u x) may = inl is

@@ -1,6 +1,6 @@
 -- Numbers for pairs are taken one by one, and no more than the limit lets.
 use Rattle.std.proofs.Common.{◌≡◌, ℕ, ◌<◌, ◌≤◌, Some, MatchOption, List, [], ◌∷◌, subst, arith}
-use Rattle.papaya_law.specs.Exchange.{Setting, State, Exchange, Open, Claim, Replace, Delete, Link}
+use Rattle.papaya_law.specs.Exchange.{Setting, State, Exchange, Open, Claim, Replace, Bury, Link}
 use Rattle.papaya_law.specs.Exchange.{Mark, Close, Place, Finish, Advance, Promote, Abort, Take}
 use Rattle.papaya_law.specs.Exchange.{after, run}
 use Rattle.papaya_law.specs.Allows.{Allows, AllAllowed}
@@ -11,7 +11,7 @@ module _ {K P : Type 0} (g : Setting K P) (n : ℕ) (most : g.most ≡ Some n) w
   number_below s (Open t) may le = le
   number_below s (Claim t x p) may le = le
   number_below s (Replace t x p q) may le = le
-  number_below s (Delete t x p) may le = le
+  number_below s (Bury t x p) may le = le
   number_below s (Link t u) may le = le
   number_below s (Mark t x p) may le = le
   number_below s (Close t x) may le = le

@@ -1,7 +1,7 @@
 -- One slot's word changes: what each class of keys sees of it.
 use Rattle.std.proofs.Common.{◌≡◌, ◌⊎◌, inl, inr, ⊎_elim, ℕ, true, false, cond, ◌==◌, ◌&&◌, refl, sym, ap, ◌∙◌, eqb-true, eq-eqb}
 use Rattle.std.proofs.lemmas.Bool.{and_parts, and_from, cond-true, cond-false, cases_Bool}
-use Rattle.papaya_law.specs.Exchange.{Word, Empty, Closed, Live, Marked, Copied, Tombstone, Setting, State, slot_put}
+use Rattle.papaya_law.specs.Exchange.{Word, Empty, Closed, Live, Marked, Copied, Buried, Setting, State, slot_put}
 use Rattle.papaya_law.specs.View.{Foreign, Here, Leaving, Gone, Grave, view, look}
 use Rattle.papaya_law.specs.Meaning.{IsLawful}
 use Rattle.papaya_law.proofs.Class.{IsTurn}
@@ -56,7 +56,7 @@ module _ {K P : Type 0} (g : Setting K P) where
       (λ h. let c = cond-false (g.same k (g.key q)) (Leaving q) Foreign h in absurd (cc (c, e))) (cases_Bool (g.same k (g.key q)))
   view_leaving k (Copied q) p e = ⊎_elim (λ h. let c = cond-true (g.same k (g.key q)) (Gone q) Foreign h in absurd (cc (c, e)))
       (λ h. let c = cond-false (g.same k (g.key q)) (Gone q) Foreign h in absurd (cc (c, e))) (cases_Bool (g.same k (g.key q)))
-  view_leaving k (Tombstone q) p e = ⊎_elim (λ h. let c = cond-true (g.same k (g.key q)) (Grave q) Foreign h in absurd (cc (c, e)))
+  view_leaving k (Buried q) p e = ⊎_elim (λ h. let c = cond-true (g.same k (g.key q)) (Grave q) Foreign h in absurd (cc (c, e)))
       (λ h. let c = cond-false (g.same k (g.key q)) (Grave q) Foreign h in absurd (cc (c, e))) (cases_Bool (g.same k (g.key q)))
 
   -- of a Copied one
@@ -70,11 +70,11 @@ module _ {K P : Type 0} (g : Setting K P) where
   view_gone k (Copied q) p e = ⊎_elim (λ h. let c = cond-true (g.same k (g.key q)) (Gone q) Foreign h in let same : q ≡ p = cc (c, e) in
       (ap Copied same, ap (λ y. g.same k (g.key y)) (sym same) ∙ h))
       (λ h. let c = cond-false (g.same k (g.key q)) (Gone q) Foreign h in absurd (cc (c, e))) (cases_Bool (g.same k (g.key q)))
-  view_gone k (Tombstone q) p e = ⊎_elim (λ h. let c = cond-true (g.same k (g.key q)) (Grave q) Foreign h in absurd (cc (c, e)))
+  view_gone k (Buried q) p e = ⊎_elim (λ h. let c = cond-true (g.same k (g.key q)) (Grave q) Foreign h in absurd (cc (c, e)))
       (λ h. let c = cond-false (g.same k (g.key q)) (Grave q) Foreign h in absurd (cc (c, e))) (cases_Bool (g.same k (g.key q)))
 
-  -- of a Tombstone one
-  pub view_grave : (k : K) (w : Word P) (p : P) → view g k w ≡ Grave p → (w ≡ Tombstone p) × (g.same k (g.key p) ≡ true)
+  -- of a Buried word
+  pub view_grave : (k : K) (w : Word P) (p : P) → view g k w ≡ Grave p → (w ≡ Buried p) × (g.same k (g.key p) ≡ true)
   view_grave k Empty p e = absurd cc
   view_grave k Closed p e = absurd cc
   view_grave k (Live q) p e = ⊎_elim (λ h. let c = cond-true (g.same k (g.key q)) (Here q) Foreign h in absurd (cc (c, e)))
@@ -83,8 +83,8 @@ module _ {K P : Type 0} (g : Setting K P) where
       (λ h. let c = cond-false (g.same k (g.key q)) (Leaving q) Foreign h in absurd (cc (c, e))) (cases_Bool (g.same k (g.key q)))
   view_grave k (Copied q) p e = ⊎_elim (λ h. let c = cond-true (g.same k (g.key q)) (Gone q) Foreign h in absurd (cc (c, e)))
       (λ h. let c = cond-false (g.same k (g.key q)) (Gone q) Foreign h in absurd (cc (c, e))) (cases_Bool (g.same k (g.key q)))
-  view_grave k (Tombstone q) p e = ⊎_elim (λ h. let c = cond-true (g.same k (g.key q)) (Grave q) Foreign h in let same : q ≡ p = cc (c, e) in
-      (ap Tombstone same, ap (λ y. g.same k (g.key y)) (sym same) ∙ h))
+  view_grave k (Buried q) p e = ⊎_elim (λ h. let c = cond-true (g.same k (g.key q)) (Grave q) Foreign h in let same : q ≡ p = cc (c, e) in
+      (ap Buried same, ap (λ y. g.same k (g.key y)) (sym same) ∙ h))
       (λ h. let c = cond-false (g.same k (g.key q)) (Grave q) Foreign h in absurd (cc (c, e))) (cases_Bool (g.same k (g.key q)))
 
   -- of a Live one
@@ -97,7 +97,7 @@ module _ {K P : Type 0} (g : Setting K P) where
       (λ h. let c = cond-false (g.same k (g.key q)) (Leaving q) Foreign h in absurd (cc (c, e))) (cases_Bool (g.same k (g.key q)))
   view_here k (Copied q) p e = ⊎_elim (λ h. let c = cond-true (g.same k (g.key q)) (Gone q) Foreign h in absurd (cc (c, e)))
       (λ h. let c = cond-false (g.same k (g.key q)) (Gone q) Foreign h in absurd (cc (c, e))) (cases_Bool (g.same k (g.key q)))
-  view_here k (Tombstone q) p e = ⊎_elim (λ h. let c = cond-true (g.same k (g.key q)) (Grave q) Foreign h in absurd (cc (c, e)))
+  view_here k (Buried q) p e = ⊎_elim (λ h. let c = cond-true (g.same k (g.key q)) (Grave q) Foreign h in absurd (cc (c, e)))
       (λ h. let c = cond-false (g.same k (g.key q)) (Grave q) Foreign h in absurd (cc (c, e))) (cases_Bool (g.same k (g.key q)))
 
   module _ (law : IsLawful g) where
@@ -120,7 +120,7 @@ module _ {K P : Type 0} (g : Setting K P) where
     view_same k l h (Live p) = ap (λ b. cond b (Here p) Foreign) (same_test k l (g.key p) h)
     view_same k l h (Marked p) = ap (λ b. cond b (Leaving p) Foreign) (same_test k l (g.key p) h)
     view_same k l h (Copied p) = ap (λ b. cond b (Gone p) Foreign) (same_test k l (g.key p) h)
-    view_same k l h (Tombstone p) = ap (λ b. cond b (Grave p) Foreign) (same_test k l (g.key p) h)
+    view_same k l h (Buried p) = ap (λ b. cond b (Grave p) Foreign) (same_test k l (g.key p) h)
 
     -- equal keys see the same
     pub look_same : (s : State P) (k l : K) → g.same k l ≡ true → look g s k ≡ look g s l

@@ -1,8 +1,8 @@
 -- The exchange by which a slot came to what it holds.
 use Rattle.std.proofs.Common.{◌≡◌, ⊎_elim, ℕ, Bool, true, false, Option, None, List, [], ◌∷◌, ◌++◌, refl, sym, ap, ◌∙◌, subst}
 use Rattle.std.proofs.lemmas.Bool.{cond-true}
-use Rattle.papaya_law.specs.Exchange.{Word, Empty, Closed, Live, Marked, Copied, Tombstone, Setting}
-use Rattle.papaya_law.specs.Exchange.{State, Exchange, Open, Claim, Replace, Delete, Link, Mark}
+use Rattle.papaya_law.specs.Exchange.{Word, Empty, Closed, Live, Marked, Copied, Buried, Setting}
+use Rattle.papaya_law.specs.Exchange.{State, Exchange, Open, Claim, Replace, Bury, Link, Mark}
 use Rattle.papaya_law.specs.Exchange.{Close, Place, Finish, Advance, Promote, Abort, Take, after}
 use Rattle.papaya_law.specs.Exchange.{run, slot_put}
 use Rattle.papaya_law.specs.Allows.{Allows, AllAllowed}
@@ -12,14 +12,14 @@ use Rattle.papaya_law.proofs.Slots.{slot_cases}
 use Rattle.papaya_law.proofs.Moments.{run-append, map_of-append, allowed_rest}
 use Rattle.papaya_law.proofs.Later.{later_run}
 
--- the word is a Tombstone one
-abbrev pub tombstone : {P : Type 0} → Word P → Bool
-tombstone Empty = false
-tombstone Closed = false
-tombstone (Live p) = false
-tombstone (Marked p) = false
-tombstone (Copied p) = false
-tombstone (Tombstone p) = true
+-- the word is Buried
+abbrev pub buried : {P : Type 0} → Word P → Bool
+buried Empty = false
+buried Closed = false
+buried (Live p) = false
+buried (Marked p) = false
+buried (Copied p) = false
+buried (Buried p) = true
 
 -- the word is a Copied one
 abbrev pub copied : {P : Type 0} → Word P → Bool
@@ -28,7 +28,7 @@ copied Closed = false
 copied (Live p) = false
 copied (Marked p) = false
 copied (Copied p) = true
-copied (Tombstone p) = false
+copied (Buried p) = false
 
 -- the exchange of fs by which the slot's word first met the test
 pub record IsTurnOf {K P : Type 0} (g : Setting K P) (test : Word P → Bool) (s : State P) (t x : ℕ) (fs : List (Exchange P)) : Type 0 where
@@ -67,21 +67,21 @@ module _ {K P : Type 0} (g : Setting K P) where
       (slot_cases s u y w t x)
 
   -- only a deletion deletes
-  by_deletion : (s : State P) (t x : ℕ) (e : Exchange P) → Allows g s e → tombstone (s.slot t x) ≡ false → tombstone ((after s e).slot t x) ≡ true
-      → (p : P) × (e ≡ Delete t x p)
-  by_deletion s t x (Open u) may old new = absurd (cc (old, new))
-  by_deletion s t x (Claim u y p) may old new = absurd (let r = changed tombstone s t x u y (Live p) old new in let f = r.2 in cc f)
-  by_deletion s t x (Replace u y p q) may old new = absurd (let r = changed tombstone s t x u y (Live q) old new in let f = r.2 in cc f)
-  by_deletion s t x (Delete u y p) may old new = let r = changed tombstone s t x u y (Tombstone p) old new in (p, cc (r.0, r.1))
-  by_deletion s t x (Link u n) may old new = absurd (cc (old, new))
-  by_deletion s t x (Mark u y p) may old new = absurd (let r = changed tombstone s t x u y (Marked p) old new in let f = r.2 in cc f)
-  by_deletion s t x (Close u y) may old new = absurd (let r = changed tombstone s t x u y Closed old new in let f = r.2 in cc f)
-  by_deletion s t x (Place u y p) may old new = absurd (let r = changed tombstone s t x u y (Live p) old new in let f = r.2 in cc f)
-  by_deletion s t x (Finish u y p) may old new = absurd (let r = changed tombstone s t x u y (Copied p) old new in let f = r.2 in cc f)
-  by_deletion s t x (Advance n c) may old new = absurd (cc (old, new))
-  by_deletion s t x (Promote u n) may old new = absurd (cc (old, new))
-  by_deletion s t x (Abort n) may old new = absurd (cc (old, new))
-  by_deletion s t x (Take n) may old new = absurd (cc (old, new))
+  by_burial : (s : State P) (t x : ℕ) (e : Exchange P) → Allows g s e → buried (s.slot t x) ≡ false → buried ((after s e).slot t x) ≡ true
+      → (p : P) × (e ≡ Bury t x p)
+  by_burial s t x (Open u) may old new = absurd (cc (old, new))
+  by_burial s t x (Claim u y p) may old new = absurd (let r = changed buried s t x u y (Live p) old new in let f = r.2 in cc f)
+  by_burial s t x (Replace u y p q) may old new = absurd (let r = changed buried s t x u y (Live q) old new in let f = r.2 in cc f)
+  by_burial s t x (Bury u y p) may old new = let r = changed buried s t x u y (Buried p) old new in (p, cc (r.0, r.1))
+  by_burial s t x (Link u n) may old new = absurd (cc (old, new))
+  by_burial s t x (Mark u y p) may old new = absurd (let r = changed buried s t x u y (Marked p) old new in let f = r.2 in cc f)
+  by_burial s t x (Close u y) may old new = absurd (let r = changed buried s t x u y Closed old new in let f = r.2 in cc f)
+  by_burial s t x (Place u y p) may old new = absurd (let r = changed buried s t x u y (Live p) old new in let f = r.2 in cc f)
+  by_burial s t x (Finish u y p) may old new = absurd (let r = changed buried s t x u y (Copied p) old new in let f = r.2 in cc f)
+  by_burial s t x (Advance n c) may old new = absurd (cc (old, new))
+  by_burial s t x (Promote u n) may old new = absurd (cc (old, new))
+  by_burial s t x (Abort n) may old new = absurd (cc (old, new))
+  by_burial s t x (Take n) may old new = absurd (cc (old, new))
 
   -- only a finish makes a word Copied
   pub by_finish : (s : State P) (t x : ℕ) (e : Exchange P) → Allows g s e → copied (s.slot t x) ≡ false → copied ((after s e).slot t x) ≡ true
@@ -89,7 +89,7 @@ module _ {K P : Type 0} (g : Setting K P) where
   by_finish s t x (Open u) may old new = absurd (cc (old, new))
   by_finish s t x (Claim u y p) may old new = absurd (let r = changed copied s t x u y (Live p) old new in let f = r.2 in cc f)
   by_finish s t x (Replace u y p q) may old new = absurd (let r = changed copied s t x u y (Live q) old new in let f = r.2 in cc f)
-  by_finish s t x (Delete u y p) may old new = absurd (let r = changed copied s t x u y (Tombstone p) old new in let f = r.2 in cc f)
+  by_finish s t x (Bury u y p) may old new = absurd (let r = changed copied s t x u y (Buried p) old new in let f = r.2 in cc f)
   by_finish s t x (Link u n) may old new = absurd (cc (old, new))
   by_finish s t x (Mark u y p) may old new = absurd (let r = changed copied s t x u y (Marked p) old new in let f = r.2 in cc f)
   by_finish s t x (Close u y) may old new = absurd (let r = changed copied s t x u y Closed old new in let f = r.2 in cc f)
@@ -100,19 +100,19 @@ module _ {K P : Type 0} (g : Setting K P) where
   by_finish s t x (Abort n) may old new = absurd (cc (old, new))
   by_finish s t x (Take n) may old new = absurd (cc (old, new))
 
-  -- a slot whose word of key k was no Tombstone one, and now is: at a moment since then the map had none
+  -- a slot whose word of key k was not Buried, and now is: at a moment since then the map had none
   pub none_since : (law : IsLawful g) (m : K → Option P) (k : K) (t x : ℕ) (fs : List (Exchange P)) (s : State P) → AllAllowed g s fs
-      → tombstone (s.slot t x) ≡ false → (p : P) → (run fs s).slot t x ≡ Tombstone p → g.same k (g.key p) ≡ true → IsAtMoment g m fs k None
+      → buried (s.slot t x) ≡ false → (p : P) → (run fs s).slot t x ≡ Buried p → g.same k (g.key p) ≡ true → IsAtMoment g m fs k None
   none_since law m k t x fs s may old p now same =
-      let r = turn_of tombstone t x fs s may old (ap tombstone now) in
-      let b = by_deletion (run r.so_far s) t x r.by r.may r.old r.new in
+      let r = turn_of buried t x fs s may old (ap buried now) in
+      let b = by_burial (run r.so_far s) t x r.by r.may r.old r.new in
       let may' : AllAllowed g s (r.so_far ++ r.by ∷ r.rest) = subst (AllAllowed g s) (sym r.is) may in
       let late = later_run g law r.rest (after (run r.so_far s) r.by) (allowed_rest g r.so_far (r.by ∷ r.rest) s may').1 in
       let end : (run fs s).slot t x ≡ (run r.rest (after (run r.so_far s) r.by)).slot t x = ap (λ l. (run l s).slot t x) (sym r.is)
       ∙ ap (λ z. z.slot t x) (run-append r.so_far (r.by ∷ r.rest) s) in
-      let then' : (after (run r.so_far s) r.by).slot t x ≡ Tombstone b.0 = ap (λ e. (after (run r.so_far s) e).slot t x) b.1
-      ∙ written (run r.so_far s) t x (Tombstone b.0) in
-      let stays : (run r.rest (after (run r.so_far s) r.by)).slot t x ≡ Tombstone
+      let then' : (after (run r.so_far s) r.by).slot t x ≡ Buried b.0 = ap (λ e. (after (run r.so_far s) e).slot t x) b.1
+      ∙ written (run r.so_far s) t x (Buried b.0) in
+      let stays : (run r.rest (after (run r.so_far s) r.by)).slot t x ≡ Buried
       b.0 = subst (λ w. Becomes g w ((run r.rest (after (run r.so_far s) r.by)).slot t x)) then' (late.words t x) in
       let q : b.0 ≡ p = cc (end, stays, now) in
       record {

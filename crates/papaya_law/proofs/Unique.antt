@@ -2,7 +2,7 @@
 use Rattle.std.proofs.Common.{◌≡◌, ◌⊎◌, inl, inr, ⊎_elim, ℕ, zero, suc, ◌+◌, ◌<◌, ◌≤◌, ◌==◌, true}
 use Rattle.std.proofs.Common.{false, Option, List, [], ◌∷◌, refl, sym, ◌∙◌, subst, arith, eqb-true}
 use Rattle.std.proofs.lemmas.Bool.{cases_Bool, cases_lt, cond-false}
-use Rattle.papaya_law.specs.Exchange.{Setting, State, Exchange, Open, Claim, Replace, Delete, Link}
+use Rattle.papaya_law.specs.Exchange.{Setting, State, Exchange, Open, Claim, Replace, Bury, Link}
 use Rattle.papaya_law.specs.Exchange.{Mark, Close, Place, Finish, Advance, Promote, Abort, Take}
 use Rattle.papaya_law.specs.Exchange.{after, run, start}
 use Rattle.papaya_law.specs.View.{View, Free, Foreign, Here, Leaving, Gone, Grave, look, beyond, IsPassed, IsReached}
@@ -21,7 +21,7 @@ step_bounded : {P : Type 0} → (s : State P) (e : Exchange P) → IsBounded s �
 step_bounded s (Open t) h = h
 step_bounded s (Claim t x p) h = h
 step_bounded s (Replace t x p q) h = h
-step_bounded s (Delete t x p) h = h
+step_bounded s (Bury t x p) h = h
 step_bounded s (Link t n) h = (
   h.0 + suc t,
   λ u le. let above : suc t ≤ u = omega arith in let b : h.0 ≤ u = omega arith in

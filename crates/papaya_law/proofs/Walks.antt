@@ -1,7 +1,7 @@
 -- What a walk over the slots of a root meets.
 use Rattle.std.proofs.Common.{◌≡◌, ◌⊎◌, inl, inr, ⊎_elim, ℕ, ◌<◌, true, false, Option, None, Some, List, ◌∷◌, refl, sym, ap, ◌∙◌, subst, arith}
 use Rattle.std.proofs.lemmas.Bool.{cases_order, cases_Bool, cond-true}
-use Rattle.papaya_law.specs.Exchange.{Word, Empty, Closed, Live, Marked, Copied, Tombstone, Setting, State, Exchange, Finish, run}
+use Rattle.papaya_law.specs.Exchange.{Word, Empty, Closed, Live, Marked, Copied, Buried, Setting, State, Exchange, Finish, run}
 use Rattle.papaya_law.specs.View.{View, Free, Foreign, Here, Leaving, Gone, Grave, view, look, own, active, held, IsReached}
 use Rattle.papaya_law.specs.Allows.{AllAllowed}
 use Rattle.papaya_law.specs.Meaning.{map_of, IsAtMoment, IsLawful}
@@ -17,7 +17,7 @@ use Rattle.papaya_law.proofs.Incremental.States.{reached_front}
 use Rattle.papaya_law.proofs.Incremental.Steps.{run_incremental, meaning_incremental}
 use Rattle.papaya_law.proofs.Later.{own_sees, sees_later, later_run, lasts}
 use Rattle.papaya_law.proofs.Moments.{run-append, allowed_first, allowed_rest}
-use Rattle.papaya_law.proofs.Turns.{tombstone, copied, IsTurnOf, none_since, turn_of, by_finish}
+use Rattle.papaya_law.proofs.Turns.{buried, copied, IsTurnOf, none_since, turn_of, by_finish}
 
 module _ {K P : Type 0} (g : Setting K P) (law : IsLawful g) where
   -- a root without a next table holds each pair of the map
@@ -73,30 +73,30 @@ module _ {K P : Type 0} (g : Setting K P) (law : IsLawful g) where
   stood_copied (Live q) p h b = absurd cc
   stood_copied (Marked q) p h b = absurd cc
   stood_copied (Copied q) p h b = sym b
-  stood_copied (Tombstone q) p h b = absurd cc
+  stood_copied (Buried q) p h b = absurd cc
 
-  -- nor a Tombstone another Tombstone one
-  stood_tombstone : (u : Word P) (p : P) → tombstone u ≡ true → Becomes g u (Tombstone p) → u ≡ Tombstone p
-  stood_tombstone Empty p h b = absurd cc
-  stood_tombstone Closed p h b = absurd cc
-  stood_tombstone (Live q) p h b = absurd cc
-  stood_tombstone (Marked q) p h b = absurd cc
-  stood_tombstone (Copied q) p h b = absurd cc
-  stood_tombstone (Tombstone q) p h b = sym b
+  -- nor a Buried word another Buried word
+  stood_buried : (u : Word P) (p : P) → buried u ≡ true → Becomes g u (Buried p) → u ≡ Buried p
+  stood_buried Empty p h b = absurd cc
+  stood_buried Closed p h b = absurd cc
+  stood_buried (Live q) p h b = absurd cc
+  stood_buried (Marked q) p h b = absurd cc
+  stood_buried (Copied q) p h b = absurd cc
+  stood_buried (Buried q) p h b = sym b
 
-  -- a Tombstone where it wasn't: at a moment since the map had none
-  pub tombstone_since : (m : K → Option P) (k : K) (t j : ℕ) (p : P) (fs : List (Exchange P)) (s : State P) → AllAllowed g s fs
+  -- Buried where it wasn't: at a moment since the map had none
+  pub buried_since : (m : K → Option P) (k : K) (t j : ℕ) (p : P) (fs : List (Exchange P)) (s : State P) → AllAllowed g s fs
       → (look g s k t j ≡ Grave p → ⊥) → look g (run fs s) k t j ≡ Grave p → IsAtMoment g m fs k None
-  tombstone_since m k t j p fs s may old now =
+  buried_since m k t j p fs s may old now =
       let x : ℕ = g.place k t j in
       let w = view_grave g k ((run fs s).slot t x) p now in
-      let not_yet : tombstone (s.slot t x) ≡ false =
+      let not_yet : buried (s.slot t x) ≡ false =
       ⊎_elim
       (λ h.
-      let stood : s.slot t x ≡ Tombstone p = stood_tombstone (s.slot t x) p h (subst (Becomes g (s.slot t x)) w.0 ((later_run g law fs s may).words t x)) in
+      let stood : s.slot t x ≡ Buried p = stood_buried (s.slot t x) p h (subst (Becomes g (s.slot t x)) w.0 ((later_run g law fs s may).words t x)) in
       absurd (old (subst (λ y. view g k y ≡ Grave p) (sym stood) (cond-true (g.same k (g.key p)) (Grave p) Foreign w.1))))
       (λ h. h)
-      (cases_Bool (tombstone (s.slot t x))) in
+      (cases_Bool (buried (s.slot t x))) in
       none_since g law m k t x fs s may not_yet p w.0 w.1
 
   -- where a slot had the key's pair, its word shows a pair of the key still, or the map had none at a moment since
@@ -113,7 +113,7 @@ module _ {K P : Type 0} (g : Setting K P) (law : IsLawful g) where
       by_view (Here p) e o = inl refl
       by_view (Leaving p) e o = inl refl
       by_view (Gone p) e o = inl refl
-      by_view (Grave p) e o = inr (tombstone_since m k t j p fs s may (λ q. cc (q, h)) e)
+      by_view (Grave p) e o = inr (buried_since m k t j p fs s may (λ q. cc (q, h)) e)
 
   -- a Copied word where it wasn't: its pair was the map's at a moment since
   pub copied_since : g.blocking ≡ false → (s : State P) (m : K → Option P) → IsIncrementalState g s m

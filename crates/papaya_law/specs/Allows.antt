@@ -3,7 +3,7 @@
 -- read off the words as they are now.
 use Rattle.std.specs.Prelude.{◌≡◌, ℕ, ◌<◌, MatchOption, true, false, List, [], ◌∷◌}
 use Rattle.papaya_law.specs.Exchange.{Empty, Live, Marked, Setting, Exchange, Open, Claim, Replace}
-use Rattle.papaya_law.specs.Exchange.{Delete, Link, Mark, Close, Place, Finish, Advance, Promote}
+use Rattle.papaya_law.specs.Exchange.{Bury, Link, Mark, Close, Place, Finish, Advance, Promote}
 use Rattle.papaya_law.specs.Exchange.{Abort, Take, State, after}
 use Rattle.papaya_law.specs.View.{look, beyond, foreign, IsFull, HasWord, IsNextPlace, IsReached}
 use Rattle.papaya_law.specs.Class.{IsOn}
@@ -25,7 +25,7 @@ pub record MayReplace {K P : Type 0} (g : Setting K P) (s : State P) (t x : ℕ)
   pub kept : g.key q ≡ g.key p
 
 -- Delete: p is removed.
-pub record MayDelete {K P : Type 0} (g : Setting K P) (s : State P) (t x : ℕ) (p : P) : Type 0 where
+pub record MayBury {K P : Type 0} (g : Setting K P) (s : State P) (t x : ℕ) (p : P) : Type 0 where
   pub live : s.slot t x ≡ Live p
   pub reached : IsReached g s (g.key p) t
 
@@ -54,7 +54,7 @@ pub record MayClose {K P : Type 0} (g : Setting K P) (s : State P) (t x : ℕ) :
   pub further : 0 < s.next t
 
 -- Place: a copier puts p, which stood marked, into a table that takes it, behind other keys' words
--- and Closed alone: a Tombstone of its key says that the copy came and was removed.
+-- and Closed alone: a Buried word of its key says that the copy came and was removed.
 pub record MayPlace {K P : Type 0} (g : Setting K P) (s : State P) (n x : ℕ) (p : P) : Type 0 where
   pub empty : s.slot n x ≡ Empty
   pub source : IsCopied g s n p
@@ -100,7 +100,7 @@ abbrev pub Allows : {K P : Type 0} → Setting K P → State P → Exchange P �
 Allows g s (Open t) = (s.root ≡ 0) × (0 < t)
 Allows g s (Claim t x p) = MayClaim g s t x p
 Allows g s (Replace t x p q) = MayReplace g s t x p q
-Allows g s (Delete t x p) = MayDelete g s t x p
+Allows g s (Bury t x p) = MayBury g s t x p
 Allows g s (Link t n) = MayLink g s t n
 Allows g s (Mark t x p) = MayMark g s t x p
 Allows g s (Close t x) = MayClose g s t x

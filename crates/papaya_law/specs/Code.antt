@@ -2,9 +2,9 @@
 use Rattle.std.specs.Prelude.{◌≡◌, ℕ, ◌<◌, ◌^◌, true, Some}
 use Rattle.papaya_words.specs.declared.word.Kind.{Kind}
 use Rattle.papaya_words.specs.declared.word.Kind.TheVariants as kinds
-use Rattle.papaya_words.specs.Word.{live_word, marked_word, copied_word, tombstone_word}
-use Rattle.papaya_law.specs.Exchange.{Word, Empty, Closed, Live, Marked, Copied, Tombstone, Setting}
-use Rattle.papaya_law.specs.Exchange.{Exchange, Claim, Replace, Delete, Mark, Close, Place, Finish}
+use Rattle.papaya_words.specs.Word.{live_word, marked_word, copied_word, buried_word}
+use Rattle.papaya_law.specs.Exchange.{Word, Empty, Closed, Live, Marked, Copied, Buried, Setting}
+use Rattle.papaya_law.specs.Exchange.{Exchange, Claim, Replace, Bury, Mark, Close, Place, Finish}
 use Rattle.papaya_law.specs.Invariant.{named}
 use Rattle.papaya_law.specs.Meaning.{IsLawful}
 use Rattle.papaya_words.specs.Probe.{place}
@@ -32,7 +32,7 @@ code g c Closed = 5
 code g c (Live p) = live_word (c.number p)
 code g c (Marked p) = marked_word (c.number p)
 code g c (Copied p) = copied_word (c.number p)
-code g c (Tombstone p) = tombstone_word (c.number p)
+code g c (Buried p) = buried_word (c.number p)
 
 -- the kind of a word
 abbrev pub kind : {P : Type 0} → Word P → Kind
@@ -41,7 +41,7 @@ kind Closed = kinds.Closed
 kind (Live p) = kinds.Live
 kind (Marked p) = kinds.Marked
 kind (Copied p) = kinds.Copied
-kind (Tombstone p) = kinds.Tombstone
+kind (Buried p) = kinds.Buried
 
 -- Two words are of one kind, and the pairs that they name have one number.
 pub record AreAlike {K P : Type 0} (g : Setting K P) (c : Coding K P) (v w : Word P) : Type 0 where
@@ -52,7 +52,7 @@ pub record AreAlike {K P : Type 0} (g : Setting K P) (c : Coding K P) (v w : Wor
 abbrev pub ChangesSlot : {P : Type 0} → Exchange P → ℕ → ℕ → Type 0
 ChangesSlot (Claim t x p) u y = (t ≡ u) × (x ≡ y)
 ChangesSlot (Replace t x p q) u y = (t ≡ u) × (x ≡ y)
-ChangesSlot (Delete t x p) u y = (t ≡ u) × (x ≡ y)
+ChangesSlot (Bury t x p) u y = (t ≡ u) × (x ≡ y)
 ChangesSlot (Mark t x p) u y = (t ≡ u) × (x ≡ y)
 ChangesSlot (Close t x) u y = (t ≡ u) × (x ≡ y)
 ChangesSlot (Place n x p) u y = (n ≡ u) × (x ≡ y)
@@ -66,4 +66,4 @@ IsOfKind kinds.Closed w = w ≡ Closed
 IsOfKind {P = P} kinds.Live w = (p : P) × (w ≡ Live p)
 IsOfKind {P = P} kinds.Marked w = (p : P) × (w ≡ Marked p)
 IsOfKind {P = P} kinds.Copied w = (p : P) × (w ≡ Copied p)
-IsOfKind {P = P} kinds.Tombstone w = (p : P) × (w ≡ Tombstone p)
+IsOfKind {P = P} kinds.Buried w = (p : P) × (w ≡ Buried p)

@@ -1,6 +1,6 @@
 -- What the table of the root has, as a list of pairs, and the map that such a list is.
 use Rattle.std.specs.Prelude.{◌≡◌, ℕ, zero, suc, ◌++◌, Bool, cond, Option, None, Some, List, [], ◌∷◌}
-use Rattle.papaya_law.specs.Exchange.{Word, Live, Marked, Setting, State, Exchange, Claim, Delete}
+use Rattle.papaya_law.specs.Exchange.{Word, Live, Marked, Setting, State, Exchange, Claim, Bury}
 
 -- the pair that a search finds in a slot, if there is one
 abbrev pub pairs_of_word : {P : Type 0} → Word P → List P
@@ -31,5 +31,5 @@ AreApart same key (p ∷ ps) = (lookup same key ps (key p) ≡ None) × AreApart
 -- deletion takes one out
 abbrev pub IsCountAfter : {P : Type 0} → Exchange P → ℕ → ℕ → Type 0
 IsCountAfter (Claim t x p) before now = now ≡ suc before
-IsCountAfter (Delete t x p) before now = suc now ≡ before
+IsCountAfter (Bury t x p) before now = suc now ≡ before
 IsCountAfter _ before now = now ≡ before

@@ -1,6 +1,6 @@
 -- Two lists of exchanges that are allowed, one in each mode, together of every kind.
 use Rattle.std.specs.Prelude.{ℕ, ◌/◌, ◌==◌, true, false, cond, List, [], ◌∷◌, None, Some}
-use Rattle.papaya_law.specs.Exchange.{Setting, Exchange, Open, Claim, Replace, Delete, Link, Mark, Close, Place, Finish, Advance, Promote, Abort, Take}
+use Rattle.papaya_law.specs.Exchange.{Setting, Exchange, Open, Claim, Replace, Bury, Link, Mark, Close, Place, Finish, Advance, Promote, Abort, Take}
 
 -- without blocking: two slots a table; pairs 70 to 79 have the key 7
 abbrev pub by_two : Setting ℕ ℕ
@@ -21,7 +21,7 @@ by_two = record {
 -- removed there
 abbrev pub two_tables : List (Exchange ℕ)
 two_tables = Take 0 ∷ Open 1 ∷ Claim 1 0 70 ∷ Replace 1 0 70 71 ∷ Link 1 2 ∷ Mark 1 0 71
-    ∷ Place 2 0 71 ∷ Finish 1 0 71 ∷ Close 1 1 ∷ Advance 2 0 ∷ Promote 1 2 ∷ Delete 2 0 71 ∷ []
+    ∷ Place 2 0 71 ∷ Finish 1 0 71 ∷ Close 1 1 ∷ Advance 2 0 ∷ Promote 1 2 ∷ Bury 2 0 71 ∷ []
 
 -- with blocking: table 2 has one slot
 abbrev pub of_one : Setting ℕ ℕ

@@ -1,6 +1,6 @@
 -- What every allowed exchange keeps of all words and all keys, in each mode.
 use Rattle.std.specs.Prelude.{◌≡◌, ◌⊎◌, ℕ, ◌<◌, ◌≤◌, Bool, true, false, Option, None, Some}
-use Rattle.papaya_law.specs.Exchange.{Word, Empty, Closed, Live, Marked, Copied, Tombstone, Setting, State}
+use Rattle.papaya_law.specs.Exchange.{Word, Empty, Closed, Live, Marked, Copied, Buried, Setting, State}
 use Rattle.papaya_law.specs.View.{look, IsFull}
 use Rattle.papaya_law.specs.Copying.{IsSettled, IsTarget, Covers}
 use Rattle.papaya_law.specs.Class.{Rises, IsOn, IsIncrementalClass}
@@ -13,7 +13,7 @@ named Closed = None
 named (Live p) = Some p
 named (Marked p) = Some p
 named (Copied p) = Some p
-named (Tombstone p) = Some p
+named (Buried p) = Some p
 
 -- a copier was at the word
 abbrev pub shut : {P : Type 0} → Word P → Bool
@@ -26,7 +26,7 @@ shut _ = false
 abbrev pub finished : {P : Type 0} → Word P → Bool
 finished Closed = true
 finished (Copied p) = true
-finished (Tombstone p) = true
+finished (Buried p) = true
 finished _ = false
 
 -- Empty or Live: no copier was at the word, and nobody deleted it

@@ -1,6 +1,6 @@
 -- What no allowed exchange undoes, so that what a caller saw at an earlier moment still serves.
 use Rattle.std.specs.Prelude.{◌≡◌, ◌⊎◌, ℕ, ◌<◌, ◌≤◌, true, Some}
-use Rattle.papaya_law.specs.Exchange.{Word, Empty, Closed, Live, Marked, Copied, Tombstone, Setting, State}
+use Rattle.papaya_law.specs.Exchange.{Word, Empty, Closed, Live, Marked, Copied, Buried, Setting, State}
 use Rattle.papaya_law.specs.View.{look, beyond, foreign, IsPassed, IsFull, HasWord, IsNextPlace, IsReached}
 use Rattle.papaya_law.specs.Invariant.{named}
 use Rattle.papaya_law.specs.Copying.{IsTaker, IsTarget, IsCopied, IsSettled}
@@ -15,10 +15,10 @@ Becomes g (Live p) Closed = ⊥
 Becomes g (Live p) (Live q) = g.key q ≡ g.key p
 Becomes g (Live p) (Marked q) = g.key q ≡ g.key p
 Becomes g (Live p) (Copied q) = g.key q ≡ g.key p
-Becomes g (Live p) (Tombstone q) = g.key q ≡ g.key p
+Becomes g (Live p) (Buried q) = g.key q ≡ g.key p
 Becomes g (Marked p) w = (w ≡ Marked p) ⊎ (w ≡ Copied p)
 Becomes g (Copied p) w = w ≡ Copied p
-Becomes g (Tombstone p) w = w ≡ Tombstone p
+Becomes g (Buried p) w = w ≡ Buried p
 
 -- the word names a pair of just this key
 abbrev pub IsOfKey : {K P : Type 0} → Setting K P → Word P → K → Type 0

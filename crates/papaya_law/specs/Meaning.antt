@@ -1,6 +1,6 @@
 -- The map that a list of exchanges leaves, and what it is for words to mean a map.
 use Rattle.std.specs.Prelude.{◌≡◌, ◌⊎◌, ℕ, ◌<◌, ◌++◌, true, false, cond, Option, None, Some, List, [], ◌∷◌}
-use Rattle.papaya_law.specs.Exchange.{Setting, Exchange, Claim, Replace, Delete, State}
+use Rattle.papaya_law.specs.Exchange.{Setting, Exchange, Claim, Replace, Bury, State}
 use Rattle.papaya_law.specs.View.{Free, Here, Leaving, look, beyond, IsPassed, IsReached}
 
 -- Equal keys have equal places, a table has a slot, and a search looks within it, at one place
@@ -18,7 +18,7 @@ pub record IsLawful {K P : Type 0} (g : Setting K P) : Type 0 where
 abbrev pub map_after : {K P : Type 0} → Setting K P → (K → Option P) → Exchange P → K → Option P
 map_after g m (Claim t x p) k = cond (g.same k (g.key p)) (Some p) (m k)
 map_after g m (Replace t x p q) k = cond (g.same k (g.key p)) (Some q) (m k)
-map_after g m (Delete t x p) k = cond (g.same k (g.key p)) None (m k)
+map_after g m (Bury t x p) k = cond (g.same k (g.key p)) None (m k)
 map_after g m _ k = m k
 
 -- the map after a list of exchanges
@@ -34,7 +34,7 @@ map_left g es = map_of g (λ k. None) es
 abbrev pub IsLegal : {K P : Type 0} → Setting K P → (K → Option P) → Exchange P → Type 0
 IsLegal g m (Claim t x p) = m (g.key p) ≡ None
 IsLegal g m (Replace t x p q) = m (g.key p) ≡ Some p
-IsLegal g m (Delete t x p) = m (g.key p) ≡ Some p
+IsLegal g m (Bury t x p) = m (g.key p) ≡ Some p
 IsLegal g m _ = Unit {0}
 
 -- each exchange of a list is legal where it comes

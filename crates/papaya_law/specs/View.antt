@@ -1,7 +1,7 @@
 -- What the words tell a search for one key, and where that search comes. V t j is what stands at
 -- the j-th place of table t, n t is how many places t has.
 use Rattle.std.specs.Prelude.{◌≡◌, ◌⊎◌, ℕ, ◌<◌, Bool, true, false, cond}
-use Rattle.papaya_law.specs.Exchange.{Word, Empty, Closed, Live, Marked, Copied, Tombstone, Setting, State, walk}
+use Rattle.papaya_law.specs.Exchange.{Word, Empty, Closed, Live, Marked, Copied, Buried, Setting, State, walk}
 
 -- What a word tells a search. Another key's word and Closed tell the same: go on.
 pub data View (P : Type 0) : Type 0 where
@@ -19,7 +19,7 @@ view g k Closed = Foreign
 view g k (Live p) = cond (g.same k (g.key p)) (Here p) Foreign
 view g k (Marked p) = cond (g.same k (g.key p)) (Leaving p) Foreign
 view g k (Copied p) = cond (g.same k (g.key p)) (Gone p) Foreign
-view g k (Tombstone p) = cond (g.same k (g.key p)) (Grave p) Foreign
+view g k (Buried p) = cond (g.same k (g.key p)) (Grave p) Foreign
 
 -- a word of the key, of any kind
 abbrev pub own : {P : Type 0} → View P → Bool

@@ -166,7 +166,7 @@ pub fn walks_of_a_root<K, P>()
         → (k : K) (t j : ℕ) (p : P) (fs : List (Exchange P)) → AllAllowed g s fs → IsReached g s k t
         → j < g.places t → (look g s k t j ≡ Gone p → ⊥) → look g (run fs s) k t j ≡ Gone p
         → IsAtMoment g m fs k (Some p) }
-    ensures tombstone { (g : Setting K P) → IsLawful g
+    ensures buried { (g : Setting K P) → IsLawful g
         → (m : K → Option P) (k : K) (t j : ℕ) (p : P) (fs : List (Exchange P)) (s : State P)
         → AllAllowed g s fs → (look g s k t j ≡ Grave p → ⊥) → look g (run fs s) k t j ≡ Grave p
         → IsAtMoment g m fs k None }
@@ -236,8 +236,8 @@ pub fn codes<K, P>()
 pub fn words_in_a_search<K, P>()
     ensures kind { (g : Setting K P) (c : Coding K P) (w : Word P)
         → IsOfKind (kind_of (code g c w)) w }
-    ensures past_tombstone { (g : Setting K P) (c : Coding K P) (k : K) (w : Word P)
-        → kind_of (code g c w) ≡ kinds.Tombstone → beyond (view g k w) ≡ true }
+    ensures past_buried { (g : Setting K P) (c : Coding K P) (k : K) (w : Word P)
+        → kind_of (code g c w) ≡ kinds.Buried → beyond (view g k w) ≡ true }
     ensures past_closed { (g : Setting K P) (c : Coding K P) (k : K) (w : Word P)
         → kind_of (code g c w) ≡ kinds.Closed → beyond (view g k w) ≡ true }
     ensures other_key { (g : Setting K P) (k : K) (w : Word P) (p : P) → named w ≡ Some p

@@ -14,7 +14,7 @@ use Rattle.papaya_call.specs.declared.machine.Machine.{Machine}
 use Rattle.papaya_call.specs.declared.machine.State.{State as Stage}
 use Rattle.papaya_call.specs.declared.machine.State.TheVariants.{AtRoot, Making, Opening, Searching}
 use Rattle.papaya_call.specs.declared.machine.State.TheVariants.{Writing, Offering, Showing}
-use Rattle.papaya_call.specs.declared.machine.State.TheVariants.{Pairing, Putting, Deleting}
+use Rattle.papaya_call.specs.declared.machine.State.TheVariants.{Pairing, Putting, Burying}
 use Rattle.papaya_call.specs.declared.machine.State.TheVariants.{Counting, Noting, Uncounting}
 use Rattle.papaya_call.specs.declared.machine.State.TheVariants.{Leaving, Growing, Ended}
 use Rattle.papaya_call.specs.declared.made.Made.{Made}
@@ -28,9 +28,9 @@ use Rattle.papaya_call_law.proofs.NewWords.{pair_of-live_word}
 use Rattle.papaya_book.specs.Plays.{IsPutting}
 
 -- a deletion puts none in
-not_tombstone : (kind : Option StepKind) → kind ≡ Some kinds.Delete → IsPutting kind → ⊥
-not_tombstone kind is puts = ⊎_elim (λ h. let no : Some kinds.Delete ≡ Some kinds.Claim = sym is ∙ h in cc no)
-    (λ h. let no : Some kinds.Delete ≡ Some kinds.Replace = sym is ∙ h in cc no) puts
+not_buried : (kind : Option StepKind) → kind ≡ Some kinds.Bury → IsPutting kind → ⊥
+not_buried kind is puts = ⊎_elim (λ h. let no : Some kinds.Bury ≡ Some kinds.Claim = sym is ∙ h in cc no)
+    (λ h. let no : Some kinds.Bury ≡ Some kinds.Replace = sym is ∙ h in cc no) puts
 
 -- What holds of the write of a pair holds of what is asked for by it.
 module _ (Holds : (t x old n : ℕ) → Type 0) where
@@ -103,7 +103,7 @@ served_in_stage task hash made (Offering gap) s w t x old new e = absurd cc
 served_in_stage task hash made (Showing removal) s w t x old new e = absurd cc
 served_in_stage task hash made (Pairing purpose) s w t x old new e = absurd (no_computer task s.0 w)
 served_in_stage task hash made (Putting put) s w t x old new e = absurd (no_computer task s.0 w)
-served_in_stage task hash made (Deleting removal) s w t x old new e = absurd (no_writer task s.0 w)
+served_in_stage task hash made (Burying removal) s w t x old new e = absurd (no_writer task s.0 w)
 served_in_stage task hash made (Counting n) s w t x old new e = absurd cc
 served_in_stage task hash made (Noting n) s w t x old new e = absurd cc
 served_in_stage task hash made (Uncounting n) s w t x old new e = absurd cc
@@ -138,7 +138,7 @@ kind_in_stage hash made (Offering gap) t x old new e puts = absurd cc
 kind_in_stage hash made (Showing removal) t x old new e puts = absurd cc
 kind_in_stage hash made (Pairing purpose) t x old new e puts = absurd (subst IsPairAsk e (pairing_asks made purpose))
 kind_in_stage hash made (Putting put) t x old new e puts = of_ask (IsKindAt (Some (write_kind put.write))) put.write put.pair refl t x old new e
-kind_in_stage hash made (Deleting removal) t x old new e puts = absurd (not_tombstone (kind_asked made (Deleting removal)) refl puts)
+kind_in_stage hash made (Burying removal) t x old new e puts = absurd (not_buried (kind_asked made (Burying removal)) refl puts)
 kind_in_stage hash made (Counting n) t x old new e puts = absurd cc
 kind_in_stage hash made (Noting n) t x old new e puts = absurd cc
 kind_in_stage hash made (Uncounting n) t x old new e puts = absurd cc

@@ -15,7 +15,7 @@ use Rattle.papaya_call.specs.declared.machine.Machine.{Machine}
 use Rattle.papaya_call.specs.declared.machine.State.{State as Stage}
 use Rattle.papaya_call.specs.declared.machine.State.TheVariants.{AtRoot, Making, Opening, Searching}
 use Rattle.papaya_call.specs.declared.machine.State.TheVariants.{Writing, Offering, Showing}
-use Rattle.papaya_call.specs.declared.machine.State.TheVariants.{Pairing, Putting, Deleting}
+use Rattle.papaya_call.specs.declared.machine.State.TheVariants.{Pairing, Putting, Burying}
 use Rattle.papaya_call.specs.declared.machine.State.TheVariants.{Counting, Noting, Uncounting}
 use Rattle.papaya_call.specs.declared.machine.State.TheVariants.{Leaving, Growing, Ended}
 use Rattle.papaya_call.specs.declared.compute.Remembered.{Remembered}
@@ -90,7 +90,7 @@ module _ {K P : Type 0} (g : Setting K P) (c : Coding K P) (hashed : IsHashed g 
     yes_found (Showing removal) stands r n same is e m f = absurd stands.0
     yes_found (Pairing purpose) stands r n same is e m f = absurd stands.0
     yes_found (Putting put) stands r n same is e m f = absurd stands.0
-    yes_found (Deleting removal) stands r n same is e m f = absurd stands.0
+    yes_found (Burying removal) stands r n same is e m f = absurd stands.0
     yes_found (Counting j) stands r n same is e m f = absurd stands
     yes_found (Noting j) stands r n same is e m f = absurd stands
     yes_found (Uncounting j) stands r n same is e m f = absurd stands

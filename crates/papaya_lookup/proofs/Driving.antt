@@ -13,7 +13,7 @@ use Rattle.papaya_call.specs.declared.machine.Machine.{Machine}
 use Rattle.papaya_call.specs.Machine.{after, ask_of, kind_of_ask}
 use Rattle.papaya_law.specs.Allows.{AllAllowed, Allows}
 use Rattle.papaya_law.specs.Class.{IsOn}
-use Rattle.papaya_law.specs.Exchange.{Exchange, Setting, State, Word, Empty, Closed, Live, Marked, Copied, Tombstone, after as after_exchange, run, start}
+use Rattle.papaya_law.specs.Exchange.{Exchange, Setting, State, Word, Empty, Closed, Live, Marked, Copied, Buried, after as after_exchange, run, start}
 use Rattle.papaya_law.specs.Code.{Coding, code}
 use Rattle.papaya_law.specs.Invariant.{named}
 use Rattle.papaya_law.specs.Grows.{Agrees}
@@ -81,12 +81,12 @@ module _ {K V K' : Type 0} (g : Setting K' (Stored K V)) (c : Coding K' (Stored 
   asked_by_made (Some kinds.Replace) (Done t chunk) new s e own a = absurd a
   asked_by_made (Some kinds.Replace) (Slot t x) new s e own a = (a.0, a.1, a.2, own_word new a.1 a.3, keys a.0 a.1 a.4, a.5)
   asked_by_made (Some kinds.Replace) Made new s e own a = absurd a
-  asked_by_made (Some kinds.Delete) Root new s e own a = absurd a
-  asked_by_made (Some kinds.Delete) (Next t) new s e own a = absurd a
-  asked_by_made (Some kinds.Delete) (Aborted t) new s e own a = absurd a
-  asked_by_made (Some kinds.Delete) (Done t chunk) new s e own a = absurd a
-  asked_by_made (Some kinds.Delete) (Slot t x) new s e own a = a
-  asked_by_made (Some kinds.Delete) Made new s e own a = absurd a
+  asked_by_made (Some kinds.Bury) Root new s e own a = absurd a
+  asked_by_made (Some kinds.Bury) (Next t) new s e own a = absurd a
+  asked_by_made (Some kinds.Bury) (Aborted t) new s e own a = absurd a
+  asked_by_made (Some kinds.Bury) (Done t chunk) new s e own a = absurd a
+  asked_by_made (Some kinds.Bury) (Slot t x) new s e own a = a
+  asked_by_made (Some kinds.Bury) Made new s e own a = absurd a
   asked_by_made (Some kinds.Link) at new s e own a = absurd a
   asked_by_made (Some kinds.Mark) at new s e own a = absurd a
   asked_by_made (Some kinds.Close) at new s e own a = absurd a
@@ -109,7 +109,7 @@ code_same g g' c Closed = refl
 code_same g g' c (Live p) = refl
 code_same g g' c (Marked p) = refl
 code_same g g' c (Copied p) = refl
-code_same g g' c (Tombstone p) = refl
+code_same g g' c (Buried p) = refl
 
 -- and so is the word that stands at a place
 pub word_same : {K P : Type 0} (g g' : Setting K P) (c : Coding K P) (s : State P) (at : At) → word_of g' c s at ≡ word_of g c s at
@@ -276,14 +276,14 @@ module _ {K V S H : Type 0} (eq : K → K → Bool) (input : K → List (List �
       may_put kind (inr is) for g = subst MayPut (sym is) (may_replace (for.1 is) (subst (λ (z : Option StepKind). IsGranted log z loaded (Slot t x) new) is g))
 
     -- a pair is taken out
-    abbrev MayDelete : Option StepKind → Type 0
-    MayDelete kind = MayStep eq hash b (Slot t x) kind new None names.Nothing log
+    abbrev MayBury : Option StepKind → Type 0
+    MayBury kind = MayStep eq hash b (Slot t x) kind new None names.Nothing log
 
-    may_delete : (kind : Option StepKind) → kind ≡ Some kinds.Delete → IsGranted log kind loaded (Slot t x) new → MayDelete kind
-    may_delete kind is granted =
+    may_bury : (kind : Option StepKind) → kind ≡ Some kinds.Bury → IsGranted log kind loaded (Slot t x) new → MayBury kind
+    may_bury kind is granted =
         let g = subst (λ (z : Option StepKind). IsGranted log z loaded (Slot t x) new) is granted in
-        let p = g.asked.0 in let by = g.asked.2 in subst MayDelete (sym is) (record {
-          step = steps.Delete t x p;
+        let p = g.asked.0 in let by = g.asked.2 in subst MayBury (sym is) (record {
+          step = steps.Bury t x p;
           meant = record { asked = inl (p, g.asked.1, refl); with_it = refl };
           allowed = subst (Allows (plain log) (state_of log)) by g.allowed;
           written = subst (λ (e : Exchange (Stored K V)). IsWritten (plain log) c (state_of log) (Slot t x) new (after_exchange (state_of log) e)) by g.written;
@@ -304,8 +304,8 @@ module _ {K V S H : Type 0} (eq : K → K → Bool) (input : K → List (List �
         (can_exchange v l m loaded r (Slot t x) old new asks log pre l' stands)
 
     -- An exchange that takes a pair out may be tried with no pair, whatever the call has made.
-    pub can_delete : kind_of_ask m ≡ Some kinds.Delete → CanExchange eq hash b (Slot t x) (kind_of_ask m) old new None names.Nothing v
-    can_delete kind log pre l' stands = may_delete log loaded t x new (kind_of_ask m) kind
+    pub can_bury : kind_of_ask m ≡ Some kinds.Bury → CanExchange eq hash b (Slot t x) (kind_of_ask m) old new None names.Nothing v
+    can_bury kind log pre l' stands = may_bury log loaded t x new (kind_of_ask m) kind
         (can_exchange v l m loaded r (Slot t x) old new asks log pre l' stands)
 
   module _ (log : List (Event K V S)) (loaded : LoadedPairs (Stored K V)) (new : ℕ) (by : Exchange (Stored K V))
@@ -317,7 +317,7 @@ module _ {K V S H : Type 0} (eq : K → K → Bool) (input : K → List (List �
     may_take (Some kinds.Open) asked = absurd asked
     may_take (Some kinds.Claim) asked = absurd asked
     may_take (Some kinds.Replace) asked = absurd asked
-    may_take (Some kinds.Delete) asked = absurd asked
+    may_take (Some kinds.Bury) asked = absurd asked
     may_take (Some kinds.Link) asked = absurd asked
     may_take (Some kinds.Mark) asked = absurd asked
     may_take (Some kinds.Close) asked = absurd asked

@@ -2,7 +2,7 @@
 use Rattle.std.proofs.Common.{◌≡◌, ℕ, Bool, true, Option, None, List, [], ◌∷◌, ◌++◌, append_assoc, refl, sym, ap, ◌∙◌, subst}
 use Rattle.std.specs.Cmp.{IsEquivalence}
 use mathlib.Core.List.{IsPrefix}
-use Rattle.papaya_law.specs.Exchange.{Claim, Replace, Delete, Open, Link, Mark, Close, Place}
+use Rattle.papaya_law.specs.Exchange.{Claim, Replace, Bury, Open, Link, Mark, Close, Place}
 use Rattle.papaya_law.specs.Exchange.{Finish, Advance, Promote, Abort, Take, Exchange, Setting}
 use Rattle.papaya_law.specs.Exchange.{State, after, start}
 use Rattle.papaya_law.specs.Allows.{AllAllowed}
@@ -35,7 +35,7 @@ module _ {K P : Type 0} (g : Setting K P) where
   replay_is m (Open t ∷ es) = replay_is m es
   replay_is m (Claim t x p ∷ es) = replay_is (map_after g m (Claim t x p)) es
   replay_is m (Replace t x p q ∷ es) = replay_is (map_after g m (Replace t x p q)) es
-  replay_is m (Delete t x p ∷ es) = replay_is (map_after g m (Delete t x p)) es
+  replay_is m (Bury t x p ∷ es) = replay_is (map_after g m (Bury t x p)) es
   replay_is m (Link t n ∷ es) = replay_is m es
   replay_is m (Mark t x p ∷ es) = replay_is m es
   replay_is m (Close t x ∷ es) = replay_is m es
@@ -73,9 +73,9 @@ module _ {K P : Type 0} (g : Setting K P) where
     },
     legal_changes law (after s (Replace t x p q)) (map_after g m (Replace t x p q)) es may.1 legal.1,
   )
-  legal_changes law s m (Delete t x p ∷ es) may legal = (
+  legal_changes law s m (Bury t x p ∷ es) may legal = (
     record { taken_is = legal.0; some = λ a b. cc a; of_class = λ q e. absurd (cc e); kept = λ r q e f. absurd (cc f) },
-    legal_changes law (after s (Delete t x p)) (map_after g m (Delete t x p)) es may.1 legal.1,
+    legal_changes law (after s (Bury t x p)) (map_after g m (Bury t x p)) es may.1 legal.1,
   )
   legal_changes law s m (Link t n ∷ es) may legal = legal_changes law (after s (Link t n)) m es may.1 legal.1
   legal_changes law s m (Mark t x p ∷ es) may legal = legal_changes law (after s (Mark t x p)) m es may.1 legal.1

@@ -11,7 +11,7 @@ use Rattle.papaya_call.specs.declared.machine.Machine.{Machine}
 use Rattle.papaya_call.specs.declared.machine.State.{State as Stage}
 use Rattle.papaya_call.specs.declared.machine.State.TheVariants.{AtRoot, Making, Opening, Searching}
 use Rattle.papaya_call.specs.declared.machine.State.TheVariants.{Writing, Offering, Showing}
-use Rattle.papaya_call.specs.declared.machine.State.TheVariants.{Pairing, Putting, Deleting}
+use Rattle.papaya_call.specs.declared.machine.State.TheVariants.{Pairing, Putting, Burying}
 use Rattle.papaya_call.specs.declared.machine.State.TheVariants.{Counting, Noting, Uncounting}
 use Rattle.papaya_call.specs.declared.machine.State.TheVariants.{Leaving, Growing, Ended}
 use Rattle.papaya_ask.specs.declared.search.Search.TheVariants.{Sizing, Looking, Reading, Comparing}
@@ -48,7 +48,7 @@ done_state made hash (Offering gap) stands reply e = absurd stands.0
 done_state made hash (Showing removal) stands reply e = absurd stands.0
 done_state made hash (Pairing purpose) stands reply e = absurd stands.0
 done_state made hash (Putting put) stands reply e = absurd stands.0
-done_state made hash (Deleting removal) stands reply e = absurd stands.0
+done_state made hash (Burying removal) stands reply e = absurd stands.0
 done_state made hash (Counting n) stands reply e = absurd stands
 done_state made hash (Noting n) stands reply e = absurd stands
 done_state made hash (Uncounting n) stands reply e = absurd stands

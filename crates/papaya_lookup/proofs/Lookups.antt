@@ -21,7 +21,7 @@ use Rattle.papaya_call.specs.declared.made.Made.{Made}
 use Rattle.papaya_call.specs.declared.machine.State.{State}
 use Rattle.papaya_call.specs.declared.machine.State.TheVariants.{AtRoot, Making, Opening, Searching}
 use Rattle.papaya_call.specs.declared.machine.State.TheVariants.{Writing, Offering, Showing}
-use Rattle.papaya_call.specs.declared.machine.State.TheVariants.{Pairing, Putting, Deleting}
+use Rattle.papaya_call.specs.declared.machine.State.TheVariants.{Pairing, Putting, Burying}
 use Rattle.papaya_call.specs.declared.machine.State.TheVariants.{Counting, Noting, Uncounting}
 use Rattle.papaya_call.specs.declared.machine.State.TheVariants.{Leaving, Growing, Ended}
 use Rattle.papaya_call.specs.declared.machine.Machine.{Machine}
@@ -75,7 +75,7 @@ module _ (mode : ResizeMode) (held : Remembered) (at : Place) (within : at.probe
   leads_look kinds.Live word = leads_compare word
   leads_look kinds.Marked word = leads_compare word
   leads_look kinds.Copied word = leads_compare word
-  leads_look kinds.Tombstone word = leads_on word_read (omega arith)
+  leads_look kinds.Buried word = leads_on word_read (omega arith)
   leads_look kinds.Closed word = leads_on word_read (omega arith)
 
   -- of a comparison
@@ -87,7 +87,7 @@ module _ (mode : ResizeMode) (held : Remembered) (at : Place) (within : at.probe
   leads_match kinds.Live word = follows_ended at.table compared (Found (pair_of word))
   leads_match kinds.Marked word = follows_ended at.table compared (Found (pair_of word))
   leads_match kinds.Copied word = follows_passes mode held.fill at.table compared (omega (arith, within))
-  leads_match kinds.Tombstone word = follows_ended at.table compared (Found (pair_of word))
+  leads_match kinds.Buried word = follows_ended at.table compared (Found (pair_of word))
   leads_match kinds.Closed word = follows_ended at.table compared (Found (pair_of word))
 
   leads_compared : (word : ℕ) (same : Bool) → Leads compared (search_compared (Comparing at word) same)
@@ -115,7 +115,7 @@ unfound_look mode held at kinds.Empty word = λ n e. cc e
 unfound_look mode held at kinds.Live word = λ n e. cc e
 unfound_look mode held at kinds.Marked word = λ n e. cc e
 unfound_look mode held at kinds.Copied word = λ n e. cc e
-unfound_look mode held at kinds.Tombstone word = unfound_on mode held at
+unfound_look mode held at kinds.Buried word = unfound_on mode held at
 unfound_look mode held at kinds.Closed word = unfound_on mode held at
 
 -- An answer to a lookup that names table t: it goes on in this table or in none, and less is left.
@@ -158,7 +158,7 @@ module _ (hash initial : ℕ) (mode : ResizeMode) (made : Made) (held : Remember
   slot_step (Showing removal) stands t x word e = absurd stands.0
   slot_step (Pairing purpose) stands t x word e = absurd stands.0
   slot_step (Putting put) stands t x word e = absurd stands.0
-  slot_step (Deleting removal) stands t x word e = absurd stands.0
+  slot_step (Burying removal) stands t x word e = absurd stands.0
   slot_step (Counting n) stands t x word e = absurd stands
   slot_step (Noting n) stands t x word e = absurd stands
   slot_step (Uncounting n) stands t x word e = absurd stands
@@ -189,7 +189,7 @@ module _ (hash initial : ℕ) (mode : ResizeMode) (made : Made) (held : Remember
   hint_step (Showing removal) stands t x word e = absurd stands.0
   hint_step (Pairing purpose) stands t x word e = absurd stands.0
   hint_step (Putting put) stands t x word e = absurd stands.0
-  hint_step (Deleting removal) stands t x word e = absurd stands.0
+  hint_step (Burying removal) stands t x word e = absurd stands.0
   hint_step (Counting n) stands t x word e = absurd stands
   hint_step (Noting n) stands t x word e = absurd stands
   hint_step (Uncounting n) stands t x word e = absurd stands
@@ -213,7 +213,7 @@ module _ (hash initial : ℕ) (mode : ResizeMode) (made : Made) (held : Remember
   size_step (Showing removal) stands t slots limit few e = absurd stands.0
   size_step (Pairing purpose) stands t slots limit few e = absurd stands.0
   size_step (Putting put) stands t slots limit few e = absurd stands.0
-  size_step (Deleting removal) stands t slots limit few e = absurd stands.0
+  size_step (Burying removal) stands t slots limit few e = absurd stands.0
   size_step (Counting n) stands t slots limit few e = absurd stands
   size_step (Noting n) stands t slots limit few e = absurd stands
   size_step (Uncounting n) stands t slots limit few e = absurd stands
@@ -238,7 +238,7 @@ module _ (hash initial : ℕ) (mode : ResizeMode) (made : Made) (held : Remember
   yes_step (Showing removal) stands n same e = absurd stands.0
   yes_step (Pairing purpose) stands n same e = absurd stands.0
   yes_step (Putting put) stands n same e = absurd stands.0
-  yes_step (Deleting removal) stands n same e = absurd stands.0
+  yes_step (Burying removal) stands n same e = absurd stands.0
   yes_step (Counting m) stands n same e = absurd stands
   yes_step (Noting m) stands n same e = absurd stands
   yes_step (Uncounting m) stands n same e = absurd stands
@@ -267,7 +267,7 @@ module _ (hash initial : ℕ) (mode : ResizeMode) (made : Made) (held : Remember
   root_step (Showing removal) stands word e = absurd stands.0
   root_step (Pairing purpose) stands word e = absurd stands.0
   root_step (Putting put) stands word e = absurd stands.0
-  root_step (Deleting removal) stands word e = absurd stands.0
+  root_step (Burying removal) stands word e = absurd stands.0
   root_step (Counting n) stands word e = absurd stands
   root_step (Noting n) stands word e = absurd stands
   root_step (Uncounting n) stands word e = absurd stands
@@ -290,7 +290,7 @@ module _ (hash initial : ℕ) (mode : ResizeMode) (made : Made) (held : Remember
   next_step (Showing removal) stands t word up e = absurd stands.0
   next_step (Pairing purpose) stands t word up e = absurd stands.0
   next_step (Putting put) stands t word up e = absurd stands.0
-  next_step (Deleting removal) stands t word up e = absurd stands.0
+  next_step (Burying removal) stands t word up e = absurd stands.0
   next_step (Counting n) stands t word up e = absurd stands
   next_step (Noting n) stands t word up e = absurd stands
   next_step (Uncounting n) stands t word up e = absurd stands

@@ -9,7 +9,7 @@ use Rattle.papaya_call.specs.declared.machine.Machine.{Machine}
 use Rattle.papaya_law.specs.Allows.{AllAllowed}
 use Rattle.papaya_law.specs.Code.{Coding}
 use Rattle.papaya_law.specs.Class.{IsOn}
-use Rattle.papaya_law.specs.Exchange.{Exchange, Setting, Word, Empty, Closed, Live, Marked, Copied, Tombstone, run, start}
+use Rattle.papaya_law.specs.Exchange.{Exchange, Setting, Word, Empty, Closed, Live, Marked, Copied, Buried, run, start}
 use Rattle.papaya_law.specs.Further.{IsLawfulKey, coding_with, with_key}
 use Rattle.papaya_law.specs.Hints.{IsHintOf}
 use Rattle.papaya_law.specs.Grows.{Agrees}
@@ -40,7 +40,7 @@ hint_with g c matches hash Closed n h = h
 hint_with g c matches hash (Live p) n h = h
 hint_with g c matches hash (Marked p) n h = h
 hint_with g c matches hash (Copied p) n h = h
-hint_with g c matches hash (Tombstone p) n h = h
+hint_with g c matches hash (Buried p) n h = h
 
 -- and without it
 pub hint_without : {K P : Type 0} (g : Setting K P) (c : Coding K P) (matches : K → Bool) (hash : ℕ) (w : Word P) (n : ℕ)
@@ -50,7 +50,7 @@ hint_without g c matches hash Closed n h = h
 hint_without g c matches hash (Live p) n h = h
 hint_without g c matches hash (Marked p) n h = h
 hint_without g c matches hash (Copied p) n h = h
-hint_without g c matches hash (Tombstone p) n h = h
+hint_without g c matches hash (Buried p) n h = h
 
 -- What is looked up matches some keys, which it hashes as and which are all that equal one of them.
 pub record IsQuery {K : Type 0} (eq : K → K → Bool) (input : K → List (List ℕ)) (matches : K → Bool) (query : List (List ℕ)) : Type 0 where

@@ -31,7 +31,7 @@ brought_or_not (steps.Open w) t = ⊎_elim (λ h. inl (h, (w, refl, cond-true (n
     (λ h. inr (h, cond-false (number_of w == t) (Some w) None h)) (cases_Bool (number_of w == t))
 brought_or_not (steps.Claim u x p) t = inr (refl, refl)
 brought_or_not (steps.Replace u x p q) t = inr (refl, refl)
-brought_or_not (steps.Delete u x p) t = inr (refl, refl)
+brought_or_not (steps.Bury u x p) t = inr (refl, refl)
 brought_or_not (steps.Link u w) t = ⊎_elim (λ h. inl (h, (w, refl, cond-true (number_of w == t) (Some w) None h)))
     (λ h. inr (h, cond-false (number_of w == t) (Some w) None h)) (cases_Bool (number_of w == t))
 brought_or_not (steps.Mark u x p) t = inr (refl, refl)

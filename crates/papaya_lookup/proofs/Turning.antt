@@ -90,7 +90,7 @@ onward_look kinds.Empty at word = λ none. tt
 onward_look kinds.Live at word = λ none. absurd (none at word refl)
 onward_look kinds.Marked at word = λ none. absurd (none at word refl)
 onward_look kinds.Copied at word = λ none. absurd (none at word refl)
-onward_look kinds.Tombstone at word = λ none. onward_on at
+onward_look kinds.Buried at word = λ none. onward_on at
 onward_look kinds.Closed at word = λ none. onward_on at
 
 -- and where the pair of which the key was compared is not found
@@ -102,7 +102,7 @@ onward_match kinds.Empty at word = λ none. absurd (none at word refl)
 onward_match kinds.Live at word = λ none. absurd (none at word refl)
 onward_match kinds.Marked at word = λ none. absurd (none at word refl)
 onward_match kinds.Copied at word = λ none. tt
-onward_match kinds.Tombstone at word = λ none. absurd (none at word refl)
+onward_match kinds.Buried at word = λ none. absurd (none at word refl)
 onward_match kinds.Closed at word = λ none. absurd (none at word refl)
 
 onward_yes : (at : Place) (word : ℕ) (same : Bool) → IsOnwardBut (at_yes (Comparing at word) same)
@@ -125,7 +125,7 @@ compared_look kinds.Empty at word a w h = absurd (cc h)
 compared_look kinds.Live at word a w h = record { some = λ e. cc e; shut = λ e. cc e; is = refl }
 compared_look kinds.Marked at word a w h = record { some = λ e. cc e; shut = λ e. cc e; is = refl }
 compared_look kinds.Copied at word a w h = record { some = λ e. cc e; shut = λ e. cc e; is = refl }
-compared_look kinds.Tombstone at word a w h = absurd (on_not at a w h)
+compared_look kinds.Buried at word a w h = absurd (on_not at a w h)
 compared_look kinds.Closed at word a w h = absurd (on_not at a w h)
 
 pub here_not : (at a : Place) (w : ℕ) → go_on at ≡ Here a w → ⊥

@@ -23,7 +23,7 @@ module _ {K P : Type 0} where
     abbrev pub change_of : Exchange P → List (Change K P)
     change_of (law.Claim t x p) = record { class = key p; taken = None; put = Some p } ∷ []
     change_of (law.Replace t x p q) = record { class = key p; taken = Some p; put = Some q } ∷ []
-    change_of (law.Delete t x p) = record { class = key p; taken = Some p; put = None } ∷ []
+    change_of (law.Bury t x p) = record { class = key p; taken = Some p; put = None } ∷ []
     change_of _ = []
 
     abbrev pub changes_of : List (Exchange P) → List (Change K P)

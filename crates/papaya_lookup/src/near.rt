@@ -132,7 +132,7 @@ fn read_slot<'a, K: Hash + Eq, V, S: BuildHasher, Q: Equivalent<K>>(
             Near::Found(met, entry)
         }
         Kind::Empty => Near::Absent,
-        Kind::Tombstone | Kind::Closed => Near::On,
+        Kind::Buried | Kind::Closed => Near::On,
         Kind::Marked | Kind::Copied => Near::Aside,
     }
 }

@@ -4,8 +4,8 @@ use Rattle.std.proofs.lemmas.Bool.{cond-true}
 use Rattle.papaya_law.specs.Allows.{Allows, AllAllowed}
 use Rattle.papaya_law.specs.Class.{IsBase, IsOn}
 use Rattle.papaya_law.specs.Code.{kind}
-use Rattle.papaya_law.specs.Exchange.{Word, Live, Marked, Copied, Tombstone, Closed, Setting, State}
-use Rattle.papaya_law.specs.Exchange.{Exchange, Open, Claim, Replace, Delete, Link, Mark, Close}
+use Rattle.papaya_law.specs.Exchange.{Word, Live, Marked, Copied, Buried, Closed, Setting, State}
+use Rattle.papaya_law.specs.Exchange.{Exchange, Open, Claim, Replace, Bury, Link, Mark, Close}
 use Rattle.papaya_law.specs.Exchange.{Place, Finish, Advance, Promote, Abort, Take, after, run}
 use Rattle.papaya_law.specs.Invariant.{IsKeeping, named}
 use Rattle.papaya_law.specs.Later.{Becomes}
@@ -22,7 +22,7 @@ use Rattle.papaya_scan.specs.Taking.{Holds}
 -- the exchange takes out this pair
 abbrev pub TakesIt : {P : Type 0} → Exchange P → P → Type 0
 TakesIt (Replace t x q r) p = q ≡ p
-TakesIt (Delete t x q) p = q ≡ p
+TakesIt (Bury t x q) p = q ≡ p
 TakesIt _ p = ⊥
 
 -- some exchange of these does
@@ -50,7 +50,7 @@ it_kind w p (inr (inr e)) = ap (λ u. has_pair (kind u)) e
 -- what takes a pair out is a change that does
 pub change_out : {K P : Type 0} (key : P → K) (p : P) (e : Exchange P) → TakesIt e p → (c : Change K P) × (change_of key e ≡ c ∷ []) × (c.taken ≡ Some p)
 change_out key p (Replace t x q r) out = (record { class = key q; taken = Some q; put = Some r }, refl, ap Some out)
-change_out key p (Delete t x q) out = (record { class = key q; taken = Some q; put = None }, refl, ap Some out)
+change_out key p (Bury t x q) out = (record { class = key q; taken = Some q; put = None }, refl, ap Some out)
 change_out key p (Open t) out = absurd out
 change_out key p (Claim t x q) out = absurd out
 change_out key p (Link t n) out = absurd out
@@ -92,8 +92,8 @@ module _ {K P : Type 0} (g : Setting K P) (law : IsLawful g) where
   one s t x p (Replace u y q r) may live =
       ⊎_elim (λ h. inl (h.0 ∙ live)) (λ h. let a = h.0 in let b = h.1 in let m = may.live in let is : q ≡ p = cc (a, b, m, live) in inr (inl is))
       (slot_cases s u y (Live r) t x)
-  one s t x p (Delete u y q) may live = ⊎_elim (λ h. inl (h.0 ∙ live))
-      (λ h. let a = h.0 in let b = h.1 in let m = may.live in let is : q ≡ p = cc (a, b, m, live) in inr (inl is)) (slot_cases s u y (Tombstone q) t x)
+  one s t x p (Bury u y q) may live = ⊎_elim (λ h. inl (h.0 ∙ live))
+      (λ h. let a = h.0 in let b = h.1 in let m = may.live in let is : q ≡ p = cc (a, b, m, live) in inr (inl is)) (slot_cases s u y (Buried q) t x)
   one s t x p (Mark u y q) may live = ⊎_elim (λ h. inl (h.0 ∙ live))
       (λ h. let a = h.0 in let b = h.1 in let m = may.live in let is : q ≡ p = cc (a, b, m, live) in inr (inr (h.2 ∙ ap Marked is)))
       (slot_cases s u y (Marked q) t x)

@@ -11,7 +11,7 @@ use Rattle.papaya_words.specs.Word.{kind_of}
 use Rattle.papaya_words.specs.declared.word.Kind.{Kind}
 use Rattle.papaya_words.specs.declared.word.Kind.TheVariants as kinds
 use Rattle.papaya_law.specs.Code.{IsOfKind}
-use Rattle.papaya_law.specs.Exchange.{Live, Tombstone, Exchange, State, after}
+use Rattle.papaya_law.specs.Exchange.{Live, Buried, Exchange, State, after}
 use Rattle.papaya_law.specs.Invariant.{named}
 use Rattle.papaya_law.proofs.CodeViews.{word_of_kind}
 use Rattle.papaya_law.proofs.Slots.{put_there}
@@ -30,9 +30,9 @@ use Rattle.papaya_change.proofs.ResizingRelies.{C, G, hash}
 use Rattle.papaya_change.proofs.Showings.{all_shown}
 use Rattle.papaya_scan.specs.Leaving.{Drops, HasShown}
 use Rattle.papaya_scan.specs.Meeting.{HadPair, has_pair}
-use Rattle.papaya_scan.specs.Taking.{IsDeleted, IsScannedUpTo, IsTaken, IsTakenAt}
+use Rattle.papaya_scan.specs.Taking.{IsBuried, IsScannedUpTo, IsTaken, IsTakenAt}
 use Rattle.papaya_scan.proofs.Pairs.{HasIt}
-use Rattle.papaya_scan.proofs.Taken.{scanned_kept, scanned_later, scanned_past, scanned_shown, scanned_tombstone}
+use Rattle.papaya_scan.proofs.Taken.{scanned_kept, scanned_later, scanned_past, scanned_shown, scanned_buried}
 
 -- two words are one, or they are not
 pub same_word : (m n : ℕ) → m ≡ n → (m == n) ≡ true
@@ -89,30 +89,30 @@ last_snoc [] x = refl
 last_snoc (y ∷ []) x = refl
 last_snoc (y ∷ (z ∷ zs)) x = last_snoc (z ∷ zs) x
 
-module _ {K V S : Type 0} (log : List (Event K V S)) (t x : ℕ) (shown : Stored K V) (r : IsDeleted log t x shown) where
+module _ {K V S : Type 0} (log : List (Event K V S)) (t x : ℕ) (shown : Stored K V) (r : IsBuried log t x shown) where
   -- the change that a deletion is
-  abbrev pub deletion : Change K (Stored K V)
-  deletion = record { class = key_of r.pair; taken = Some r.pair; put = None }
+  abbrev pub burial : Change K (Stored K V)
+  burial = record { class = key_of r.pair; taken = Some r.pair; put = None }
 
-  pub deletion_drops : Drops deletion shown
-  deletion_drops = (r.pair, refl, refl, r.same)
+  pub burial_drops : Drops burial shown
+  burial_drops = (r.pair, refl, refl, r.same)
 
   -- it is the last that was done
-  pub deletion_done : (done done' : List (Step K V)) → done' ≡ done ++ last_if true (steps_of log) → changes_by done' ≡ changes_by done ++ deletion ∷ []
-  deletion_done done done' is =
+  pub burial_done : (done done' : List (Step K V)) → done' ≡ done ++ last_if true (steps_of log) → changes_by done' ≡ changes_by done ++ burial ∷ []
+  burial_done done done' is =
       let steps : steps_of log ≡ steps_of r.before ++ r.step ∷ [] = ap steps_of r.is ∙ (steps-append r.before (Stepped r.step ∷ []) ∙ refl) in
       let last : last_in (steps_of log) ≡ r.step ∷ [] = ap last_in steps ∙ last_snoc (steps_of r.before) r.step in
       let whole : map exchange_of done' ≡ map exchange_of done ++ exchange_of r.step ∷ [] = ap (map exchange_of)
       (is ∙ ap (λ (es : List (Step K V)). done ++ es) last) ∙ map-append exchange_of done (r.step ∷ []) in
       ap (changes_of key_of) whole ∙ (changes-append key_of (map exchange_of done) (exchange_of r.step ∷ [])
-      ∙ ap (λ (e : Exchange (Stored K V)). changes_by done ++ changes_of key_of (e ∷ [])) r.deletes)
+      ∙ ap (λ (e : Exchange (Stored K V)). changes_by done ++ changes_of key_of (e ∷ [])) r.buries)
 
   -- and the pair is not in the slot any more
-  pub deletion_there : (state_of log).slot t x ≡ Tombstone r.pair
-  deletion_there =
+  pub burial_there : (state_of log).slot t x ≡ Buried r.pair
+  burial_there =
       ap (λ (l : List (Event K V S)). (state_of l).slot t x) r.is
-      ∙ (ap (λ (s : State (Stored K V)). s.slot t x) (state_more r.before r.step ∙ ap (after (state_of r.before)) r.deletes)
-      ∙ (put_there (state_of r.before) t x (Tombstone r.pair) t x (refl, refl)).0)
+      ∙ (ap (λ (s : State (Stored K V)). s.slot t x) (state_more r.before r.step ∙ ap (after (state_of r.before)) r.buries)
+      ∙ (put_there (state_of r.before) t x (Buried r.pair) t x (refl, refl)).0)
 
 module _ {K V S H F : Type 0} (eq : K → K → Bool) (input : K → List (List ℕ)) (build : S → H) (write : H → List ℕ → H) (finish : H → ℕ)
     (classes : IsEquivalence eq) (respects : (x y : K) → eq x y ≡ true → input x ≡ input y) (b : Begun K V S)
@@ -179,14 +179,14 @@ module _ {K V S H F : Type 0} (eq : K → K → Bool) (input : K → List (List 
           )
 
       -- and was deleted
-      pub so_tombstone : (ended : Type 0) → judges f' q false f'' → (log' : List (Event K V S)) → IsPrefix log log' → IsLawfulLog eq hashing b log'
-          → IsDeleted log' t x q → (mine'' : List (Change K (Stored K V))) → ((r : IsDeleted log' t x q) → mine'' ≡ mine' ++ deletion log' t x q r ∷ [])
+      pub so_buried : (ended : Type 0) → judges f' q false f'' → (log' : List (Event K V S)) → IsPrefix log log' → IsLawfulLog eq hashing b log'
+          → IsBuried log' t x q → (mine'' : List (Change K (Stored K V))) → ((r : IsBuried log' t x q) → mine'' ≡ mine' ++ burial log' t x q r ∷ [])
           → So log' mine'' f'' x (suc x) ended
-      so_tombstone ended says log' on l r mine'' done first made said h =
+      so_buried ended says log' on l r mine'' done first made said h =
           let one = so first made said h in (
             (q, false) ∷ one.0,
             shown_dropped eq judges (history_of began) (history_of log) made mine' first f' one.0 one.1 q f'' had says (history_of log')
-                (history_since log log' on) (deletion log' t x q r) (deletion_drops log' t x q r) mine'' (done r),
+                (history_since log log' on) (burial log' t x q r) (burial_drops log' t x q r) mine'' (done r),
             (λ e at taken scanned.
                 let then' : IsTaken b began log' t = record {
                   at = at;
@@ -197,9 +197,9 @@ module _ {K V S H F : Type 0} (eq : K → K → Bool) (input : K → List (List 
                   some = taken.some;
                   last = taken.last;
                 } in
-                scanned_tombstone eq input build write finish classes respects b began log' l t then' x ((q, false) ∷ one.0)
+                scanned_buried eq input build write finish classes respects b began log' l t then' x ((q, false) ∷ one.0)
                 (scanned_later at log log' on t x ((q, false) ∷ one.0)
                 (scanned_shown eq input build write finish classes respects b began log s.lawful t (moment at taken) x one.0
                 (one.2 tt at taken scanned) q there false))
-                r.pair (deletion_there log' t x q r)),
+                r.pair (burial_there log' t x q r)),
           )

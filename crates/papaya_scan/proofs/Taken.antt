@@ -6,7 +6,7 @@ use Rattle.std.proofs.lemmas.Bool.{cases_Bool, cases_lt}
 use Rattle.std.specs.Cmp.{IsEquivalence}
 use mathlib.Core.List.{IsPrefix}
 use Rattle.logbook.specs.Pages.{Book}
-use Rattle.papaya_words.specs.Word.{kind_of, pair_of, tombstone_word}
+use Rattle.papaya_words.specs.Word.{kind_of, pair_of, buried_word}
 use Rattle.papaya_words.specs.declared.word.Kind.{Kind}
 use Rattle.papaya_words.specs.declared.word.Kind.TheVariants as kinds
 use Rattle.papaya_ask.specs.declared.ask.At.{At}
@@ -15,7 +15,7 @@ use Rattle.papaya_ask.specs.declared.ask.StepKind.TheVariants as steps_of_kind
 use Rattle.papaya_call.specs.Remove.{grave_word}
 use Rattle.papaya_law.specs.Allows.{AllAllowed}
 use Rattle.papaya_law.specs.Code.{Coding, IsHashed, IsOfKind, code}
-use Rattle.papaya_law.specs.Exchange.{Word, Live, Marked, Copied, Tombstone, Exchange, Setting, State, run, slot_put, start}
+use Rattle.papaya_law.specs.Exchange.{Word, Live, Marked, Copied, Buried, Exchange, Setting, State, run, slot_put, start}
 use Rattle.papaya_law.specs.Invariant.{IsKeeping, named}
 use Rattle.papaya_law.specs.Meaning.{IsAtMoment, IsLawful, map_left}
 use Rattle.papaya_law.specs.View.{IsReached, look}
@@ -49,7 +49,7 @@ use Rattle.papaya_lookup.proofs.Histories.{changes-append, changes_begin, histor
 use Rattle.papaya_change.proofs.ResizingRelies.{C, G, first_may, hash, hashed, kept_map, since_may, since_run}
 use Rattle.papaya_scan.specs.Leaving.{IsRetained, WasTakenOut}
 use Rattle.papaya_scan.specs.Meeting.{HadPair, IsMet, has_pair}
-use Rattle.papaya_scan.specs.Taking.{Holds, IsDeleted, IsScannedUpTo, IsTaken}
+use Rattle.papaya_scan.specs.Taking.{Holds, IsBuried, IsScannedUpTo, IsTaken}
 use Rattle.papaya_scan.proofs.Leaving.{out_later, retained_earlier, retained_none}
 use Rattle.papaya_scan.proofs.Pairs.{HasIt, IsPairOut, change_out, held_seen, it_kind, it_named, its_slot, pair_then}
 
@@ -108,11 +108,11 @@ slot_written g c s t x w = record { here = ap (code g c) (put_there s t x w t x 
     others Made_word different = refl
     others (Slot u y) different = ap (code g c) (put_elsewhere s t x w u y (λ e. different (ap (λ a. Slot a y) (sym e.0) ∙ ap (Slot t) (sym e.1))))
 
--- a deleted pair's word is the code of its Tombstone
+-- a deleted pair's word is that of its kind, Buried
 grave_code : {K P : Type 0} → (g : Setting K P) (c : Coding K P) → IsHashed g c → (p : P) (word : ℕ) → code g c (Live p) ≡ word
-    → code g c (Tombstone p) ≡ grave_word word
+    → code g c (Buried p) ≡ grave_word word
 grave_code g c hashed p word e =
-    ap tombstone_word (sym (code_pair g c hashed.coding (Live p) p refl)) ∙ ap grave_word e
+    ap buried_word (sym (code_pair g c hashed.coding (Live p) p refl)) ∙ ap grave_word e
 
 -- a word of such a kind names a pair
 pair_there : {P : Type 0} (kind : Kind) (w : Word P) → IsOfKind kind w → has_pair kind ≡ true → (p : P) × ((w ≡ Live p) ⊎ (w ≡ Marked p) ⊎ (w ≡ Copied p))
@@ -120,7 +120,7 @@ pair_there kinds.Live w is some = (is.0, inl is.1)
 pair_there kinds.Marked w is some = (is.0, inr (inl is.1))
 pair_there kinds.Copied w is some = (is.0, inr (inr is.1))
 pair_there kinds.Empty w is some = absurd (cc some)
-pair_there kinds.Tombstone w is some = absurd (cc some)
+pair_there kinds.Buried w is some = absurd (cc some)
 pair_there kinds.Closed w is some = absurd (cc some)
 
 module _ {K V S H : Type 0} (eq : K → K → Bool) (input : K → List (List ℕ)) (build : S → H) (write : H → List ℕ → H) (finish : H → ℕ)
@@ -250,8 +250,8 @@ module _ {K V S H : Type 0} (eq : K → K → Bool) (input : K → List (List �
           it_then
 
       -- a deleted one is
-      pub tombstone_out : (q : Stored K V) → (state_of log).slot t x ≡ Tombstone q → IsOut
-      tombstone_out q is = ⊎_elim (λ has. absurd (⊎_elim (λ e. cc (e, is)) (⊎_elim (λ e. cc (e, is)) (λ e. cc (e, is))) has)) (λ out. out) it_then
+      pub buried_out : (q : Stored K V) → (state_of log).slot t x ≡ Buried q → IsOut
+      buried_out q is = ⊎_elim (λ has. absurd (⊎_elim (λ e. cc (e, is)) (⊎_elim (λ e. cc (e, is)) (λ e. cc (e, is))) has)) (λ out. out) it_then
 
       -- this pair is there
       pub named_out : (q : Stored K V) → named ((state_of log).slot t x) ≡ Some q → (q ≡ p) ⊎ IsOut
@@ -329,8 +329,8 @@ module _ {K V S H : Type 0} (eq : K → K → Bool) (input : K → List (List �
           (λ p had. ⊎_elim (λ is. inr (inl (is, refl))) (λ out. inl out) (named_out upto p had q (it_named ((state_of log).slot t upto) q there)))
 
       -- its pair was deleted
-      pub scanned_tombstone : (q : Stored K V) → (state_of log).slot t upto ≡ Tombstone q → IsScannedUpTo r.at log t (suc upto) said
-      scanned_tombstone q is = scanned_next said scanned (λ p had. inl (tombstone_out upto p had q is))
+      pub scanned_buried : (q : Stored K V) → (state_of log).slot t upto ≡ Buried q → IsScannedUpTo r.at log t (suc upto) said
+      scanned_buried q is = scanned_next said scanned (λ p had. inl (buried_out upto p had q is))
 
     module _ (x word : ℕ) (stands : word_in eq hashing b log (Slot t x) ≡ word) where
       -- what stands there
@@ -353,22 +353,22 @@ module _ {K V S H : Type 0} (eq : K → K → Bool) (input : K → List (List �
           )
 
       -- a Live pair may be deleted
-      pub may_delete : kind_of word ≡ kinds.Live → MayStep eq hashing b (Slot t x) (Some steps_of_kind.Delete) (grave_word word) None names.Nothing log
-      may_delete live =
+      pub may_bury : kind_of word ≡ kinds.Live → MayStep eq hashing b (Slot t x) (Some steps_of_kind.Bury) (grave_word word) None names.Nothing log
+      may_bury live =
           let pair : IsOfKind kinds.Live there = subst (λ (k : Kind). IsOfKind k there) live of_kind in
           let p = pair.0 in
           let is : code Gs Cs (Live p) ≡ word = ap (code Gs Cs) (sym pair.1) ∙ stands in record {
-            step = steps.Delete t x p;
+            step = steps.Bury t x p;
             meant = record { asked = inl (p, pair.1, refl); with_it = refl };
             allowed = record { live = pair.1; reached = reached (key_of p) };
-            written = subst (λ (n : ℕ). IsWritten Gs Cs (state_of log) (Slot t x) n (slot_put (state_of log) t x (Tombstone p)))
-                (grave_code Gs Cs (hashed eq input build write finish classes respects b log l) p word is) (slot_written Gs Cs (state_of log) t x (Tombstone p));
+            written = subst (λ (n : ℕ). IsWritten Gs Cs (state_of log) (Slot t x) n (slot_put (state_of log) t x (Buried p)))
+                (grave_code Gs Cs (hashed eq input build write finish classes respects b log l) p word is) (slot_written Gs Cs (state_of log) t x (Buried p));
           }
 
   -- it may be tried at any time
-  pub can_delete : (old v : List (Event K V S)) (t : ℕ) → IsTaken b old v t → (x word : ℕ) → kind_of word ≡ kinds.Live
-      → CanExchange eq hashing b (Slot t x) (Some steps_of_kind.Delete) word (grave_word word) None names.Nothing v
-  can_delete old v t r x word live log pre l stands = may_delete old log l t (taken_later b old v log t r pre) x word stands live
+  pub can_bury : (old v : List (Event K V S)) (t : ℕ) → IsTaken b old v t → (x word : ℕ) → kind_of word ≡ kinds.Live
+      → CanExchange eq hashing b (Slot t x) (Some steps_of_kind.Bury) word (grave_word word) None names.Nothing v
+  can_bury old v t r x word live log pre l stands = may_bury old log l t (taken_later b old v log t r pre) x word stands live
 
   -- a word that was loaded
   pub met_loaded : (name : Book) (old v log : List (Event K V S)) (t : ℕ) → IsTaken b old v t → IsPrefix v log
@@ -382,7 +382,7 @@ module _ {K V S H : Type 0} (eq : K → K → Bool) (input : K → List (List �
 
   -- a word that was found by an exchange
   pub met_found : (name : Book) (old v log : List (Event K V S)) (t : ℕ) → IsTaken b old v t → (x word new found : ℕ) (pair : Option (Stored K V))
-      → IsSlotTried eq hashing b name t x (Some steps_of_kind.Delete) word new None names.Nothing v found log pair → IsMet eq b name old log found pair
+      → IsSlotTried eq hashing b name t x (Some steps_of_kind.Bury) word new None names.Nothing v found log pair → IsMet eq b name old log found pair
   met_found name old v log t r x word new found pair s = record {
     placed = s.placed;
     had = λ some.
@@ -392,11 +392,11 @@ module _ {K V S H : Type 0} (eq : K → K → Bool) (input : K → List (List �
   }
     where
       goes_on : (MatchBool (found == word) ((e : _)
-          × Rattle.papaya_book.specs.Plays.IsMeant eq hashing (Slot t x) (Some steps_of_kind.Delete) new None names.Nothing s.tried.before e
+          × Rattle.papaya_book.specs.Plays.IsMeant eq hashing (Slot t x) (Some steps_of_kind.Bury) new None names.Nothing s.tried.before e
           × (log ≡ s.tried.before ++ Stepped e ∷ [])) (log ≡ s.tried.before)) → IsPrefix s.tried.before log
       goes_on h = by (found == word) h
         where
-          by : (z : Bool) → MatchBool z ((e : _) × Rattle.papaya_book.specs.Plays.IsMeant eq hashing (Slot t x) (Some steps_of_kind.Delete) new None
+          by : (z : Bool) → MatchBool z ((e : _) × Rattle.papaya_book.specs.Plays.IsMeant eq hashing (Slot t x) (Some steps_of_kind.Bury) new None
               names.Nothing s.tried.before e × (log ≡ s.tried.before ++ Stepped e ∷ [])) (log ≡ s.tried.before) → IsPrefix s.tried.before log
           by true d = (Stepped d.0 ∷ [], sym d.2)
           by false d = ([], append-nil s.tried.before ∙ sym d)
@@ -410,7 +410,7 @@ module _ {K V S H : Type 0} (eq : K → K → Bool) (input : K → List (List �
 
   module _ (name : Book) (v0 v log : List (Event K V S)) (t x word new found : ℕ) (pair0 pair : Option (Stored K V))
       (stood : IsSlot eq hashing b name t x word v0 pair0)
-      (s : IsSlotTried eq hashing b name t x (Some steps_of_kind.Delete) word new None names.Nothing v found log pair) (is : (found == word) ≡ true)
+      (s : IsSlotTried eq hashing b name t x (Some steps_of_kind.Bury) word new None names.Nothing v found log pair) (is : (found == word) ≡ true)
       (shown gone : Stored K V) (one : pair0 ≡ Some shown) (other : pair ≡ Some gone) where
     -- the pair that went has the number of the one that stood there
     pub same_index : gone.index ≡ shown.index
@@ -420,10 +420,10 @@ module _ {K V S H : Type 0} (eq : K → K → Bool) (input : K → List (List �
         ∙ number_in v0 stood.lawful t x word stood.is shown (stood.names ∙ one)
 
     abbrev Made : Type 0
-    Made = (e : Step K V) × IsMeant eq hashing (Slot t x) (Some steps_of_kind.Delete) new None names.Nothing s.tried.before e
+    Made = (e : Step K V) × IsMeant eq hashing (Slot t x) (Some steps_of_kind.Bury) new None names.Nothing s.tried.before e
         × (log ≡ s.tried.before ++ Stepped e ∷ [])
 
-    by_step : Made → shown.value ≡ gone.value → IsDeleted log t x shown
+    by_step : Made → shown.value ≡ gone.value → IsBuried log t x shown
     by_step (e, meant, ends) value =
         ⊎_elim
         (λ asked.
@@ -432,15 +432,15 @@ module _ {K V S H : Type 0} (eq : K → K → Bool) (input : K → List (List �
           step = e;
           is = ends;
           pair = asked.0;
-          deletes = asked.2;
+          buries = asked.2;
           same = (ap (λ (z : Stored K V). z.index) same ∙ same_index, ap (λ (z : Stored K V). z.value) same ∙ sym value);
         })
         (λ copied. absurd copied)
         meant.asked
 
     -- so it was that one
-    pub tombstone_by : shown.value ≡ gone.value → IsDeleted log t x shown
-    tombstone_by value = by_step (subst (λ (z : Bool). MatchBool z Made (log ≡ s.tried.before)) is s.tried.after) value
+    pub buried_by : shown.value ≡ gone.value → IsBuried log t x shown
+    buried_by value = by_step (subst (λ (z : Bool). MatchBool z Made (log ≡ s.tried.before)) is s.tried.after) value
 
   -- where there is no root, the map has no pair, and each that it had was taken out
   pub retained_rootless : (old log : List (Event K V S)) → IsPrefix old log → Lawful log → (state_of log).root ≡ 0 → (said : List (Stored K V × Bool))

@@ -17,8 +17,8 @@ module _ {K V S H : Type 0} {d : keyed.Ghosts S K H} where
   root_of w = (state_of w.sight.log).root
 
   -- the last exchange that is seen deleted this very pair in this slot
-  abbrev pub IsDeleted : Window K V S H d → (t x : ℕ) → Stored K V → Type 0
-  IsDeleted w = taking.IsDeleted w.sight.log
+  abbrev pub IsBuried : Window K V S H d → (t x : ℕ) → Stored K V → Type 0
+  IsBuried w = taking.IsBuried w.sight.log
 
   module _ (began : List (Event K V S)) where
     abbrev pub IsTaken : Window K V S H d → ℕ → Type 0

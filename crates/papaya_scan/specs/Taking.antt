@@ -1,7 +1,7 @@
 -- How a table comes to be scanned, and what was done of the pairs that stood in its slots then.
 use Rattle.std.specs.Prelude.{◌≡◌, ◌⊎◌, ℕ, ◌<◌, Bool, true, false, List, [], ◌∷◌, ◌++◌}
 use mathlib.Core.List.{IsPrefix}
-use Rattle.papaya_law.specs.Exchange.{Word, Delete, Live, Marked}
+use Rattle.papaya_law.specs.Exchange.{Word, Bury, Live, Marked}
 use Rattle.papaya_chain_law.specs.ScanTold.{IsLastAnswer}
 use Rattle.papaya_book.specs.declared.rule.entry.Begun.{Begun}
 use Rattle.papaya_book.specs.declared.rule.entry.Event.{Event}
@@ -46,10 +46,10 @@ module _ {K V S : Type 0} where
       → WasTakenOut (history_of at) (history_of log) p ⊎ IsLastAnswer said p true
 
   -- the last exchange of the log deleted a pair in this slot, and it is this very pair
-  pub record IsDeleted (log : List (Event K V S)) (t x : ℕ) (shown : Stored K V) : Type 0 where
+  pub record IsBuried (log : List (Event K V S)) (t x : ℕ) (shown : Stored K V) : Type 0 where
     pub before : List (Event K V S)
     pub step : Step K V
     pub is : log ≡ before ++ Stepped step ∷ []
     pub pair : Stored K V
-    pub deletes : exchange_of step ≡ Delete t x pair
+    pub buries : exchange_of step ≡ Bury t x pair
     pub same : IsSamePair pair shown

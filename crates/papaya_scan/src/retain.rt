@@ -12,7 +12,7 @@ ghost use Rattle.papaya_scan.specs.Leaving.{HasKept};
 ghost use Rattle.papaya_scan.specs.TableScans.{IsTaken, Scans};
 
 use crate::root::take_root;
-use crate::slot::{delete, load};
+use crate::slot::{bury, load};
 use papaya_book::count::Shard;
 use papaya_book::rule::entry::Stored;
 use papaya_book::rule::own::{CapacityCause, OwnSteps};
@@ -67,13 +67,13 @@ fn scan_slot<'a, R: Wait, K: Hash + Eq, V, S: BuildHasher, F: FnMut(&K, &V) -> b
         match Word(word).kind() {
             Kind::Live => {}
             Kind::Marked | Kind::Copied => return true,
-            Kind::Empty | Kind::Tombstone | Kind::Closed => return false,
+            Kind::Empty | Kind::Buried | Kind::Closed => return false,
         }
         let Some(stored) = &pair else { unreachable!() };
         if show(stored, stays, window) {
             return false;
         }
-        let (found, other) = delete(shard, table, number, place, word, stored, window);
+        let (found, other) = bury(shard, table, number, place, word, stored, window);
         if found == word {
             return false;
         }

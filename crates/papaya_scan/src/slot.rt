@@ -3,13 +3,13 @@ ghost use Rattle.std.specs.Prelude.{◌≡◌, ◌<◌, ◌==◌, true, false, S
 ghost use Rattle.papaya_words.specs.Word.{kind_of};
 ghost use Rattle.papaya_words.specs.declared.word.Kind.TheVariants.{Live};
 ghost use Rattle.papaya_book.specs.Windows.{Does, IsLawful, IsSlot, IsTable, Sees};
-ghost use Rattle.papaya_scan.specs.TableScans.{IsDeleted, IsMet, IsTaken};
+ghost use Rattle.papaya_scan.specs.TableScans.{IsBuried, IsMet, IsTaken};
 
 use papaya_book::count::Shard;
 use papaya_book::rule::entry::Stored;
 use papaya_book::table::Table;
 use papaya_book::window::Window;
-use papaya_change::fast_path::delete_slot;
+use papaya_change::fast_path::bury_slot;
 use std::hash::{BuildHasher, Hash};
 
 /// Loads a slot's word, and the pair that it names.
@@ -34,7 +34,7 @@ pub fn load<'a, K: Hash + Eq, V, S: BuildHasher>(
 
 /// Tries to delete the pair that this word of a slot names. It is the word that is found there,
 /// which may be another by then, and the pair that it names.
-pub fn delete<'a, K: Hash + Eq, V, S: BuildHasher>(
+pub fn bury<'a, K: Hash + Eq, V, S: BuildHasher>(
     shard: &Shard<'_>,
     table: &Table<K, V, S>,
     number: u64,
@@ -51,11 +51,11 @@ pub fn delete<'a, K: Hash + Eq, V, S: BuildHasher>(
     ensures sees { Sees window.old window.new }
     ensures lawful { IsLawful window.new }
     ensures does { Does (result.0 == word) window.old window.new }
-    ensures tombstone { (result.0 == word) ≡ true → IsDeleted window.new number place shown.now }
+    ensures buried { (result.0 == word) ≡ true → IsBuried window.new number place shown.now }
     ensures found { (result.0 == word) ≡ false → IsSlot window.old window.new number place result.0
         result.1 }
     ensures met { (began : _) → IsTaken began window.old number
         → IsMet began window.new result.0 result.1 }
 {
-    delete_slot(shard, window, table, number, place, word, shown)
+    bury_slot(shard, window, table, number, place, word, shown)
 }

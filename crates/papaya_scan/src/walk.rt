@@ -117,7 +117,7 @@ fn names_pair(word: u64) -> bool
     word != Word::EMPTY.0
         && match Word(word).kind() {
             Kind::Live | Kind::Marked | Kind::Copied => true,
-            Kind::Empty | Kind::Tombstone | Kind::Closed => false,
+            Kind::Empty | Kind::Buried | Kind::Closed => false,
         }
 }
 

@@ -22,7 +22,7 @@ use Rattle.papaya_call_law.specs.Alone.{IsRead}
 use Rattle.papaya_call.specs.declared.machine.State.{State}
 use Rattle.papaya_call.specs.declared.machine.State.TheVariants.{AtRoot, Making, Opening, Searching}
 use Rattle.papaya_call.specs.declared.machine.State.TheVariants.{Writing, Offering, Showing}
-use Rattle.papaya_call.specs.declared.machine.State.TheVariants.{Pairing, Putting, Deleting}
+use Rattle.papaya_call.specs.declared.machine.State.TheVariants.{Pairing, Putting, Burying}
 use Rattle.papaya_call.specs.declared.machine.State.TheVariants.{Counting, Noting, Uncounting}
 use Rattle.papaya_call.specs.declared.machine.State.TheVariants.{Leaving, Growing, Ended}
 use Rattle.papaya_call.specs.declared.write.Claimed.{Claimed}
@@ -90,7 +90,7 @@ makes_first made hash (Showing removal) slots limit chunks e = absurd cc
 makes_first made hash (Pairing purpose) slots limit chunks e = absurd
     (pair_holds (λ ask. ask ≡ MakeTable slots limit chunks → ⊥) (no_tables slots limit chunks) made (in_place_of purpose) e)
 makes_first made hash (Putting put) slots limit chunks e = absurd cc
-makes_first made hash (Deleting removal) slots limit chunks e = absurd cc
+makes_first made hash (Burying removal) slots limit chunks e = absurd cc
 makes_first made hash (Counting n) slots limit chunks e = absurd cc
 makes_first made hash (Noting n) slots limit chunks e = absurd cc
 makes_first made hash (Uncounting n) slots limit chunks e = absurd cc
@@ -377,7 +377,7 @@ module _ {K V S : Type 0} (s : MapState K V S) where
         by_state made hashed (Pairing purpose) calling is told_so told_is h = pair_holds
             (λ ask. IsCountedBy ask store told_so store' → store'.count ≡ store.count) (pair_counts told_so) made (in_place_of purpose) h
         by_state made hashed (Putting put) calling is told_so told_is h = h
-        by_state made hashed (Deleting removal) calling is told_so told_is h = h
+        by_state made hashed (Burying removal) calling is told_so told_is h = h
         by_state made hashed (Leaving t) calling is told_so told_is h = h
         by_state made hashed (Growing need) calling is told_so told_is h = h
         by_state made hashed (Ended reply) calling is told_so told_is h = h

@@ -20,7 +20,7 @@ use Rattle.papaya_call.specs.declared.machine.Machine.{Machine as Call_machine}
 use Rattle.papaya_call.specs.declared.machine.State.{State as Stage}
 use Rattle.papaya_call.specs.declared.machine.State.TheVariants.{AtRoot, Making, Opening, Searching}
 use Rattle.papaya_call.specs.declared.machine.State.TheVariants.{Writing, Offering, Showing}
-use Rattle.papaya_call.specs.declared.machine.State.TheVariants.{Pairing, Putting, Deleting}
+use Rattle.papaya_call.specs.declared.machine.State.TheVariants.{Pairing, Putting, Burying}
 use Rattle.papaya_call.specs.declared.machine.State.TheVariants.{Counting as Counting_pair, Noting}
 use Rattle.papaya_call.specs.declared.machine.State.TheVariants.{Uncounting, Leaving, Growing}
 use Rattle.papaya_call.specs.declared.machine.State.TheVariants.{Ended}
@@ -158,7 +158,7 @@ pair_stage_of made hash (Opening t) asks_pair = absurd asks_pair
 pair_stage_of made hash (Offering gap) asks_pair = absurd asks_pair
 pair_stage_of made hash (Showing removal) asks_pair = absurd asks_pair
 pair_stage_of made hash (Putting put) asks_pair = absurd asks_pair
-pair_stage_of made hash (Deleting removal) asks_pair = absurd asks_pair
+pair_stage_of made hash (Burying removal) asks_pair = absurd asks_pair
 pair_stage_of made hash (Counting_pair claimed) asks_pair = absurd asks_pair
 pair_stage_of made hash (Noting claimed) asks_pair = absurd asks_pair
 pair_stage_of made hash (Uncounting n) asks_pair = absurd asks_pair
@@ -457,7 +457,7 @@ module _ {K V S : Type 0} (eq : K → K → Bool) (hash : S → K → ℕ) (s : 
       make_refused made (Offering gap) m e calling told is makes h = absurd makes
       make_refused made (Showing removal) m e calling told is makes h = absurd makes
       make_refused made (Putting put) m e calling told is makes h = absurd makes
-      make_refused made (Deleting removal) m e calling told is makes h = absurd makes
+      make_refused made (Burying removal) m e calling told is makes h = absurd makes
       make_refused made (Counting_pair n) m e calling told is makes h = absurd makes
       make_refused made (Noting n) m e calling told is makes h = absurd makes
       make_refused made (Uncounting n) m e calling told is makes h = absurd makes

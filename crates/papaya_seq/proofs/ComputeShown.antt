@@ -173,12 +173,12 @@ module _ {K V S H : Type 0} (eq : K → K → Bool) (input : K → List (List �
         (Op kinds.Remove, refl, inr (p, logged, (tt, ops.Remove, tt, refl, tt, refl, refl, refl))) refl keys came in
         let r1 : Running K V (Unit {0}) = stepped r r.machine (answers.Call (Op kinds.Remove)) in
         let store1 : StoreState K V S = record store { words = put store.words place (grave_word removal.word) } in
-        let tombstone = came_more eq (hash_of input build write finish) s (keyed_compute k) store r1 (answers.Call Exchanged) store1 r1 refl
+        let buried = came_more eq (hash_of input build write finish) s (keyed_compute k) store r1 (answers.Call Exchanged) store1 r1 refl
         (Exchanged, refl, (exchange_made store place removal.word (grave_word removal.word) read, refl)) refl keys chosen in
         let r2 : Running K V (Unit {0}) = stepped r1 r1.machine (answers.Call Exchanged) in
         let store2 : StoreState K V S = record store1 { count = added store1.count 0 (negsuc 0) } in
         let counted = came_more eq (hash_of input build write finish) s (keyed_compute k) store1 r2 (answers.Call Ok_done) store2 r2 refl
-        (Ok_done, refl, (refl, (0, refl), refl)) refl keys tombstone in
+        (Ok_done, refl, (refl, (0, refl), refl)) refl keys buried in
         let (q, here, number) = pair_there n (map_in eq store2)
         (came_answered store2 (stepped r2 r2.machine (answers.Call Ok_done)) (Removed n) refl counted) in
         let keeps = (made_unchanged eq (hash_of input build write finish) s (keyed_compute k) keys lawful fits store r refl refl came).1 in

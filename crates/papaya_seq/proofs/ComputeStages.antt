@@ -25,7 +25,7 @@ use Rattle.papaya_call.specs.declared.machine.Machine.{Machine as Call_machine}
 use Rattle.papaya_call.specs.declared.machine.State.{State}
 use Rattle.papaya_call.specs.declared.machine.State.TheVariants.{AtRoot, Searching, Offering}
 use Rattle.papaya_call.specs.declared.machine.State.TheVariants.{Showing, Pairing, Putting}
-use Rattle.papaya_call.specs.declared.machine.State.TheVariants.{Deleting, Counting, Uncounting}
+use Rattle.papaya_call.specs.declared.machine.State.TheVariants.{Burying, Counting, Uncounting}
 use Rattle.papaya_call.specs.declared.machine.State.TheVariants.{Leaving, Growing, Ended}
 use Rattle.papaya_call.specs.Write.{claimed_by}
 use Rattle.papaya_call.specs.declared.made.Made.{Made}
@@ -174,7 +174,7 @@ IsReplacing _ = ⊥
 
 -- or it would have that one removed
 abbrev pub IsRemoving : State → Type 0
-IsRemoving (Deleting removal) = Unit {0}
+IsRemoving (Burying removal) = Unit {0}
 IsRemoving (Uncounting n) = Unit {0}
 IsRemoving (Ended (Removed n)) = Unit {0}
 IsRemoving _ = ⊥
@@ -224,9 +224,9 @@ module _ {K V S A : Type 0} (eq : K → K → Bool) (says : Says K V A) (store :
   -- nor is that of a deletion
   pub removing_stays : (made : Made) (state : State) (told : Call_answer) → IsRemoving state → IsRead (word_at store.words) state
       → Performs eq says false (asks made m.hash state) store r told store' later → IsRemoving (calls.after (compute_at made state) told).state
-  removing_stays made (Deleting removal) told there read (exchanges, stays) =
+  removing_stays made (Burying removal) told there read (exchanges, stays) =
       let done = exchange_done _ _ (word_at store.words (Slot removal.place.table removal.place.probe.i)) removal.word read exchanges in
-      subst (λ a. IsRemoving (calls.after (compute_at made (Deleting removal)) a).state) (sym done.0) tt
+      subst (λ a. IsRemoving (calls.after (compute_at made (Burying removal)) a).state) (sym done.0) tt
   removing_stays made (Uncounting n) told there read
       (e, added, stays) = subst (λ a. IsRemoving (calls.after (compute_at made (Uncounting n)) a).state) (sym e) tt
   removing_stays made (Ended reply) told there read (e, (same, stays)) = subst (λ a. IsRemoving (calls.after (compute_at made (Ended reply)) a).state)

@@ -59,7 +59,7 @@ use Rattle.papaya_seq.specs.Drives.{Drives, IsReplied, at_hand}
 use Rattle.papaya_seq.specs.Looks.{Comes}
 use Rattle.papaya_seq.specs.Map.{deref_pair, entry_of}
 use Rattle.papaya_seq.specs.Searches.{IsRootTurn}
-use Rattle.papaya_seq.specs.Writes.{IsWritten, claiming, deleting, slot_of, storing}
+use Rattle.papaya_seq.specs.Writes.{IsWritten, claiming, burying, slot_of, storing}
 use Rattle.papaya_seq.specs.declared.search.Turn.TheVariants as turns
 use Rattle.papaya_seq.proofs.FastPath.{driven, logging, under_way}
 use Rattle.papaya_seq.proofs.Exchanging.{exchange_made}
@@ -318,10 +318,10 @@ module _ {K V S : Type 0} (eq : K → K → Bool) (hash : S → K → ℕ) (s : 
   abbrev pub removal_of : ℕ → Removal
   removal_of word = record { place = place; word = word }
 
-  tombstone : (word : ℕ) → word_at s.words (slot_of place) ≡ word
+  buried : (word : ℕ) → word_at s.words (slot_of place) ≡ word
       → IsReplied eq hash s (at_hand (after (bare (Showing (removal_of word))) (Op told.Remove)) key None) (Removed (number_of word)) None
-      (deleting s (removal_of word))
-  tombstone word stands = record {
+      (burying s (removal_of word))
+  buried word stands = record {
     answers = answers.Call Exchanged ∷ answers.Call Ok_done ∷ [];
     end = at_hand (record (after (bare (Showing (removal_of word))) (Op told.Remove)) { state = Ended (Removed (number_of word)) }) key None;
     drives = (
@@ -329,7 +329,7 @@ module _ {K V S : Type 0} (eq : K → K → Bool) (hash : S → K → ℕ) (s : 
       at_hand (after (bare (Showing (removal_of word))) (Op told.Remove)) key None,
       record { asked = tt; fit = tt; performs = (Exchanged, refl, (exchange_made s (slot_of place) word (grave_word word) stands, refl)); same = refl },
       (
-        deleting s (removal_of word),
+        burying s (removal_of word),
         at_hand (after (after (bare (Showing (removal_of word))) (Op told.Remove)) Exchanged) key None,
         record { asked = tt; fit = tt; performs = (Ok_done, refl, (refl, (0, refl), refl)); same = refl },
         (refl, refl),
@@ -390,7 +390,7 @@ module _ {K V S : Type 0} (eq : K → K → Bool) (hash : S → K → ℕ) (s : 
       left = None;
       replied = subst (λ (x : StoreState K V S).
           IsReplied eq hash s (at_hand (after (bare (Showing (removal_of word))) (Op told.Remove)) key None) (Removed (number_of word)) None x)
-          (sym same) (tombstone word stands);
+          (sym same) (buried word stands);
       computed = is;
     }
     pair_operated word some stands (ops.Abort t) result s'

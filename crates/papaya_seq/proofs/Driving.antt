@@ -10,7 +10,7 @@ use Rattle.papaya_call.specs.declared.machine.Machine.{Machine as Call_machine}
 use Rattle.papaya_call.specs.declared.machine.State.{State}
 use Rattle.papaya_call.specs.declared.machine.State.TheVariants.{AtRoot, Making, Opening, Searching}
 use Rattle.papaya_call.specs.declared.machine.State.TheVariants.{Writing, Offering, Showing}
-use Rattle.papaya_call.specs.declared.machine.State.TheVariants.{Pairing, Putting, Deleting}
+use Rattle.papaya_call.specs.declared.machine.State.TheVariants.{Pairing, Putting, Burying}
 use Rattle.papaya_call.specs.declared.machine.State.TheVariants.{Counting, Noting, Uncounting}
 use Rattle.papaya_call.specs.declared.machine.State.TheVariants.{Leaving, Growing, Ended}
 use Rattle.papaya_call.specs.declared.need.Need.{Need}
@@ -68,7 +68,7 @@ goes_itself n m (Word_read word) grows leaves = by_state m.state refl
     by_state (Showing removal) e = ap (λ s. chain.told_next (calling_by n m) s word) e
     by_state (Pairing purpose) e = ap (λ s. chain.told_next (calling_by n m) s word) e
     by_state (Putting given) e = ap (λ s. chain.told_next (calling_by n m) s word) e
-    by_state (Deleting removal) e = ap (λ s. chain.told_next (calling_by n m) s word) e
+    by_state (Burying removal) e = ap (λ s. chain.told_next (calling_by n m) s word) e
     by_state (Counting claimed) e = ap (λ s. chain.told_next (calling_by n m) s word) e
     by_state (Noting claimed) e = ap (λ s. chain.told_next (calling_by n m) s word) e
     by_state (Uncounting gone) e = ap (λ s. chain.told_next (calling_by n m) s word) e

@@ -67,7 +67,7 @@ module _ (t : ℕ) where
   replaces_in kinds.Live at word is = is
   replaces_in kinds.Marked at word is = is
   replaces_in kinds.Copied at word is = is
-  replaces_in kinds.Tombstone at word is = is
+  replaces_in kinds.Buried at word is = is
   replaces_in kinds.Closed at word is = is
 
   occupies_in : (kind : Kind) (at : Place) (word : ℕ) → at.table ≡ t → IsIn t (occupies kind at word)
@@ -75,7 +75,7 @@ module _ (t : ℕ) where
   occupies_in kinds.Live at word is = tt
   occupies_in kinds.Marked at word is = is
   occupies_in kinds.Copied at word is = is
-  occupies_in kinds.Tombstone at word is = is
+  occupies_in kinds.Buried at word is = is
   occupies_in kinds.Closed at word is = is
 
   found_in : (replace : Bool) (held : Remembered) (at : Place) (word : ℕ) → at.table ≡ t → IsIn t (found (Insert replace) held at word)

@@ -17,7 +17,7 @@ use Rattle.papaya_call.specs.declared.machine.Machine.{Machine as Call_machine}
 use Rattle.papaya_call.specs.declared.machine.State.{State}
 use Rattle.papaya_call.specs.declared.machine.State.TheVariants.{AtRoot, Making, Opening, Searching}
 use Rattle.papaya_call.specs.declared.machine.State.TheVariants.{Writing, Offering, Showing}
-use Rattle.papaya_call.specs.declared.machine.State.TheVariants.{Pairing, Putting, Deleting}
+use Rattle.papaya_call.specs.declared.machine.State.TheVariants.{Pairing, Putting, Burying}
 use Rattle.papaya_call.specs.declared.machine.State.TheVariants.{Counting, Noting, Uncounting}
 use Rattle.papaya_call.specs.declared.machine.State.TheVariants.{Leaving, Growing, Ended}
 use Rattle.papaya_call.specs.declared.need.Need.{Need}
@@ -115,7 +115,7 @@ module _ {K V S : Type 0} (eq : K → K → Bool) (hash : S → K → ℕ) (s : 
   written_stage store (Showing removal) only written caused = absurd written
   written_stage store (Pairing purpose) only written caused = absurd written
   written_stage store (Putting put) only written caused = absurd written
-  written_stage store (Deleting removal) only written caused = absurd written
+  written_stage store (Burying removal) only written caused = absurd written
   written_stage store (Uncounting n) only written caused = absurd written
   written_stage store (Leaving t) only written caused = absurd written
   written_stage store (Growing need) only written caused = absurd written
@@ -254,7 +254,7 @@ module _ {K V S : Type 0} (eq : K → K → Bool) (hash : S → K → ℕ) (s : 
         searched (Showing removal) e stays last here = absurd here
         searched (Pairing purpose) e stays last here = absurd here
         searched (Putting put) e stays last here = absurd here
-        searched (Deleting removal) e stays last here = absurd here
+        searched (Burying removal) e stays last here = absurd here
         searched (Counting n) e stays last here = absurd here
         searched (Noting n) e stays last here = absurd here
         searched (Uncounting n) e stays last here = absurd here
@@ -311,7 +311,7 @@ module _ {K V S : Type 0} (eq : K → K → Bool) (hash : S → K → ℕ) (s : 
       written_more (Showing removal) calling e written = absurd written
       written_more (Pairing purpose) calling e written = absurd written
       written_more (Putting put) calling e written = absurd written
-      written_more (Deleting removal) calling e written = absurd written
+      written_more (Burying removal) calling e written = absurd written
       written_more (Uncounting n) calling e written = absurd written
       written_more (Leaving t) calling e written = absurd written
       written_more (Growing need) calling e written = absurd written
@@ -364,7 +364,7 @@ module _ {K V S : Type 0} (eq : K → K → Bool) (hash : S → K → ℕ) (s : 
         in_root_more (Showing removal) calling e stage = absurd stage
         in_root_more (Pairing purpose) calling e stage = absurd stage
         in_root_more (Putting put) calling e stage = absurd stage
-        in_root_more (Deleting removal) calling e stage = absurd stage
+        in_root_more (Burying removal) calling e stage = absurd stage
         in_root_more (Uncounting n) calling e stage = absurd stage
         in_root_more (Leaving t) calling e stage = absurd stage
         in_root_more (Growing need) calling e stage = absurd stage

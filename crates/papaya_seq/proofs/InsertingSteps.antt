@@ -11,7 +11,7 @@ use Rattle.papaya_call.specs.Answers.{Says}
 use Rattle.papaya_call.specs.declared.machine.State.{State}
 use Rattle.papaya_call.specs.declared.machine.State.TheVariants.{AtRoot, Making, Opening, Searching}
 use Rattle.papaya_call.specs.declared.machine.State.TheVariants.{Writing, Offering, Showing}
-use Rattle.papaya_call.specs.declared.machine.State.TheVariants.{Pairing, Putting, Deleting}
+use Rattle.papaya_call.specs.declared.machine.State.TheVariants.{Pairing, Putting, Burying}
 use Rattle.papaya_call.specs.declared.machine.State.TheVariants.{Counting, Noting, Uncounting}
 use Rattle.papaya_call.specs.declared.machine.State.TheVariants.{Leaving, Growing, Ended}
 use Rattle.papaya_call.specs.declared.made.Made.{Made}
@@ -76,7 +76,7 @@ module _ {K V S A : Type 0} (eq : K → K → Bool) (says : Says K V A) (store :
     value_stays replace made hash (Showing removal) standing performs = absurd standing.0
     value_stays replace made hash (Pairing purpose) standing performs = absurd standing.0
     value_stays replace made hash (Putting put) standing performs = absurd standing.0
-    value_stays replace made hash (Deleting removal) standing performs = absurd standing.0
+    value_stays replace made hash (Burying removal) standing performs = absurd standing.0
     value_stays replace made hash (Counting n) standing (e, added, stays) = inr (ap (λ q. q.value) stays)
     value_stays replace made hash (Noting n) standing (e, added, stays) = inr (ap (λ q. q.value) stays)
     value_stays replace made hash (Uncounting n) standing performs = absurd standing

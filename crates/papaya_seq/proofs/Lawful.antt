@@ -111,7 +111,7 @@ module _ {K V S : Type 0} (store : StoreState K V S) where
   kind_logged kinds.Marked n = listed_logged n (pair_of store n) refl
   kind_logged kinds.Empty n = All-nil (λ p. pair_of store p.number ≡ Some p)
   kind_logged kinds.Copied n = All-nil (λ p. pair_of store p.number ≡ Some p)
-  kind_logged kinds.Tombstone n = All-nil (λ p. pair_of store p.number ≡ Some p)
+  kind_logged kinds.Buried n = All-nil (λ p. pair_of store p.number ≡ Some p)
   kind_logged kinds.Closed n = All-nil (λ p. pair_of store p.number ≡ Some p)
 
   slots_logged : (words : List ℕ) → AreLogged (pairs_of_slots store words)

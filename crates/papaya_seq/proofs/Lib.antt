@@ -1,7 +1,7 @@
 pub mod Alone
 pub mod Answered
 pub mod Answering
-pub mod Deleting
+pub mod Burying
 pub mod CallsDone
 pub mod FastPath
 pub mod CallLengths

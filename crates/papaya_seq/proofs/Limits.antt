@@ -2,7 +2,7 @@
 use Rattle.std.proofs.Common.{◌≡◌, ℕ, ◌<◌, ◌≤◌, Bool, List, [], ◌∷◌, Some, MatchOption, subst, arith}
 use Rattle.papaya_ask.specs.declared.ask.At.TheVariants.{Made as Made_word}
 use Rattle.papaya_law.specs.Allows.{AllAllowed, Allows}
-use Rattle.papaya_law.specs.Exchange.{Exchange, Open, Claim, Replace, Delete, Link, Mark, Close}
+use Rattle.papaya_law.specs.Exchange.{Exchange, Open, Claim, Replace, Bury, Link, Mark, Close}
 use Rattle.papaya_law.specs.Exchange.{Place, Finish, Advance, Promote, Abort, Take, Setting, State}
 use Rattle.papaya_law.specs.Exchange.{after, run, start}
 use Rattle.papaya_store.specs.declared.mode.Mode.{Mode}
@@ -20,7 +20,7 @@ allowed_most {K} {P} g n is (e ∷ es) s le (may, all) = allowed_most g n is es 
     step (Open t) may = le
     step (Claim t x p) may = le
     step (Replace t x p q) may = le
-    step (Delete t x p) may = le
+    step (Bury t x p) may = le
     step (Link t u) may = le
     step (Mark t x p) may = le
     step (Close t x) may = le

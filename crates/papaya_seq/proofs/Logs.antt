@@ -19,7 +19,7 @@ use Rattle.papaya_call.specs.declared.machine.Machine.{Machine as Call_machine}
 use Rattle.papaya_call.specs.declared.machine.State.{State as Stage}
 use Rattle.papaya_call.specs.declared.machine.State.TheVariants.{AtRoot, Making, Opening, Searching}
 use Rattle.papaya_call.specs.declared.machine.State.TheVariants.{Writing, Offering, Showing}
-use Rattle.papaya_call.specs.declared.machine.State.TheVariants.{Pairing, Putting, Deleting}
+use Rattle.papaya_call.specs.declared.machine.State.TheVariants.{Pairing, Putting, Burying}
 use Rattle.papaya_call.specs.declared.machine.State.TheVariants.{Counting, Noting, Uncounting}
 use Rattle.papaya_call.specs.declared.machine.State.TheVariants.{Leaving, Growing, Ended}
 use Rattle.papaya_call.specs.declared.made.Grown.{Grown}
@@ -148,7 +148,7 @@ logged_after made n (Searching search) = (refl, λ h. h)
 logged_after made n (Offering gap) = (refl, λ h. h)
 logged_after made n (Showing removal) = (refl, λ h. h)
 logged_after made n (Putting put) = (refl, λ h. h)
-logged_after made n (Deleting removal) = (refl, λ h. h)
+logged_after made n (Burying removal) = (refl, λ h. h)
 logged_after made n (Counting claimed) = (refl, λ h. h)
 logged_after made n (Noting claimed) = (refl, λ h. h)
 logged_after made n (Uncounting i) = (refl, λ h. h)
@@ -244,7 +244,7 @@ module _ (m : Call_machine) where
   first_not (Offering gap) stands makes n first = makes
   first_not (Showing removal) stands makes n first = makes
   first_not (Putting put) stands makes n first = makes
-  first_not (Deleting removal) stands makes n first = makes
+  first_not (Burying removal) stands makes n first = makes
   first_not (Counting claimed) stands makes n first = makes
   first_not (Noting claimed) stands makes n first = makes
   first_not (Uncounting i) stands makes n first = makes
@@ -316,7 +316,7 @@ module _ (m : Call_machine) (has : m.made.number ≡ Taken) where
   logged_number n (Offering gap) = inl has
   logged_number n (Showing removal) = inl has
   logged_number n (Putting put) = inl has
-  logged_number n (Deleting removal) = inl has
+  logged_number n (Burying removal) = inl has
   logged_number n (Counting claimed) = inl has
   logged_number n (Noting claimed) = inl has
   logged_number n (Uncounting i) = inl has
@@ -370,7 +370,7 @@ takes_in made hash (Opening t) takes = absurd takes
 takes_in made hash (Offering gap) takes = absurd takes
 takes_in made hash (Showing removal) takes = absurd takes
 takes_in made hash (Putting put) takes = absurd takes
-takes_in made hash (Deleting removal) takes = absurd takes
+takes_in made hash (Burying removal) takes = absurd takes
 takes_in made hash (Counting claimed) takes = absurd takes
 takes_in made hash (Noting claimed) takes = absurd takes
 takes_in made hash (Uncounting n) takes = absurd takes

@@ -24,7 +24,7 @@ use Rattle.papaya_call.specs.declared.machine.Machine.{Machine}
 use Rattle.papaya_call.specs.declared.machine.State.{State}
 use Rattle.papaya_call.specs.declared.machine.State.TheVariants.{AtRoot, Making, Opening, Searching}
 use Rattle.papaya_call.specs.declared.machine.State.TheVariants.{Writing, Offering, Showing}
-use Rattle.papaya_call.specs.declared.machine.State.TheVariants.{Pairing, Putting, Deleting}
+use Rattle.papaya_call.specs.declared.machine.State.TheVariants.{Pairing, Putting, Burying}
 use Rattle.papaya_call.specs.declared.machine.State.TheVariants.{Counting, Noting, Uncounting}
 use Rattle.papaya_call.specs.declared.machine.State.TheVariants.{Leaving, Growing, Ended}
 use Rattle.papaya_ask.specs.declared.search.Place.{Place}
@@ -89,7 +89,7 @@ look_place word_kinds.Empty at word = tt
 look_place word_kinds.Live at word = refl
 look_place word_kinds.Marked at word = refl
 look_place word_kinds.Copied at word = refl
-look_place word_kinds.Tombstone at word = go_on_place at
+look_place word_kinds.Buried at word = go_on_place at
 look_place word_kinds.Closed at word = go_on_place at
 
 match_place : (kind : Kind) (at : Place) (word : ℕ) → SeesPlace at.table (match_at kind at word)
@@ -97,7 +97,7 @@ match_place word_kinds.Empty at word = tt
 match_place word_kinds.Live at word = tt
 match_place word_kinds.Marked at word = tt
 match_place word_kinds.Copied at word = refl
-match_place word_kinds.Tombstone at word = tt
+match_place word_kinds.Buried at word = tt
 match_place word_kinds.Closed at word = tt
 
 compared_place : (at : Place) (word : ℕ) (same : Bool) → SeesPlace at.table (search_compared (Comparing at word) same)
@@ -160,7 +160,7 @@ module _ {K V S : Type 0} (store : StoreState K V S) where
   IsLooking (Offering gap) = ⊥
   IsLooking (Pairing purpose) = ⊥
   IsLooking (Putting put) = ⊥
-  IsLooking (Deleting removal) = ⊥
+  IsLooking (Burying removal) = ⊥
   IsLooking (Counting n) = ⊥
   IsLooking (Noting n) = ⊥
   IsLooking (Uncounting n) = ⊥
@@ -196,7 +196,7 @@ module _ {K V S : Type 0} (store : StoreState K V S) where
   look_replies made hash (Offering gap) reply looking e = absurd looking
   look_replies made hash (Pairing purpose) reply looking e = absurd looking
   look_replies made hash (Putting put) reply looking e = absurd looking
-  look_replies made hash (Deleting removal) reply looking e = absurd looking
+  look_replies made hash (Burying removal) reply looking e = absurd looking
   look_replies made hash (Counting n) reply looking e = absurd looking
   look_replies made hash (Noting n) reply looking e = absurd looking
   look_replies made hash (Uncounting n) reply looking e = absurd looking
@@ -241,7 +241,7 @@ module _ {K V S : Type 0} (store : StoreState K V S) where
     looks_in (Offering gap) answer looking told = absurd looking
     looks_in (Pairing purpose) answer looking told = absurd looking
     looks_in (Putting put) answer looking told = absurd looking
-    looks_in (Deleting removal) answer looking told = absurd looking
+    looks_in (Burying removal) answer looking told = absurd looking
     looks_in (Counting n) answer looking told = absurd looking
     looks_in (Noting n) answer looking told = absurd looking
     looks_in (Uncounting n) answer looking told = absurd looking
@@ -326,7 +326,7 @@ module _ {K V S : Type 0} (store : StoreState K V S) where
     lowers_in (Offering gap) answer looking read told = absurd looking
     lowers_in (Pairing purpose) answer looking read told = absurd looking
     lowers_in (Putting put) answer looking read told = absurd looking
-    lowers_in (Deleting removal) answer looking read told = absurd looking
+    lowers_in (Burying removal) answer looking read told = absurd looking
     lowers_in (Counting n) answer looking read told = absurd looking
     lowers_in (Noting n) answer looking read told = absurd looking
     lowers_in (Uncounting n) answer looking read told = absurd looking
@@ -352,7 +352,7 @@ module _ {K V S : Type 0} (store : StoreState K V S) where
     prompt_in task sized (Offering gap) answer looking told = absurd looking
     prompt_in task sized (Pairing purpose) answer looking told = absurd looking
     prompt_in task sized (Putting put) answer looking told = absurd looking
-    prompt_in task sized (Deleting removal) answer looking told = absurd looking
+    prompt_in task sized (Burying removal) answer looking told = absurd looking
     prompt_in task sized (Counting n) answer looking told = absurd looking
     prompt_in task sized (Noting n) answer looking told = absurd looking
     prompt_in task sized (Uncounting n) answer looking told = absurd looking
@@ -383,7 +383,7 @@ module _ {K V S : Type 0} (store : StoreState K V S) where
     unmatched_in none (Offering gap) answer looking told = absurd looking
     unmatched_in none (Pairing purpose) answer looking told = absurd looking
     unmatched_in none (Putting put) answer looking told = absurd looking
-    unmatched_in none (Deleting removal) answer looking told = absurd looking
+    unmatched_in none (Burying removal) answer looking told = absurd looking
     unmatched_in none (Counting n) answer looking told = absurd looking
     unmatched_in none (Noting n) answer looking told = absurd looking
     unmatched_in none (Uncounting n) answer looking told = absurd looking
@@ -405,7 +405,7 @@ none_replies made hash (Showing removal) reply none e = absurd none
 none_replies made hash (Offering gap) reply none e = absurd none
 none_replies made hash (Pairing purpose) reply none e = absurd none
 none_replies made hash (Putting put) reply none e = absurd none
-none_replies made hash (Deleting removal) reply none e = absurd none
+none_replies made hash (Burying removal) reply none e = absurd none
 none_replies made hash (Counting n) reply none e = absurd none
 none_replies made hash (Noting n) reply none e = absurd none
 none_replies made hash (Uncounting n) reply none e = absurd none

@@ -12,7 +12,7 @@ use Rattle.papaya_call.specs.declared.machine.Machine.{Machine as Call_machine}
 use Rattle.papaya_call.specs.declared.machine.State.{State as Stage}
 use Rattle.papaya_call.specs.declared.machine.State.TheVariants.{AtRoot, Making, Opening, Searching}
 use Rattle.papaya_call.specs.declared.machine.State.TheVariants.{Writing, Offering, Showing}
-use Rattle.papaya_call.specs.declared.machine.State.TheVariants.{Pairing, Putting, Deleting}
+use Rattle.papaya_call.specs.declared.machine.State.TheVariants.{Pairing, Putting, Burying}
 use Rattle.papaya_call.specs.declared.machine.State.TheVariants.{Counting, Noting, Uncounting}
 use Rattle.papaya_call.specs.declared.machine.State.TheVariants.{Leaving, Growing, Ended}
 use Rattle.papaya_call.specs.declared.made.Made.{Made}
@@ -43,7 +43,7 @@ module _ (m : Call_machine) (Holds : Call_answer → Made → Type 0) where
     word_read (Offering gap) count = h.same a
     word_read (Showing removal) count = h.same a
     word_read (Putting put) count = h.same a
-    word_read (Deleting removal) count = h.same a
+    word_read (Burying removal) count = h.same a
     word_read (Counting claimed) count = h.same a
     word_read (Noting claimed) count = h.same a
     word_read (Uncounting n) count = h.same a
@@ -65,7 +65,7 @@ module _ (m : Call_machine) (Holds : Call_answer → Made → Type 0) where
     exchanged (Offering gap) = h.same a
     exchanged (Showing removal) = h.same a
     exchanged (Putting put) = h.same a
-    exchanged (Deleting removal) = h.same a
+    exchanged (Burying removal) = h.same a
     exchanged (Counting claimed) = h.same a
     exchanged (Noting claimed) = h.same a
     exchanged (Uncounting n) = h.same a
@@ -89,7 +89,7 @@ module _ (m : Call_machine) (Holds : Call_answer → Made → Type 0) where
     op_answered kind (Writing write) = h.same a
     op_answered kind (Pairing purpose) = h.same a
     op_answered kind (Putting put) = h.same a
-    op_answered kind (Deleting removal) = h.same a
+    op_answered kind (Burying removal) = h.same a
     op_answered kind (Counting claimed) = h.same a
     op_answered kind (Noting claimed) = h.same a
     op_answered kind (Uncounting n) = h.same a

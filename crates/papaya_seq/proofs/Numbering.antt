@@ -11,8 +11,8 @@ use Rattle.papaya_law.specs.Code.{Coding}
 use Rattle.papaya_law.specs.Grows.{Comes}
 use Rattle.papaya_law.specs.Invariant.{named}
 use Rattle.papaya_law.specs.Copying.{IsCopied, IsSettled, IsTaker, IsTarget}
-use Rattle.papaya_law.specs.Exchange.{Word, Empty, Closed, Live, Marked, Copied, Tombstone}
-use Rattle.papaya_law.specs.Exchange.{Exchange, Open, Claim, Replace, Delete, Link, Mark, Close}
+use Rattle.papaya_law.specs.Exchange.{Word, Empty, Closed, Live, Marked, Copied, Buried}
+use Rattle.papaya_law.specs.Exchange.{Exchange, Open, Claim, Replace, Bury, Link, Mark, Close}
 use Rattle.papaya_law.specs.Exchange.{Place, Finish, Advance, Promote, Abort, Take, Setting, State}
 use Rattle.papaya_law.specs.Exchange.{after, run, start}
 use Rattle.papaya_law.specs.Hints.{IsHint, IsHintOf}
@@ -74,7 +74,7 @@ module _ {K P : Type 0} (g : Setting K P) (limit : Option ℕ) where
     settled_there n (Live p) h = h
     settled_there n (Marked p) h = h
     settled_there n (Copied p) h = h
-    settled_there n (Tombstone p) h = h
+    settled_there n (Buried p) h = h
 
     -- an exchange that takes no number is allowed there
     abbrev AllowsThere : Exchange P → Type 0
@@ -90,7 +90,7 @@ module _ {K P : Type 0} (g : Setting K P) (limit : Option ℕ) where
           may.place;
     }
     allows_there (Replace t x p q) may = record { live = may.live; reached = reached_there (g.key p) t may.reached; same = may.same; kept = may.kept }
-    allows_there (Delete t x p) may = record { live = may.live; reached = reached_there (g.key p) t may.reached }
+    allows_there (Bury t x p) may = record { live = may.live; reached = reached_there (g.key p) t may.reached }
     allows_there (Link t n) may = record {
       last = may.last;
       on = may.on;
@@ -128,7 +128,7 @@ module _ {K P : Type 0} (g : Setting K P) (limit : Option ℕ) where
   all_there m (Open t ∷ es) s (may, all) = (allows_there m s (Open t) may, all_there m es (after s (Open t)) all)
   all_there m (Claim t x p ∷ es) s (may, all) = (allows_there m s (Claim t x p) may, all_there m es (after s (Claim t x p)) all)
   all_there m (Replace t x p q ∷ es) s (may, all) = (allows_there m s (Replace t x p q) may, all_there m es (after s (Replace t x p q)) all)
-  all_there m (Delete t x p ∷ es) s (may, all) = (allows_there m s (Delete t x p) may, all_there m es (after s (Delete t x p)) all)
+  all_there m (Bury t x p ∷ es) s (may, all) = (allows_there m s (Bury t x p) may, all_there m es (after s (Bury t x p)) all)
   all_there m (Link t n ∷ es) s (may, all) = (allows_there m s (Link t n) may, all_there m es (after s (Link t n)) all)
   all_there m (Mark t x p ∷ es) s (may, all) = (allows_there m s (Mark t x p) may, all_there m es (after s (Mark t x p)) all)
   all_there m (Close t x ∷ es) s (may, all) = (allows_there m s (Close t x) may, all_there m es (after s (Close t x)) all)
@@ -155,7 +155,7 @@ stripped_run m [] s = refl
 stripped_run m (Open t ∷ es) s = stripped_run m es (after s (Open t))
 stripped_run m (Claim t x p ∷ es) s = stripped_run m es (after s (Claim t x p))
 stripped_run m (Replace t x p q ∷ es) s = stripped_run m es (after s (Replace t x p q))
-stripped_run m (Delete t x p ∷ es) s = stripped_run m es (after s (Delete t x p))
+stripped_run m (Bury t x p ∷ es) s = stripped_run m es (after s (Bury t x p))
 stripped_run m (Link t n ∷ es) s = stripped_run m es (after s (Link t n))
 stripped_run m (Mark t x p ∷ es) s = stripped_run m es (after s (Mark t x p))
 stripped_run m (Close t x ∷ es) s = stripped_run m es (after s (Close t x))
@@ -240,7 +240,7 @@ module _ {K V S : Type 0} (eq : K → K → Bool) (hash : K → ℕ) (store : St
   hint_there (Live p) n h = h
   hint_there (Marked p) n h = h
   hint_there (Copied p) n h = h
-  hint_there (Tombstone p) n h = h
+  hint_there (Buried p) n h = h
 
   -- the words with the limit keep to the law
   kept' : IsKept {A = Unit {0}} eq hash mode' store' [] es' lawful.lawful.law.1.0

@@ -16,7 +16,7 @@ use Rattle.papaya_call.specs.declared.compute.Remembered.{Remembered}
 use Rattle.papaya_call.specs.declared.machine.State.{State}
 use Rattle.papaya_call.specs.declared.machine.State.TheVariants.{AtRoot, Making, Opening, Searching}
 use Rattle.papaya_call.specs.declared.machine.State.TheVariants.{Writing, Offering, Showing}
-use Rattle.papaya_call.specs.declared.machine.State.TheVariants.{Pairing, Putting, Deleting}
+use Rattle.papaya_call.specs.declared.machine.State.TheVariants.{Pairing, Putting, Burying}
 use Rattle.papaya_call.specs.declared.machine.State.TheVariants.{Counting, Noting, Uncounting}
 use Rattle.papaya_call.specs.declared.machine.State.TheVariants.{Leaving, Growing, Ended}
 use Rattle.papaya_call.specs.declared.remove.Removal.{Removal}
@@ -115,7 +115,7 @@ abbrev pub IsRootStage : ℕ → State → Type 0
 IsRootStage root AtRoot = Unit {0}
 IsRootStage root (Searching search) = IsSearchIn (λ word. IsSettledKind (kind_of word)) root search
 IsRootStage root (Showing removal) = Unit {0}
-IsRootStage root (Deleting removal) = Unit {0}
+IsRootStage root (Burying removal) = Unit {0}
 IsRootStage root (Uncounting n) = Unit {0}
 IsRootStage root (Leaving t) = t ≡ root
 IsRootStage root (Ended reply) = IsEnd reply
@@ -206,7 +206,7 @@ module _ {K V S F : Type 0} (g : Mut F (Bor K × (Bor V × Unit {0})) Bool) (mat
       (goes_root s.words.root mode held _ (compared_in (λ n. IsSettledKind (kind_of n)) s.words.root (Comparing place word)
       (matches_in matches (pair_of s (number_of word))) stage))
   root_stays (Showing removal) answer stage read (shown, same) = shown_root removal answer (pair_of s (number_of removal.word)) shown (same_root s s' same)
-  root_stays (Deleting removal) answer stage read (exchanges, _) =
+  root_stays (Burying removal) answer stage read (exchanges, _) =
       let n = removal.place.table in
       let i = removal.place.probe.i in
       let done : (answer ≡ Exchanged) × (s' ≡ record s { words = put s.words (Slot n i) (grave_word removal.word) }) = exchange_done _ _
@@ -220,7 +220,7 @@ module _ {K V S F : Type 0} (g : Mut F (Bor K × (Bor V × Unit {0})) Bool) (mat
         slots = ap (λ u. slots_in (table_of w.tables u)) root ∙ long.slots;
         next = ap (λ u. next_in (table_of w.tables u)) root ∙ long.next;
       } in
-      stays (Deleting removal) Exchanged answer done.0 (subst (IsRootOf s) (sym done.1) later) refl tt
+      stays (Burying removal) Exchanged answer done.0 (subst (IsRootOf s) (sym done.1) later) refl tt
   root_stays (Uncounting n) answer stage read (e, (number, is), _) =
       stays (Uncounting n) Ok_done answer e (record {
         root = ap (λ (y : StoreState K V S). y.words.root) is;

@@ -15,7 +15,7 @@ use Rattle.papaya_call.specs.declared.machine.Machine.{Machine as Call_machine}
 use Rattle.papaya_call.specs.declared.machine.State.{State}
 use Rattle.papaya_call.specs.declared.machine.State.TheVariants.{AtRoot, Making, Opening, Searching}
 use Rattle.papaya_call.specs.declared.machine.State.TheVariants.{Writing, Offering, Showing}
-use Rattle.papaya_call.specs.declared.machine.State.TheVariants.{Pairing, Putting, Deleting}
+use Rattle.papaya_call.specs.declared.machine.State.TheVariants.{Pairing, Putting, Burying}
 use Rattle.papaya_call.specs.declared.machine.State.TheVariants.{Counting, Noting, Uncounting}
 use Rattle.papaya_call.specs.declared.machine.State.TheVariants.{Leaving, Growing, Ended}
 use Rattle.papaya_call.specs.declared.remove.Removal.{Removal}
@@ -61,7 +61,7 @@ removes_unsaid kinds.Empty at word = refl
 removes_unsaid kinds.Live at word = refl
 removes_unsaid kinds.Marked at word = refl
 removes_unsaid kinds.Copied at word = refl
-removes_unsaid kinds.Tombstone at word = refl
+removes_unsaid kinds.Buried at word = refl
 removes_unsaid kinds.Closed at word = refl
 
 -- a search leads to such a state
@@ -92,7 +92,7 @@ aside_unsaid (Offering gap) t e = absurd cc
 aside_unsaid (Showing removal) t e = absurd cc
 aside_unsaid (Pairing purpose) t e = absurd cc
 aside_unsaid (Putting given) t e = absurd cc
-aside_unsaid (Deleting removal) t e = absurd cc
+aside_unsaid (Burying removal) t e = absurd cc
 aside_unsaid (Counting n) t e = absurd cc
 aside_unsaid (Noting n) t e = absurd cc
 aside_unsaid (Uncounting n) t e = absurd cc
@@ -166,9 +166,9 @@ module _ {K V S F : Type 0} (g : Mut F (Bor K × (Bor V × Unit {0})) Bool) (mat
           (unjudged (goes_as RemoveIf mode held (search_compared (Comparing place word) (matches_in matches (pair_of s (number_of word))))) f f'
           (goes_unsaid mode held (search_compared (Comparing place word) (matches_in matches (pair_of s (number_of word))))) same alike)
       own_judged (Showing removal) answer stands read alike (shown, _) = shown_judged removal answer (pair_of s (number_of removal.word)) refl alike shown
-      own_judged (Deleting removal) answer stands read judged (exchanges, same) =
+      own_judged (Burying removal) answer stands read judged (exchanges, same) =
           let done = exchange_done _ _ (word_at s.words (Slot removal.place.table removal.place.probe.i)) removal.word read exchanges in
-          subst (λ a. IsJudgedIn (call_after (at (Deleting removal)) a).state f') (sym done.0) judged
+          subst (λ a. IsJudgedIn (call_after (at (Burying removal)) a).state f') (sym done.0) judged
       own_judged (Uncounting n) answer stands read judged (e, _, same) = subst (λ a. IsJudgedIn (call_after (at (Uncounting n)) a).state f') (sym e) judged
       own_judged (Leaving t) answer stands read alike (e, _, same) =
           subst (λ a. IsJudgedIn (call_after (at (Leaving t)) a).state f') (sym e)
@@ -208,7 +208,7 @@ module _ {K V S F : Type 0} (g : Mut F (Bor K × (Bor V × Unit {0})) Bool) (mat
     aside_call made hashed (Showing removal) t answer e told = absurd cc
     aside_call made hashed (Pairing purpose) t answer e told = absurd cc
     aside_call made hashed (Putting given) t answer e told = absurd cc
-    aside_call made hashed (Deleting removal) t answer e told = absurd cc
+    aside_call made hashed (Burying removal) t answer e told = absurd cc
     aside_call made hashed (Counting n) t answer e told = absurd cc
     aside_call made hashed (Noting n) t answer e told = absurd cc
     aside_call made hashed (Uncounting n) t answer e told = absurd cc

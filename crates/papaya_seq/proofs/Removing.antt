@@ -6,7 +6,7 @@ use Rattle.std.specs.Prelude.{◌==◌}
 use Rattle.papaya_call.specs.declared.machine.State.{State}
 use Rattle.papaya_call.specs.declared.machine.State.TheVariants.{AtRoot, Making, Opening, Searching}
 use Rattle.papaya_call.specs.declared.machine.State.TheVariants.{Writing, Offering, Showing}
-use Rattle.papaya_call.specs.declared.machine.State.TheVariants.{Pairing, Putting, Deleting}
+use Rattle.papaya_call.specs.declared.machine.State.TheVariants.{Pairing, Putting, Burying}
 use Rattle.papaya_call.specs.declared.machine.State.TheVariants.{Counting, Noting, Uncounting}
 use Rattle.papaya_call.specs.declared.machine.State.TheVariants.{Leaving, Growing, Ended}
 use Rattle.papaya_call.specs.Machine.{IsStandingState, asks as call_asks}
@@ -94,7 +94,7 @@ removal_asks made hash (Offering gap) stands going = absurd stands.0
 removal_asks made hash (Showing removal) stands going = tt
 removal_asks made hash (Pairing purpose) stands going = absurd stands.0
 removal_asks made hash (Putting put) stands going = absurd stands.0
-removal_asks made hash (Deleting removal) stands going = tt
+removal_asks made hash (Burying removal) stands going = tt
 removal_asks made hash (Counting n) stands going = absurd stands
 removal_asks made hash (Noting n) stands going = absurd stands
 removal_asks made hash (Uncounting n) stands going = tt
@@ -116,7 +116,7 @@ removal_numbers made hash (Offering gap) stands asks = asks
 removal_numbers made hash (Showing removal) stands asks = asks
 removal_numbers made hash (Pairing purpose) stands asks = stands.0
 removal_numbers made hash (Putting put) stands asks = stands.0
-removal_numbers made hash (Deleting removal) stands asks = asks
+removal_numbers made hash (Burying removal) stands asks = asks
 removal_numbers made hash (Counting n) stands asks = asks
 removal_numbers made hash (Noting n) stands asks = asks
 removal_numbers made hash (Uncounting n) stands asks = asks

@@ -10,16 +10,16 @@ use Rattle.std.proofs.lemmas.Bool.{cases_lt}
 use Rattle.std.proofs.lemmas.Int.{fits_signed_from_abs, ints, int_wrap_fits}
 use Rattle.papaya_words.specs.Counter.{added}
 use Rattle.papaya_words.specs.Table.{TableWords}
-use Rattle.papaya_words.specs.Word.{kind_of, pair_of as number_of, tombstone_word}
+use Rattle.papaya_words.specs.Word.{kind_of, pair_of as number_of, buried_word}
 use Rattle.papaya_words.specs.declared.word.Kind.TheVariants as kinds
 use Rattle.papaya_ask.specs.Search.{IsSize}
 use Rattle.papaya_ask.specs.declared.ask.At.{At}
 use Rattle.papaya_ask.specs.declared.ask.At.TheVariants.{Root, Next, Aborted, Done, Slot, Made}
 use Rattle.papaya_chain_law.specs.Told.{nothing_loaded}
-use Rattle.papaya_law.specs.Allows.{MayDelete}
+use Rattle.papaya_law.specs.Allows.{MayBury}
 use Rattle.papaya_law.specs.ChainContent.{joined}
 use Rattle.papaya_law.specs.Code.{Coding, IsHashed, IsOfKind, code}
-use Rattle.papaya_law.specs.Exchange.{Tombstone, Live, Delete, Exchange, Setting, State, after, run, start}
+use Rattle.papaya_law.specs.Exchange.{Buried, Live, Bury, Exchange, Setting, State, after, run, start}
 use Rattle.papaya_law.specs.Grows.{Comes}
 use Rattle.papaya_law.specs.Invariant.{named}
 use Rattle.papaya_law.specs.Meaning.{map_left}
@@ -56,9 +56,9 @@ module _ {K V S : Type 0} (s : StoreState K V S) (i : ℕ) where
   root_word = word_at s.words (Slot s.words.root i)
 
   -- its pair was deleted, and is counted no more
-  abbrev pub tombstone_at : StoreState K V S
-  tombstone_at = record s {
-    words = put s.words (Slot s.words.root i) (tombstone_word (number_of root_word));
+  abbrev pub buried_at : StoreState K V S
+  buried_at = record s {
+    words = put s.words (Slot s.words.root i) (buried_word (number_of root_word));
     count = added s.count 0 (negsuc 0);
   }
 
@@ -110,10 +110,10 @@ module _ {K V S : Type 0} (eq : K → K → Bool) (hash : K → ℕ) (s : MapSta
   word = root_word s.store i
 
   abbrev grave : ℕ
-  grave = tombstone_word (number_of word)
+  grave = buried_word (number_of word)
 
   abbrev store' : StoreState K V S
-  store' = tombstone_at s.store i
+  store' = buried_at s.store i
 
   kept : IsKept {A = Unit {0}} eq hash s.mode s.store [] es call_traces
   kept = lawful.lawful.law.1.1
@@ -168,7 +168,7 @@ module _ {K V S : Type 0} (eq : K → K → Bool) (hash : K → ℕ) (s : MapSta
   root_is = kept.coded Root
 
   -- its deletion is allowed
-  may : MayDelete g now root i p
+  may : MayBury g now root i p
   may = record {
     live = lives.1;
     reached = subst (IsReached g now p.key) root_is
@@ -176,36 +176,36 @@ module _ {K V S : Type 0} (eq : K → K → Bool) (hash : K → ℕ) (s : MapSta
   }
 
   abbrev made : List (Exchange (Stored K V))
-  made = Delete root i p ∷ []
+  made = Bury root i p ∷ []
 
-  ran : run (es ++ made) start ≡ after now (Delete root i p)
+  ran : run (es ++ made) start ≡ after now (Bury root i p)
   ran = run-append es made start
 
-  grave_is : code g c (Tombstone p) ≡ grave
-  grave_is = ap tombstone_word (sym number_is)
+  grave_is : code g c (Buried p) ≡ grave
+  grave_is = ap buried_word (sym number_is)
 
   -- the words after it
   coded' : (at : At) → word_of g c (run (es ++ made) start) at ≡ word_at store'.words at
   coded' at = ap (λ z. word_of g c z at) ran ∙ elim (cases_place at (Slot root i)) [
-    | inl same ↦ ap (word_of g c (after now (Delete root i p))) same ∙ ap (code g c) (put_there now root i (Tombstone p) root i (refl, refl)).0
+    | inl same ↦ ap (word_of g c (after now (Bury root i p))) same ∙ ap (code g c) (put_there now root i (Buried p) root i (refl, refl)).0
         ∙ grave_is ∙ sym (placed-here s.store.words (Slot root i) grave placed) ∙ ap (word_at (put s.store.words (Slot root i) grave)) (sym same)
     | inr differ ↦ others at differ ∙ kept.coded at ∙ sym (placed-other s.store.words (Slot root i) grave placed at differ)
   ]
     where
-      others : (at : At) → (at ≡ Slot root i → ⊥) → word_of g c (after now (Delete root i p)) at ≡ word_of g c now at
+      others : (at : At) → (at ≡ Slot root i → ⊥) → word_of g c (after now (Bury root i p)) at ≡ word_of g c now at
       others Root differ = refl
       others Made differ = refl
       others (Next t) differ = refl
       others (Aborted t) differ = refl
       others (Done t chunk) differ = refl
       others (Slot t x) differ = ap (code g c)
-          (put_elsewhere now root i (Tombstone p) t x (λ same. differ (ap (λ y. Slot y x) (sym same.0) ∙ ap (Slot root) (sym same.1))))
+          (put_elsewhere now root i (Buried p) t x (λ same. differ (ap (λ y. Slot y x) (sym same.0) ∙ ap (Slot root) (sym same.1))))
 
   -- a pair that a slot names stood in one
   slots' : (t x : ℕ) (q : Stored K V) → named ((run (es ++ made) start).slot t x) ≡ Some q → Stands now q ⊎ ⊥
   slots' t x q names =
-      let name : named ((after now (Delete root i p)).slot t x) ≡ Some q = ap (λ (z : State (Stored K V)). named (z.slot t x)) (sym ran) ∙ names in
-      elim (slot_cases now root i (Tombstone p) t x) [
+      let name : named ((after now (Bury root i p)).slot t x) ≡ Some q = ap (λ (z : State (Stored K V)). named (z.slot t x)) (sym ran) ∙ names in
+      elim (slot_cases now root i (Buried p) t x) [
         | inl (same, other) ↦ inl (t, x, ap named (sym same) ∙ name)
         | inr (here, at, is) ↦ inl (root, i, ap named lives.1 ∙ sym (ap named is) ∙ name)
       ]
@@ -258,7 +258,7 @@ module _ {K V S : Type 0} (eq : K → K → Bool) (hash : K → ℕ) (s : MapSta
 
   -- the grave has no pair
   pub grave_bare : pairs_of_word s.store grave ≡ []
-  grave_bare = ap (λ kd. pairs_of_kind s.store kd (number_of grave)) (ap kind_of (sym grave_is) ∙ code_kind g c (Tombstone p))
+  grave_bare = ap (λ kd. pairs_of_kind s.store kd (number_of grave)) (ap kind_of (sym grave_is) ∙ code_kind g c (Buried p))
 
   sizes' : (n : ℕ) (t : TableWords) → table_of store'.words.tables n ≡ Some t → IsSize (length t.slots) t.limit
   sizes' n t e = elim (cases_same n root) [
@@ -317,8 +317,8 @@ module _ {K V S : Type 0} (eq : K → K → Bool) (hash : K → ℕ) (s : MapSta
         ∙ int_wrap_fits w64 (pos m) fit
 
     -- the map is in order after it
-    pub tombstone_lawful : IsLawfulMap eq hash store' s.mode s.initial
-    tombstone_lawful = record {
+    pub buried_lawful : IsLawfulMap eq hash store' s.mode s.initial
+    buried_lawful = record {
       lawful = lawful_core;
       counted = counted';
       power = lawful.power;

@@ -96,7 +96,7 @@ module _ {K V S : Type 0} (store : StoreState K V S) where
       of_kind kinds.Marked is = absurd (unmarked is)
       of_kind kinds.Empty is = refl
       of_kind kinds.Copied is = refl
-      of_kind kinds.Tombstone is = refl
+      of_kind kinds.Buried is = refl
       of_kind kinds.Closed is = refl
 
 -- what the same log says of words
@@ -111,7 +111,7 @@ slots_same {K} {V} {S} store store' same (word ∷ words) = ap (λ l. l ++ pairs
     of_kind kinds.Marked = ap listed (same (number_of word))
     of_kind kinds.Empty = refl
     of_kind kinds.Copied = refl
-    of_kind kinds.Tombstone = refl
+    of_kind kinds.Buried = refl
     of_kind kinds.Closed = refl
 
 -- what is retained of two lists, one after the other

@@ -5,7 +5,7 @@ use Rattle.std.proofs.Common.{None, append-nil, refl, sym, ◌∙◌, ap, subst,
 use denote.Ref.{Bor}
 use Rattle.std.specs.Fn.{Mut}
 use Rattle.papaya_words.specs.Table.{TableWords}
-use Rattle.papaya_words.specs.Word.{kind_of, pair_of as number_of, tombstone_word}
+use Rattle.papaya_words.specs.Word.{kind_of, pair_of as number_of, buried_word}
 use Rattle.papaya_words.specs.declared.word.Kind.TheVariants as kinds
 use Rattle.papaya_ask.specs.declared.ask.Answer.{Answer}
 use Rattle.papaya_ask.specs.declared.ask.Answer.TheVariants.{Yes}
@@ -20,7 +20,7 @@ use Rattle.papaya_timeline.proofs.StoreLemmas.{matched}
 use Rattle.papaya_seq.specs.Map.{IsLawfulMap, MapState, Unchanged, next_of, slots_in, slots_of}
 use Rattle.papaya_seq.specs.Removes.{IsShown}
 use Rattle.papaya_seq.specs.Retains.{Answers, IsRetained, IsRetaining, Retains, root_words, slot_words}
-use Rattle.papaya_seq.proofs.RetainLaw.{tombstone_at, root_word, grave_bare, last_content, next_same, root_same, words_set}
+use Rattle.papaya_seq.proofs.RetainLaw.{buried_at, root_word, grave_bare, last_content, next_same, root_same, words_set}
 use Rattle.papaya_seq.proofs.RetainLists.{bare_pairs, drop_more, drop_there, live_pairs}
 use Rattle.papaya_seq.proofs.RetainLists.{retains_more, set_before, set_behind, set_long, set_there}
 use Rattle.papaya_seq.proofs.RetainLists.{slots_more, slots_same, take_all}
@@ -42,7 +42,7 @@ module _ {K V S : Type 0} (s : StoreState K V S) (i : ℕ) where
       → F → Type 0
   IsScanned g f s' f' = ((kind_of (root_word s i) ≡ kinds.Live → ⊥) × (s' ≡ s) × (f' ≡ f))
       ⊎ ((p : Stored K V) × (kind_of (root_word s i) ≡ kinds.Live) × (pair_of s (number_of (root_word s i)) ≡ Some p)
-      × (agrees : Bool) × Answers g f p agrees f' × (s' ≡ cond agrees s (tombstone_at s i)))
+      × (agrees : Bool) × Answers g f p agrees f' × (s' ≡ cond agrees s (buried_at s i)))
 
 module _ {F K V S : Type 0} (g : Mut F (Bor K × (Bor V × Unit {0})) Bool) (s : MapState K V S) (f : F) where
   pub retaining_begins : next_of s.store ≡ 0 → IsRetaining g s f 0 s f
@@ -111,11 +111,11 @@ module _ {F K V S : Type 0} (g : Mut F (Bor K × (Bor V × Unit {0})) Bool) (s :
     }
 
     -- or its pair was deleted
-    goes : s''.store ≡ tombstone_at s'.store i → kind_of (root_word s'.store i) ≡ kinds.Live → (p : Stored K V)
+    goes : s''.store ≡ buried_at s'.store i → kind_of (root_word s'.store i) ≡ kinds.Live → (p : Stored K V)
         → pair_of s'.store (number_of (root_word s'.store i)) ≡ Some p → Answers g f' p false f'' → IsRetaining g s f (suc i) s'' f''
     goes same live p logged answers =
-        let grave : ℕ = tombstone_word (number_of (root_word s'.store i)) in
-        let set : root_words (tombstone_at s'.store i) ≡ slice_set (root_words s'.store) i grave = words_set eq hash s' lawful keys i low live in
+        let grave : ℕ = buried_word (number_of (root_word s'.store i)) in
+        let set : root_words (buried_at s'.store i) ≡ slice_set (root_words s'.store) i grave = words_set eq hash s' lawful keys i low live in
         let here : pairs_of_word s.store (root_word s'.store i) ≡ p ∷ [] = live_pairs s.store (root_word s'.store i) p live
         (sym (retaining.pairs (number_of (root_word s'.store i))) ∙ logged) in
         let long : length (slice_set (root_words s'.store) i grave) ≡ length (root_words s'.store) = set_long (root_words s'.store) i grave in
@@ -123,7 +123,7 @@ module _ {F K V S : Type 0} (g : Mut F (Bor K × (Bor V × Unit {0})) Bool) (s :
         record {
           last = ap next_of same ∙ next_same eq hash s' lawful keys i low live ∙ retaining.last;
           root = ap (λ (y : StoreState K V S). y.words.root) same ∙ root_same eq hash s' lawful keys i low live ∙ retaining.root;
-          long = ap slots_of same ∙ sym (words_many (table_of (tombstone_at s'.store i).words.tables (tombstone_at s'.store i).words.root))
+          long = ap slots_of same ∙ sym (words_many (table_of (buried_at s'.store i).words.tables (buried_at s'.store i).words.root))
               ∙ ap length set ∙ long ∙ words_many (table_of s'.store.words.tables s'.store.words.root) ∙ retaining.long;
           keeps = record {
             hasher = ap (λ (y : StoreState K V S). y.hasher) same ∙ retaining.keeps.hasher;

@@ -63,7 +63,7 @@ module _ (so : (number slots : ℕ) → Type 0) where
   look_in kinds.Live at word is = is
   look_in kinds.Marked at word is = is
   look_in kinds.Copied at word is = is
-  look_in kinds.Tombstone at word is = on_in at is
+  look_in kinds.Buried at word is = on_in at is
   look_in kinds.Closed at word is = on_in at is
 
   match_in : (kind : Kind) (at : Place) (word : ℕ) → GoesOnIn so (match_at kind at word)
@@ -71,7 +71,7 @@ module _ (so : (number slots : ℕ) → Type 0) where
   match_in kinds.Live at word = tt
   match_in kinds.Marked at word = tt
   match_in kinds.Copied at word = tt
-  match_in kinds.Tombstone at word = tt
+  match_in kinds.Buried at word = tt
   match_in kinds.Closed at word = tt
 
   pub yes_in : (at : Place) (word : ℕ) (same : Bool) → so at.table at.len → GoesOnIn so (at_yes (Comparing at word) same)
@@ -103,7 +103,7 @@ look_left kinds.Empty at word within = omega (arith, within)
 look_left kinds.Live at word within = omega (arith, within)
 look_left kinds.Marked at word within = omega (arith, within)
 look_left kinds.Copied at word within = omega (arith, within)
-look_left kinds.Tombstone at word within = let next = on_left at within in omega (arith, next)
+look_left kinds.Buried at word within = let next = on_left at within in omega (arith, next)
 look_left kinds.Closed at word within = let next = on_left at within in omega (arith, next)
 
 match_left : (kind : Kind) (at : Place) (word : ℕ) → left_seen (match_at kind at word) ≡ 0
@@ -111,7 +111,7 @@ match_left kinds.Empty at word = refl
 match_left kinds.Live at word = refl
 match_left kinds.Marked at word = refl
 match_left kinds.Copied at word = refl
-match_left kinds.Tombstone at word = refl
+match_left kinds.Buried at word = refl
 match_left kinds.Closed at word = refl
 
 -- and a comparison
@@ -139,7 +139,7 @@ look_turned kinds.Empty at word = λ none. tt
 look_turned kinds.Live at word = λ none. none at word refl
 look_turned kinds.Marked at word = λ none. none at word refl
 look_turned kinds.Copied at word = λ none. none at word refl
-look_turned kinds.Tombstone at word = λ none. on_turned at
+look_turned kinds.Buried at word = λ none. on_turned at
 look_turned kinds.Closed at word = λ none. on_turned at
 
 match_turned : (kind : Kind) (at : Place) (word : ℕ) → IsTurned (match_at kind at word)
@@ -147,7 +147,7 @@ match_turned kinds.Empty at word = tt
 match_turned kinds.Live at word = tt
 match_turned kinds.Marked at word = tt
 match_turned kinds.Copied at word = tt
-match_turned kinds.Tombstone at word = tt
+match_turned kinds.Buried at word = tt
 match_turned kinds.Closed at word = tt
 
 -- after a comparison it is so
@@ -166,7 +166,7 @@ stands_look words kinds.Empty at word is empty = ap kind_of is ∙ empty
 stands_look words kinds.Live at word is e = is
 stands_look words kinds.Marked at word is e = is
 stands_look words kinds.Copied at word is e = is
-stands_look words kinds.Tombstone at word is e = stands_on words at
+stands_look words kinds.Buried at word is e = stands_on words at
 stands_look words kinds.Closed at word is e = stands_on words at
 
 stands_match : (words : At → ℕ) (kind : Kind) (at : Place) (word : ℕ) → words (Slot at.table at.probe.i) ≡ word → StandsBy words (match_at kind at word)
@@ -174,7 +174,7 @@ stands_match words kinds.Empty at word is = is
 stands_match words kinds.Live at word is = is
 stands_match words kinds.Marked at word is = is
 stands_match words kinds.Copied at word is = tt
-stands_match words kinds.Tombstone at word is = is
+stands_match words kinds.Buried at word is = is
 stands_match words kinds.Closed at word is = is
 
 -- and so does a comparison
@@ -300,7 +300,7 @@ module _ {K V S : Type 0} (matches : K → Bool) (store : StoreState K V S) wher
       matched_look kinds.Live word = tt
       matched_look kinds.Marked word = tt
       matched_look kinds.Copied word = tt
-      matched_look kinds.Tombstone word = matched_on
+      matched_look kinds.Buried word = matched_on
       matched_look kinds.Closed word = matched_on
 
       matched_kind : (kind : Kind) (word : ℕ) → matches_in matches (pair_of store (number_of word)) ≡ true
@@ -309,7 +309,7 @@ module _ {K V S : Type 0} (matches : K → Bool) (store : StoreState K V S) wher
       matched_kind kinds.Live word is = is
       matched_kind kinds.Marked word is = is
       matched_kind kinds.Copied word is = tt
-      matched_kind kinds.Tombstone word is = is
+      matched_kind kinds.Buried word is = is
       matched_kind kinds.Closed word is = is
 
       -- a comparison finds one that matches

@@ -21,7 +21,7 @@ use Rattle.papaya_chain_law.specs.Told.{nothing_loaded}
 use Rattle.papaya_chain_law.proofs.Standing.{started_stands}
 use Rattle.papaya_alone.specs.Ahead.{IsCurrent}
 use Rattle.papaya_law.specs.Code.{Coding, IsHashed}
-use Rattle.papaya_law.specs.Exchange.{Setting, State as Words, Word, Empty, Closed, Live, Marked, Copied, Tombstone}
+use Rattle.papaya_law.specs.Exchange.{Setting, State as Words, Word, Empty, Closed, Live, Marked, Copied, Buried}
 use Rattle.papaya_law.specs.Hints.{IsHintOf}
 use Rattle.papaya_law.specs.Further.{IsLawfulKey, coding_with, with_key}
 use Rattle.papaya_law.proofs.Further.{key_code, key_lawful}
@@ -109,7 +109,7 @@ module _ {K V S : Type 0} (eq : K → K → Bool) (hash : S → K → ℕ) (s : 
   sought_hint tables (Live p) n h = h
   sought_hint tables (Marked p) n h = h
   sought_hint tables (Copied p) n h = h
-  sought_hint tables (Tombstone p) n h = h
+  sought_hint tables (Buried p) n h = h
 
   pub own_hint : (tables : List TableWords) (w : Word (Stored K V)) (n : ℕ) → IsHintOf (sought_setting tables) sought_coding w n
       → IsHintOf (own_setting tables) own_coding w n
@@ -118,7 +118,7 @@ module _ {K V S : Type 0} (eq : K → K → Bool) (hash : S → K → ℕ) (s : 
   own_hint tables (Live p) n h = h
   own_hint tables (Marked p) n h = h
   own_hint tables (Copied p) n h = h
-  own_hint tables (Tombstone p) n h = h
+  own_hint tables (Buried p) n h = h
 
   module _ (keys : IsLawfulKeys eq (hash s.store.hasher)) (fits : h < 2 ^ 64) where
     -- the map's own keys are placed by their hashes

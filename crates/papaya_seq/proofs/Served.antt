@@ -13,7 +13,7 @@ use Rattle.papaya_call.specs.declared.machine.Machine.{Machine}
 use Rattle.papaya_call.specs.declared.machine.State.{State}
 use Rattle.papaya_call.specs.declared.machine.State.TheVariants.{AtRoot, Making, Opening, Searching}
 use Rattle.papaya_call.specs.declared.machine.State.TheVariants.{Writing, Offering, Showing}
-use Rattle.papaya_call.specs.declared.machine.State.TheVariants.{Pairing, Putting, Deleting}
+use Rattle.papaya_call.specs.declared.machine.State.TheVariants.{Pairing, Putting, Burying}
 use Rattle.papaya_call.specs.declared.machine.State.TheVariants.{Counting, Noting, Uncounting}
 use Rattle.papaya_call.specs.declared.machine.State.TheVariants.{Leaving, Growing, Ended}
 use Rattle.papaya_call.specs.declared.made.Grown.{Grown}
@@ -51,7 +51,7 @@ unmade_served made (Offering gap) h = h
 unmade_served made (Showing removal) h = h
 unmade_served made (Pairing purpose) h = h
 unmade_served made (Putting put) h = h
-unmade_served made (Deleting removal) h = h
+unmade_served made (Burying removal) h = h
 unmade_served made (Uncounting n) h = h
 unmade_served made (Leaving t) h = h
 unmade_served made (Growing need) h = h
@@ -72,7 +72,7 @@ left_unmade made (Offering gap) t left h = h
 left_unmade made (Showing removal) t left h = h
 left_unmade made (Pairing purpose) t left h = h
 left_unmade made (Putting put) t left h = h
-left_unmade made (Deleting removal) t left h = h
+left_unmade made (Burying removal) t left h = h
 left_unmade made (Uncounting n) t left h = h
 
 -- so one that is to make a pair has made none
@@ -173,7 +173,7 @@ module _ (m : Machine) where
   served_in (Offering gap) answer unbeaten h = others (Offering gap) h (λ n. h) answer
   served_in (Showing removal) answer unbeaten h = others (Showing removal) h (λ n. h) answer
   served_in (Putting put) answer unbeaten h = others (Putting put) h (λ n. h) answer
-  served_in (Deleting removal) answer unbeaten h = others (Deleting removal) h (λ n. h) answer
+  served_in (Burying removal) answer unbeaten h = others (Burying removal) h (λ n. h) answer
   served_in (Uncounting i) answer unbeaten h = others (Uncounting i) h (λ n. h) answer
   served_in (Leaving t) answer unbeaten h = others (Leaving t) h (λ n. h) answer
   served_in (Growing need) answer unbeaten h = others (Growing need) h (λ n. h) answer

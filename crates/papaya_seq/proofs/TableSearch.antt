@@ -52,7 +52,7 @@ module _ (May : ℕ → Type 0) where
 
     look_in : (kind : Kind) (at : Place) (word : ℕ) → at.table ≡ t → (IsPairKind kind → May word) → IsSeenIn t (look_at kind at word)
     look_in kinds.Empty at word here may = here
-    look_in kinds.Tombstone at word here may = go_on_in at here
+    look_in kinds.Buried at word here may = go_on_in at here
     look_in kinds.Closed at word here may = go_on_in at here
     look_in kinds.Live at word here may = (here, may tt)
     look_in kinds.Marked at word here may = (here, may tt)
@@ -63,7 +63,7 @@ module _ (May : ℕ → Type 0) where
     match_in kinds.Empty at word is here may = (here, may, λ copied. cc (is, copied))
     match_in kinds.Live at word is here may = (here, may, λ copied. cc (is, copied))
     match_in kinds.Marked at word is here may = (here, may, λ copied. cc (is, copied))
-    match_in kinds.Tombstone at word is here may = (here, may, λ copied. cc (is, copied))
+    match_in kinds.Buried at word is here may = (here, may, λ copied. cc (is, copied))
     match_in kinds.Closed at word is here may = (here, may, λ copied. cc (is, copied))
 
     -- whatever it is answered

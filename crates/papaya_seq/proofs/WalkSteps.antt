@@ -226,7 +226,7 @@ module _ {K V S : Type 0} (eq : K → K → Bool) (hash : K → ℕ) (s : MapSta
     kind_bare kinds.Marked n live marked = absurd (marked refl)
     kind_bare kinds.Empty n live marked = refl
     kind_bare kinds.Copied n live marked = refl
-    kind_bare kinds.Tombstone n live marked = refl
+    kind_bare kinds.Buried n live marked = refl
     kind_bare kinds.Closed n live marked = refl
 
     pub word_bare : at.slot < slots_in (table_of s.store.words.tables at.table)

@@ -26,7 +26,7 @@ use Rattle.papaya_seq.specs.Computes.{Takes}
 use Rattle.papaya_seq.specs.Computing.{IsComputed}
 use Rattle.papaya_seq.specs.Drives.{IsReplied, at_hand}
 use Rattle.papaya_seq.specs.Looks.{Comes}
-use Rattle.papaya_seq.specs.Writes.{IsWritten, deleting}
+use Rattle.papaya_seq.specs.Writes.{IsWritten, burying}
 use Rattle.papaya_seq.specs.declared.search.Turn.{Turn}
 use Rattle.papaya_seq.specs.declared.search.Turn.TheVariants as turns
 
@@ -66,7 +66,7 @@ IsOperated {V = V} s hashed at key (Insert v) result s' = (reply : Reply) × (le
 IsOperated s hashed at key Remove result s' =
     ((at.old ≡ 0) × (result ≡ Err RemoveNothing) × (s' ≡ s))
     ⊎ ((at.old ≢ 0) × (result ≡ Ok (Removed (number_of at.old)))
-    × (s' ≡ deleting s (record { place = at.place; word = at.old })))
+    × (s' ≡ burying s (record { place = at.place; word = at.old })))
 IsOperated s hashed at key (Abort t) result s' = (result ≡ Ok (Aborted t)) × (s' ≡ s)
 
 -- a closure may be shown what a search found: the pair of a Live word, or that there is none

@@ -5,7 +5,7 @@ pub mod ComputeRuns
 pub mod Computes
 pub mod Computing
 pub mod Copies
-pub mod Deletes
+pub mod Buries
 pub mod Drives
 pub mod Ends
 pub mod Entries

@@ -40,8 +40,8 @@ module _ {K V S : Type 0} (s : StoreState K V S) where
   }
 
   -- a pair was deleted, and is counted no more
-  abbrev pub deleting : Removal → StoreState K V S
-  deleting removal = record s {
+  abbrev pub burying : Removal → StoreState K V S
+  burying removal = record s {
     words = put s.words (slot_of removal.place) (grave_word removal.word);
     count = added s.count 0 (negsuc 0);
   }

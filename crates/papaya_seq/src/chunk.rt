@@ -136,7 +136,7 @@ fn copy_slot<K: Hash + Eq, V, S: BuildHasher>(
     }
     match Word(word).kind() {
         Kind::Live => move_pair(store, mode, slot, word),
-        Kind::Copied | Kind::Tombstone | Kind::Closed => None,
+        Kind::Copied | Kind::Buried | Kind::Closed => None,
         Kind::Empty | Kind::Marked => Some(Settle::Looking),
     }
 }

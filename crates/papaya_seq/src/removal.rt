@@ -3,14 +3,14 @@ ghost use Rattle.std.specs.Prelude.{◌≡◌, ℕ, Bool, IsSome, MatchOption, S
 ghost use Rattle.papaya_words.specs.Word.{pair_of as number_of};
 ghost use Rattle.papaya_ask.specs.Search.{IsSize};
 ghost use Rattle.papaya_store.specs.Tables.{table_of, word_at};
-ghost use Rattle.papaya_seq.specs.Deletes.{IsDeleted, IsRemovedFast};
+ghost use Rattle.papaya_seq.specs.Buries.{IsBuried, IsRemovedFast};
 ghost use Rattle.papaya_words.specs.declared.probe.Refused.{Refused};
 ghost use Rattle.papaya_store.specs.Store.{pair_of};
 ghost use Rattle.papaya_seq.specs.Map.{KeepsRemoving};
 ghost use Rattle.papaya_seq.specs.Resizes.{IsCopyCause};
 ghost use Rattle.papaya_seq.specs.Removes.{IsRemovalAnswer, IsRemovalAsk, IsRemovalBy, IsShown};
 ghost use Rattle.papaya_seq.specs.Removes.{Judges};
-ghost use Rattle.papaya_seq.specs.Writes.{deleting, slot_of};
+ghost use Rattle.papaya_seq.specs.Writes.{burying, slot_of};
 
 use crate::chunk::copy_for_call;
 use crate::copies::copies_from;
@@ -88,16 +88,16 @@ pub(crate) fn take_out<K: Hash + Eq, V, S: BuildHasher>(
     removal: Removal,
 )
     requires { word_at store.old.words (slot_of removal.place) ≡ removal.word }
-    ensures { store.new ≡ deleting store.old removal }
+    ensures { store.new ≡ burying store.old removal }
 {
     let at = At::Slot(removal.place.table, removal.place.probe.i);
-    let _ = store.exchange(at, removal.word, Word::tombstone(removal.pair()).0);
+    let _ = store.exchange(at, removal.word, Word::buried(removal.pair()).0);
     store.add_to_shard(0, -1);
 }
 
 /// Shows the pair to the closure of a removal, and deletes it where the closure agrees.
 #[inline(always)]
-fn delete<K: Hash + Eq, V, S: BuildHasher, F: FnMut(&K, &V) -> bool>(
+fn bury<K: Hash + Eq, V, S: BuildHasher, F: FnMut(&K, &V) -> bool>(
     store: &mut Store<K, V, S>,
     removal: Removal,
     agrees: &mut F,
@@ -106,8 +106,8 @@ fn delete<K: Hash + Eq, V, S: BuildHasher, F: FnMut(&K, &V) -> bool>(
     requires stands { word_at store.old.words (slot_of removal.place) ≡ removal.word }
     requires logged { IsSome (pair_of store.old (number_of removal.word)) }
     ensures callable { F.IsAlwaysCallable agrees.new }
-    ensures tombstone { (matches : K → Bool)
-        → IsDeleted F.FnMut matches removal store.old agrees.old
+    ensures buried { (matches : K → Bool)
+        → IsBuried F.FnMut matches removal store.old agrees.old
         result store.new agrees.new }
 {
     let pair = removal.pair();
@@ -140,7 +140,7 @@ fn remove_fast<K: Hash + Eq, V, S: BuildHasher, Q: Equivalent<K>, F: FnMut(&K, &
     match search_root(store, key, hash) {
         Some(Turn::Empty(_)) => Some(Reply::Absent),
         Some(Turn::Here(place, word)) if Word(word).kind() == Kind::Live => {
-            Some(delete(store, Removal { place, word }, agrees))
+            Some(bury(store, Removal { place, word }, agrees))
         }
         _ => None,
     }

@@ -34,7 +34,7 @@ impl<K: Hash + Eq + Drop, V: Drop, S: BuildHasher> HashMap<K, V, S> {
             Answer::Yes(false) => {}
             _ => return,
         }
-        let grave = Word::tombstone(word.pair());
+        let grave = Word::buried(word.pair());
         let _ = self.store.exchange(at, word.0, grave.0);
         self.store.add_to_shard(0, -1);
     }

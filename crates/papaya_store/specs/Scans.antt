@@ -10,7 +10,7 @@ use Rattle.papaya_chain.specs.declared.ask.Answer.TheVariants as answers
 use Rattle.papaya_store.specs.Copies.{IsCallAnswer, PerformsCopy}
 use Rattle.papaya_store.specs.Store.{StoreState, Stored, pair_of}
 use Rattle.papaya_chain.specs.declared.scan_ask.ScanAsk.{ScanAsk}
-use Rattle.papaya_chain.specs.declared.scan_ask.ScanAsk.TheVariants.{Copy, Show, Give, AddToShard}
+use Rattle.papaya_chain.specs.declared.scan_ask.ScanAsk.TheVariants.{Copy, Show, Given, AddToShard}
 use Rattle.papaya_store.specs.declared.scans.Scanning.{Scanning}
 
 -- the closure is asked whether the pair stays; nothing is answered where there is no closure, or
@@ -42,7 +42,7 @@ PerformsScan eq says hash refuse (Copy ask) s v answer s' v' =
     PerformsCopy eq hash refuse ask s answer s' × (v' ≡ v)
 PerformsScan eq says hash refuse (Show n) s v answer s' v' =
     IsCallAnswer answer (λ told. Shows says n s v told v') × (s' ≡ s)
-PerformsScan eq says hash refuse (Give n) s v answer s' v' =
+PerformsScan eq says hash refuse (Given n) s v answer s' v' =
     IsCallAnswer answer (λ told. Gives n v told v') × (s' ≡ s)
 PerformsScan eq says hash refuse (AddToShard by) s v answer s' v' = (answer ≡ answers.Call Ok)
     × ((number : ℕ) × (s' ≡ record s { count = added s.count number by })) × (v' ≡ v)

@@ -120,7 +120,7 @@ pub fn perform_scan<K: Hash + Eq + Drop, V: Drop, S: BuildHasher, A: Answers<K, 
     match ask {
         ScanAsk::Copy(ask) => store.perform_copy(alloc, ask, refuse),
         ScanAsk::Show(n) => Answer::Call(scanning.show(store, n)),
-        ScanAsk::Give(n) => Answer::Call(scanning.give(n)),
+        ScanAsk::Given(n) => Answer::Call(scanning.give(n)),
         ScanAsk::AddToShard(by) => {
             store.add_to_shard(caller, by);
             Answer::Call(CallAnswer::Ok)

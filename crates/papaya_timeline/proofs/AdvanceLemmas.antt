@@ -83,9 +83,9 @@ module _ {K V S A : Type 0} (eq : K → K → Bool) (hash : K → ℕ) (law : Is
     lawful' = (hashed_setting eq hash law s' core').lawful
 
     -- a pair that a call asks to delete is one of its key
-    deletes_own : (t i old new : ℕ) (p : Stored K V) → calls.kind_of_ask m.call ≡ Some kinds.Delete
+    buries_own : (t i old new : ℕ) (p : Stored K V) → calls.kind_of_ask m.call ≡ Some kinds.Bury
         → calls.ask_of m.call ≡ Ask_exchange (Slot t i) old new → now.slot t i ≡ Live p → pair_of old ≡ p.number → eq p.key k ≡ true
-    deletes_own t i old new p kind ask live number =
+    buries_own t i old new p kind ask live number =
         let taken = machine_takes g coding (call_traces c).begun (call_traces c).since k hashed.coding m.call (call_traces c).loaded.call
         step.call.relies.call kind (Slot t i) old new ask in
         let same_number : taken.pair.number ≡ p.number = taken.number ∙ number in
@@ -104,7 +104,7 @@ module _ {K V S A : Type 0} (eq : K → K → Bool) (hash : K → ℕ) (law : Is
         Moves eq k m.call.task loaded.call.made (replay eq l) (replay eq (l ++ step.made)) (event_of (kind_of_ask m) (ask_of m) x.answer)) split
         (step_moves eq hash s.mode s'.mode s.store.words.tables s'.store.words.tables hashed lawful' (call_traces c).begun (call_traces c).since k m
         loaded step.call.relies
-        (λ t i old new p kind ask live number. deletes_own t i old new p kind ask
+        (λ t i old new p kind ask live number. buries_own t i old new p kind ask
         (ap (λ (l : List (Exchange (Stored K V))). (run l first_state).slot t i) (sym split) ∙ live) number)
         x.answer step.made step.loaded
         (subst (λ (l : List (Exchange (Stored K V))).

@@ -7,7 +7,7 @@ use Rattle.papaya_ask.specs.declared.ask.StepKind.TheVariants as kinds
 use Rattle.papaya_law.specs.Allows.{Allows}
 use Rattle.papaya_law.specs.Class.{IsOn}
 use Rattle.papaya_law.specs.Code.{Coding, code, kind}
-use Rattle.papaya_law.specs.Exchange.{Setting, Word, Empty, Closed, Live, Marked, Copied, Tombstone, State, Exchange, Promote, after, slot_put}
+use Rattle.papaya_law.specs.Exchange.{Setting, Word, Empty, Closed, Live, Marked, Copied, Buried, State, Exchange, Promote, after, slot_put}
 use Rattle.papaya_law.specs.Invariant.{IsSound}
 use Rattle.papaya_law.proofs.Chain.{walk_between}
 use Rattle.papaya_law.proofs.Codes.{code_kind}
@@ -58,8 +58,8 @@ module _ {K P : Type 0} (g : Setting K P) (c : Coding K P) (s : State P) (tables
       slot_fewer t x new Empty (Live q) (subst (Allows g s) is may).empty (subst (λ y. new ≡ word_of g c (after s y) (Slot t x)) is written) (omega arith)
   call_fewer (Some kinds.Replace) (Slot t x) new loaded k e (p, q, live, own, key, is) may written made =
       slot_after t x new (Live q) (subst (λ y. new ≡ word_of g c (after s y) (Slot t x)) is written) ∙ sym (slot_before t x (Live p) live)
-  call_fewer (Some kinds.Delete) (Slot t x) new loaded k e (p, live, is) may written made =
-      slot_fewer t x new (Live p) (Tombstone p) live (subst (λ y. new ≡ word_of g c (after s y) (Slot t x)) is written) (omega arith)
+  call_fewer (Some kinds.Bury) (Slot t x) new loaded k e (p, live, is) may written made =
+      slot_fewer t x new (Live p) (Buried p) live (subst (λ y. new ≡ word_of g c (after s y) (Slot t x)) is written) (omega arith)
   call_fewer _ _ new loaded k e is may written made = absurd is
 
   -- a call asks for no word of a chunk
@@ -69,7 +69,7 @@ module _ {K P : Type 0} (g : Setting K P) (c : Coding K P) (s : State P) (tables
   call_chunk (Some kinds.Take) Made new loaded k e is = tt
   call_chunk (Some kinds.Claim) (Slot t x) new loaded k e is = tt
   call_chunk (Some kinds.Replace) (Slot t x) new loaded k e is = tt
-  call_chunk (Some kinds.Delete) (Slot t x) new loaded k e is = tt
+  call_chunk (Some kinds.Bury) (Slot t x) new loaded k e is = tt
   call_chunk _ _ new loaded k e is = absurd is
 
   module _ (sound : IsSound g s) (sizes : (t : ℕ) → g.size t ≤ 2 ^ 32) (cut : (x : ℕ) → g.chunk_of x ≤ x)

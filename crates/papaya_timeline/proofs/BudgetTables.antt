@@ -12,7 +12,7 @@ use Rattle.std.proofs.lemmas.Option.{slice_get_within, get_or_from_slice_get, sl
 use Rattle.papaya_words.specs.Table.{TableWords}
 use Rattle.papaya_words.specs.Word.{kind_of}
 use Rattle.papaya_words.specs.declared.word.Kind.{Kind}
-use Rattle.papaya_words.specs.declared.word.Kind.TheVariants.{Empty, Live, Marked, Copied, Tombstone, Closed}
+use Rattle.papaya_words.specs.declared.word.Kind.TheVariants.{Empty, Live, Marked, Copied, Buried, Closed}
 use Rattle.papaya_ask.specs.declared.ask.At.{At}
 use Rattle.papaya_ask.specs.declared.ask.At.TheVariants.{Root, Next, Aborted, Done, Slot, Made}
 use Rattle.papaya_store.specs.Tables.{hinted, note, Tables, table_of, word_in, word_at, written, put, put_at}
@@ -148,7 +148,7 @@ few_changes Empty = omega arith
 few_changes Live = omega arith
 few_changes Marked = omega arith
 few_changes Copied = omega arith
-few_changes Tombstone = omega arith
+few_changes Buried = omega arith
 few_changes Closed = omega arith
 
 few_links : (b : Bool) → cond b 1 0 ≤ 1

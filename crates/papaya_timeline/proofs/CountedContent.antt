@@ -48,7 +48,7 @@ module _ {K V S : Type 0} (store : StoreState K V S) where
   kind_logged kinds.Marked n = listed_logged n (pair_of store n) refl
   kind_logged kinds.Empty n = tt
   kind_logged kinds.Copied n = tt
-  kind_logged kinds.Tombstone n = tt
+  kind_logged kinds.Buried n = tt
   kind_logged kinds.Closed n = tt
 
   -- the pairs of a table

@@ -55,7 +55,7 @@ module _ {K V S : Type 0} (store : StoreState K V S) (none : store.pairs ≡ [])
   no_kind kinds.Marked n = ap (λ l. pairs_of_kind (record store { pairs = l }) kinds.Marked n) none
   no_kind kinds.Empty n = refl
   no_kind kinds.Copied n = refl
-  no_kind kinds.Tombstone n = refl
+  no_kind kinds.Buried n = refl
   no_kind kinds.Closed n = refl
 
   no_slots : (words : List ℕ) → pairs_of_slots store words ≡ []

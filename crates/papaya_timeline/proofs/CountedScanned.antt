@@ -32,9 +32,9 @@ use Rattle.papaya_timeline.proofs.KeptScanned as scanned
 use Rattle.papaya_timeline.proofs.ScanLaw.{counted, tells}
 use Rattle.papaya_timeline.proofs.ScanStands.{scan_core}
 use Rattle.papaya_chain.specs.declared.scan_ask.ScanAsk.{ScanAsk}
-use Rattle.papaya_chain.specs.declared.scan_ask.ScanAsk.TheVariants.{Copy, Give}
+use Rattle.papaya_chain.specs.declared.scan_ask.ScanAsk.TheVariants.{Copy, Given}
 use Rattle.papaya_chain.specs.declared.scanner.State.{State}
-use Rattle.papaya_chain.specs.declared.scanner.State.TheVariants.{Copying, AtRoot, Sizing, Looking, Giving, Showing, Deleting, Uncounting, Done, Refused}
+use Rattle.papaya_chain.specs.declared.scanner.State.TheVariants.{Copying, AtRoot, Sizing, Looking, Giving, Showing, Burying, Uncounting, Done, Refused}
 use Rattle.papaya_chain.specs.Scanner.{asks_in, copy_asks, kind_of_ask, reply_in, reply_of}
 use Rattle.papaya_chain_law.specs.ScanTold as told_by
 use Rattle.papaya_chain_law.specs.ScanTold.{IsScanTold}
@@ -50,7 +50,7 @@ ended_owes (Sizing table) reply e = let f : None ≡ Some reply = e in absurd cc
 ended_owes (Looking spot) reply e = let f : None ≡ Some reply = e in absurd cc
 ended_owes (Giving spot word) reply e = let f : None ≡ Some reply = e in absurd cc
 ended_owes (Showing spot word) reply e = let f : None ≡ Some reply = e in absurd cc
-ended_owes (Deleting spot word) reply e = let f : None ≡ Some reply = e in absurd cc
+ended_owes (Burying spot word) reply e = let f : None ≡ Some reply = e in absurd cc
 ended_owes (Uncounting spot) reply e = let f : None ≡ Some reply = e in absurd cc
 
 -- what goes on owes what its scanner owes
@@ -72,9 +72,9 @@ module _ {K V : Type 0} (g : Setting K (Stored K V)) (c : Coding K (Stored K V))
   was_heard AtRoot h e = ap (λ y. unheard y a) (sym (same_item _ ask e))
   was_heard (Sizing table) h e = ap (λ y. unheard y a) (sym (same_item _ ask e))
   was_heard (Looking spot) h e = ap (λ y. unheard y a) (sym (same_item _ ask e))
-  was_heard (Giving spot word) h e = ap (λ y. unheard y a) (sym (same_item (Give (pair_of word)) ask e)) ∙ ap (unheard (Give (pair_of word))) h.is
+  was_heard (Giving spot word) h e = ap (λ y. unheard y a) (sym (same_item (Given (pair_of word)) ask e)) ∙ ap (unheard (Given (pair_of word))) h.is
   was_heard (Showing spot word) h e = ap (λ y. unheard y a) (sym (same_item _ ask e))
-  was_heard (Deleting spot word) h e = ap (λ y. unheard y a) (sym (same_item _ ask e))
+  was_heard (Burying spot word) h e = ap (λ y. unheard y a) (sym (same_item _ ask e))
   was_heard (Uncounting spot) h e = ap (λ y. unheard y a) (sym (same_item _ ask e))
   was_heard Done h e = let f : None ≡ Some ask = e in absurd cc
   was_heard (Refused refused) h e = let f : None ≡ Some ask = e in absurd cc
@@ -165,7 +165,7 @@ module _ {K V S A : Type 0} (eq : K → K → Bool) (hash : K → ℕ) (law : Is
   -- where it was told nothing, nothing happened
   pub unheard_event : Unheard → event ≡ Other
   unheard_event u =
-      let gave = Give (pair_of u.giving.1) in
+      let gave = Given (pair_of u.giving.1) in
       x.event_is ∙ ap (λ y. event_of_scan (kind_of_ask x.before.scanner) y x.answer) (sym (same_item gave x.ask (ap asks_in (sym u.giving.2) ∙ x.asked)))
       ∙ ap (event_of_scan (kind_of_ask x.before.scanner) gave) u.refused
 

@@ -122,7 +122,7 @@ module _ {K P : Type 0} (g : Setting K P) (c : Coding K P) (k : K) (s : State P)
   asked_grows (Some kinds.Claim) (Slot t x) e (q, own, key, is) = subst (Grows (pos 1)) (sym is) (λ before now count. omega (arith, ints, count))
   asked_grows (Some kinds.Replace) (Slot t x) e (p, q, live, own, key, is) = subst (Grows (pos 0)) (sym is) (λ before now count. omega (arith, ints, count))
   asked_grows (Some kinds.Take) Made e is = subst (Grows (pos 0)) (sym is) (λ before now count. omega (arith, ints, count))
-  asked_grows (Some kinds.Delete) (Slot t x) e (q, live, is) = subst (Grows (negsuc 0)) (sym is) (λ before now count. omega (arith, ints, count))
+  asked_grows (Some kinds.Bury) (Slot t x) e (q, live, is) = subst (Grows (negsuc 0)) (sym is) (λ before now count. omega (arith, ints, count))
   asked_grows _ _ e h = absurd h
 
 -- by the kind of a copy's exchange: the map stays as large

@@ -8,7 +8,7 @@ use Rattle.papaya_ask.specs.declared.call.Call.{Call}
 use Rattle.papaya_ask.specs.declared.call.Call.TheVariants.{Get, Insert, TryInsert, RemoveIf, Compute, Reserve, CopyAll, Clear, Retain, Walk}
 use Rattle.papaya_call.specs.Answers.{Says}
 use Rattle.papaya_law.specs.Exchange.{Setting, State as Words, Exchange, Open, Claim, Replace}
-use Rattle.papaya_law.specs.Exchange.{Delete, Link, Mark, Close, Place, Finish, Advance, Promote}
+use Rattle.papaya_law.specs.Exchange.{Bury, Link, Mark, Close, Place, Finish, Advance, Promote}
 use Rattle.papaya_law.specs.Exchange.{Abort, Take}
 use Rattle.papaya_law.specs.Meaning.{IsAtMoment, IsLawful, map_left, map_of}
 use Rattle.papaya_call_law.specs.Told.{IsOneOf}
@@ -133,7 +133,7 @@ module _ {K V : Type 0} (eq : K → K → Bool) (hash : K → ℕ) (mode : Mode)
   takes_same (Open t) k = refl
   takes_same (Claim t y p) k = refl
   takes_same (Replace t y p q) k = refl
-  takes_same (Delete t y p) k = refl
+  takes_same (Bury t y p) k = refl
   takes_same (Link t n) k = refl
   takes_same (Mark t y p) k = refl
   takes_same (Close t y) k = refl

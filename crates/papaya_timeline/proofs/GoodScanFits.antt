@@ -26,7 +26,7 @@ use Rattle.papaya_timeline.proofs.Good.{IsScanOf, IsTied}
 use Rattle.papaya_timeline.proofs.StepScans.{IsWithout}
 use Rattle.papaya_timeline.proofs.StoreLemmas.{copy_pairs}
 use Rattle.papaya_chain.specs.declared.scan_ask.ScanAsk.{ScanAsk}
-use Rattle.papaya_chain.specs.declared.scan_ask.ScanAsk.TheVariants.{Copy, Show, Give, AddToShard}
+use Rattle.papaya_chain.specs.declared.scan_ask.ScanAsk.TheVariants.{Copy, Show, Given, AddToShard}
 use Rattle.papaya_chain.specs.declared.scanner.State.{State}
 use Rattle.papaya_chain.specs.declared.scanner.State.TheVariants as states
 use Rattle.papaya_chain.specs.declared.scanner.Scan.{Scan}
@@ -43,7 +43,7 @@ module _ {K V S A : Type 0} (eq : K → K → Bool) (hash : S → K → ℕ) (re
       → PerformsScan eq says hash refuse ask s v a s' v' → s'.pairs ≡ s.pairs
   scan_pairs says (Copy ask) s v a s' v' (performs, same) = copy_pairs eq hash refuse ask s a s' performs
   scan_pairs says (Show n) s v a s' v' (told, same) = ap (λ (y : StoreState K V S). y.pairs) same
-  scan_pairs says (Give n) s v a s' v' (told, same) = ap (λ (y : StoreState K V S). y.pairs) same
+  scan_pairs says (Given n) s v a s' v' (told, same) = ap (λ (y : StoreState K V S). y.pairs) same
   scan_pairs says (AddToShard by) s v a s' v' (is, counted, same) = ap (λ (y : StoreState K V S). y.pairs) counted.1
 
   -- it is never refused as a removal of nothing is
@@ -54,9 +54,9 @@ module _ {K V S A : Type 0} (eq : K → K → Bool) (hash : S → K → ℕ) (re
       (Was_refused RemoveNothing) = sym (e ∙ ap answers.Call ok) ∙ is in absurd cc
   scan_unrefused says (Show n) s v a s' v' ((told, e, inr (x, p, stays, x', had, there, said, told_so, later)), same) is = let f = sym
       (e ∙ ap answers.Call told_so) ∙ is in absurd (cc f)
-  scan_unrefused says (Give n) s v a s' v' ((told, e, inl (ok, given)), same) is = let f : answers.Call Ok ≡ answers.Call
+  scan_unrefused says (Given n) s v a s' v' ((told, e, inl (ok, given)), same) is = let f : answers.Call Ok ≡ answers.Call
       (Was_refused RemoveNothing) = sym (e ∙ ap answers.Call ok) ∙ is in absurd cc
-  scan_unrefused says (Give n) s v a s' v' ((told, e, inr (refused, as_was, left, gave)), same) is = let f : answers.Call (Was_refused Memory)
+  scan_unrefused says (Given n) s v a s' v' ((told, e, inr (refused, as_was, left, gave)), same) is = let f : answers.Call (Was_refused Memory)
       ≡ answers.Call (Was_refused RemoveNothing) = sym (e ∙ ap answers.Call refused) ∙ is in absurd cc
   scan_unrefused says (AddToShard by) s v a s' v' (e, counted, same) is = let f : answers.Call Ok ≡ answers.Call (Was_refused RemoveNothing) = sym e
       ∙ is in absurd cc
@@ -77,7 +77,7 @@ scan_replies (states.Sizing table) None rep e = absurd cc
 scan_replies (states.Looking spot) None rep e = absurd cc
 scan_replies (states.Giving spot word) None rep e = absurd cc
 scan_replies (states.Showing spot word) None rep e = absurd cc
-scan_replies (states.Deleting spot word) None rep e = absurd cc
+scan_replies (states.Burying spot word) None rep e = absurd cc
 scan_replies (states.Uncounting spot) None rep e = absurd cc
 
 module _ {K V A : Type 0} (eq : K → K → Bool) where
@@ -170,7 +170,7 @@ none_given g c s m since scan loaded (states.Sizing table) without relies = absu
 none_given g c s m since scan loaded (states.Looking spot) without relies = absurd without
 none_given g c s m since scan loaded (states.Giving spot word) without relies = absurd without
 none_given g c s m since scan loaded (states.Showing spot word) without relies = absurd without
-none_given g c s m since scan loaded (states.Deleting spot word) without relies = absurd without
+none_given g c s m since scan loaded (states.Burying spot word) without relies = absurd without
 none_given g c s m since scan loaded (states.Uncounting spot) without relies = absurd without
 none_given g c s m since scan loaded states.Done without relies = absurd without
 none_given g c s m since scan loaded (states.Refused refused) without relies = absurd without

@@ -16,7 +16,7 @@ use Rattle.papaya_chain.specs.declared.ask.Answer.TheVariants as answers
 use Rattle.papaya_chain.specs.declared.resizer.Resizer.{Resizer}
 use Rattle.papaya_law.specs.Allows.{AllAllowed}
 use Rattle.papaya_law.specs.Code.{Coding, IsHashed}
-use Rattle.papaya_law.specs.Exchange.{Exchange, Delete, Replace, Setting, run, start as first_state}
+use Rattle.papaya_law.specs.Exchange.{Exchange, Bury, Replace, Setting, run, start as first_state}
 use Rattle.papaya_law.specs.Invariant.{IsKeeping, named}
 use Rattle.papaya_law.specs.Meaning.{IsLawful, map_left}
 use Rattle.papaya_law.proofs.Moments.{allowed_first, allowed_rest}
@@ -63,11 +63,11 @@ use Rattle.papaya_timeline.proofs.GoodScanFits.{unheard_is, walk_gives}
 use Rattle.papaya_timeline.proofs.KeptLemmas.{IsLawfulKeys, hashed_setting}
 use Rattle.papaya_timeline.proofs.KeptScanned as kept_scan
 use Rattle.papaya_timeline.proofs.ReplayLemmas.{held_in_slot, next_legal, replay-append}
-use Rattle.papaya_timeline.proofs.StepScans.{IsDeletion, IsGift, IsScanAnswering, IsScanStep, IsShowing, IsWithout, scan_answering, scan_step}
+use Rattle.papaya_timeline.proofs.StepScans.{IsBurial, IsGift, IsScanAnswering, IsScanStep, IsShowing, IsWithout, scan_answering, scan_step}
 use Rattle.papaya_timeline.proofs.TiedLemmas.{KeepsParts, same_parts, tied_entry, tied_other}
 use Rattle.papaya_timeline.proofs.TimelineLemmas.{change_of-other, change_of-own, entry, logged_more, not_begin-own, open_call-other, open_call-own}
 use Rattle.papaya_timeline.proofs.ScanOver.{scan_over}
-use Rattle.papaya_chain.specs.declared.scan_ask.ScanAsk.TheVariants.{Show, Give}
+use Rattle.papaya_chain.specs.declared.scan_ask.ScanAsk.TheVariants.{Show, Given}
 use Rattle.papaya_chain.specs.declared.scanner.State.{State}
 use Rattle.papaya_chain.specs.declared.scanner.State.TheVariants as states
 use Rattle.papaya_chain.specs.declared.scanner.Scan.{Scan}
@@ -113,8 +113,8 @@ module _ {K V S A : Type 0} (eq : K → K → Bool) (hash : K → ℕ) (law : Is
     shown_pair : (n : ℕ) → x.ask ≡ Show n → HadPair g coding (run call_trace.begun first_state) (map_left g call_trace.begun) call_trace.since call_trace.loaded n
     shown_pair n is = state_named g coding hashed (run call_trace.begun first_state) (map_left g call_trace.begun) keeps_first call_trace.since may_since x.before.scanner.scan call_trace.loaded x.before.scanner.state before_scanning.relies.state (Show n) (x.asked ∙ ap (λ y. Some y) is)
 
-    given_pair : (n : ℕ) → x.ask ≡ Give n → HadPair g coding (run call_trace.begun first_state) (map_left g call_trace.begun) call_trace.since call_trace.loaded n
-    given_pair n is = state_named g coding hashed (run call_trace.begun first_state) (map_left g call_trace.begun) keeps_first call_trace.since may_since x.before.scanner.scan call_trace.loaded x.before.scanner.state before_scanning.relies.state (Give n) (x.asked ∙ ap (λ y. Some y) is)
+    given_pair : (n : ℕ) → x.ask ≡ Given n → HadPair g coding (run call_trace.begun first_state) (map_left g call_trace.begun) call_trace.since call_trace.loaded n
+    given_pair n is = state_named g coding hashed (run call_trace.begun first_state) (map_left g call_trace.begun) keeps_first call_trace.since may_since x.before.scanner.scan call_trace.loaded x.before.scanner.state before_scanning.relies.state (Given n) (x.asked ∙ ap (λ y. Some y) is)
 
     parts_stay : KeepsParts s.store s'.store
     parts_stay = same_parts s.store s'.store (scan_pairs eq hashes refuse says x.ask s.store x.before x.answer s'.store x.later x.performs)
@@ -193,12 +193,12 @@ module _ {K V S A : Type 0} (eq : K → K → Bool) (hash : K → ℕ) (law : Is
       step = subst Step (sym x.event_is) (scan_step eq g coding hashed (λ p. refl) (run good.es first_state) call_trace.since call_trace.loaded x.answer made heard.loaded x.before.scanner.state x.ask x.asked heard.told)
 
       -- what holds of each event that a scanner's step may have
-      event_cases : (P : Event → Type 0) → P Other → ((kind : StepKind) → P (Moved kind)) → ((n : ℕ) → P (Gave n)) → ((n : ℕ) (stays : Bool) → P (Asked n stays)) → ((n : ℕ) → P (Changed kinds.Delete (Some n) None)) → P event
-      event_cases P other moved gave asked tombstone = elim step [
+      event_cases : (P : Event → Type 0) → P Other → ((kind : StepKind) → P (Moved kind)) → ((n : ℕ) → P (Gave n)) → ((n : ℕ) (stays : Bool) → P (Asked n stays)) → ((n : ℕ) → P (Changed kinds.Bury (Some n) None)) → P event
+      event_cases P other moved gave asked buried = elim step [
         | inl still ↦ quiet_cases P other moved event still.quiet
         | inr (inl gift) ↦ subst P (sym gift.event_is) (gave (number_of gift.word))
         | inr (inr (inl showing)) ↦ subst P (sym showing.event_is) (asked (number_of showing.word) showing.stays)
-        | inr (inr (inr deletion)) ↦ subst P (sym deletion.event_is) (tombstone deletion.pair.number)
+        | inr (inr (inr burial)) ↦ subst P (sym burial.event_is) (buried burial.pair.number)
       ]
 
       one : (made ≡ []) ⊎ ((e : Exchange (Stored K V)) × (made ≡ e ∷ []))
@@ -206,7 +206,7 @@ module _ {K V S A : Type 0} (eq : K → K → Bool) (hash : K → ℕ) (law : Is
         | inl still ↦ still.one.0
         | inr (inl gift) ↦ inl gift.none
         | inr (inr (inl showing)) ↦ inl showing.none
-        | inr (inr (inr deletion)) ↦ inr (_, deletion.one)
+        | inr (inr (inr burial)) ↦ inr (_, burial.one)
       ]
 
       -- no pair takes the place of another
@@ -217,7 +217,7 @@ module _ {K V S A : Type 0} (eq : K → K → Bool) (hash : K → ℕ) (law : Is
             absurd cc
         | inr (inl gift) ↦ let f : [] ≡ Replace t y p q ∷ [] = sym gift.none ∙ is in absurd cc
         | inr (inr (inl showing)) ↦ let f : [] ≡ Replace t y p q ∷ [] = sym showing.none ∙ is in absurd cc
-        | inr (inr (inr deletion)) ↦ let f : Delete _ _ deletion.pair ∷ [] ≡ Replace t y p q ∷ [] = sym deletion.one ∙ is in absurd cc
+        | inr (inr (inr burial)) ↦ let f : Bury _ _ burial.pair ∷ [] ≡ Replace t y p q ∷ [] = sym burial.one ∙ is in absurd cc
       ]
 
       no_begin : begins event ≡ false
@@ -232,7 +232,7 @@ module _ {K V S A : Type 0} (eq : K → K → Bool) (hash : K → ℕ) (law : Is
 
       -- the pairs that are given, shown and deleted
       gift_pair : (gift : IsGift eq g coding hashed (run good.es first_state) call_trace.since x.before.scanner.state call_trace.loaded event made heard.loaded) → HadPair g coding (run call_trace.begun first_state) (map_left g call_trace.begun) call_trace.since call_trace.loaded (number_of gift.word)
-      gift_pair gift = given_pair (number_of gift.word) (same_item x.ask (Give (number_of gift.word)) (sym x.asked ∙ ap asks_in gift.giving))
+      gift_pair gift = given_pair (number_of gift.word) (same_item x.ask (Given (number_of gift.word)) (sym x.asked ∙ ap asks_in gift.giving))
 
       gift_number : (gift : IsGift eq g coding hashed (run good.es first_state) call_trace.since x.before.scanner.state call_trace.loaded event made heard.loaded) → number_of gift.word ≡ gift.pair.number
       gift_number gift = let had = gift_pair gift in sym had.number ∙ ap (λ (p : Stored K V). p.number) (same_item had.pair gift.pair (sym had.told ∙ gift.last))
@@ -250,23 +250,23 @@ module _ {K V S A : Type 0} (eq : K → K → Bool) (hash : K → ℕ) (law : Is
       no_exchange none j = ap (λ l. replay eq (good.es ++ l) j) none ∙ ap (λ l. replay eq l j) (append-nil good.es)
 
       -- a deletion takes a pair out of the map
-      tombstone : (deletion : IsDeletion eq g coding hashed (run good.es first_state) call_trace.since x.before.scanner.state call_trace.loaded event made heard.loaded) → IsUpdate eq deletion.pair.key (Some deletion.pair) None (replay eq good.es) (replay eq es)
-      tombstone deletion =
-          let p = deletion.pair in
-          let is : replay eq es ≡ (λ j. cond (eq j p.key) None (replay eq good.es j)) = ap (λ l. replay eq (good.es ++ l)) deletion.one ∙ replay-append eq good.es (Delete deletion.spot.table deletion.spot.slot p ∷ []) in
+      buried : (burial : IsBurial eq g coding hashed (run good.es first_state) call_trace.since x.before.scanner.state call_trace.loaded event made heard.loaded) → IsUpdate eq burial.pair.key (Some burial.pair) None (replay eq good.es) (replay eq es)
+      buried burial =
+          let p = burial.pair in
+          let is : replay eq es ≡ (λ j. cond (eq j p.key) None (replay eq good.es j)) = ap (λ l. replay eq (good.es ++ l)) burial.one ∙ replay-append eq good.es (Bury burial.spot.table burial.spot.slot p ∷ []) in
           record {
-            before = next_legal eq (low hash) s.mode s.store.words.tables hashed.lawful good.es (Delete deletion.spot.table deletion.spot.slot p) (subst (λ l. AllAllowed g first_state (good.es ++ l)) deletion.one heard.allowed);
+            before = next_legal eq (low hash) s.mode s.store.words.tables hashed.lawful good.es (Bury burial.spot.table burial.spot.slot p) (subst (λ l. AllAllowed g first_state (good.es ++ l)) burial.one heard.allowed);
             class = λ j same. ap (λ f. f j) is ∙ ap (λ b. cond b None (replay eq good.es j)) same;
             others = λ j other. ap (λ f. f j) is ∙ ap (λ b. cond b None (replay eq good.es j)) other;
           }
 
       -- of which a retain was answered that it does not stay
-      dropped : (call : Call K V A) → open_call schedule c h ≡ Some call → (deletion : IsDeletion eq g coding hashed (run good.es first_state) call_trace.since x.before.scanner.state call_trace.loaded event made heard.loaded) → (scan : Scan) → MayTake g coding (run call_trace.begun first_state) (map_left g call_trace.begun) call_trace.since scan call_trace.loaded deletion.word → scan ≡ scans.Retain → last_asked c deletion.pair.number h ≡ Some false
-      dropped call e deletion scans.Walk takes is = absurd cc
-      dropped call e deletion scans.Clear takes is = absurd cc
-      dropped call e deletion scans.Retain (q, number, said) is =
-          (tied_before call e).asked deletion.pair.number
-          ∙ ap (answer_about call_trace.loaded.shown) (sym (number ∙ deletion.stood))
+      dropped : (call : Call K V A) → open_call schedule c h ≡ Some call → (burial : IsBurial eq g coding hashed (run good.es first_state) call_trace.since x.before.scanner.state call_trace.loaded event made heard.loaded) → (scan : Scan) → MayTake g coding (run call_trace.begun first_state) (map_left g call_trace.begun) call_trace.since scan call_trace.loaded burial.word → scan ≡ scans.Retain → last_asked c burial.pair.number h ≡ Some false
+      dropped call e burial scans.Walk takes is = absurd cc
+      dropped call e burial scans.Clear takes is = absurd cc
+      dropped call e burial scans.Retain (q, number, said) is =
+          (tied_before call e).asked burial.pair.number
+          ∙ ap (answer_about call_trace.loaded.shown) (sym (number ∙ burial.stood))
           ∙ ends.last_is s.store call_trace.loaded.shown q false before_scanning.shown (before_scanning.shown q (ends.answered_shown call_trace.loaded.shown q false said)) said
 
       no_walk : (scan : Scan) (loaded : LoadedPairs (Stored K V)) (word : ℕ) → MayTake g coding (run call_trace.begun first_state) (map_left g call_trace.begun) call_trace.since scan loaded word → scan ≡ scans.Walk → ⊥
@@ -274,11 +274,11 @@ module _ {K V S A : Type 0} (eq : K → K → Bool) (hash : K → ℕ) (law : Is
       no_walk scans.Clear loaded word takes is = cc
       no_walk scans.Retain loaded word takes is = cc
 
-      may_delete : (o : Option (Call K V A)) → open_call schedule c h ≡ o → (deletion : IsDeletion eq g coding hashed (run good.es first_state) call_trace.since x.before.scanner.state call_trace.loaded event made heard.loaded) → MayChange eq o (change_of c h) deletion.pair.key (Some deletion.pair) None × IsAgreed o c (Some deletion.pair.number) None h good.answers
-      may_delete None e deletion = (tt, tt)
-      may_delete (Some call) e deletion =
-          let takes = (relies_in (states.Deleting deletion.spot deletion.word) deletion.deleting).2 in
-          scan_takes eq call x.before.scanner.scan (change_of c h) deletion.pair c h good.answers (tied_before call e).scan (no_walk x.before.scanner.scan call_trace.loaded deletion.word takes) (dropped call e deletion x.before.scanner.scan takes)
+      may_bury : (o : Option (Call K V A)) → open_call schedule c h ≡ o → (burial : IsBurial eq g coding hashed (run good.es first_state) call_trace.since x.before.scanner.state call_trace.loaded event made heard.loaded) → MayChange eq o (change_of c h) burial.pair.key (Some burial.pair) None × IsAgreed o c (Some burial.pair.number) None h good.answers
+      may_bury None e burial = (tt, tt)
+      may_bury (Some call) e burial =
+          let takes = (relies_in (states.Burying burial.spot burial.word) burial.burying).2 in
+          scan_takes eq call x.before.scanner.scan (change_of c h) burial.pair c h good.answers (tied_before call e).scan (no_walk x.before.scanner.scan call_trace.loaded burial.word takes) (dropped call e burial x.before.scanner.scan takes)
 
       may_give : (o : Option (Call K V A)) → open_call schedule c h ≡ o → (gift : IsGift eq g coding hashed (run good.es first_state) call_trace.since x.before.scanner.state call_trace.loaded event made heard.loaded) → FitsGiven eq o (number_of gift.word) c h (replay eq good.es ∷ good.maps)
       may_give None e gift = tt
@@ -299,13 +299,13 @@ module _ {K V S A : Type 0} (eq : K → K → Bool) (hash : K → ℕ) (law : Is
         | inl still ↦ quiet_cases (λ e. IsLegal eq e schedule c h (replay eq good.es) good.maps (replay eq es) good.answers) (still.one.1 good.es) (λ kind. still.one.1 good.es) event still.quiet
         | inr (inl gift) ↦ subst (λ e. IsLegal eq e schedule c h (replay eq good.es) good.maps (replay eq es) good.answers) (sym gift.event_is) (no_exchange gift.none, may_give (open_call schedule c h) refl gift)
         | inr (inr (inl showing)) ↦ subst (λ e. IsLegal eq e schedule c h (replay eq good.es) good.maps (replay eq es) good.answers) (sym showing.event_is) (no_exchange showing.none, may_show (open_call schedule c h) refl showing)
-        | inr (inr (inr deletion)) ↦
-            let may = may_delete (open_call schedule c h) refl deletion in
-            subst (λ e. IsLegal eq e schedule c h (replay eq good.es) good.maps (replay eq es) good.answers) (sym deletion.event_is) (record {
-              key = deletion.pair.key;
-              went = Some deletion.pair;
+        | inr (inr (inr burial)) ↦
+            let may = may_bury (open_call schedule c h) refl burial in
+            subst (λ e. IsLegal eq e schedule c h (replay eq good.es) good.maps (replay eq es) good.answers) (sym burial.event_is) (record {
+              key = burial.pair.key;
+              went = Some burial.pair;
               came = None;
-              update = tombstone deletion;
+              update = buried burial;
               went_is = refl;
               came_is = refl;
               fresh = tt;
@@ -348,7 +348,7 @@ module _ {K V S A : Type 0} (eq : K → K → Bool) (hash : K → ℕ) (law : Is
         | inl still ↦ quiet_cases (λ y. change_by y (change_of c h) ≡ change_of c h) refl (λ kind. refl) event still.quiet ∙ was
         | inr (inl gift) ↦ ap (λ y. change_by y (change_of c h)) gift.event_is ∙ was
         | inr (inr (inl showing)) ↦ ap (λ y. change_by y (change_of c h)) showing.event_is ∙ was
-        | inr (inr (inr deletion)) ↦ absurd (no_walk x.before.scanner.scan call_trace.loaded deletion.word (relies_in (states.Deleting deletion.spot deletion.word) deletion.deleting).2 walks)
+        | inr (inr (inr burial)) ↦ absurd (no_walk x.before.scanner.scan call_trace.loaded burial.word (relies_in (states.Burying burial.spot burial.word) burial.burying).2 walks)
       ]
         where
           was : change_of c h ≡ None
@@ -360,7 +360,7 @@ module _ {K V S A : Type 0} (eq : K → K → Bool) (hash : K → ℕ) (law : Is
         | inr (inl gift) ↦
             ap (λ y. given_then y (given_by c h)) gift.event_is ∙ ap (λ l. l ++ number_of gift.word ∷ []) was ∙ ap (λ n. numbers_of call_trace.loaded.given ++ n ∷ []) (gift_number gift) ∙ ap (λ (y : LoadedPairs (Stored K V)). numbers_of y.given) (sym gift.handed)
         | inr (inr (inl showing)) ↦ ap (λ y. given_then y (given_by c h)) showing.event_is ∙ was ∙ ap (λ (y : LoadedPairs (Stored K V)). numbers_of y.given) (sym showing.handed)
-        | inr (inr (inr deletion)) ↦ ap (λ y. given_then y (given_by c h)) deletion.event_is ∙ was ∙ ap (λ (y : LoadedPairs (Stored K V)). numbers_of y.given) (sym deletion.handed)
+        | inr (inr (inr burial)) ↦ ap (λ y. given_then y (given_by c h)) burial.event_is ∙ was ∙ ap (λ (y : LoadedPairs (Stored K V)). numbers_of y.given) (sym burial.handed)
       ]
         where
           was : given_by c h ≡ numbers_of call_trace.loaded.given
@@ -373,7 +373,7 @@ module _ {K V S A : Type 0} (eq : K → K → Bool) (hash : K → ℕ) (law : Is
         | inr (inr (inl showing)) ↦
             ap (λ y. asked_then n y (last_asked c n h)) showing.event_is ∙ ap (λ i. cond (i == n) (Some showing.stays) (last_asked c n h)) (showing_number showing) ∙ ap (λ o. cond (showing.pair.number == n) (Some showing.stays) o) was
             ∙ ap (λ (y : LoadedPairs (Stored K V)). answer_about y.shown n) (sym showing.handed)
-        | inr (inr (inr deletion)) ↦ ap (λ y. asked_then n y (last_asked c n h)) deletion.event_is ∙ was ∙ ap (λ (y : LoadedPairs (Stored K V)). answer_about y.shown n) (sym deletion.handed)
+        | inr (inr (inr burial)) ↦ ap (λ y. asked_then n y (last_asked c n h)) burial.event_is ∙ was ∙ ap (λ (y : LoadedPairs (Stored K V)). answer_about y.shown n) (sym burial.handed)
       ]
         where
           was : last_asked c n h ≡ answer_about call_trace.loaded.shown n
@@ -398,7 +398,7 @@ module _ {K V S A : Type 0} (eq : K → K → Bool) (hash : K → ℕ) (law : Is
               (ends.since_making eq (low hash) s.mode s.store.words.tables says s.store schedule x.before call c call_trace h (replay eq good.es ∷ good.maps) good.answers (tied_before call e) (run call_trace.begun first_state) (number_of gift.word) (gift_pair gift)),
         )
         | inr (inr (inl showing)) ↦ inl (ap (λ (y : LoadedPairs (Stored K V)). y.before) showing.handed, λ n own gave. let f : Asked (number_of showing.word) showing.stays ≡ Gave n = sym showing.event_is ∙ gave in absurd cc)
-        | inr (inr (inr deletion)) ↦ inl (ap (λ (y : LoadedPairs (Stored K V)). y.before) deletion.handed, λ n own gave. let f : Changed kinds.Delete (Some deletion.pair.number) None ≡ Gave n = sym deletion.event_is ∙ gave in absurd cc)
+        | inr (inr (inr burial)) ↦ inl (ap (λ (y : LoadedPairs (Stored K V)). y.before) burial.handed, λ n own gave. let f : Changed kinds.Bury (Some burial.pair.number) None ≡ Gave n = sym burial.event_is ∙ gave in absurd cc)
       ]
 
       own_left : (call : Call K V A) → open_call schedule c h ≡ Some call → (a' : A) → own.answers ≡ Some a' → HasLeft says s'.store schedule a' c later_history (None ∷ good.answers)
@@ -553,11 +553,11 @@ module _ {K V S A : Type 0} (eq : K → K → Bool) (hash : K → ℕ) (law : Is
       abbrev newest : Map K V
       newest = replay eq good.es
 
-      asked_give : x.ask ≡ Give (number_of deaf.giving.1)
-      asked_give = same_item x.ask (Give (number_of deaf.giving.1)) (sym x.asked ∙ ap asks_in deaf.giving.2)
+      asked_give : x.ask ≡ Given (number_of deaf.giving.1)
+      asked_give = same_item x.ask (Given (number_of deaf.giving.1)) (sym x.asked ∙ ap asks_in deaf.giving.2)
 
       is_other : event ≡ Other
-      is_other = x.event_is ∙ ap (λ y. event_of_scan (kind_of_ask x.before.scanner) y x.answer) asked_give ∙ ap (event_of_scan (kind_of_ask x.before.scanner) (Give (number_of deaf.giving.1))) deaf.refused
+      is_other = x.event_is ∙ ap (λ y. event_of_scan (kind_of_ask x.before.scanner) y x.answer) asked_give ∙ ap (event_of_scan (kind_of_ask x.before.scanner) (Given (number_of deaf.giving.1))) deaf.refused
 
       deaf_stay : KeepsPairs s.store s'.store
       deaf_stay n p there = ap (λ (y : StoreState K V S). pair_of y n) deaf.same ∙ there

@@ -9,7 +9,7 @@ use Rattle.papaya_call.specs.Answers.{Says}
 use Rattle.papaya_call.specs.declared.answers.Operation.{Operation}
 use Rattle.papaya_law.specs.Allows.{AllAllowed}
 use Rattle.papaya_law.specs.Meaning.{IsLawful}
-use Rattle.papaya_law.specs.Exchange.{Exchange, State, after, start, Open, Claim, Replace, Delete}
+use Rattle.papaya_law.specs.Exchange.{Exchange, State, after, start, Open, Claim, Replace, Bury}
 use Rattle.papaya_law.specs.Exchange.{Link, Mark, Close, Place, Finish, Advance, Promote, Abort}
 use Rattle.papaya_law.specs.Exchange.{Take}
 use Rattle.papaya_store.specs.Store.{KeepsPairs, StoreState, Stored}
@@ -93,7 +93,7 @@ module _ {K V : Type 0} (eq : K → K → Bool) where
       let is : Some r ≡ Some q = sym (ap (λ b. cond b (Some r) (m k)) out) ∙ has in
       let same : r ≡ q = cc in
       (t, y, p, ap (λ z. Replace t y p z) same)
-  taken (Delete t y p) k q m out has = let f : None ≡ Some q = sym (ap (λ b. cond b None (m k)) out) ∙ has in absurd cc
+  taken (Bury t y p) k q m out has = let f : None ≡ Some q = sym (ap (λ b. cond b None (m k)) out) ∙ has in absurd cc
   taken (Open t) k q m out has = let f : false ≡ true = out in absurd cc
   taken (Claim t y p) k q m out has = let f : false ≡ true = out in absurd cc
   taken (Link t n) k q m out has = let f : false ≡ true = out in absurd cc
@@ -154,7 +154,7 @@ module _ {K V : Type 0} (eq : K → K → Bool) where
     replayed_keyed (Replace t x r q ∷ es) s m keyed may =
         replayed_keyed es (after s (Replace t x r q)) (λ k. cond (eq k r.key) (Some q) (m k))
         (put_keyed m keyed r.key (Some q) (λ k p is here. claim_keyed q k p is (law.through k r.key q.key here may.0.same))) may.1
-    replayed_keyed (Delete t x r ∷ es) s m keyed may = replayed_keyed es (after s (Delete t x r)) (λ k. cond (eq k r.key) None (m k))
+    replayed_keyed (Bury t x r ∷ es) s m keyed may = replayed_keyed es (after s (Bury t x r)) (λ k. cond (eq k r.key) None (m k))
         (put_keyed m keyed r.key None (λ k p is here. absurd cc)) may.1
     replayed_keyed (Link t n ∷ es) s m keyed may = replayed_keyed es (after s (Link t n)) m keyed may.1
     replayed_keyed (Mark t x q ∷ es) s m keyed may = replayed_keyed es (after s (Mark t x q)) m keyed may.1

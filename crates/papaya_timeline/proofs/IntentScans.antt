@@ -12,7 +12,7 @@ use Rattle.papaya_ask.specs.declared.ask.Answer.TheVariants.{Made as Made_number
 use Rattle.papaya_ask.specs.declared.ask.Answer.TheVariants.{Refused as Was_refused}
 use Rattle.papaya_ask.specs.declared.ask.At.TheVariants as words_at
 use Rattle.papaya_ask.specs.declared.ask.StepKind.{StepKind}
-use Rattle.papaya_ask.specs.declared.ask.StepKind.TheVariants.{Delete as Kind_delete}
+use Rattle.papaya_ask.specs.declared.ask.StepKind.TheVariants.{Bury as Kind_bury}
 use Rattle.papaya_ask.specs.declared.copy_ask.CopyAsk.TheVariants.{Load, SizeOf}
 use Rattle.papaya_call.specs.Answers.{Says}
 use Rattle.papaya_call.specs.declared.answers.Operation.{Operation}
@@ -24,12 +24,12 @@ use Rattle.papaya_chain.specs.declared.resizer.State.{State as Stage}
 use Rattle.papaya_chain.specs.declared.resizer.State.TheVariants as stages
 use Rattle.papaya_chain.specs.Resizer as resizers
 use Rattle.papaya_chain.specs.declared.scan_ask.ScanAsk.{ScanAsk}
-use Rattle.papaya_chain.specs.declared.scan_ask.ScanAsk.TheVariants.{AddToShard, Copy, Give, Show}
+use Rattle.papaya_chain.specs.declared.scan_ask.ScanAsk.TheVariants.{AddToShard, Copy, Given, Show}
 use Rattle.papaya_chain.specs.declared.scanner.Spot.{Spot}
 use Rattle.papaya_chain.specs.declared.scanner.State.{State}
-use Rattle.papaya_chain.specs.declared.scanner.State.TheVariants.{Copying, AtRoot, Sizing, Looking, Giving, Showing, Deleting, Uncounting, Done, Refused}
+use Rattle.papaya_chain.specs.declared.scanner.State.TheVariants.{Copying, AtRoot, Sizing, Looking, Giving, Showing, Burying, Uncounting, Done, Refused}
 use Rattle.papaya_chain.specs.declared.scanner.Scan.TheVariants.{Retain}
-use Rattle.papaya_chain.specs.Scanner.{after, after_in, ask_of, asks_in, at_root, copied, deletes, found_by, kind_in, kind_of_ask, looks, meets, next}
+use Rattle.papaya_chain.specs.Scanner.{after, after_in, ask_of, asks_in, at_root, copied, buries, found_by, kind_in, kind_of_ask, looks, meets, next}
 use Rattle.papaya_store.specs.declared.scans.Scanning.{Scanning}
 use Rattle.papaya_store.specs.Store.{StoreState, pair_of}
 use Rattle.papaya_store.specs.Scans.{PerformsScan, Shows}
@@ -59,9 +59,9 @@ takes_told (Sizing table) ask asks a kind n new e = absurd
 takes_told (Looking spot) ask asks a kind n new e =
     let load = Load (words_at.Slot spot.table spot.slot) in
     absurd (quiet (IsNone kind (Some n) new) (λ f. absurd cc) None load (λ y. refl) a (ap (λ y. event_of_scan None y a) (same_item (Copy load) ask asks) ∙ e))
-takes_told (Giving spot word) ask asks a kind n new e = absurd (gives a (ap (λ y. event_of_scan None y a) (same_item (Give (pair_in word)) ask asks) ∙ e))
+takes_told (Giving spot word) ask asks a kind n new e = absurd (gives a (ap (λ y. event_of_scan None y a) (same_item (Given (pair_in word)) ask asks) ∙ e))
   where
-    gives : (a : Answer) → IsNone kind (Some n) new (event_of_scan None (Give (pair_in word)) a)
+    gives : (a : Answer) → IsNone kind (Some n) new (event_of_scan None (Given (pair_in word)) a)
     gives (answers.Call Ok_done) f = absurd cc
     gives (answers.Call (Word_read w)) f = absurd cc
     gives (answers.Call Exchanged) f = absurd cc
@@ -87,10 +87,10 @@ takes_told (Showing spot word) ask asks a kind n new e = absurd (shows a (ap (λ
     shows (answers.Call (Was_refused refused)) f = absurd cc
     shows (answers.Hash hash) f = absurd cc
     shows (answers.Count count) f = absurd cc
-takes_told (Deleting spot word) ask asks a kind n new e = takes a
-    (ap (λ y. event_of_scan (Some Kind_delete) y a) (same_item (Copy (deletes spot word)) ask asks) ∙ e)
+takes_told (Burying spot word) ask asks a kind n new e = takes a
+    (ap (λ y. event_of_scan (Some Kind_bury) y a) (same_item (Copy (buries spot word)) ask asks) ∙ e)
   where
-    takes : (a : Answer) → event_of_scan (Some Kind_delete) (Copy (deletes spot word)) a ≡ Changed kind (Some n) new → pair_in word ≡ n
+    takes : (a : Answer) → event_of_scan (Some Kind_bury) (Copy (buries spot word)) a ≡ Changed kind (Some n) new → pair_in word ≡ n
     takes (answers.Call Exchanged) f = cc f
     takes (answers.Call Ok_done) f = absurd cc
     takes (answers.Call (Word_read w)) f = absurd cc
@@ -130,7 +130,7 @@ meets_none spot word kinds.Live = λ n h. h
 meets_none spot word kinds.Marked = λ n h. h
 meets_none spot word kinds.Copied = λ n h. h
 meets_none spot word kinds.Empty = next_none spot
-meets_none spot word kinds.Tombstone = next_none spot
+meets_none spot word kinds.Buried = next_none spot
 meets_none spot word kinds.Closed = next_none spot
 
 copied_none : (from then : Stage) → TakesNone (copied from then)
@@ -163,9 +163,9 @@ retain_takes mode initial number a (Giving spot word) n h = absurd h
 retain_takes mode initial number (answers.Call (Yes true)) (Showing spot word) n h = absurd (next_none spot n h)
 retain_takes mode initial number (answers.Call (Yes false)) (Showing spot word) n h = inr (spot, word, refl, h, refl)
 retain_takes mode initial number a (Showing spot word) n h = absurd h
-retain_takes mode initial number (answers.Call Exchanged) (Deleting spot word) n h = absurd h
-retain_takes mode initial number (answers.Call (Found_instead other)) (Deleting spot word) n h = absurd (meets_none spot other (kind_of other) n h)
-retain_takes mode initial number a (Deleting spot word) n h = inl h
+retain_takes mode initial number (answers.Call Exchanged) (Burying spot word) n h = absurd h
+retain_takes mode initial number (answers.Call (Found_instead other)) (Burying spot word) n h = absurd (meets_none spot other (kind_of other) n h)
+retain_takes mode initial number a (Burying spot word) n h = inl h
 retain_takes mode initial number (answers.Call Ok_done) (Uncounting spot) n h = absurd (next_none spot n h)
 retain_takes mode initial number a (Uncounting spot) n h = absurd h
 retain_takes mode initial number (answers.Call said) Done n h = absurd h

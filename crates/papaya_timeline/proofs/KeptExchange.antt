@@ -7,7 +7,7 @@ use Rattle.papaya_ask.specs.declared.ask.StepKind.TheVariants as kinds
 use Rattle.papaya_law.specs.Allows.{Allows}
 use Rattle.papaya_law.specs.Code.{Coding}
 use Rattle.papaya_law.specs.Copying.{IsCopied}
-use Rattle.papaya_law.specs.Exchange.{Setting, Word, Closed, Live, Marked, Copied, Tombstone, State}
+use Rattle.papaya_law.specs.Exchange.{Setting, Word, Closed, Live, Marked, Copied, Buried, State}
 use Rattle.papaya_law.specs.Exchange.{Exchange, Open, Link, Close, Place, Finish, Advance, Promote}
 use Rattle.papaya_law.specs.Exchange.{Abort, Take, after}
 use Rattle.papaya_law.specs.Grows.{Comes}
@@ -78,10 +78,10 @@ module _ {P : Type 0} (s : State P) (loaded : LoadedPairs P) (new : ℕ) where
     slots = λ u y p' h. put_made q own.made u y p' ((u == t) && (y == x)) h;
     unchanged = λ old word none. absurd cc;
   })
-  changes g c k (Some kinds.Delete) (Slot t x) e (q, live, is) = subst (IsChanged (Some kinds.Delete) (Slot t x)) (sym is) (record {
+  changes g c k (Some kinds.Bury) (Slot t x) e (q, live, is) = subst (IsChanged (Some kinds.Bury) (Slot t x)) (sym is) (record {
     place = inr (inr (t, x, refl));
     comes = λ u h. inl h;
-    slots = λ u y p h. inl (put_stood s t x (Tombstone q) (λ p h. (t, x, ap named live ∙ h)) u y p ((u == t) && (y == x)) h);
+    slots = λ u y p h. inl (put_stood s t x (Buried q) (λ p h. (t, x, ap named live ∙ h)) u y p ((u == t) && (y == x)) h);
     unchanged = λ old word none. absurd cc;
   })
   changes g c k _ _ e h = absurd h

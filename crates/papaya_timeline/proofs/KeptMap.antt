@@ -10,7 +10,7 @@ use Rattle.papaya_law.specs.Code.{Coding, code, kind}
 use Rattle.papaya_law.specs.ChainContent.{chain_content, joined}
 use Rattle.papaya_law.specs.Class.{IsOn}
 use Rattle.papaya_law.specs.Content.{lookup, pairs_in, pairs_of_word}
-use Rattle.papaya_law.specs.Exchange.{Word, Empty, Closed, Live, Marked, Copied, Tombstone, Setting, State, Exchange, run, start, walk}
+use Rattle.papaya_law.specs.Exchange.{Word, Empty, Closed, Live, Marked, Copied, Buried, Setting, State, Exchange, run, start, walk}
 use Rattle.papaya_law.specs.Grows.{Comes}
 use Rattle.papaya_law.specs.Invariant.{IsKeeping, named}
 use Rattle.papaya_law.specs.Meaning.{map_left}
@@ -55,7 +55,7 @@ module _ {K V S : Type 0} (eq : K → K → Bool) (hash : K → ℕ) (mode : Mod
   kind_pairs (Live p) logged = pair_listed (Live p) p refl (logged p refl)
   kind_pairs (Marked p) logged = pair_listed (Marked p) p refl (logged p refl)
   kind_pairs (Copied p) logged = refl
-  kind_pairs (Tombstone p) logged = refl
+  kind_pairs (Buried p) logged = refl
 
   -- the pair of a number that stands for a word
   word_pairs : (w : Word (Stored K V)) (word : ℕ) → code g c w ≡ word → ((p : Stored K V) → named w ≡ Some p → IsLogged store p)

@@ -33,7 +33,7 @@ use Rattle.papaya_timeline.proofs.KeptSettings.{IsLawfulKeys}
 use Rattle.papaya_timeline.proofs.ScanKept.{scan_heard}
 use Rattle.papaya_timeline.proofs.ScanStands.{scan_core}
 use Rattle.papaya_chain.specs.declared.scan_ask.ScanAsk.{ScanAsk}
-use Rattle.papaya_chain.specs.declared.scan_ask.ScanAsk.TheVariants.{Give}
+use Rattle.papaya_chain.specs.declared.scan_ask.ScanAsk.TheVariants.{Given}
 use Rattle.papaya_chain.specs.Scanner.{IsStandingScanner, after, ask_of, asks_in, reply_of}
 use Rattle.papaya_words.specs.Word.{pair_of}
 use Rattle.papaya_chain_law.specs.ScanTold as scans
@@ -58,12 +58,12 @@ scan_no-resizer (Some reply) u z w is e = let f : None ≡ Some z = ap resizer_i
 -- where it was told nothing the call has replied
 module _ {K V S A : Type 0} (store store' : StoreState K V S) (v : Scanning A) (answer : Answer) (ask : ScanAsk) (asked : ask_of v.scanner ≡ Some ask)
     (u : IsUnheard store v answer store') where
-  gave : Some (Give (pair_of u.giving.1)) ≡ Some ask
+  gave : Some (Given (pair_of u.giving.1)) ≡ Some ask
   gave = ap asks_in (sym u.giving.2) ∙ asked
 
   pub was_unheard : unheard ask answer ≡ Some Memory
   was_unheard = ap (λ a. unheard ask a) u.refused
-      ∙ ap (λ a. unheard a (answers.Call (Was_refused Memory))) (sym (same_item (Give (pair_of u.giving.1)) ask gave))
+      ∙ ap (λ a. unheard a (answers.Call (Was_refused Memory))) (sym (same_item (Given (pair_of u.giving.1)) ask gave))
 
 -- the others rely on what they did where a caller's call is taken out
 module _ {K V S A : Type 0} (eq : K → K → Bool) (hash : K → ℕ) (s : CoreState K V S A) (caller : ℕ) (es : List (Exchange (Stored K V)))

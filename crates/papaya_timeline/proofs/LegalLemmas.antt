@@ -19,7 +19,7 @@ use Rattle.papaya_ask.specs.declared.call.Task.TheVariants.{Insert as Insert_tas
 use Rattle.papaya_ask.specs.declared.copy_ask.CopyAsk.{CopyAsk}
 use Rattle.papaya_call.specs.declared.machine.Machine.{Machine as Call_machine}
 use Rattle.papaya_law.specs.Allows.{Allows, AllAllowed}
-use Rattle.papaya_law.specs.Exchange.{Live, Setting, State, Exchange, Open, Claim, Replace, Delete, run, start, Take}
+use Rattle.papaya_law.specs.Exchange.{Live, Setting, State, Exchange, Open, Claim, Replace, Bury, run, start, Take}
 use Rattle.papaya_law.specs.Code.{Coding, code}
 use Rattle.papaya_law.specs.Meaning.{IsLawful, IsLegal as IsLegal_exchange}
 use Rattle.papaya_call.specs.Machine.{HasClosure}
@@ -175,8 +175,8 @@ module _ {K V : Type 0} (eq : K → K → Bool) (hash : K → ℕ) (mode mode' :
     now = run es start
 
     -- what the machine deletes is a pair of its key
-    abbrev pub DeletesOwn : Type 0
-    DeletesOwn = (t x old new : ℕ) (p : Stored K V) → calls.kind_of_ask m ≡ Some kinds.Delete → calls.ask_of m ≡ Ask_exchange (Slot t x) old new
+    abbrev pub BuriesOwn : Type 0
+    BuriesOwn = (t x old new : ℕ) (p : Stored K V) → calls.kind_of_ask m ≡ Some kinds.Bury → calls.ask_of m ≡ Ask_exchange (Slot t x) old new
         → now.slot t x ≡ Live p → pair_of old ≡ p.number → eq p.key k ≡ true
 
     abbrev Moves_by : Event → List (Exchange (Stored K V)) → Type 0
@@ -220,7 +220,7 @@ module _ {K V : Type 0} (eq : K → K → Bool) (hash : K → ℕ) (mode mode' :
       may = closure;
     }
 
-    module _ (deletes_own : DeletesOwn) where
+    module _ (buries_own : BuriesOwn) where
       -- an exchange that was made moves the map by its kind
       exchange_moves : (kind : Option StepKind) (at : At) (old new : ℕ) (e : Exchange (Stored K V)) → calls.kind_of_ask m ≡ kind
           → calls.ask_of m ≡ Ask_exchange at old new → IsAsked g c k kind at new now loaded e → word_of g c now at ≡ old
@@ -243,11 +243,11 @@ module _ {K V : Type 0} (eq : K → K → Bool) (hash : K → ℕ) (mode mode' :
           put_moves (Some (pair_of old)) (Some (pair_of new)) e (Some p) q
           (ap (λ y. replay eq (es ++ y ∷ [])) is ∙ replay-append eq es (Replace t x p q ∷ []) ∙ classes_alike p.key k (Some q) alike) own.made key
           before (inr (machine_replaces g c begun since k m loaded relies kind_is)) (ap Some (sym (stood_number t x old p stood live))) (ap Some own.named)
-      exchange_moves (Some kinds.Delete) (Slot t x) old new e kind_is ask_is (p, live, is) stood legal allows =
+      exchange_moves (Some kinds.Bury) (Slot t x) old new e kind_is ask_is (p, live, is) stood legal allows =
           let number : pair_of old ≡ p.number = stood_number t x old p stood live in
           let here : replay eq es p.key ≡ Some p = subst (λ y. IsLegal_exchange g' (replay eq es) y) is legal in
-          take_moves old new e p (ap (λ y. replay eq (es ++ y ∷ [])) is ∙ replay-append eq es (Delete t x p ∷ []))
-          (deletes_own t x old new p kind_is ask_is live number)
+          take_moves old new e p (ap (λ y. replay eq (es ++ y ∷ [])) is ∙ replay-append eq es (Bury t x p ∷ []))
+          (buries_own t x old new p kind_is ask_is live number)
           (machine_takes g c begun since k hashed.coding m loaded relies kind_is (Slot t x) old new ask_is).removes here number
       exchange_moves (Some kinds.Open) (Next t) old new e kind_is ask_is asked stood legal allows = absurd asked
       exchange_moves (Some kinds.Open) Made old new e kind_is ask_is asked stood legal allows = absurd asked
@@ -264,11 +264,11 @@ module _ {K V : Type 0} (eq : K → K → Bool) (hash : K → ℕ) (mode mode' :
       exchange_moves (Some kinds.Replace) Made old new e kind_is ask_is asked stood legal allows = absurd asked
       exchange_moves (Some kinds.Replace) (Aborted t) old new e kind_is ask_is asked stood legal allows = absurd asked
       exchange_moves (Some kinds.Replace) (Done t chunk) old new e kind_is ask_is asked stood legal allows = absurd asked
-      exchange_moves (Some kinds.Delete) Root old new e kind_is ask_is asked stood legal allows = absurd asked
-      exchange_moves (Some kinds.Delete) (Next t) old new e kind_is ask_is asked stood legal allows = absurd asked
-      exchange_moves (Some kinds.Delete) Made old new e kind_is ask_is asked stood legal allows = absurd asked
-      exchange_moves (Some kinds.Delete) (Aborted t) old new e kind_is ask_is asked stood legal allows = absurd asked
-      exchange_moves (Some kinds.Delete) (Done t chunk) old new e kind_is ask_is asked stood legal allows = absurd asked
+      exchange_moves (Some kinds.Bury) Root old new e kind_is ask_is asked stood legal allows = absurd asked
+      exchange_moves (Some kinds.Bury) (Next t) old new e kind_is ask_is asked stood legal allows = absurd asked
+      exchange_moves (Some kinds.Bury) Made old new e kind_is ask_is asked stood legal allows = absurd asked
+      exchange_moves (Some kinds.Bury) (Aborted t) old new e kind_is ask_is asked stood legal allows = absurd asked
+      exchange_moves (Some kinds.Bury) (Done t chunk) old new e kind_is ask_is asked stood legal allows = absurd asked
       exchange_moves (Some kinds.Link) at old new e kind_is ask_is asked stood legal allows = absurd asked
       exchange_moves (Some kinds.Mark) at old new e kind_is ask_is asked stood legal allows = absurd asked
       exchange_moves (Some kinds.Close) at old new e kind_is ask_is asked stood legal allows = absurd asked
@@ -342,7 +342,7 @@ module _ {K V : Type 0} (eq : K → K → Bool) (hash : K → ℕ) (mode mode' :
   module _ (hashed : IsHashed (setting_of {V = V} eq (low hash) mode tables) (coding_of (low hash)))
       (lawful' : IsLawful (setting_of {V = V} eq (low hash) mode' tables')) (begun since : List (Exchange (Stored K V))) (k : K) (m : Chain_machine)
       (loaded : Chain_loaded (Stored K V)) (relies : Chain_relies (setting_of eq (low hash) mode tables) (coding_of (low hash)) begun since k m loaded)
-      (deletes_own : DeletesOwn eq hash mode mode' tables tables' hashed lawful' begun since k m.call loaded.call relies.call) where
+      (buries_own : BuriesOwn eq hash mode mode' tables tables' hashed lawful' begun since k m.call loaded.call relies.call) where
     -- the event of a step moves the map so, and that of a copy leaves it
     pub step_moves : (answer : Answer) (made : List (Exchange (Stored K V))) (loaded' : Chain_loaded (Stored K V))
         → Chain_told (setting_of eq (low hash) mode tables) (coding_of (low hash)) k (run (begun ++ since) start) (kind_of_ask m) (follows_of m) loaded
@@ -364,7 +364,7 @@ module _ {K V : Type 0} (eq : K → K → Bool) (hash : K → ℕ) (mode mode' :
             ap (event_of (kind_of_ask m) (asks.Call ask)) h.is ∙ ap (λ y. call_event y ask h.told) own.2
             ∙ ap (λ y. call_event (calls.kind_of_ask m.call) y h.told) (sym own.1) in
             subst (Moves eq k m.call.task loaded.call.made (replay eq (begun ++ since)) (replay eq ((begun ++ since) ++ made))) (sym is)
-            (call_moves eq hash mode mode' tables tables' hashed lawful' begun since k m.call loaded.call relies.call deletes_own h.told made h.call tells may')
+            (call_moves eq hash mode mode' tables tables' hashed lawful' begun since k m.call loaded.call relies.call buries_own h.told made h.call tells may')
         by_ask (asks.Copy ask) e h =
             let same = copy_same eq (setting_of eq (low hash) mode tables) (coding_of (low hash)) (run (begun ++ since) start) (kind_of_ask m)
             (follows_of m) loaded ask answer made loaded' h (begun ++ since) in
@@ -378,7 +378,7 @@ asked_own g c k (Some kinds.Open) Root new s loaded e asked t x p q is = absurd 
 asked_own g c k (Some kinds.Claim) (Slot u y) new s loaded e (r, own, key, asked) t x p q is = absurd cc
 asked_own g c k (Some kinds.Replace) (Slot u y) new s loaded e (o, r, live, own, key, asked) t x p q is = let same : r ≡ q = cc in
     subst (IsOneOf loaded.made) same own.made
-asked_own g c k (Some kinds.Delete) (Slot u y) new s loaded e (r, live, asked) t x p q is = absurd cc
+asked_own g c k (Some kinds.Bury) (Slot u y) new s loaded e (r, live, asked) t x p q is = absurd cc
 asked_own g c k (Some kinds.Take) Made new s loaded e asked t x p q is = absurd cc
 asked_own g c k kind at new s loaded e asked t x p q is = absurd asked
 

@@ -13,7 +13,7 @@ use Rattle.papaya_ask.specs.declared.call.Task.{Task}
 use Rattle.papaya_ask.specs.declared.call.Task.TheVariants.{Insert, Compute}
 use Rattle.papaya_call.specs.declared.machine.Machine.{Machine}
 use Rattle.papaya_call.specs.declared.remove.Removal.{Removal}
-use Rattle.papaya_call.specs.declared.machine.State.TheVariants.{Deleting}
+use Rattle.papaya_call.specs.declared.machine.State.TheVariants.{Burying}
 use Rattle.papaya_law.specs.Exchange.{Setting, Exchange}
 use Rattle.papaya_law.specs.Code.{Coding, IsLawfulCoding}
 use Rattle.papaya_call.specs.Machine.{HasClosure, IsStanding, IsChanger, MayInsert, ask_of, kind_of_ask, after}
@@ -42,9 +42,9 @@ machine_opens m answer t e = swapped (machine_opened m t answer e)
     swapped (inr opens) = inl opens
 
 -- a deletion is asked for where the closure agreed
-machine_deleting : (m : Machine) (at : At) (old new : ℕ) → kind_of_ask m ≡ Some kinds.Delete → ask_of m ≡ Ask_exchange at old new
-    → (removal : Removal) × (m.state ≡ Deleting removal) × (removal.word ≡ old)
-machine_deleting m at old new kind e = search rules
+machine_burying : (m : Machine) (at : At) (old new : ℕ) → kind_of_ask m ≡ Some kinds.Bury → ask_of m ≡ Ask_exchange at old new
+    → (removal : Removal) × (m.state ≡ Burying removal) × (removal.word ≡ old)
+machine_burying m at old new kind e = search rules
 
 -- a reply stands on what the closure said, where it tells of that
 pub machine_says : (m : Machine) (reply : Reply) → ask_of m ≡ Ask_done reply → said_in m.task m.state ≡ said_in_reply m.task reply
@@ -83,9 +83,9 @@ module _ {K P : Type 0} (g : Setting K P) (c : Coding K P) (begun since : List (
     pub same : g.same k (g.key pair) ≡ true
 
   pub machine_takes : (coding : IsLawfulCoding g c) (m : Machine) (loaded : LoadedPairs P) → Relies g c begun since k m loaded
-      → kind_of_ask m ≡ Some kinds.Delete → (at : At) (old new : ℕ) → ask_of m ≡ Ask_exchange at old new → IsTaken loaded m.task old
+      → kind_of_ask m ≡ Some kinds.Bury → (at : At) (old new : ℕ) → ask_of m ≡ Ask_exchange at old new → IsTaken loaded m.task old
   machine_takes coding m loaded relies kind at old new e =
-      let (removal, is, word) = machine_deleting m at old new kind e in
+      let (removal, is, word) = machine_burying m at old new kind e in
       let (removes, r) = subst (ReliesStage g c begun since k loaded m.task) is relies.stage in
       record {
         removes = removes;

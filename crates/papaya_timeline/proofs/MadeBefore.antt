@@ -21,7 +21,7 @@ use Rattle.papaya_call.specs.declared.machine.Machine.{Machine as Call_machine}
 use Rattle.papaya_call.specs.declared.machine.State.{State as Stage}
 use Rattle.papaya_call.specs.declared.machine.State.TheVariants.{AtRoot, Making, Opening, Searching}
 use Rattle.papaya_call.specs.declared.machine.State.TheVariants.{Writing, Offering, Showing}
-use Rattle.papaya_call.specs.declared.machine.State.TheVariants.{Pairing, Putting, Deleting}
+use Rattle.papaya_call.specs.declared.machine.State.TheVariants.{Pairing, Putting, Burying}
 use Rattle.papaya_call.specs.declared.machine.State.TheVariants.{Counting, Noting, Uncounting}
 use Rattle.papaya_call.specs.declared.machine.State.TheVariants.{Leaving, Growing, Ended}
 use Rattle.papaya_call.specs.Compute.{in_place_of}
@@ -124,7 +124,7 @@ module _ (m : Call_machine) (n : ℕ) where
   word_before (Offering gap) count has = has
   word_before (Showing removal) count has = has
   word_before (Putting put) count has = has
-  word_before (Deleting removal) count has = has
+  word_before (Burying removal) count has = has
   word_before (Counting claimed) count has = has
   word_before (Noting claimed) count has = has
   word_before (Uncounting i) count has = has

@@ -6,7 +6,7 @@ use Rattle.papaya_ask.specs.declared.search.Search.TheVariants.{Sizing, Looking,
 use Rattle.papaya_call.specs.declared.machine.State.{State as Stage}
 use Rattle.papaya_call.specs.declared.machine.State.TheVariants.{AtRoot, Making, Opening, Searching}
 use Rattle.papaya_call.specs.declared.machine.State.TheVariants.{Writing, Offering, Showing}
-use Rattle.papaya_call.specs.declared.machine.State.TheVariants.{Pairing, Putting, Deleting}
+use Rattle.papaya_call.specs.declared.machine.State.TheVariants.{Pairing, Putting, Burying}
 use Rattle.papaya_call.specs.declared.machine.State.TheVariants.{Counting, Noting, Uncounting}
 use Rattle.papaya_call.specs.declared.machine.State.TheVariants.{Leaving, Growing, Ended}
 use Rattle.papaya_call.specs.declared.compute.Choice.TheVariants.{Replace as To_replace}
@@ -90,7 +90,7 @@ module _ (m : Call_machine) (shown : Option ℕ) (n : ℕ) where
   stands_in (Offering gap) makes shows stands = absurd makes
   stands_in (Showing removal) makes shows stands = absurd makes
   stands_in (Putting put) makes shows stands = absurd makes
-  stands_in (Deleting removal) makes shows stands = absurd makes
+  stands_in (Burying removal) makes shows stands = absurd makes
   stands_in (Counting claimed) makes shows stands = absurd makes
   stands_in (Noting claimed) makes shows stands = absurd makes
   stands_in (Uncounting i) makes shows stands = absurd makes

@@ -19,7 +19,7 @@ use Rattle.papaya_call.specs.declared.machine.Machine.{Machine as Call_machine}
 use Rattle.papaya_call.specs.declared.machine.State.{State as Stage}
 use Rattle.papaya_call.specs.declared.machine.State.TheVariants.{AtRoot, Making, Opening, Searching}
 use Rattle.papaya_call.specs.declared.machine.State.TheVariants.{Writing, Offering, Showing}
-use Rattle.papaya_call.specs.declared.machine.State.TheVariants.{Pairing, Putting, Deleting}
+use Rattle.papaya_call.specs.declared.machine.State.TheVariants.{Pairing, Putting, Burying}
 use Rattle.papaya_call.specs.declared.machine.State.TheVariants.{Counting, Noting, Uncounting}
 use Rattle.papaya_call.specs.declared.machine.State.TheVariants.{Leaving, Growing, Ended}
 use Rattle.papaya_call.specs.Machine as calls
@@ -72,7 +72,7 @@ stage_pairs m (Writing write) told purpose e = search (rules, goes_pairs)
 stage_pairs m (Offering gap) told purpose e = search rules
 stage_pairs m (Showing removal) told purpose e = search rules
 stage_pairs m (Putting put) told purpose e = search (rules, goes_pairs)
-stage_pairs m (Deleting removal) told purpose e = search (rules, beaten_pairs)
+stage_pairs m (Burying removal) told purpose e = search (rules, beaten_pairs)
 stage_pairs m (Counting claimed) told purpose e = search rules
 stage_pairs m (Noting claimed) told purpose e = search rules
 stage_pairs m (Uncounting n) told purpose e = search rules

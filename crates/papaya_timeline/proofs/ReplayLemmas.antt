@@ -7,7 +7,7 @@ use Rattle.papaya_words.specs.declared.probe.ResizeMode.TheVariants.{Blocking}
 use Rattle.papaya_law.specs.Allows.{AllAllowed}
 use Rattle.papaya_law.specs.Class.{IsOn, IsTied}
 use Rattle.papaya_law.specs.Content.{lookup, content}
-use Rattle.papaya_law.specs.Exchange.{Setting, State, Word, Exchange, Open, Claim, Replace, Delete}
+use Rattle.papaya_law.specs.Exchange.{Setting, State, Word, Exchange, Open, Claim, Replace, Bury}
 use Rattle.papaya_law.specs.Exchange.{Link, Mark, Close, Place, Finish, Advance, Promote, Abort}
 use Rattle.papaya_law.specs.Exchange.{Take, run, start}
 use Rattle.papaya_law.specs.Invariant.{IsBlockingState, IsIncrementalState, IsKeeping, named}
@@ -54,7 +54,7 @@ module _ {K V : Type 0} (eq : K → K → Bool) where
   map_replayed hash mode tables (Open t ∷ es) m = map_replayed hash mode tables es m
   map_replayed hash mode tables (Claim t x p ∷ es) m = map_replayed hash mode tables es (λ k. cond (eq k p.key) (Some p) (m k))
   map_replayed hash mode tables (Replace t x p q ∷ es) m = map_replayed hash mode tables es (λ k. cond (eq k p.key) (Some q) (m k))
-  map_replayed hash mode tables (Delete t x p ∷ es) m = map_replayed hash mode tables es (λ k. cond (eq k p.key) None (m k))
+  map_replayed hash mode tables (Bury t x p ∷ es) m = map_replayed hash mode tables es (λ k. cond (eq k p.key) None (m k))
   map_replayed hash mode tables (Link t n ∷ es) m = map_replayed hash mode tables es m
   map_replayed hash mode tables (Mark t x p ∷ es) m = map_replayed hash mode tables es m
   map_replayed hash mode tables (Close t x ∷ es) m = map_replayed hash mode tables es m
@@ -100,7 +100,7 @@ module _ {K V : Type 0} (eq : K → K → Bool) where
     respects (Open t ∷ es) m alike = respects es m alike
     respects (Claim t x p ∷ es) m alike = respects es (λ k. cond (eq k p.key) (Some p) (m k)) (respects_put m alike p.key (Some p))
     respects (Replace t x p q ∷ es) m alike = respects es (λ k. cond (eq k p.key) (Some q) (m k)) (respects_put m alike p.key (Some q))
-    respects (Delete t x p ∷ es) m alike = respects es (λ k. cond (eq k p.key) None (m k)) (respects_put m alike p.key None)
+    respects (Bury t x p ∷ es) m alike = respects es (λ k. cond (eq k p.key) None (m k)) (respects_put m alike p.key None)
     respects (Link t n ∷ es) m alike = respects es m alike
     respects (Mark t x p ∷ es) m alike = respects es m alike
     respects (Close t x ∷ es) m alike = respects es m alike

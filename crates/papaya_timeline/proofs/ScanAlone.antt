@@ -11,7 +11,7 @@ use Rattle.papaya_chain.specs.declared.resizer.State.TheVariants as stages
 use Rattle.papaya_chain.specs.Resizer as resizers
 use Rattle.papaya_law.specs.Allows.{AllAllowed, Allows}
 use Rattle.papaya_law.specs.Code.{Coding, IsHashed}
-use Rattle.papaya_law.specs.Exchange.{Live, Setting, State as Words, Exchange, Delete, after as state_after, run, start}
+use Rattle.papaya_law.specs.Exchange.{Live, Setting, State as Words, Exchange, Bury, after as state_after, run, start}
 use Rattle.papaya_law.specs.Invariant.{IsKeeping}
 use Rattle.papaya_law.specs.Meaning.{map_left}
 use Rattle.papaya_law.proofs.Moments.{allowed_first, allowed_rest, run-append}
@@ -32,10 +32,10 @@ use Rattle.papaya_timeline.proofs.CopyAnswers.{Suits, placed}
 use Rattle.papaya_timeline.proofs.KeptSettings.{IsLawfulKeys, tables_hashed}
 use Rattle.papaya_timeline.proofs.KeptTables.{IsPlaced}
 use Rattle.papaya_chain.specs.declared.scan_ask.ScanAsk.{ScanAsk}
-use Rattle.papaya_chain.specs.declared.scan_ask.ScanAsk.TheVariants.{Copy, Show, Give, AddToShard}
+use Rattle.papaya_chain.specs.declared.scan_ask.ScanAsk.TheVariants.{Copy, Show, Given, AddToShard}
 use Rattle.papaya_chain.specs.declared.scanner.Spot.{Spot}
 use Rattle.papaya_chain.specs.declared.scanner.State.{State}
-use Rattle.papaya_chain.specs.declared.scanner.State.TheVariants.{Copying, AtRoot, Sizing, Looking, Giving, Showing, Deleting, Uncounting, Done, Refused}
+use Rattle.papaya_chain.specs.declared.scanner.State.TheVariants.{Copying, AtRoot, Sizing, Looking, Giving, Showing, Burying, Uncounting, Done, Refused}
 use Rattle.papaya_chain.specs.Scanner.{IsStandingScanner, after, ask_of, asks_in}
 use Rattle.papaya_chain_law.specs.ScanTold.{IsScanTold}
 use Rattle.papaya_chain_law.specs.Scans.{IsScanAsked, ReliesState, link_in_scan}
@@ -113,21 +113,21 @@ module _ {K V S A : Type 0} (eq : K → K → Bool) (hash : K → ℕ) (law : Is
       (subst (λ w. AreThere g c w call_trace.loaded.copy.call.last call_trace.loaded.copy.kept (copies.Exchange at old new)) same
       (state_named g c hashed first m keeps_first call_trace.since may_since v.scanner.scan call_trace.loaded state r (Copy (copies.Exchange at old new)) e))
 
-  delete_spends : (spot : Spot) (at : At) (new : ℕ) (e : Exchange (Stored K V)) → at ≡ words_at.Slot spot.table spot.slot → (p : Stored K V)
-      → now.slot spot.table spot.slot ≡ Live p → e ≡ Delete spot.table spot.slot p → Allows g now e → IsWritten g c now at new (state_after now e)
+  bury_spends : (spot : Spot) (at : At) (new : ℕ) (e : Exchange (Stored K V)) → at ≡ words_at.Slot spot.table spot.slot → (p : Stored K V)
+      → now.slot spot.table spot.slot ≡ Live p → e ≡ Bury spot.table spot.slot p → Allows g now e → IsWritten g c now at new (state_after now e)
       → IsPlaced s.store.words.tables at → IsSpent at new
-  delete_spends spot at new e is p live deletes may written here = write_spends s.store.words at new here (subst IsChunkOf (sym is) tt)
-      (less spot at new e is p live deletes may written)
+  bury_spends spot at new e is p live buries may written here = write_spends s.store.words at new here (subst IsChunkOf (sym is) tt)
+      (less spot at new e is p live buries may written)
     where
       less : (spot : Spot) (at : At) (new : ℕ) (e : Exchange (Stored K V)) → at ≡ words_at.Slot spot.table spot.slot → (p : Stored K V)
-          → now.slot spot.table spot.slot ≡ Live p → e ≡ Delete spot.table spot.slot p → Allows g now e → IsWritten g c now at new (state_after now e)
+          → now.slot spot.table spot.slot ≡ Live p → e ≡ Bury spot.table spot.slot p → Allows g now e → IsWritten g c now at new (state_after now e)
           → changes_at (length s.store.words.tables) at new < changes_at (length s.store.words.tables) at (word_at s.store.words at)
-      less spot at new e is p live deletes may written =
+      less spot at new e is p live buries may written =
           subst (λ y. changes_at (length s.store.words.tables) at new < changes_at (length s.store.words.tables) at y) (kept.coded at)
           (subst (λ y. IsWritten g c now y new (state_after now e)
           → changes_at (length s.store.words.tables) y new < changes_at (length s.store.words.tables) y (word_of g c now y)) (sym is)
-          (λ w. call_fewer g c now (length s.store.words.tables) (Some kinds.Delete) (words_at.Slot spot.table spot.slot) new
-          call_trace.loaded.copy.call p.key e (p, live, deletes) may (sym w.here) (λ root. absurd (cc root))) written)
+          (λ w. call_fewer g c now (length s.store.words.tables) (Some kinds.Bury) (words_at.Slot spot.table spot.slot) new
+          call_trace.loaded.copy.call p.key e (p, live, buries) may (sym w.here) (λ root. absurd (cc root))) written)
 
   -- the table that it is about to link has its words
   words : (state : State) → v.scanner.state ≡ state → HasWords g (link_in_scan state)
@@ -159,9 +159,9 @@ module _ {K V S A : Type 0} (eq : K → K → Bool) (hash : K → ℕ) (law : Is
       by_state (Copying (stages.Linking link)) r asks e asked may written here = absurd r.1
       by_state (Copying stages.Done) r asks e asked may written here = absurd r.1
       by_state (Copying (stages.Refused refused)) r asks e asked may written here = absurd r.1
-      by_state (Deleting spot word) r asks e (takes, (p, live, number, is)) may written here =
+      by_state (Burying spot word) r asks e (takes, (p, live, number, is)) may written here =
           let at_slot : words_at.Slot spot.table spot.slot ≡ at = cc asks in
-          delete_spends spot at new e (sym at_slot) p (subst (λ (w : Words (Stored K V)). w.slot spot.table spot.slot ≡ Live p) same live) is may written here
+          bury_spends spot at new e (sym at_slot) p (subst (λ (w : Words (Stored K V)). w.slot spot.table spot.slot ≡ Live p) same live) is may written here
       by_state AtRoot r asks e asked may written here = absurd asked
       by_state (Sizing table) r asks e asked may written here = absurd asked
       by_state (Looking spot) r asks e asked may written here = absurd asked
@@ -178,7 +178,7 @@ module _ {K V S A : Type 0} (eq : K → K → Bool) (hash : K → ℕ) (law : Is
       copied_spends eq hash law s.mode s.store s.callers core es call_traces kept store' hashes refuse ask
       (λ at old new is hit. spent_in v.scanner.state refl scanning.relies.state at old new (asks ∙ ap (λ y. Some (Copy y)) is) hit) a performs
   spends_so (Show n) asks (shows, stays) = ap (λ (y : StoreState K V S). budget_of y) stays
-  spends_so (Give n) asks (gives, stays) = ap (λ (y : StoreState K V S). budget_of y) stays
+  spends_so (Given n) asks (gives, stays) = ap (λ (y : StoreState K V S). budget_of y) stays
   spends_so (AddToShard by) asks (is, counted, stays) = ap (λ (y : StoreState K V S). budget_of y) counted.1
 
   -- the words before the step and after it

@@ -23,7 +23,7 @@ use Rattle.papaya_chain_law.specs.Told.{IsCopyTold, told_of}
 use Rattle.papaya_chain_law.specs.Told as copies
 use Rattle.papaya_law.specs.Allows.{AllAllowed}
 use Rattle.papaya_law.specs.Code.{Coding, IsHashed}
-use Rattle.papaya_law.specs.Exchange.{Live, Tombstone, Setting, State as Words, Exchange, Delete, after as state_after, run, start}
+use Rattle.papaya_law.specs.Exchange.{Live, Buried, Setting, State as Words, Exchange, Bury, after as state_after, run, start}
 use Rattle.papaya_law.specs.Grows.{Comes}
 use Rattle.papaya_law.specs.Invariant.{IsKeeping, named}
 use Rattle.papaya_law.specs.Meaning.{map_left}
@@ -45,13 +45,13 @@ use Rattle.papaya_timeline.proofs.KeptResized.{stage_left}
 use Rattle.papaya_timeline.proofs.KeptSettings.{IsLawfulKeys, tables_hashed}
 use Rattle.papaya_timeline.proofs.StoreLemmas.{matched}
 use Rattle.papaya_chain.specs.declared.scan_ask.ScanAsk.{ScanAsk}
-use Rattle.papaya_chain.specs.declared.scan_ask.ScanAsk.TheVariants.{Copy, Show, Give, AddToShard}
+use Rattle.papaya_chain.specs.declared.scan_ask.ScanAsk.TheVariants.{Copy, Show, Given, AddToShard}
 use Rattle.papaya_chain.specs.declared.scanner.Spot.{Spot}
 use Rattle.papaya_chain.specs.declared.scanner.State.{State}
-use Rattle.papaya_chain.specs.declared.scanner.State.TheVariants.{Copying, AtRoot, Sizing, Looking, Giving, Showing, Deleting, Uncounting, Done, Refused}
+use Rattle.papaya_chain.specs.declared.scanner.State.TheVariants.{Copying, AtRoot, Sizing, Looking, Giving, Showing, Burying, Uncounting, Done, Refused}
 use Rattle.papaya_chain.specs.declared.scanner.Scan.TheVariants.{Retain}
-use Rattle.papaya_chain.specs.Scanner.{asks_in, copy_asks, deletes, resizer_of}
-use Rattle.papaya_chain_law.specs.ScanTold.{IsDeleted, IsFoundThere, IsScanTold, LoadedPairs, last_of}
+use Rattle.papaya_chain.specs.Scanner.{asks_in, copy_asks, buries, resizer_of}
+use Rattle.papaya_chain_law.specs.ScanTold.{IsBuried, IsFoundThere, IsScanTold, LoadedPairs, last_of}
 use Rattle.papaya_chain_law.specs.Scans.{HadPair, IsOfAll, ReliesScanner, ReliesState}
 use Rattle.papaya_chain_law.proofs.ScanAsks.{state_may, state_named}
 use Rattle.papaya_store.specs.declared.scans.Scanning.{Scanning}
@@ -83,10 +83,10 @@ retold g c store es loaded T T' a store' left told = record {
 }
 
 -- where a pair that stood in a slot is deleted there, each slot names what one named
-tombstone_stood : {P : Type 0} (s : Words P) (t x : ℕ) (p : P) → s.slot t x ≡ Live p → (u y : ℕ) (q : P) (b : Bool)
-    → named (cond b (Tombstone p) (s.slot u y)) ≡ Some q → Stands s q
-tombstone_stood s t x p live u y q true e = (t, x, ap named live ∙ e)
-tombstone_stood s t x p live u y q false e = (u, y, e)
+buried_stood : {P : Type 0} (s : Words P) (t x : ℕ) (p : P) → s.slot t x ≡ Live p → (u y : ℕ) (q : P) (b : Bool)
+    → named (cond b (Buried p) (s.slot u y)) ≡ Some q → Stands s q
+buried_stood s t x p live u y q true e = (t, x, ap named live ∙ e)
+buried_stood s t x p live u y q false e = (u, y, e)
 
 -- the pair last told of stood in the slot that was loaded, or was told of before
 told_stood : {P : Type 0} (s : Words P) (t x : ℕ) (last : Option P) (q : P) (o : Option P) → named (s.slot t x) ≡ o → or_last o last ≡ Some q
@@ -297,12 +297,12 @@ module _ {K V S A : Type 0} (eq : K → K → Bool) (hash : K → ℕ) (law : Is
   Left state a store' v' = IsUnheard s.store v a store' ⊎ IsScanLeft state a store' v'
 
   give_left : (spot : Spot) (word : ℕ) → v.scanner.state ≡ Giving spot word → Relies (Giving spot word)
-      → (a : Answer) (store' : StoreState K V S) (v' : Scanning A) → PerformsScan eq says hashes refuse (Give (number_in word)) s.store v a store' v'
+      → (a : Answer) (store' : StoreState K V S) (v' : Scanning A) → PerformsScan eq says hashes refuse (Given (number_in word)) s.store v a store' v'
       → Left (Giving spot word) a store' v'
   give_left spot word is r a store' v' (gives, stays) =
       let (told, answered, how) = gives in
       let had : HadPair g c first m since loaded (number_in word) = state_named g c hashed first m keeps_first since may_since v.scanner.scan loaded
-      (Giving spot word) r (Give (number_in word)) refl in
+      (Giving spot word) r (Given (number_in word)) refl in
       ⊎_elim
       (λ (given : _). let ok : a ≡ answers.Call Ok = answered ∙ ap answers.Call given.0 in
       inr (still (Giving spot word) a store' (record loaded { given = had.pair ∷ loaded.given }) refl
@@ -347,44 +347,44 @@ module _ {K V S A : Type 0} (eq : K → K → Bool) (hash : K → ℕ) (law : Is
       ap (λ (y : StoreState K V S). int_wrap w64 y.count.sum) counted.1 ∙ int_wrap_fits w64 (int_wrap w64 sum) (SFits-int_wrap w64 sum))
 
   -- the pair that stands in the slot is deleted, or another word was found there
-  delete_left : (spot : Spot) (word : ℕ) → Relies (Deleting spot word) → (a : Answer) (store' : StoreState K V S)
-      → PerformsCopy eq hashes refuse (deletes spot word) s.store a store' → (v' : Scanning A) → v' ≡ v → IsScanLeft (Deleting spot word) a store' v'
-  delete_left spot word r a store' performs v' same_v =
+  bury_left : (spot : Spot) (word : ℕ) → Relies (Burying spot word) → (a : Answer) (store' : StoreState K V S)
+      → PerformsCopy eq hashes refuse (buries spot word) s.store a store' → (v' : Scanning A) → v' ≡ v → IsScanLeft (Burying spot word) a store' v'
+  bury_left spot word r a store' performs v' same_v =
       let at : At = Slot spot.table spot.slot in
       let (told, answered, how) = performs in
-      matched (IsScanLeft (Deleting spot word) a store' v') (word_at s.store.words at == word) _ _ how
+      matched (IsScanLeft (Burying spot word) a store' v') (word_at s.store.words at == word) _ _ how
       (λ hit done.
       let here : word_of g c (run since first) at ≡ word = ap (λ w. word_of g c w at) same ∙ coded at ∙ eqb-true (word_at s.store.words at) word hit in
-      let x = state_may g c hashed first m keeps_first since may_since v.scanner.scan loaded (Deleting spot word) r tt at word (grave_word word) refl here in
-      delete_made spot word r a store' x.0 x.1.1 (subst (λ w. IsWritten g c w at (grave_word word) (state_after w x.0)) same x.3) hit
+      let x = state_may g c hashed first m keeps_first since may_since v.scanner.scan loaded (Burying spot word) r tt at word (grave_word word) refl here in
+      bury_made spot word r a store' x.0 x.1.1 (subst (λ w. IsWritten g c w at (grave_word word) (state_after w x.0)) same x.3) hit
       (answered ∙ ap answers.Call done.0) done.1 v' same_v)
-      (λ miss lost. delete_lost spot word a store' miss (answered ∙ ap answers.Call lost.0) lost.1 v' same_v)
+      (λ miss lost. bury_lost spot word a store' miss (answered ∙ ap answers.Call lost.0) lost.1 v' same_v)
     where
-      delete_made : (spot : Spot) (word : ℕ) → Relies (Deleting spot word) → (a : Answer) (store' : StoreState K V S) (e : Exchange (Stored K V))
-          → ((p : Stored K V) × ((run since first).slot spot.table spot.slot ≡ Live p) × (c.number p ≡ number_in word) × (e ≡ Delete spot.table spot.slot p))
+      bury_made : (spot : Spot) (word : ℕ) → Relies (Burying spot word) → (a : Answer) (store' : StoreState K V S) (e : Exchange (Stored K V))
+          → ((p : Stored K V) × ((run since first).slot spot.table spot.slot ≡ Live p) × (c.number p ≡ number_in word) × (e ≡ Bury spot.table spot.slot p))
           → IsWritten g c now (Slot spot.table spot.slot) (grave_word word) (state_after now e)
           → (word_at s.store.words (Slot spot.table spot.slot) == word) ≡ true → a ≡ answers.Call Exchanged
           → store' ≡ record s.store { words = put s.store.words (Slot spot.table spot.slot) (grave_word word) } → (v' : Scanning A) → v' ≡ v
-          → IsScanLeft (Deleting spot word) a store' v'
-      delete_made spot word r a store' e (p, stood, number, is_delete) written hit is stored v' same_v =
+          → IsScanLeft (Burying spot word) a store' v'
+      bury_made spot word r a store' e (p, stood, number, is_bury) written hit is stored v' same_v =
           let at : At = Slot spot.table spot.slot in
-          let by : Exchange (Stored K V) = Delete spot.table spot.slot p in
+          let by : Exchange (Stored K V) = Bury spot.table spot.slot p in
           let live : now.slot spot.table spot.slot ≡ Live p = subst (λ (w : Words (Stored K V)). w.slot spot.table spot.slot ≡ Live p) same stood in
-          let named_there : Named (deletes spot word) = word_named (Deleting spot word) r (deletes spot word) refl in
-          let told : IsScanTold g c now since (Deleting spot word) loaded (answers.Call Exchanged) (by ∷ []) loaded =
-          subst (λ b. MatchBool b (IsDeleted g c now since spot loaded (answers.Call Exchanged) (by ∷ []) loaded)
+          let named_there : Named (buries spot word) = word_named (Burying spot word) r (buries spot word) refl in
+          let told : IsScanTold g c now since (Burying spot word) loaded (answers.Call Exchanged) (by ∷ []) loaded =
+          subst (λ b. MatchBool b (IsBuried g c now since spot loaded (answers.Call Exchanged) (by ∷ []) loaded)
           (IsFoundThere g c now since spot loaded (answers.Call Exchanged) (by ∷ []) loaded))
           (sym (ap (λ y. y == word) (coded at) ∙ hit)) (record { pair = p; live = live; is = refl; one = refl; handed = refl }) in
           let left = exchanged_left g c s.store (begun ++ since) loaded.copy coded there
-          (λ made copy. IsScanTold g c now since (Deleting spot word) loaded (answers.Call Exchanged) made loaded × (loaded.copy ≡ copy)) at
+          (λ made copy. IsScanTold g c now since (Burying spot word) loaded (answers.Call Exchanged) made loaded × (loaded.copy ≡ copy)) at
           (grave_word word) by loaded.copy (told, refl)
           (placed g c s.store (begun ++ since) loaded.copy coded there eq hashes last carried suits None 0 at named_there)
-          (subst (λ y. IsWritten g c now at (grave_word word) (state_after now y)) is_delete written)
+          (subst (λ y. IsWritten g c now at (grave_word word) (state_after now y)) is_bury written)
           (λ t some comes. there t some comes)
-          (λ t x q e. tombstone_stood now spot.table spot.slot p live t x q ((t == spot.table) && (x == spot.slot)) e)
+          (λ t x q e. buried_stood now spot.table spot.slot p live t x q ((t == spot.table) && (x == spot.slot)) e)
           (λ q e. inl e) refl refl in
-          subst (λ y. IsScanLeft (Deleting spot word) y store' v') (sym is)
-          (subst (λ y. IsScanLeft (Deleting spot word) (answers.Call Exchanged) y v') (sym stored)
+          subst (λ y. IsScanLeft (Burying spot word) y store' v') (sym is)
+          (subst (λ y. IsScanLeft (Burying spot word) (answers.Call Exchanged) y v') (sym stored)
           (record {
             words = record s.store { words = put s.store.words at (grave_word word) };
             loaded' = loaded;
@@ -392,35 +392,35 @@ module _ {K V S A : Type 0} (eq : K → K → Bool) (hash : K → ℕ) (law : Is
             store_is = refl;
             given = same_given v' same_v;
             answers = same_answers v' same_v;
-            sum = same_sum (Deleting spot word) refl
+            sum = same_sum (Burying spot word) refl
                 (record s.store { words = put s.store.words at (grave_word word) }) refl;
             shown = λ q h. inl h;
           }))
 
-      delete_lost : (spot : Spot) (word : ℕ) → (a : Answer) (store' : StoreState K V S)
+      bury_lost : (spot : Spot) (word : ℕ) → (a : Answer) (store' : StoreState K V S)
           → (word_at s.store.words (Slot spot.table spot.slot) == word) ≡ false
           → a ≡ answers.Call (Found_instead (word_at s.store.words (Slot spot.table spot.slot))) → store' ≡ s.store → (v' : Scanning A) → v' ≡ v
-          → IsScanLeft (Deleting spot word) a store' v'
-      delete_lost spot word a store' miss is stored v' same_v =
+          → IsScanLeft (Burying spot word) a store' v'
+      bury_lost spot word a store' miss is stored v' same_v =
           let at : At = Slot spot.table spot.slot in
           let nothing : List (Exchange (Stored K V)) = [] in
           let loaded' : LoadedPairs (Stored K V) = record loaded { copy = told_of (told_last now at (last_of loaded)) loaded.copy } in
-          let told : IsScanTold g c now since (Deleting spot word) loaded a nothing loaded' =
-          subst (λ b. MatchBool b (IsDeleted g c now since spot loaded a nothing loaded') (IsFoundThere g c now since spot loaded a nothing loaded'))
+          let told : IsScanTold g c now since (Burying spot word) loaded a nothing loaded' =
+          subst (λ b. MatchBool b (IsBuried g c now since spot loaded a nothing loaded') (IsFoundThere g c now since spot loaded a nothing loaded'))
           (sym (ap (λ y. y == word) (coded at) ∙ miss))
           (record { is = is ∙ ap (λ y. answers.Call (Found_instead y)) (sym (coded at)); none = refl; handed = refl }) in
           record {
             words = store';
             loaded' = loaded';
             left = quiet_left g c s.store (begun ++ since) loaded.copy coded there
-                (λ made copy. IsScanTold g c now since (Deleting spot word) loaded a made loaded' × (loaded'.copy ≡ copy)) a store' loaded'.copy stored
+                (λ made copy. IsScanTold g c now since (Burying spot word) loaded a made loaded' × (loaded'.copy ≡ copy)) a store' loaded'.copy stored
                 (told, refl)
                 (λ q e. told_stood now spot.table spot.slot loaded.copy.call.last q (named (now.slot spot.table spot.slot)) refl e) (λ p h. inl h)
                 refl (λ t e. let f = sym is ∙ e in absurd cc);
             store_is = refl;
             given = same_given v' same_v;
             answers = same_answers v' same_v;
-            sum = same_sum (Deleting spot word) refl store' (ap (λ (y : StoreState K V S). y.count.sum) stored);
+            sum = same_sum (Burying spot word) refl store' (ap (λ (y : StoreState K V S). y.count.sum) stored);
             shown = λ q h. inl h;
           }
 
@@ -451,15 +451,15 @@ module _ {K V S A : Type 0} (eq : K → K → Bool) (hash : K → ℕ) (law : Is
       inr (word_left (Looking spot) (λ made. loaded.before) (Load at) refl a store' left
       (λ loaded' handed. record { ask = Load at; asks = refl; copy = left.loaded'; told = left.told; handed = handed }) refl v' h.1)
   scan_left (Giving spot word) is r ask e a store' v' performs =
-      let one : Give (number_in word) ≡ ask = cc e in
+      let one : Given (number_in word) ≡ ask = cc e in
       give_left spot word is r a store' v' (subst (λ q. PerformsScan eq says hashes refuse q s.store v a store' v') (sym one) performs)
   scan_left (Showing spot word) is r ask e a store' v' performs =
       let one : Show (number_in word) ≡ ask = cc e in
       inr (show_left spot word r a store' v' (subst (λ q. PerformsScan eq says hashes refuse q s.store v a store' v') (sym one) performs))
-  scan_left (Deleting spot word) is r ask e a store' v' performs =
-      let one : Copy (deletes spot word) ≡ ask = cc e in
+  scan_left (Burying spot word) is r ask e a store' v' performs =
+      let one : Copy (buries spot word) ≡ ask = cc e in
       let h = subst (λ q. PerformsScan eq says hashes refuse q s.store v a store' v') (sym one) performs in
-      inr (delete_left spot word r a store' h.0 v' h.1)
+      inr (bury_left spot word r a store' h.0 v' h.1)
   scan_left (Uncounting spot) is r ask e a store' v' performs =
       let one : AddToShard (negsuc 0) ≡ ask = cc e in
       inr (uncount_left spot a store' v' (subst (λ q. PerformsScan eq says hashes refuse q s.store v a store' v') (sym one) performs))

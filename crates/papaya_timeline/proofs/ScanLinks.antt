@@ -21,7 +21,7 @@ use Rattle.papaya_timeline.proofs.ResizerTables.{stage_is, stage_links, stage_ma
 use Rattle.papaya_timeline.specs.Kept.{IsScanLink}
 use Rattle.papaya_chain.specs.declared.scanner.Spot.{Spot}
 use Rattle.papaya_chain.specs.declared.scanner.State.{State}
-use Rattle.papaya_chain.specs.declared.scanner.State.TheVariants.{Copying, AtRoot, Sizing, Looking, Giving, Showing, Deleting, Uncounting, Done, Refused}
+use Rattle.papaya_chain.specs.declared.scanner.State.TheVariants.{Copying, AtRoot, Sizing, Looking, Giving, Showing, Burying, Uncounting, Done, Refused}
 use Rattle.papaya_chain.specs.declared.scanner.Scan.{Scan}
 use Rattle.papaya_chain.specs.declared.scanner.Scan.TheVariants.{Clear, Retain, Walk}
 use Rattle.papaya_chain.specs.Scanner.{after_in, at_root, copied, found_by, looks, meets, next, scanned, shown, told}
@@ -62,8 +62,8 @@ told_none scan (Sizing table) (Size slots limit) none = looks_none (record { tab
 told_none scan (Looking spot) (Word word) none = meets_none scan spot word (kind_of word)
 told_none scan (Giving spot word) Ok none = next_none spot
 told_none scan (Showing spot word) (Yes stays) none = shown_none spot word stays
-told_none scan (Deleting spot word) Exchanged none = λ link h. h
-told_none scan (Deleting spot word) (Found other) none = meets_none scan spot other (kind_of other)
+told_none scan (Burying spot word) Exchanged none = λ link h. h
+told_none scan (Burying spot word) (Found other) none = meets_none scan spot other (kind_of other)
 told_none scan (Uncounting spot) Ok none = next_none spot
 told_none scan state answer none = none
 
@@ -113,8 +113,8 @@ module _ (Made : (table chunks : ℕ) → Type 0) (scan : Scan) (mode : ResizeMo
       (scanned_none scan (Giving spot word) answer (λ link h. h))
   links_made (Showing spot word) new opens links_are = no_links (scanned scan (Showing spot word) answer)
       (scanned_none scan (Showing spot word) answer (λ link h. h))
-  links_made (Deleting spot word) new opens links_are = no_links (scanned scan (Deleting spot word) answer)
-      (scanned_none scan (Deleting spot word) answer (λ link h. h))
+  links_made (Burying spot word) new opens links_are = no_links (scanned scan (Burying spot word) answer)
+      (scanned_none scan (Burying spot word) answer (λ link h. h))
   links_made (Uncounting spot) new opens links_are = no_links (scanned scan (Uncounting spot) answer) (scanned_none scan (Uncounting spot) answer (λ link h. h))
   links_made Done new opens links_are = no_links (scanned scan Done answer) (scanned_none scan Done answer (λ link h. h))
   links_made (Refused refused) new opens links_are = no_links (scanned scan (Refused refused) answer) (scanned_none scan (Refused refused) answer (λ link h. h))

@@ -14,7 +14,7 @@ use Rattle.papaya_chain.specs.Resizer as resizers
 use Rattle.papaya_law.specs.Allows.{AllAllowed}
 use Rattle.papaya_law.specs.Code.{Coding, IsHashed, code}
 use Rattle.papaya_law.specs.Content.{AreApart}
-use Rattle.papaya_law.specs.Exchange.{Live, Setting, State as Words, Exchange, Delete, run, start}
+use Rattle.papaya_law.specs.Exchange.{Live, Setting, State as Words, Exchange, Bury, run, start}
 use Rattle.papaya_law.specs.Invariant.{named}
 use Rattle.papaya_law.specs.Meaning.{IsLegal, map_left, map_of}
 use Rattle.papaya_law.proofs.Codes.{code_pair}
@@ -34,19 +34,19 @@ use Rattle.papaya_timeline.proofs.KeptMap.{kept_map}
 use Rattle.papaya_timeline.proofs.KeptSettings.{IsLawfulKeys, tables_hashed}
 use Rattle.papaya_chain.specs.declared.scanner.Spot.{Spot}
 use Rattle.papaya_chain.specs.declared.scanner.State.{State}
-use Rattle.papaya_chain.specs.declared.scanner.State.TheVariants.{Copying, AtRoot, Sizing, Looking, Giving, Showing, Deleting, Uncounting, Done, Refused}
+use Rattle.papaya_chain.specs.declared.scanner.State.TheVariants.{Copying, AtRoot, Sizing, Looking, Giving, Showing, Burying, Uncounting, Done, Refused}
 use Rattle.papaya_chain.specs.declared.scanner.Scan.{Scan}
 use Rattle.papaya_chain.specs.declared.scanner.Scan.TheVariants.{Clear, Retain, Walk}
-use Rattle.papaya_chain.specs.Scanner.{after, after_in, ask_of, asks_in, copy_asks, deletes, kind_in, kind_of_ask}
+use Rattle.papaya_chain.specs.Scanner.{after, after_in, ask_of, asks_in, copy_asks, buries, kind_in, kind_of_ask}
 use Rattle.papaya_chain_law.specs.ScanOutcomes.{HasDone, LeavesMap, owes_in}
-use Rattle.papaya_chain_law.specs.ScanTold.{IsDeleted, IsFoundThere, IsLastAnswer, IsScanTold}
+use Rattle.papaya_chain_law.specs.ScanTold.{IsBuried, IsFoundThere, IsLastAnswer, IsScanTold}
 use Rattle.papaya_chain_law.specs.Scans.{MayTake, ReliesState}
 use Rattle.papaya_chain_law.proofs.ScanOutcomes.{asked, copied_owes, state_done}
 use Rattle.papaya_store.specs.declared.scans.Scanning.{Scanning}
 use Rattle.papaya_timeline.specs.Scans.{IsCountedBeside, IsHeard, MovesByScan, MovesScan}
 use Rattle.papaya_ask.specs.declared.ask.Answer.{Answer as Call_answer}
 use Rattle.papaya_ask.specs.declared.ask.StepKind.{StepKind}
-use Rattle.papaya_ask.specs.declared.ask.StepKind.TheVariants.{Delete as Kind_delete}
+use Rattle.papaya_ask.specs.declared.ask.StepKind.TheVariants.{Bury as Kind_bury}
 use Rattle.papaya_ask.specs.declared.copy_ask.CopyAsk.{CopyAsk}
 use Rattle.papaya_chain.specs.declared.ask.Answer.TheVariants as answers
 use Rattle.papaya_chain.specs.declared.ask.Ask.TheVariants as asks
@@ -58,7 +58,7 @@ use Rattle.papaya_timeline.specs.ScanGoes.{event_of_scan}
 use Rattle.papaya_timeline.proofs.CallersLemmas.{same_item}
 use Rattle.papaya_timeline.proofs.StepEvents.{stage_moves}
 use Rattle.papaya_chain.specs.declared.scan_ask.ScanAsk.{ScanAsk}
-use Rattle.papaya_chain.specs.declared.scan_ask.ScanAsk.TheVariants.{AddToShard, Copy, Give, Show}
+use Rattle.papaya_chain.specs.declared.scan_ask.ScanAsk.TheVariants.{AddToShard, Copy, Given, Show}
 
 -- a pair of which an answer is known was shown
 answered_shown : {P : Type 0} (l : List (P × Bool)) (p : P) (stays : Bool) → IsLastAnswer l p stays → WasShown l p
@@ -102,8 +102,8 @@ owed_by (Giving spot word) true e = absurd cc
 owed_by (Giving spot word) false e = refl
 owed_by (Showing spot word) true e = absurd cc
 owed_by (Showing spot word) false e = refl
-owed_by (Deleting spot word) true e = absurd cc
-owed_by (Deleting spot word) false e = refl
+owed_by (Burying spot word) true e = absurd cc
+owed_by (Burying spot word) false e = refl
 owed_by Done true e = absurd cc
 owed_by Done false e = refl
 owed_by (Refused refused) true e = absurd cc
@@ -174,9 +174,9 @@ module _ {K V S A : Type 0} (eq : K → K → Bool) (hash : K → ℕ) (law : Is
   legal e one = (step_keeps g hashed.lawful now old_map (keeping g hashed.lawful es kept.allowed) e
       (subst (AllAllowed g now) one (allowed_rest g es heard.made start heard.allowed)).0).0
 
-  tombstone : (t x : ℕ) (p : Stored K V) → heard.made ≡ Delete t x p ∷ [] → IsUpdate eq p.key (Some p) None (map_in eq s.store) (map_in eq store')
-  tombstone t x p one = record {
-    before = was p.key ∙ legal (Delete t x p) one;
+  buried : (t x : ℕ) (p : Stored K V) → heard.made ≡ Bury t x p ∷ [] → IsUpdate eq p.key (Some p) None (map_in eq s.store) (map_in eq store')
+  buried t x p one = record {
+    before = was p.key ∙ legal (Bury t x p) one;
     class = λ j same_key. is_then j ∙ ap (λ l. map_of g old_map l j) one ∙ cond-true (eq j p.key) None (old_map j) same_key;
     others = λ j other. is_then j ∙ ap (λ l. map_of g old_map l j) one ∙ cond-false (eq j p.key) None (old_map j) other ∙ sym (was j);
   }
@@ -200,7 +200,7 @@ module _ {K V S A : Type 0} (eq : K → K → Bool) (hash : K → ℕ) (law : Is
   abbrev Goes : State → State
   Goes = after_in v.scanner.scan v.scanner.mode v.scanner.initial v.scanner.number a
 
-  said_no : (t x : ℕ) (p : Stored K V) → heard.made ≡ Delete t x p ∷ [] → (state : State)
+  said_no : (t x : ℕ) (p : Stored K V) → heard.made ≡ Bury t x p ∷ [] → (state : State)
       → ReliesState g c first m call_trace.since v.scanner.scan call_trace.loaded state
       → IsScanTold g c (run call_trace.since first) call_trace.since state call_trace.loaded a heard.made heard.loaded → owes_in (Goes state) ≡ true
       → v.scanner.scan ≡ Retain → IsLastAnswer call_trace.loaded.shown p false
@@ -209,30 +209,30 @@ module _ {K V S A : Type 0} (eq : K → K → Bool) (hash : K → ℕ) (law : Is
   said_no t x p one AtRoot r h owes is =
       let none = (asked g c first m call_trace.since v.scanner call_trace.loaded a heard.made heard.loaded AtRoot (call_trace.since ++ heard.made)
       (Load words_at.Root) refl h).1 in
-      let no : [] ≡ Delete t x p ∷ [] = sym none ∙ one in absurd cc
+      let no : [] ≡ Bury t x p ∷ [] = sym none ∙ one in absurd cc
   said_no t x p one (Sizing table) r h owes is =
       let none = (asked g c first m call_trace.since v.scanner call_trace.loaded a heard.made heard.loaded (Sizing table) call_trace.loaded.before
       (SizeOf table) refl h).1.0 in
-      let no : [] ≡ Delete t x p ∷ [] = sym none ∙ one in absurd cc
+      let no : [] ≡ Bury t x p ∷ [] = sym none ∙ one in absurd cc
   said_no t x p one (Looking spot) r h owes is =
       let none = (asked g c first m call_trace.since v.scanner call_trace.loaded a heard.made heard.loaded (Looking spot) call_trace.loaded.before
       (Load (words_at.Slot spot.table spot.slot)) refl h).1 in
-      let no : [] ≡ Delete t x p ∷ [] = sym none ∙ one in absurd cc
-  said_no t x p one (Giving spot word) r h owes is = let no : [] ≡ Delete t x p ∷ [] = sym h.none ∙ one in absurd cc
-  said_no t x p one (Showing spot word) r h owes is = let no : [] ≡ Delete t x p ∷ [] = sym h.none ∙ one in absurd cc
-  said_no t x p one (Deleting spot word) r h owes is =
+      let no : [] ≡ Bury t x p ∷ [] = sym none ∙ one in absurd cc
+  said_no t x p one (Giving spot word) r h owes is = let no : [] ≡ Bury t x p ∷ [] = sym h.none ∙ one in absurd cc
+  said_no t x p one (Showing spot word) r h owes is = let no : [] ≡ Bury t x p ∷ [] = sym h.none ∙ one in absurd cc
+  said_no t x p one (Burying spot word) r h owes is =
       let there = (run call_trace.since first).slot spot.table spot.slot in
-      by_test (code g c there == word) (IsDeleted g c (run call_trace.since first) call_trace.since spot call_trace.loaded a heard.made heard.loaded)
+      by_test (code g c there == word) (IsBuried g c (run call_trace.since first) call_trace.since spot call_trace.loaded a heard.made heard.loaded)
       (IsFoundThere g c (run call_trace.since first) call_trace.since spot call_trace.loaded a heard.made heard.loaded)
       (IsLastAnswer call_trace.loaded.shown p false) h
       (λ hit t'.
-      let both : Delete spot.table spot.slot t'.pair ∷ [] ≡ Delete t x p ∷ [] = sym t'.one ∙ one in
+      let both : Bury spot.table spot.slot t'.pair ∷ [] ≡ Bury t x p ∷ [] = sym t'.one ∙ one in
       let is_it : t'.pair ≡ p = cc in
       subst (λ r. IsLastAnswer call_trace.loaded.shown r false) is_it
       (dropped spot word t'.pair (subst (λ (w : Words (Stored K V)). w.slot spot.table spot.slot ≡ Live t'.pair) same t'.live)
       (subst (λ (w : Words (Stored K V)). code g c (w.slot spot.table spot.slot) ≡ word) same (eqb-true (code g c there) word hit)) v.scanner.scan r.2 is))
-      (λ miss t'. let no : [] ≡ Delete t x p ∷ [] = sym t'.none ∙ one in absurd cc)
-  said_no t x p one (Uncounting spot) r h owes is = let no : [] ≡ Delete t x p ∷ [] = sym h.1 ∙ one in absurd cc
+      (λ miss t'. let no : [] ≡ Bury t x p ∷ [] = sym t'.none ∙ one in absurd cc)
+  said_no t x p one (Uncounting spot) r h owes is = let no : [] ≡ Bury t x p ∷ [] = sym h.1 ∙ one in absurd cc
   said_no t x p one Done r h owes is = let no = h.asks in absurd (cc no)
   said_no t x p one (Refused refused) r h owes is = let no = h.asks in absurd (cc no)
 
@@ -242,7 +242,7 @@ module _ {K V S A : Type 0} (eq : K → K → Bool) (hash : K → ℕ) (law : Is
       ⊎_elim (λ none. inl (none_moved none.0))
       (⊎_elim (λ (kept_map : _). let (e, one, leaves, owes) = kept_map in inl (left_moved e one leaves))
       (λ (lost : _). let (t, x, p, one, no_walk, owes) = lost in
-      inr (p, tombstone t x p one, no_walk, said_no t x p one v.scanner.state scanning.relies.state told owes)))
+      inr (p, buried t x p one, no_walk, said_no t x p one v.scanner.state scanning.relies.state told owes)))
       done
 
   -- what the step's event tells of the map
@@ -285,31 +285,31 @@ module _ {K V S A : Type 0} (eq : K → K → Bool) (hash : K → ℕ) (law : Is
       call_trace.loaded.before (Load at) refl h).1 in
       subst (λ y. ByEvent (event_of_scan None y a)) (same_item (Copy (Load at)) ask e) (quiet ByEvent stays None (Load at) (λ y. refl) a)
   state_moves (Giving spot word) is r h ask e =
-      subst (λ y. ByEvent (event_of_scan None y a)) (same_item (Give (number_in word)) ask e)
-      (subst (λ y. ByEvent (event_of_scan None (Give (number_in word)) y)) (sym h.is) (none_moved h.none))
+      subst (λ y. ByEvent (event_of_scan None y a)) (same_item (Given (number_in word)) ask e)
+      (subst (λ y. ByEvent (event_of_scan None (Given (number_in word)) y)) (sym h.is) (none_moved h.none))
   state_moves (Showing spot word) is r h ask e =
       subst (λ y. ByEvent (event_of_scan None y a)) (same_item (Show (number_in word)) ask e)
       (subst (λ y. ByEvent (event_of_scan None (Show (number_in word)) y)) (sym h.is) (none_moved h.none))
-  state_moves (Deleting spot word) is r h ask e =
+  state_moves (Burying spot word) is r h ask e =
       let there = (run call_trace.since first).slot spot.table spot.slot in
-      subst (λ y. ByEvent (event_of_scan (Some Kind_delete) y a)) (same_item (Copy (deletes spot word)) ask e)
-      (by_test (code g c there == word) (IsDeleted g c (run call_trace.since first) call_trace.since spot call_trace.loaded a heard.made heard.loaded)
+      subst (λ y. ByEvent (event_of_scan (Some Kind_bury) y a)) (same_item (Copy (buries spot word)) ask e)
+      (by_test (code g c there == word) (IsBuried g c (run call_trace.since first) call_trace.since spot call_trace.loaded a heard.made heard.loaded)
       (IsFoundThere g c (run call_trace.since first) call_trace.since spot call_trace.loaded a heard.made heard.loaded)
-      (ByEvent (event_of_scan (Some Kind_delete) (Copy (deletes spot word)) a)) h
+      (ByEvent (event_of_scan (Some Kind_bury) (Copy (buries spot word)) a)) h
       (λ hit t.
       let live = subst (λ (w : Words (Stored K V)). w.slot spot.table spot.slot ≡ Live t.pair) same t.live in
       let stands : code g c (now.slot spot.table spot.slot) ≡ word = subst (λ (w : Words (Stored K V)). code g c (w.slot spot.table spot.slot) ≡ word)
       same (eqb-true (code g c there) word hit) in
       let of_word : number_in word ≡ t.pair.number = ap number_in (sym stands ∙ ap (code g c) live) ∙ (code_pair g c hashed.coding (Live t.pair) t.pair refl) in
-      subst (λ y. ByEvent (event_of_scan (Some Kind_delete) (Copy (deletes spot word)) y)) (sym t.is) (
+      subst (λ y. ByEvent (event_of_scan (Some Kind_bury) (Copy (buries spot word)) y)) (sym t.is) (
         t.pair,
-        tombstone spot.table spot.slot t.pair t.one,
+        buried spot.table spot.slot t.pair t.one,
         no_walk word v.scanner.scan r.2,
         dropped spot word t.pair live stands v.scanner.scan r.2,
         ap (λ n. Some n) of_word,
         refl,
       ))
-      (λ miss t. subst (λ y. ByEvent (event_of_scan (Some Kind_delete) (Copy (deletes spot word)) y)) (sym t.is) (none_moved t.none)))
+      (λ miss t. subst (λ y. ByEvent (event_of_scan (Some Kind_bury) (Copy (buries spot word)) y)) (sym t.is) (none_moved t.none)))
   state_moves (Uncounting spot) is r h ask e =
       subst (λ y. ByEvent (event_of_scan None y a)) (same_item (AddToShard (negsuc 0)) ask e)
       (subst (λ y. ByEvent (event_of_scan None (AddToShard (negsuc 0)) y)) (sym h.0) (none_moved h.1))
@@ -349,10 +349,10 @@ module _ {K V S A : Type 0} (eq : K → K → Bool) (hash : K → ℕ) (law : Is
       let none : owed_scan (Goes v.scanner.state) ≡ pos 0 = owed_by (Goes v.scanner.state) false owes in
       omega (arith, ints, many, none)
 
-  fewer : (t x : ℕ) (p : Stored K V) → heard.made ≡ Delete t x p ∷ [] → owes_in (Goes v.scanner.state) ≡ true
+  fewer : (t x : ℕ) (p : Stored K V) → heard.made ≡ Bury t x p ∷ [] → owes_in (Goes v.scanner.state) ≡ true
       → pos (length new) ≡ pos (length old) +ℤ owed_scan (Goes v.scanner.state)
   fewer t x p one owes =
-      let count = length_after g hashed.lawful old_map old new old_apart new_apart was (Delete t x p) (legal (Delete t x p) one)
+      let count = length_after g hashed.lawful old_map old new old_apart new_apart was (Bury t x p) (legal (Bury t x p) one)
       (λ k. is_then k ∙ ap (λ l. map_of g old_map l k) one) in
       let less : owed_scan (Goes v.scanner.state) ≡ negsuc 0 = owed_by (Goes v.scanner.state) true owes in
       omega (arith, ints, count, less)

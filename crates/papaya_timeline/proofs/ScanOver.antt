@@ -5,7 +5,7 @@ use Rattle.papaya_chain.specs.declared.resizer.State.TheVariants as stages
 use Rattle.papaya_law.specs.Code.{Coding}
 use Rattle.papaya_law.specs.Exchange.{Setting, State as Words, Exchange}
 use Rattle.papaya_chain.specs.declared.scanner.State.{State}
-use Rattle.papaya_chain.specs.declared.scanner.State.TheVariants.{Copying, AtRoot, Sizing, Looking, Giving, Showing, Deleting, Uncounting, Done, Refused}
+use Rattle.papaya_chain.specs.declared.scanner.State.TheVariants.{Copying, AtRoot, Sizing, Looking, Giving, Showing, Burying, Uncounting, Done, Refused}
 use Rattle.papaya_chain.specs.declared.scanner.Scan.{Scan}
 use Rattle.papaya_chain.specs.Scanner.{asks_in, reply_in}
 use Rattle.papaya_chain_law.specs.ScanTold.{LoadedPairs}
@@ -30,7 +30,7 @@ module _ {K P : Type 0} (g : Setting K P) (c : Coding K P) (s : Words P) (m : K 
   scan_asks (Looking spot) r going = refl
   scan_asks (Giving spot word) r going = refl
   scan_asks (Showing spot word) r going = refl
-  scan_asks (Deleting spot word) r going = refl
+  scan_asks (Burying spot word) r going = refl
   scan_asks (Uncounting spot) r going = refl
   scan_asks Done r going = absurd cc
   scan_asks (Refused refused) r going = absurd cc
@@ -44,6 +44,6 @@ module _ {K P : Type 0} (g : Setting K P) (c : Coding K P) (s : Words P) (m : K 
   scan_over (Looking spot) r over = absurd cc
   scan_over (Giving spot word) r over = absurd cc
   scan_over (Showing spot word) r over = absurd cc
-  scan_over (Deleting spot word) r over = absurd cc
+  scan_over (Burying spot word) r over = absurd cc
   scan_over (Uncounting spot) r over = absurd cc
   scan_over (Refused refused) r over = absurd cc

@@ -24,16 +24,16 @@ use Rattle.papaya_timeline.specs.Core.{IsCore}
 use Rattle.papaya_timeline.proofs.ResizerStands.{resizer_fits, resizer_stands}
 use Rattle.papaya_timeline.proofs.StoreLemmas.{AllSized, IsKeptAsked, numbered, performed_copy, unnumbered}
 use Rattle.papaya_chain.specs.declared.scan_ask.ScanAsk.{ScanAsk}
-use Rattle.papaya_chain.specs.declared.scan_ask.ScanAsk.TheVariants.{Copy, Show, Give, AddToShard}
+use Rattle.papaya_chain.specs.declared.scan_ask.ScanAsk.TheVariants.{Copy, Show, Given, AddToShard}
 use Rattle.papaya_chain.specs.declared.scanner.Spot.{Spot}
 use Rattle.papaya_chain.specs.declared.scanner.State.{State}
-use Rattle.papaya_chain.specs.declared.scanner.State.TheVariants.{Copying, AtRoot, Sizing, Looking, Giving, Showing, Deleting, Uncounting, Done, Refused}
+use Rattle.papaya_chain.specs.declared.scanner.State.TheVariants.{Copying, AtRoot, Sizing, Looking, Giving, Showing, Burying, Uncounting, Done, Refused}
 use Rattle.papaya_chain.specs.declared.scanner.Scan.{Scan}
 use Rattle.papaya_chain.specs.declared.scanner.Scan.TheVariants.{Clear, Retain, Walk}
 use Rattle.papaya_chain.specs.declared.scanner.Scanner.{Scanner}
 use Rattle.papaya_chain.specs.Scanner.{IsStandingIn, IsStandingScanner, IsStandingSpot, after}
 use Rattle.papaya_chain.specs.Scanner.{after_in, ask_of, asks_in, at_root, copied, copy_asks}
-use Rattle.papaya_chain.specs.Scanner.{deletes, found_by, looks, meets, next, resizer_of, scanned}
+use Rattle.papaya_chain.specs.Scanner.{buries, found_by, looks, meets, next, resizer_of, scanned}
 use Rattle.papaya_chain.specs.Scanner.{shown, told}
 use Rattle.papaya_store.specs.declared.scans.Scanning.{Scanning}
 use Rattle.papaya_store.specs.Scans.{PerformsScan}
@@ -72,8 +72,8 @@ told_stands scan (Sizing table) (Size slots limit) stands = looks_stands (record
 told_stands scan (Looking spot) (Word word) stands = meets_stands scan spot word (kind_of word) stands
 told_stands scan (Giving spot word) Ok stands = next_stands spot
 told_stands scan (Showing spot word) (Yes stays) stands = shown_stands spot word stays stands
-told_stands scan (Deleting spot word) Exchanged stands = stands
-told_stands scan (Deleting spot word) (Found other) stands = meets_stands scan spot other (kind_of other) stands
+told_stands scan (Burying spot word) Exchanged stands = stands
+told_stands scan (Burying spot word) (Found other) stands = meets_stands scan spot other (kind_of other) stands
 told_stands scan (Uncounting spot) Ok stands = next_stands spot
 told_stands scan state answer stands = stands
 
@@ -104,7 +104,7 @@ module _ (scanner : Scanner) (stands : IsStandingScanner scanner) (answer : Answ
   state_stands (Looking spot) h = scanned_stands scanner.scan (Looking spot) answer h
   state_stands (Giving spot word) h = scanned_stands scanner.scan (Giving spot word) answer h
   state_stands (Showing spot word) h = scanned_stands scanner.scan (Showing spot word) answer h
-  state_stands (Deleting spot word) h = scanned_stands scanner.scan (Deleting spot word) answer h
+  state_stands (Burying spot word) h = scanned_stands scanner.scan (Burying spot word) answer h
   state_stands (Uncounting spot) h = scanned_stands scanner.scan (Uncounting spot) answer h
   state_stands Done h = scanned_stands scanner.scan Done answer h
   state_stands (Refused refused) h = scanned_stands scanner.scan (Refused refused) answer h
@@ -126,7 +126,7 @@ module _ (scanner : Scanner) (stands : IsStandingScanner scanner) where
   fits_in AtRoot h ask e = let one : Load words_at.Root ≡ ask = cc e in subst IsFitCopyAsk one tt
   fits_in (Sizing table) h ask e = let one : SizeOf table ≡ ask = cc e in subst IsFitCopyAsk one tt
   fits_in (Looking spot) h ask e = let one : Load (words_at.Slot spot.table spot.slot) ≡ ask = cc e in subst IsFitCopyAsk one tt
-  fits_in (Deleting spot word) h ask e = let one : deletes spot word ≡ ask = cc e in subst IsFitCopyAsk one tt
+  fits_in (Burying spot word) h ask e = let one : buries spot word ≡ ask = cc e in subst IsFitCopyAsk one tt
   fits_in (Giving spot word) h ask e = absurd cc
   fits_in (Showing spot word) h ask e = absurd cc
   fits_in (Uncounting spot) h ask e = absurd cc
@@ -154,7 +154,7 @@ module _ {K V S A : Type 0} (eq : K → K → Bool) (says : Says K V A) (hash : 
       same_words (ap (λ (y : StoreState K V S). y.words) same)
       (⊎_elim (λ nothing. subst IsFit (sym (is ∙ ap answers.Call nothing.1)) tt)
       (λ (shown : _). let (x, p, stays, x', had, there, said, yes_so, left) = shown in subst IsFit (sym (is ∙ ap answers.Call yes_so)) tt) how)
-  kept_asked (Give n) asks ((told, is, how), same) =
+  kept_asked (Given n) asks ((told, is, how), same) =
       same_words (ap (λ (y : StoreState K V S). y.words) same)
       (⊎_elim (λ given. subst IsFit (sym (is ∙ ap answers.Call given.0)) tt) (λ lost. subst IsFit (sym (is ∙ ap answers.Call lost.0)) tt) how)
   kept_asked (AddToShard by) asks (is, counted, same) = same_words (ap (λ (y : StoreState K V S). y.words) counted.1) (subst IsFit (sym is) tt)

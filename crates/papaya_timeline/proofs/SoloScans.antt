@@ -26,7 +26,7 @@ use Rattle.papaya_timeline.specs.ScanGoes.{event_of_scan}
 use Rattle.papaya_timeline.proofs.SoloTimeline.{AreOfSteps, IsOfStep, alone_schedule, open_history, opened, single_answered}
 use Rattle.papaya_timeline.proofs.StepEvents.{copy_cases}
 use Rattle.papaya_chain.specs.declared.scan_ask.ScanAsk.{ScanAsk}
-use Rattle.papaya_chain.specs.declared.scan_ask.ScanAsk.TheVariants.{AddToShard, Copy, Give, Show}
+use Rattle.papaya_chain.specs.declared.scan_ask.ScanAsk.TheVariants.{AddToShard, Copy, Given, Show}
 
 -- what a scanner asks for the copy of all has the event of a copy's ask
 copied : (kind : Option StepKind) (ask : CopyAsk) (a : Answer) → event_of kind (asks.Copy ask) a ≡ event_of_scan kind (Copy ask) a
@@ -46,15 +46,15 @@ scan_of_step kind (Show n) (answers.Call (Size slots limit)) = tt
 scan_of_step kind (Show n) (answers.Call (Made number)) = tt
 scan_of_step kind (Show n) (answers.Call Ok) = tt
 scan_of_step kind (Show n) (answers.Call (Was_refused refused)) = tt
-scan_of_step kind (Give n) (answers.Call (Word word)) = tt
-scan_of_step kind (Give n) (answers.Call Exchanged) = tt
-scan_of_step kind (Give n) (answers.Call (Found_instead word)) = tt
-scan_of_step kind (Give n) (answers.Call (Yes stays)) = tt
-scan_of_step kind (Give n) (answers.Call (Op op)) = tt
-scan_of_step kind (Give n) (answers.Call (Size slots limit)) = tt
-scan_of_step kind (Give n) (answers.Call (Made number)) = tt
-scan_of_step kind (Give n) (answers.Call Ok) = tt
-scan_of_step kind (Give n) (answers.Call (Was_refused refused)) = tt
+scan_of_step kind (Given n) (answers.Call (Word word)) = tt
+scan_of_step kind (Given n) (answers.Call Exchanged) = tt
+scan_of_step kind (Given n) (answers.Call (Found_instead word)) = tt
+scan_of_step kind (Given n) (answers.Call (Yes stays)) = tt
+scan_of_step kind (Given n) (answers.Call (Op op)) = tt
+scan_of_step kind (Given n) (answers.Call (Size slots limit)) = tt
+scan_of_step kind (Given n) (answers.Call (Made number)) = tt
+scan_of_step kind (Given n) (answers.Call Ok) = tt
+scan_of_step kind (Given n) (answers.Call (Was_refused refused)) = tt
 scan_of_step kind (AddToShard by) (answers.Call answer) = tt
 scan_of_step kind ask (answers.Hash hash) = tt
 scan_of_step kind ask (answers.Count count) = tt

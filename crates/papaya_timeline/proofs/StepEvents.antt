@@ -63,7 +63,7 @@ abbrev pub IsCopyKind : Option StepKind → Type 0
 IsCopyKind (Some kinds.Open) = ⊥
 IsCopyKind (Some kinds.Claim) = ⊥
 IsCopyKind (Some kinds.Replace) = ⊥
-IsCopyKind (Some kinds.Delete) = ⊥
+IsCopyKind (Some kinds.Bury) = ⊥
 IsCopyKind (Some kinds.Take) = ⊥
 IsCopyKind _ = Unit {0}
 
@@ -115,7 +115,7 @@ moved_cases P other moved kind copies old new answer = by_answer answer
     by_kind (Some kinds.Open) copies = absurd copies
     by_kind (Some kinds.Claim) copies = absurd copies
     by_kind (Some kinds.Replace) copies = absurd copies
-    by_kind (Some kinds.Delete) copies = absurd copies
+    by_kind (Some kinds.Bury) copies = absurd copies
     by_kind (Some kinds.Take) copies = absurd copies
     by_kind (Some kinds.Link) copies = moved kinds.Link
     by_kind (Some kinds.Mark) copies = moved kinds.Mark

@@ -13,7 +13,7 @@ use Rattle.papaya_chain.specs.declared.ask.Answer.TheVariants as answers
 use Rattle.papaya_chain.specs.declared.resizer.State.{State as Stage}
 use Rattle.papaya_chain.specs.Resizer as resizers
 use Rattle.papaya_law.specs.Code.{Coding, IsHashed, code}
-use Rattle.papaya_law.specs.Exchange.{Live, Setting, State as Words, Exchange, Delete}
+use Rattle.papaya_law.specs.Exchange.{Live, Setting, State as Words, Exchange, Bury}
 use Rattle.papaya_law.proofs.Codes.{code_pair}
 use Rattle.papaya_store.specs.Store.{StoreState, Stored, pair_of}
 use Rattle.papaya_timeline.specs.declared.trace.Event.{Event}
@@ -26,12 +26,12 @@ use Rattle.papaya_timeline.proofs.GoodResized.{IsOne, IsQuiet, copied_one, none_
 use Rattle.papaya_timeline.proofs.StepEvents.{copy_cases, copy_moves, stage_moves}
 use Rattle.papaya_timeline.proofs.StoreLemmas.{matched}
 use Rattle.papaya_chain.specs.declared.scan_ask.ScanAsk.{ScanAsk}
-use Rattle.papaya_chain.specs.declared.scan_ask.ScanAsk.TheVariants.{Copy, Show, Give, AddToShard}
+use Rattle.papaya_chain.specs.declared.scan_ask.ScanAsk.TheVariants.{Copy, Show, Given, AddToShard}
 use Rattle.papaya_chain.specs.declared.scanner.Spot.{Spot}
 use Rattle.papaya_chain.specs.declared.scanner.State.{State}
-use Rattle.papaya_chain.specs.declared.scanner.State.TheVariants.{Copying, AtRoot, Sizing, Looking, Giving, Showing, Deleting, Uncounting, Done, Refused}
-use Rattle.papaya_chain.specs.Scanner.{asks_in, copy_asks, deletes, kind_in}
-use Rattle.papaya_chain_law.specs.ScanTold.{IsDeleted, IsFoundThere, IsScanTold, IsWordAnswer, LoadedPairs, last_of}
+use Rattle.papaya_chain.specs.declared.scanner.State.TheVariants.{Copying, AtRoot, Sizing, Looking, Giving, Showing, Burying, Uncounting, Done, Refused}
+use Rattle.papaya_chain.specs.Scanner.{asks_in, copy_asks, buries, kind_in}
+use Rattle.papaya_chain_law.specs.ScanTold.{IsBuried, IsFoundThere, IsScanTold, IsWordAnswer, LoadedPairs, last_of}
 use Rattle.papaya_store.specs.declared.scans.Scanning.{Scanning}
 use Rattle.papaya_store.specs.Scans.{PerformsScan}
 
@@ -82,19 +82,19 @@ module _ {K V : Type 0} (eq : K → K → Bool) (g : Setting K (Stored K V)) (c 
     pub handed : loaded' ≡ record loaded { shown = (pair, stays) ∷ loaded.shown }
 
   -- a pair is deleted
-  pub record IsDeletion : Type 0 where
+  pub record IsBurial : Type 0 where
     pub spot : Spot
     pub word : ℕ
-    pub deleting : state ≡ Deleting spot word
+    pub burying : state ≡ Burying spot word
     pub pair : Stored K V
     pub live : s.slot spot.table spot.slot ≡ Live pair
     pub stood : number_of word ≡ pair.number
-    pub event_is : event ≡ Changed kinds.Delete (Some pair.number) None
-    pub one : es ≡ Delete spot.table spot.slot pair ∷ []
+    pub event_is : event ≡ Changed kinds.Bury (Some pair.number) None
+    pub one : es ≡ Bury spot.table spot.slot pair ∷ []
     pub handed : loaded' ≡ loaded
 
   abbrev pub IsScanStep : Type 0
-  IsScanStep = IsStill ⊎ IsGift ⊎ IsShowing ⊎ IsDeletion
+  IsScanStep = IsStill ⊎ IsGift ⊎ IsShowing ⊎ IsBurial
 
 module _ {K V : Type 0} (eq : K → K → Bool) (g : Setting K (Stored K V)) (c : Coding K (Stored K V)) (hashed : IsHashed g c)
     (number_is : (p : Stored K V) → c.number p ≡ p.number) (s : Words (Stored K V)) (since : List (Exchange (Stored K V)))
@@ -149,7 +149,7 @@ module _ {K V : Type 0} (eq : K → K → Bool) (g : Setting K (Stored K V)) (c 
     spot = spot;
     word = word;
     giving = refl;
-    event_is = ap (λ a. event_of_scan None a answer) (sym (same_item (Give (number_of word)) ask e)) ∙ ap (event_of_scan None (Give (number_of word))) told.is;
+    event_is = ap (λ a. event_of_scan None a answer) (sym (same_item (Given (number_of word)) ask e)) ∙ ap (event_of_scan None (Given (number_of word))) told.is;
     pair = told.pair;
     last = told.last;
     none = told.none;
@@ -166,10 +166,10 @@ module _ {K V : Type 0} (eq : K → K → Bool) (g : Setting K (Stored K V)) (c 
     none = told.none;
     handed = told.handed;
   })))
-  scan_step (Deleting spot word) ask e told =
-      subst (Step (Deleting spot word)) (same_item (Copy (deletes spot word)) ask e)
-      (matched (Step (Deleting spot word) (Copy (deletes spot word))) (code g c (s.slot spot.table spot.slot) == word)
-      (IsDeleted g c s since spot loaded answer es loaded') (IsFoundThere g c s since spot loaded answer es loaded') told
+  scan_step (Burying spot word) ask e told =
+      subst (Step (Burying spot word)) (same_item (Copy (buries spot word)) ask e)
+      (matched (Step (Burying spot word) (Copy (buries spot word))) (code g c (s.slot spot.table spot.slot) == word)
+      (IsBuried g c s since spot loaded answer es loaded') (IsFoundThere g c s since spot loaded answer es loaded') told
       (λ hit t.
       let number : number_of word ≡ t.pair.number = ap number_of
       (sym (eqb-true (code g c (s.slot spot.table spot.slot)) word hit) ∙ ap (code g c) t.live)
@@ -177,16 +177,16 @@ module _ {K V : Type 0} (eq : K → K → Bool) (g : Setting K (Stored K V)) (c 
       inr (inr (inr (record {
         spot = spot;
         word = word;
-        deleting = refl;
+        burying = refl;
         pair = t.pair;
         live = t.live;
         stood = number;
-        event_is = ap (event_of_scan (Some kinds.Delete) (Copy (deletes spot word))) t.is ∙ ap (λ n. Changed kinds.Delete (Some n) None) number;
+        event_is = ap (event_of_scan (Some kinds.Bury) (Copy (buries spot word))) t.is ∙ ap (λ n. Changed kinds.Bury (Some n) None) number;
         one = t.one;
         handed = t.handed;
       }))))
       (λ miss t. inl (record {
-        quiet = subst IsQuiet (ap (event_of_scan (Some kinds.Delete) (Copy (deletes spot word))) (sym t.is)) tt;
+        quiet = subst IsQuiet (ap (event_of_scan (Some kinds.Bury) (Copy (buries spot word))) (sym t.is)) tt;
         one = none_one eq g c s loaded.copy answer es loaded.copy t.none;
         given = ap (λ (h : LoadedPairs (Stored K V)). h.given) t.handed;
         shown = ap (λ (h : LoadedPairs (Stored K V)). h.shown) t.handed;
@@ -233,10 +233,10 @@ module _ {K V S A : Type 0} (eq : K → K → Bool) (says : Says K V A) (hash : 
             (a, had, (p, ap (λ (y : StoreState K V S). pair_of y n) same ∙ there, subst (λ b. says.yes a p.key p.value stays b) one said));
         gave = λ asks. (a', ap (λ (y : Scanning A). y.answers) later);
       })
-  scan_answering (Give n) ((told, is, inl (ok, given)), same) =
-      subst (IsScanAnswering says s' v v') (ap (event_of_scan kind (Give n)) (sym (is ∙ ap answers.Call ok))) (unasked (Gave n) given.answers (λ a. refl) refl)
-  scan_answering (Give n) ((told, is, inr (refused, as_was, left, given)), same) =
-      subst (IsScanAnswering says s' v v') (ap (event_of_scan kind (Give n)) (sym (is ∙ ap answers.Call refused))) (unasked Other left (λ a. refl) refl)
+  scan_answering (Given n) ((told, is, inl (ok, given)), same) =
+      subst (IsScanAnswering says s' v v') (ap (event_of_scan kind (Given n)) (sym (is ∙ ap answers.Call ok))) (unasked (Gave n) given.answers (λ a. refl) refl)
+  scan_answering (Given n) ((told, is, inr (refused, as_was, left, given)), same) =
+      subst (IsScanAnswering says s' v v') (ap (event_of_scan kind (Given n)) (sym (is ∙ ap answers.Call refused))) (unasked Other left (λ a. refl) refl)
   scan_answering (AddToShard by) (is, counted, same) =
       subst (IsScanAnswering says s' v v') (ap (event_of_scan kind (AddToShard by)) (sym is))
       (unasked Other (ap (λ (y : Scanning A). y.answers) same) (λ a. refl) refl)

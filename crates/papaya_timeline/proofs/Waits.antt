@@ -14,7 +14,7 @@ use Rattle.papaya_call.specs.declared.machine.Machine.{Machine as Call_machine}
 use Rattle.papaya_call.specs.declared.machine.State.{State as Stage}
 use Rattle.papaya_call.specs.declared.machine.State.TheVariants.{AtRoot, Making, Opening, Searching}
 use Rattle.papaya_call.specs.declared.machine.State.TheVariants.{Writing, Offering, Showing}
-use Rattle.papaya_call.specs.declared.machine.State.TheVariants.{Pairing, Putting, Deleting}
+use Rattle.papaya_call.specs.declared.machine.State.TheVariants.{Pairing, Putting, Burying}
 use Rattle.papaya_call.specs.declared.machine.State.TheVariants.{Counting, Noting, Uncounting}
 use Rattle.papaya_call.specs.declared.machine.State.TheVariants.{Leaving, Growing, Ended}
 use Rattle.papaya_ask.specs.declared.call.Reply.{Reply}
@@ -53,7 +53,7 @@ waiting Holds pairing ended (Writing write) waits = absurd waits
 waiting Holds pairing ended (Offering gap) waits = absurd waits
 waiting Holds pairing ended (Showing removal) waits = absurd waits
 waiting Holds pairing ended (Putting put) waits = absurd waits
-waiting Holds pairing ended (Deleting removal) waits = absurd waits
+waiting Holds pairing ended (Burying removal) waits = absurd waits
 waiting Holds pairing ended (Counting claimed) waits = absurd waits
 waiting Holds pairing ended (Noting claimed) waits = absurd waits
 waiting Holds pairing ended (Uncounting n) waits = absurd waits

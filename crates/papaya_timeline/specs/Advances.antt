@@ -8,7 +8,7 @@ use Rattle.papaya_ask.specs.declared.ask.Ask.TheVariants.{AddToShard, Exchange, 
 use Rattle.papaya_ask.specs.declared.ask.Answer.{Answer as Call_answer}
 use Rattle.papaya_ask.specs.declared.ask.Answer.TheVariants.{Exchanged, Yes, Op}
 use Rattle.papaya_ask.specs.declared.ask.StepKind.{StepKind}
-use Rattle.papaya_ask.specs.declared.ask.StepKind.TheVariants.{Open, Claim, Replace, Delete, Link, Mark, Close, Place, Finish, Advance, Promote, Abort, Take}
+use Rattle.papaya_ask.specs.declared.ask.StepKind.TheVariants.{Open, Claim, Replace, Bury, Link, Mark, Close, Place, Finish, Advance, Promote, Abort, Take}
 use Rattle.papaya_ask.specs.declared.call.Reply.{Reply}
 use Rattle.papaya_ask.specs.declared.call.Reply.TheVariants.{Refused as Reply_refused}
 use Rattle.papaya_ask.specs.declared.copy_ask.CopyAsk.{CopyAsk}
@@ -35,7 +35,7 @@ use Rattle.papaya_store.specs.declared.scans.Scanning.{Scanning}
 abbrev pub exchange_event : StepKind → (old new : ℕ) → Event
 exchange_event Claim old new = Changed Claim None (Some (pair_of new))
 exchange_event Replace old new = Changed Replace (Some (pair_of old)) (Some (pair_of new))
-exchange_event Delete old new = Changed Delete (Some (pair_of old)) None
+exchange_event Bury old new = Changed Bury (Some (pair_of old)) None
 exchange_event Open old new = Moved Open
 exchange_event Link old new = Moved Link
 exchange_event Mark old new = Moved Mark

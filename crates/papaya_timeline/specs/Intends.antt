@@ -11,7 +11,7 @@ use Rattle.papaya_call.specs.declared.answers.Operation.TheVariants as ops
 use Rattle.papaya_call.specs.declared.made.Made.{Made}
 use Rattle.papaya_call.specs.declared.made.Of.{Of}
 use Rattle.papaya_chain.specs.declared.scanner.State.{State}
-use Rattle.papaya_chain.specs.declared.scanner.State.TheVariants.{Deleting}
+use Rattle.papaya_chain.specs.declared.scanner.State.TheVariants.{Burying}
 use Rattle.papaya_chain.specs.declared.scanner.Scan.TheVariants.{Retain}
 use Rattle.papaya_call_law.specs.Says.{Agrees, Inserts, Makes, Removes, StandsOn}
 use Rattle.papaya_store.specs.declared.pairs.Running.{Running}
@@ -27,7 +27,7 @@ use Rattle.papaya_timeline.specs.Given.{GivesIn}
 
 -- a scan is about to take out the pair of this number
 abbrev pub TakesOut : State → ℕ → Type 0
-TakesOut (Deleting spot word) n = pair_in word ≡ n
+TakesOut (Burying spot word) n = pair_in word ≡ n
 TakesOut _ n = ⊥
 
 -- an insertion made this pair, of its own key or of one that it met

@@ -5,7 +5,7 @@ use Rattle.papaya_ask.specs.declared.call.Reply.TheVariants.{Done}
 use Rattle.papaya_timeline.specs.declared.outcome.Outcome.{Outcome}
 use Rattle.papaya_timeline.specs.declared.outcome.Outcome.TheVariants.{Replied, Walked}
 use Rattle.papaya_chain.specs.declared.scan_ask.ScanAsk.{ScanAsk}
-use Rattle.papaya_chain.specs.declared.scan_ask.ScanAsk.TheVariants.{Give}
+use Rattle.papaya_chain.specs.declared.scan_ask.ScanAsk.TheVariants.{Given}
 use Rattle.papaya_chain.specs.declared.scanner.Scan.{Scan}
 use Rattle.papaya_chain.specs.declared.scanner.Scan.TheVariants.{Walk}
 use Rattle.papaya_chain.specs.Scanner.{ask_of}
@@ -23,7 +23,7 @@ as_reply (Some outcome) = Some (reply_told outcome)
 
 -- the pair that is to be given by this ask
 abbrev pub given_by : Option ScanAsk → List ℕ
-given_by (Some (Give n)) = n ∷ []
+given_by (Some (Given n)) = n ∷ []
 given_by _ = []
 
 -- what a scan has given, and what it gives by what it asks now

@@ -16,7 +16,7 @@ use Rattle.papaya_timeline.specs.Advances.{copy_event, goes_on, shown_event}
 use Rattle.papaya_timeline.specs.Callers.{scanning, with_work}
 use Rattle.papaya_timeline.specs.Core.{CoreState}
 use Rattle.papaya_chain.specs.declared.scan_ask.ScanAsk.{ScanAsk}
-use Rattle.papaya_chain.specs.declared.scan_ask.ScanAsk.TheVariants.{Copy, Show, Give, AddToShard}
+use Rattle.papaya_chain.specs.declared.scan_ask.ScanAsk.TheVariants.{Copy, Show, Given, AddToShard}
 use Rattle.papaya_chain.specs.Scanner.{after, ask_of, kind_of_ask, reply_of}
 use Rattle.papaya_chain_law.specs.ScanOutcomes.{IsScanCause}
 use Rattle.papaya_store.specs.declared.scans.Scanning.{Scanning}
@@ -24,7 +24,7 @@ use Rattle.papaya_store.specs.Scans.{PerformsScan}
 
 -- the list of a scan could not grow, for this cause: its machine is told nothing then
 abbrev pub unheard : ScanAsk → Answer → Option Refused
-unheard (Give n) (answers.Call (Was_refused refused)) = Some refused
+unheard (Given n) (answers.Call (Was_refused refused)) = Some refused
 unheard ask answer = None
 
 -- the call is refused so, or replies as its machine does
@@ -36,8 +36,8 @@ reply_or (Some refused) reply = Some (Reply_refused refused)
 abbrev pub scan_event : Option StepKind → ScanAsk → Call_answer → Event
 scan_event kind (Copy ask) answer = copy_event kind ask answer
 scan_event kind (Show n) answer = shown_event (Some n) answer
-scan_event kind (Give n) Ok = Gave n
-scan_event kind (Give n) _ = Other
+scan_event kind (Given n) Ok = Gave n
+scan_event kind (Given n) _ = Other
 scan_event kind (AddToShard by) answer = Other
 
 abbrev pub event_of_scan : Option StepKind → ScanAsk → Answer → Event

@@ -14,7 +14,7 @@ fn code_of(kind: Kind) -> u64 {
         Kind::Live => 1,
         Kind::Marked => 2,
         Kind::Copied => 3,
-        Kind::Tombstone => 4,
+        Kind::Buried => 4,
         Kind::Closed => 5,
     }
 }
@@ -30,7 +30,7 @@ fn table_of(at: At) -> u64 {
 /// Whether an exchange of this kind changes the map.
 fn changes_map(kind: StepKind) -> bool {
     match kind {
-        StepKind::Claim | StepKind::Replace | StepKind::Delete => true,
+        StepKind::Claim | StepKind::Replace | StepKind::Bury => true,
         StepKind::Open
         | StepKind::Link
         | StepKind::Mark
@@ -95,7 +95,7 @@ fn chain_makes(ask: chain::Ask) -> bool {
 /// The pair that a scan shows or gives.
 fn scanned(ask: ScanAsk) -> Option<u64> {
     match ask {
-        ScanAsk::Show(pair) | ScanAsk::Give(pair) => Some(pair),
+        ScanAsk::Show(pair) | ScanAsk::Given(pair) => Some(pair),
         ScanAsk::Copy(_) | ScanAsk::AddToShard(_) => None,
     }
 }

@@ -1,9 +1,9 @@
 -- What a word says is what it was made of, and what the steps of a slot keep.
 use Rattle.std.proofs.Common.{◌≡◌, ℕ, ◌%◌, ◌<◌, ◌≢◌, ap, subst, arith}
 use Rattle.std.proofs.lemmas.Grind.{common_steps}
-use Rattle.papaya_words.specs.Word.{kind_of, kind_of_code, pair_of, filled_word, live_word, marked_word, copied_word, tombstone_word, MayBecome, IsSlotStep}
+use Rattle.papaya_words.specs.Word.{kind_of, kind_of_code, pair_of, filled_word, live_word, marked_word, copied_word, buried_word, MayBecome, IsSlotStep}
 use Rattle.papaya_words.specs.declared.word.Kind.{Kind}
-use Rattle.papaya_words.specs.declared.word.Kind.TheVariants.{Empty, Live, Marked, Copied, Tombstone, Closed}
+use Rattle.papaya_words.specs.declared.word.Kind.TheVariants.{Empty, Live, Marked, Copied, Buried, Closed}
 
 -- the code of a filled word is the one that it was made with
 pub code-filled_word : (code pair : ℕ) → code < 8 → filled_word code pair % 1024 ≡ code
@@ -29,9 +29,9 @@ marked_word-parts w h = grind (arith, common_steps)
 pub copied_word-parts : (w : ℕ) → kind_of w ≡ Copied → w ≡ copied_word (pair_of w)
 copied_word-parts w h = grind (arith, common_steps)
 
--- a Tombstone is made of what it says
-pub tombstone_word-parts : (w : ℕ) → kind_of w ≡ Tombstone → w ≡ tombstone_word (pair_of w)
-tombstone_word-parts w h = grind (arith, common_steps)
+-- a Buried word is made of what it says
+pub buried_word-parts : (w : ℕ) → kind_of w ≡ Buried → w ≡ buried_word (pair_of w)
+buried_word-parts w h = grind (arith, common_steps)
 
 -- no kind of word may become Empty
 never_empty : (kind : Kind) (old new : ℕ) → MayBecome kind Empty old new → ⊥
@@ -39,7 +39,7 @@ never_empty Empty old new h = h
 never_empty Live old new h = h
 never_empty Marked old new h = h
 never_empty Copied old new h = h
-never_empty Tombstone old new h = h
+never_empty Buried old new h = h
 never_empty Closed old new h = h
 
 -- a step leads to no Empty word

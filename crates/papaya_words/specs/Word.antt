@@ -1,14 +1,14 @@
 -- What the words of slots say, and how they change.
 use Rattle.std.specs.Prelude.{◌≡◌, ℕ, ◌+◌, ◌*◌, ◌/◌, ◌%◌, ◌^◌, Bool, ◌==◌, ◌||◌, if◌then◌else◌}
 use Rattle.papaya_words.specs.declared.word.Kind.{Kind}
-use Rattle.papaya_words.specs.declared.word.Kind.TheVariants.{Empty, Live, Marked, Copied, Tombstone, Closed}
+use Rattle.papaya_words.specs.declared.word.Kind.TheVariants.{Empty, Live, Marked, Copied, Buried, Closed}
 
 -- the kind, from its code; 6 and 7 stand in no table
 abbrev pub kind_of_code : ℕ → Kind
 kind_of_code n =
     if n == 0 then Empty else if n == 1 then Live else if n == 2 then Marked else if n == 3
     then Copied
-    else if n == 4 then Tombstone else Closed
+    else if n == 4 then Buried else Closed
 
 -- the kind of a word, from bits 0 to 9, of which 3 to 9 are zero
 abbrev pub kind_of : ℕ → Kind
@@ -35,8 +35,8 @@ abbrev pub copied_word : ℕ → ℕ
 copied_word pair = filled_word 3 pair
 
 -- the word of a pair that was removed
-abbrev pub tombstone_word : ℕ → ℕ
-tombstone_word pair = filled_word 4 pair
+abbrev pub buried_word : ℕ → ℕ
+buried_word pair = filled_word 4 pair
 
 -- the top seven bits of a hash
 abbrev pub top_byte : ℕ → ℕ
@@ -69,7 +69,7 @@ MayBecome Live Live old new = Unit {0}
 -- mark
 MayBecome Live Marked old new = NamesSamePair old new
 -- delete
-MayBecome Live Tombstone old new = NamesSamePair old new
+MayBecome Live Buried old new = NamesSamePair old new
 -- finish
 MayBecome Marked Copied old new = NamesSamePair old new
 MayBecome _ _ _ _ = ⊥

@@ -1,9 +1,9 @@
 //! The words of slots: what stands in a slot of a table, and how it may change.
 ghost use Rattle.std.specs.Prelude.{◌≡◌, ℕ, ◌+◌, ◌*◌, ◌%◌, ◌^◌, ◌<◌, ◌≤◌, ◌↔◌, ◌≢◌, IsTrue};
 ghost use Rattle.papaya_words.specs.Word.{kind_of, kind_of_code, pair_of, filled_word};
-ghost use Rattle.papaya_words.specs.Word.{live_word, marked_word, copied_word, tombstone_word};
+ghost use Rattle.papaya_words.specs.Word.{live_word, marked_word, copied_word, buried_word};
 ghost use Rattle.papaya_words.specs.Word.{top_byte, hint_of, may_hold, IsSlotStep};
-ghost use Rattle.papaya_words.specs.declared.word.Kind.TheVariants.{Empty, Live, Marked, Copied, Tombstone, Closed};
+ghost use Rattle.papaya_words.specs.declared.word.Kind.TheVariants.{Empty, Live, Marked, Copied, Buried, Closed};
 
 /// What a slot word says. Its code in the word is its place in this list, from 0.
 #[derive(Clone, Copy, Debug, PartialEq, Eq)]
@@ -17,7 +17,7 @@ pub enum Kind {
     /// The pair was copied; it is looked for in the next table.
     Copied,
     /// The pair was removed, and its number stays: the field's tombstone.
-    Tombstone,
+    Buried,
     /// Was Empty, and was shut by a copier.
     Closed,
 }
@@ -62,9 +62,9 @@ impl Word {
 
     /// The word of a slot whose pair was removed.
     #[inline(always)]
-    pub fn tombstone(pair: u64) -> Word
+    pub fn buried(pair: u64) -> Word
         requires { pair < 2 ^ 54 }
-        ensures { result.0 ≡ tombstone_word pair }
+        ensures { result.0 ≡ buried_word pair }
     {
         Word(4 + 1024 * pair)
     }
@@ -80,7 +80,7 @@ impl Word {
             1 => Kind::Live,
             2 => Kind::Marked,
             3 => Kind::Copied,
-            4 => Kind::Tombstone,
+            4 => Kind::Buried,
             _ => Kind::Closed,
         }
     }
@@ -109,7 +109,7 @@ pub fn legal(old: Word, new: Word) -> bool
         (Kind::Empty, Kind::Closed) => old == Word::EMPTY && new == Word::CLOSED,
         (Kind::Live, Kind::Live) => true,
         (Kind::Live, Kind::Marked) => same_pair,
-        (Kind::Live, Kind::Tombstone) => same_pair,
+        (Kind::Live, Kind::Buried) => same_pair,
         (Kind::Marked, Kind::Copied) => same_pair,
         _ => false,
     }
@@ -125,7 +125,7 @@ pub fn words_read_back()
     ensures live { (w : ℕ) → kind_of w ≡ Live → w ≡ live_word (pair_of w) }
     ensures marked { (w : ℕ) → kind_of w ≡ Marked → w ≡ marked_word (pair_of w) }
     ensures copied { (w : ℕ) → kind_of w ≡ Copied → w ≡ copied_word (pair_of w) }
-    ensures tombstone { (w : ℕ) → kind_of w ≡ Tombstone → w ≡ tombstone_word (pair_of w) }
+    ensures buried { (w : ℕ) → kind_of w ≡ Buried → w ≡ buried_word (pair_of w) }
 {}
 
 /// The hash from which the places of a search are counted.

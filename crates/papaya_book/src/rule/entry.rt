@@ -67,7 +67,7 @@ pub enum Step<K, V> {
     Open(Laid),
     Claim(u64, u64, Stored<K, V>),
     Replace(u64, u64, Stored<K, V>, Stored<K, V>),
-    Delete(u64, u64, Stored<K, V>),
+    Bury(u64, u64, Stored<K, V>),
     Link(u64, Laid),
     Mark(u64, u64, Stored<K, V>),
     Close(u64, u64),

@@ -48,8 +48,8 @@ module _ {K V S H : Type 0} {d : keyed.Ghosts S K H} where
       × MatchBool (found == words.0) (answer ≡ Exchanged) (answer ≡ Found found)
 
   -- the pair of this slot was tried to be deleted
-  abbrev pub Deletes : (t x : ℕ) → (words : ℕ × ℕ) → Window K V S H d → Driver K V S H
+  abbrev pub Buries : (t x : ℕ) → (words : ℕ × ℕ) → Window K V S H d → Driver K V S H
       → Window K V S H d → Driver K V S H → Answer → Type 0
-  Deletes t x words w c w' c' answer = (found : ℕ) × (pair : Option (Stored K V))
+  Buries t x words w c w' c' answer = (found : ℕ) × (pair : Option (Stored K V))
       × TriesSlot w w' t x (kind_of_ask c.machine) words found pair
       × HasTried found words.0 pair None c c' answer

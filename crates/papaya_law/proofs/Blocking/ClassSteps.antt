@@ -139,8 +139,8 @@ module _ {P : Type 0} where
             }
 
         -- a deletion
-        pub delete_kept_blocking : (p : P) → IsTurn S V V' t x (Here p) (Grave p) → (m ≡ Some p) × IsBlockingClass On Was ab r n S V' None
-        delete_kept_blocking p turn =
+        pub bury_kept_blocking : (p : P) → IsTurn S V V' t x (Here p) (Grave p) → (m ≡ Some p) × IsBlockingClass On Was ab r n S V' None
+        bury_kept_blocking p turn =
             let old : V t at ≡ Here p = (turned S V V' t x (Here p) (Grave p) turn at is).0 in
             let old-r : V r at ≡ Here p = subst (λ y. V y at ≡ Here p) root old in
             let is-r : S r at ≡ x = subst (λ y. S y at ≡ x) root is in (

@@ -1,16 +1,16 @@
 -- Each kind of exchange of a slot keeps what is to be kept, with blocking.
 use Rattle.std.proofs.Common.{◌≡◌, inl, inr, ⊎_elim, ℕ, ◌<◌, Bool, true, false, cond, Option, None, Some, refl, sym, ap, ◌∙◌, subst}
 use Rattle.std.proofs.lemmas.Bool.{cases_Bool, cond-true, cond-false}
-use Rattle.papaya_law.specs.Exchange.{Word, Empty, Closed, Live, Marked, Tombstone, Setting, State, slot_put}
+use Rattle.papaya_law.specs.Exchange.{Word, Empty, Closed, Live, Marked, Buried, Setting, State, slot_put}
 use Rattle.papaya_law.specs.View.{View, Free, Foreign, Here, Leaving, Grave, view, look, own, foreign, beyond, IsNextPlace}
-use Rattle.papaya_law.specs.Allows.{MayClaim, MayReplace, MayDelete, MayMark, MayClose, MayPlace}
+use Rattle.papaya_law.specs.Allows.{MayClaim, MayReplace, MayBury, MayMark, MayClose, MayPlace}
 use Rattle.papaya_law.specs.Meaning.{IsLawful}
 use Rattle.papaya_law.specs.Class.{IsOn}
 use Rattle.papaya_law.specs.ClassBlocking.{AllAborted, IsBlockingClass}
 use Rattle.papaya_law.specs.Invariant.{named, IsPlaceOf, IsBlockingState}
 use Rattle.papaya_law.proofs.Blocking.ClassSteps.{fill_kept_blocking, claim_kept_blocking}
 use Rattle.papaya_law.proofs.Blocking.ClassSteps.{replace_kept_blocking, mark_kept_blocking}
-use Rattle.papaya_law.proofs.Blocking.ClassSteps.{delete_kept_blocking, place_kept_blocking}
+use Rattle.papaya_law.proofs.Blocking.ClassSteps.{bury_kept_blocking, place_kept_blocking}
 use Rattle.papaya_law.proofs.Blocking.ClassSteps.{same_kept_blocking}
 use Rattle.papaya_law.proofs.Slots.{same_right}
 use Rattle.papaya_law.proofs.Base.{own_place, place_same, place_of, kept_place, turn_own}
@@ -109,27 +109,27 @@ module _ {K P : Type 0} (g : Setting K P) (law : IsLawful g) (blocks : g.blockin
           subst (IsPlaceOf g t x) same (record { at = o.0; within = o.1; is = o.2 })
 
   -- a deletion
-  pub delete_blocking : (t x : ℕ) (p : P) → MayDelete g s t x p → (m (g.key p) ≡ Some p)
-      × IsBlockingState g (slot_put s t x (Tombstone p)) (λ k. cond (g.same k (g.key p)) None (m k))
-  delete_blocking t x p may = (
+  pub bury_blocking : (t x : ℕ) (p : P) → MayBury g s t x p → (m (g.key p) ≡ Some p)
+      × IsBlockingState g (slot_put s t x (Buried p)) (λ k. cond (g.same k (g.key p)) None (m k))
+  bury_blocking t x p may = (
     (of_class (g.key p) (law.itself (g.key p))).0,
-    slot_blocking g s m holds t x (Live p) (Tombstone p) may.live refl (inr was) (λ q e. cc) (holds.was t was).0
-        (kept_place g s holds.sound t x p (Live p) (Tombstone p) may.live refl refl) (λ e. absurd cc)
-        (λ k. mild_live g s t x p (Tombstone p) k may.live (λ e. ap own (sees k p (Grave p) true e)) (λ e. sees k p (Grave p) false e))
+    slot_blocking g s m holds t x (Live p) (Buried p) may.live refl (inr was) (λ q e. cc) (holds.was t was).0
+        (kept_place g s holds.sound t x p (Live p) (Buried p) may.live refl refl) (λ e. absurd cc)
+        (λ k. mild_live g s t x p (Buried p) k may.live (λ e. ap own (sees k p (Grave p) true e)) (λ e. sees k p (Grave p) false e))
         (λ k. cond (g.same k (g.key p)) None (m k))
-        (λ k. by_class (slot_put s t x (Tombstone p)) p k None (λ e. (of_class k e).1)
-        (λ e. other_kept t x (Live p) (Tombstone p) k may.live (sees k p (Here p) false e) (sees k p (Grave p) false e))),
+        (λ k. by_class (slot_put s t x (Buried p)) p k None (λ e. (of_class k e).1)
+        (λ e. other_kept t x (Live p) (Buried p) k may.live (sees k p (Here p) false e) (sees k p (Grave p) false e))),
   )
     where
       was : s.was_root t ≡ true
       was = reached_was g s blocks (g.key p) t may.reached
 
-      of_class : (k : K) → g.same k (g.key p) ≡ true → (m k ≡ Some p) × KeptRoot g (slot_put s t x (Tombstone p)) k None
+      of_class : (k : K) → g.same k (g.key p) ≡ true → (m k ≡ Some p) × KeptRoot g (slot_put s t x (Buried p)) k None
       of_class k e =
           let r = own_place g s holds.sound law k t x p e (ap named may.live) in
-          delete_kept_blocking (IsOn s.first s.next) s.was_root s.aborted s.root g.places (g.place k) (look g s k)
-          (look g (slot_put s t x (Tombstone p)) k) t x (m k) (holds.class k) (holds.was t was).0 (live_root t x p may.live was) r.0 r.1 r.2 p
-          (turn_own g s k t x (Live p) (Tombstone p) (Here p) (Grave p) may.live (sees k p (Here p) true e) (sees k p (Grave p) true e))
+          bury_kept_blocking (IsOn s.first s.next) s.was_root s.aborted s.root g.places (g.place k) (look g s k)
+          (look g (slot_put s t x (Buried p)) k) t x (m k) (holds.class k) (holds.was t was).0 (live_root t x p may.live was) r.0 r.1 r.2 p
+          (turn_own g s k t x (Live p) (Buried p) (Here p) (Grave p) may.live (sees k p (Here p) true e) (sees k p (Grave p) true e))
 
   -- a mark
   pub mark_blocking : (t x : ℕ) (p : P) → MayMark g s t x p → IsBlockingState g (slot_put s t x (Marked p)) m

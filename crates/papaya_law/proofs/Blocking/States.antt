@@ -1,7 +1,7 @@
 -- What every allowed exchange keeps with blocking, of all words and all keys.
 use Rattle.std.proofs.Common.{◌≡◌, ◌⊎◌, ⊎_elim, ℕ, ◌<◌, ◌≤◌, true, false, Option, Some, refl, sym, ap, ◌∙◌, subst, arith}
 use Rattle.std.proofs.lemmas.Bool.{cases_lt, cases_Bool, cond-true, cond-false}
-use Rattle.papaya_law.specs.Exchange.{Word, Empty, Closed, Live, Marked, Copied, Tombstone, Setting, State, slot_put, walk}
+use Rattle.papaya_law.specs.Exchange.{Word, Empty, Closed, Live, Marked, Copied, Buried, Setting, State, slot_put, walk}
 use Rattle.papaya_law.specs.View.{View, Free, Foreign, Here, view, look, own, foreign, IsFull, HasWord, IsReached}
 use Rattle.papaya_law.specs.Copying.{IsTaker, IsTarget, IsSettled}
 use Rattle.papaya_law.specs.Class.{IsOn}
@@ -75,7 +75,7 @@ module _ {K P : Type 0} (g : Setting K P) (s : State P) where
   settled_on t x w' mild u (Live p) h = h
   settled_on t x w' mild u (Marked p) h = (h.0, mild_has t x w' (g.key p) (mild (g.key p)) u h.1)
   settled_on t x w' mild u (Copied p) h = h
-  settled_on t x w' mild u (Tombstone p) h = h
+  settled_on t x w' mild u (Buried p) h = h
 
   -- a settled word is neither Empty nor Live
   pub settled_not_plain : (u : ℕ) (w : Word P) → IsSettled g s u w → plain w ≡ false
@@ -84,7 +84,7 @@ module _ {K P : Type 0} (g : Setting K P) (s : State P) where
   settled_not_plain u (Live p) h = absurd h
   settled_not_plain u (Marked p) h = refl
   settled_not_plain u (Copied p) h = refl
-  settled_not_plain u (Tombstone p) h = refl
+  settled_not_plain u (Buried p) h = refl
 
   module _ (m : K → Option P) (holds : IsBlockingState g s m) where
     -- where a word is Empty or Live in a table that was the root, that table is the root

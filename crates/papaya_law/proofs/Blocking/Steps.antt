@@ -1,6 +1,6 @@
 -- With blocking: each list of allowed exchanges keeps one map.
 use Rattle.std.proofs.Common.{◌≡◌, ◌⊎◌, ⊎_elim, ℕ, ◌<◌, true, Option, List, [], ◌∷◌, sym, subst}
-use Rattle.papaya_law.specs.Exchange.{Setting, State, Exchange, Open, Claim, Replace, Delete, Link}
+use Rattle.papaya_law.specs.Exchange.{Setting, State, Exchange, Open, Claim, Replace, Bury, Link}
 use Rattle.papaya_law.specs.Exchange.{Mark, Close, Place, Finish, Advance, Promote, Abort, Take}
 use Rattle.papaya_law.specs.Exchange.{after, run}
 use Rattle.papaya_law.specs.View.{Free, Here, Leaving, look, beyond, IsPassed}
@@ -11,7 +11,7 @@ use Rattle.papaya_law.specs.Invariant.{IsBlockingState}
 use Rattle.papaya_law.proofs.Class.{passed_not_held}
 use Rattle.papaya_law.proofs.Blocking.ClassSteps.{root_found, root_none, root_empty}
 use Rattle.papaya_law.proofs.Views.{held-active, active-own}
-use Rattle.papaya_law.proofs.Blocking.SlotSteps.{claim_blocking, replace_blocking, delete_blocking, mark_blocking, close_blocking, place_blocking}
+use Rattle.papaya_law.proofs.Blocking.SlotSteps.{claim_blocking, replace_blocking, bury_blocking, mark_blocking, close_blocking, place_blocking}
 use Rattle.papaya_law.proofs.Base.{take_sound}
 use Rattle.papaya_law.proofs.Blocking.TableSteps.{open_blocking, link_blocking, advance_blocking, promote_blocking, abort_blocking, none_own}
 
@@ -22,7 +22,7 @@ module _ {K P : Type 0} (g : Setting K P) (law : IsLawful g) (blocks : g.blockin
   step_blocking s m holds (Open t) may = (tt, open_blocking g s m holds t may.0 may.1)
   step_blocking s m holds (Claim t x p) may = claim_blocking g law blocks s m holds t x p may
   step_blocking s m holds (Replace t x p q) may = replace_blocking g law blocks s m holds t x p q may
-  step_blocking s m holds (Delete t x p) may = delete_blocking g law blocks s m holds t x p may
+  step_blocking s m holds (Bury t x p) may = bury_blocking g law blocks s m holds t x p may
   step_blocking s m holds (Link t n) may = (tt, link_blocking g s m holds blocks t n may)
   step_blocking s m holds (Mark t x p) may = (tt, mark_blocking g law blocks s m holds t x p may)
   step_blocking s m holds (Close t x) may = (tt, close_blocking g law blocks s m holds t x may)

@@ -116,8 +116,8 @@ module _ {P : Type 0} where
           kept_after On n S V V' t x (Here p) (Leaving p) turn m k safe m (subst (IsTied On n V') (sym it) own')
 
       -- a deletion
-      pub delete_kept : (p : P) → IsTurn S V V' t x (Here p) (Grave p) → (m ≡ Some p) × IsIncrementalClass On n S V' None
-      delete_kept p turn =
+      pub bury_kept : (p : P) → IsTurn S V V' t x (Here p) (Grave p) → (m ≡ Some p) × IsIncrementalClass On n S V' None
+      bury_kept p turn =
           let old : V t at ≡ Here p = (turned S V V' t x (Here p) (Grave p) turn at is).0 in
           let new : V' t at ≡ Grave p = (turned S V V' t x (Here p) (Grave p) turn at is).1 in
           let safe : IsSafe On n S V t x (Here p) (Grave p) = record {

@@ -1,13 +1,13 @@
 -- Each kind of exchange of a slot keeps what is to be kept, without blocking. Claim stands in `States`.
 use Rattle.std.proofs.Common.{◌≡◌, ◌⊎◌, inl, inr, ⊎_elim, ℕ, Bool, true, false, cond, Option, None, Some, refl, sym, ap, ◌∙◌, subst, arith}
 use Rattle.std.proofs.lemmas.Bool.{cases_Bool, cond-true, cond-false}
-use Rattle.papaya_law.specs.Exchange.{Word, Empty, Closed, Live, Marked, Copied, Tombstone, Setting, State, slot_put}
+use Rattle.papaya_law.specs.Exchange.{Word, Empty, Closed, Live, Marked, Copied, Buried, Setting, State, slot_put}
 use Rattle.papaya_law.specs.View.{View, Free, Foreign, Here, Leaving, Gone, Grave, view, look, foreign, IsReached, IsNextPlace, HasWord}
-use Rattle.papaya_law.specs.Allows.{MayReplace, MayDelete, MayMark, MayClose, MayPlace, MayFinish}
+use Rattle.papaya_law.specs.Allows.{MayReplace, MayBury, MayMark, MayClose, MayPlace, MayFinish}
 use Rattle.papaya_law.specs.Meaning.{IsLawful}
 use Rattle.papaya_law.specs.Class.{AllFull, IsGoneTo, IsIncrementalClass, IsOn}
 use Rattle.papaya_law.specs.Invariant.{named, shut, IsPlaceOf, IsIncrementalState}
-use Rattle.papaya_law.proofs.Incremental.ClassSteps.{fill_kept, replace_kept, mark_kept, delete_kept, place_kept, finish_kept}
+use Rattle.papaya_law.proofs.Incremental.ClassSteps.{fill_kept, replace_kept, mark_kept, bury_kept, place_kept, finish_kept}
 use Rattle.papaya_law.proofs.Slots.{look_same, same_right}
 use Rattle.papaya_law.proofs.Base.{own_place, place_same, place_of, kept_place, filled_on, turn_own}
 use Rattle.papaya_law.proofs.Incremental.States.{same_kept, reached_front, front_same, taker_full, slot_incremental}
@@ -76,24 +76,24 @@ module _ {K P : Type 0} (g : Setting K P) (law : IsLawful g) (inc : g.blocking �
           subst (IsPlaceOf g t x) same (record { at = o.0; within = o.1; is = o.2 })
 
   -- a deletion
-  pub delete_incremental : (t x : ℕ) (p : P) → MayDelete g s t x p → (m (g.key p) ≡ Some p)
-      × IsIncrementalState g (slot_put s t x (Tombstone p)) (λ k. cond (g.same k (g.key p)) None (m k))
-  delete_incremental t x p may = (
+  pub bury_incremental : (t x : ℕ) (p : P) → MayBury g s t x p → (m (g.key p) ≡ Some p)
+      × IsIncrementalState g (slot_put s t x (Buried p)) (λ k. cond (g.same k (g.key p)) None (m k))
+  bury_incremental t x p may = (
     (of_class (g.key p) (law.itself (g.key p))).0,
-    slot_incremental g law inc s m holds t x (Live p) (Tombstone p) may.live refl (reached_front g law inc s m holds (g.key p) t may.reached).0
-        (kept_place g s holds.sound t x p (Live p) (Tombstone p) may.live refl refl) (λ e. absurd cc)
+    slot_incremental g law inc s m holds t x (Live p) (Buried p) may.live refl (reached_front g law inc s m holds (g.key p) t may.reached).0
+        (kept_place g s holds.sound t x p (Live p) (Buried p) may.live refl refl) (λ e. absurd cc)
         (λ k. cond (g.same k (g.key p)) None (m k))
-        (λ k. by_class (slot_put s t x (Tombstone p)) p k None (λ e. (of_class k e).1)
-        (λ e. other_kept t x (Live p) (Tombstone p) k may.live (sees k p (Here p) false e) (sees k p (Grave p) false e))),
+        (λ k. by_class (slot_put s t x (Buried p)) p k None (λ e. (of_class k e).1)
+        (λ e. other_kept t x (Live p) (Buried p) k may.live (sees k p (Here p) false e) (sees k p (Grave p) false e))),
   )
     where
-      of_class : (k : K) → g.same k (g.key p) ≡ true → (m k ≡ Some p) × Kept g (slot_put s t x (Tombstone p)) k None
+      of_class : (k : K) → g.same k (g.key p) ≡ true → (m k ≡ Some p) × Kept g (slot_put s t x (Buried p)) k None
       of_class k e =
           let f = front_same g law inc s m holds k (g.key p) t e may.reached in
           let r = own_place g s holds.sound law k t x p e (ap named may.live) in
-          delete_kept (IsOn s.first s.next) g.places (g.place k) (look g s k) (look g (slot_put s t x (Tombstone p)) k) t x (m k) (holds.class k) f.0
+          bury_kept (IsOn s.first s.next) g.places (g.place k) (look g s k) (look g (slot_put s t x (Buried p)) k) t x (m k) (holds.class k) f.0
           f.1 r.0 r.1 r.2 p
-          (turn_own g s k t x (Live p) (Tombstone p) (Here p) (Grave p) may.live (sees k p (Here p) true e) (sees k p (Grave p) true e))
+          (turn_own g s k t x (Live p) (Buried p) (Here p) (Grave p) may.live (sees k p (Here p) true e) (sees k p (Grave p) true e))
 
   -- a table that was the root is reached for each key
   root_reached : (k : K) (t : ℕ) → s.was_root t ≡ true → IsReached g s k t

@@ -1,7 +1,7 @@
 -- What every allowed exchange keeps without blocking, of all words and all keys.
 use Rattle.std.proofs.Common.{◌≡◌, ◌⊎◌, inl, inr, ⊎_elim, ℕ, zero, suc, ◌<◌, ◌≤◌, true, false, cond, Option, None, Some, refl, sym, ap, ◌∙◌, subst, arith}
 use Rattle.std.proofs.lemmas.Bool.{cases_lt, cases_Bool, cond-true, cond-false}
-use Rattle.papaya_law.specs.Exchange.{Word, Empty, Closed, Live, Marked, Copied, Tombstone, Setting, State, slot_put, walk}
+use Rattle.papaya_law.specs.Exchange.{Word, Empty, Closed, Live, Marked, Copied, Buried, Setting, State, slot_put, walk}
 use Rattle.papaya_law.specs.View.{View, Free, Foreign, Here, Gone, Grave, view, look, beyond, IsPassed, IsFull, IsReached, IsNextPlace}
 use Rattle.papaya_law.specs.Copying.{IsTaker}
 use Rattle.papaya_law.specs.Allows.{MayClaim}
@@ -33,7 +33,7 @@ module _ {K P : Type 0} (g : Setting K P) (law : IsLawful g) (inc : g.blocking �
       at_word (Marked p) h = absurd cc
       at_word (Copied p) h = ⊎_elim (λ e. inl (p, cond-true (g.same k (g.key p)) (Gone p) Foreign e))
           (λ e. inr (ap beyond (cond-false (g.same k (g.key p)) (Gone p) Foreign e))) (cases_Bool (g.same k (g.key p)))
-      at_word (Tombstone p) h = ⊎_elim (λ e. inr (ap beyond (cond-true (g.same k (g.key p)) (Grave p) Foreign e)))
+      at_word (Buried p) h = ⊎_elim (λ e. inr (ap beyond (cond-true (g.same k (g.key p)) (Grave p) Foreign e)))
           (λ e. inr (ap beyond (cond-false (g.same k (g.key p)) (Grave p) Foreign e))) (cases_Bool (g.same k (g.key p)))
 
       cursor : (n : ℕ) → ((j : ℕ) → j < n → finished (s.slot t (g.place k t j)) ≡ true) → ((j : ℕ) × (p : P) × (j < n) × (look g s k t j ≡ Gone p))

@@ -1,6 +1,6 @@
 -- Without blocking: each list of allowed exchanges keeps one map.
 use Rattle.std.proofs.Common.{◌≡◌, ⊎_elim, ℕ, true, false, Option, None, List, [], ◌∷◌, arith}
-use Rattle.papaya_law.specs.Exchange.{Setting, State, Exchange, Open, Claim, Replace, Delete, Link}
+use Rattle.papaya_law.specs.Exchange.{Setting, State, Exchange, Open, Claim, Replace, Bury, Link}
 use Rattle.papaya_law.specs.Exchange.{Mark, Close, Place, Finish, Advance, Promote, Abort, Take}
 use Rattle.papaya_law.specs.Exchange.{after, run}
 use Rattle.papaya_law.specs.View.{look, held}
@@ -12,7 +12,7 @@ use Rattle.papaya_law.proofs.Class.{found_is, empty_is, over_is, none_is}
 use Rattle.papaya_law.proofs.Views.{held-active, active-own}
 use Rattle.papaya_law.proofs.Chain.{has_next}
 use Rattle.papaya_law.proofs.Incremental.States.{reached_front, claim_incremental}
-use Rattle.papaya_law.proofs.Incremental.SlotSteps.{replace_incremental, delete_incremental}
+use Rattle.papaya_law.proofs.Incremental.SlotSteps.{replace_incremental, bury_incremental}
 use Rattle.papaya_law.proofs.Incremental.SlotSteps.{mark_incremental, close_incremental}
 use Rattle.papaya_law.proofs.Incremental.SlotSteps.{place_incremental, finish_incremental}
 use Rattle.papaya_law.proofs.Incremental.TableSteps.{open_incremental, link_incremental, advance_incremental, promote_incremental}
@@ -26,7 +26,7 @@ module _ {K P : Type 0} (g : Setting K P) (law : IsLawful g) (inc : g.blocking �
   step_incremental s m holds (Open t) may = (tt, open_incremental g inc s m holds t may.0 may.1)
   step_incremental s m holds (Claim t x p) may = claim_incremental g law inc s m holds t x p may
   step_incremental s m holds (Replace t x p q) may = replace_incremental g law inc s m holds t x p q may
-  step_incremental s m holds (Delete t x p) may = delete_incremental g law inc s m holds t x p may
+  step_incremental s m holds (Bury t x p) may = bury_incremental g law inc s m holds t x p may
   step_incremental s m holds (Link t n) may = (tt, link_incremental g inc s m holds t n may)
   step_incremental s m holds (Mark t x p) may = (tt, mark_incremental g law inc s m holds t x p may)
   step_incremental s m holds (Close t x) may = (tt, close_incremental g law inc s m holds t x may)

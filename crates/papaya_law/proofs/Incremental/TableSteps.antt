@@ -1,7 +1,7 @@
 -- The exchanges of the root and of the words of a table keep what is to be kept, without blocking.
 use Rattle.std.proofs.Common.{◌≡◌, ⊎_elim, ℕ, suc, ◌<◌, ◌≤◌, true, false, ◌==◌, Option, None, refl, sym, ap, ◌∙◌, subst, arith, eqb-true}
 use Rattle.std.proofs.lemmas.Bool.{cases_order, cases_Bool, cond-true, cond-false}
-use Rattle.papaya_law.specs.Exchange.{Word, Empty, Closed, Live, Marked, Copied, Tombstone, Setting}
+use Rattle.papaya_law.specs.Exchange.{Word, Empty, Closed, Live, Marked, Copied, Buried, Setting}
 use Rattle.papaya_law.specs.Exchange.{State, Open, Link, Advance, Promote, start, after, at_put}
 use Rattle.papaya_law.specs.Exchange.{walk}
 use Rattle.papaya_law.specs.View.{look}
@@ -88,7 +88,7 @@ module _ {K P : Type 0} (g : Setting K P) (inc : g.blocking ≡ false) where
     settled_finished n (Live p) h = absurd h
     settled_finished n (Marked p) h = let b : g.blocking ≡ true = h.0 in absurd (cc (b, inc))
     settled_finished n (Copied p) h = refl
-    settled_finished n (Tombstone p) h = refl
+    settled_finished n (Buried p) h = refl
 
     -- a table with a finished word is on the chain
     finished_on : (t x : ℕ) → finished (s.slot t x) ≡ true → IsOn s.first s.next t

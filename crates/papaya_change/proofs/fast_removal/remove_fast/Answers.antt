@@ -37,8 +37,8 @@ returns-then-not-agrees-clause-removed g c =
     (g.Q.Hash.hash_input c.args.key.now) lawful (Judges g.F.FnMut) c.args.agrees.now h.0 log h.2.0 w.chunked c.fits.ensures hit.table met h.2.3 live
     c.agrees.new.self judged (hit.key, hit.value) (h.2.1, h.2.2))
 
-pub exchange_for_tombstone-requires-clause-place : goal.exchange_for_tombstone-requires-clause-place
-exchange_for_tombstone-requires-clause-place g c =
+pub bury_met-requires-clause-place : goal.bury_met-requires-clause-place
+bury_met-requires-clause-place g c =
     let lawful : IsQuery g.K.PartialEq.eq g.K.Hash.hash_input (g.Q.Equivalent.matches c.args.key.now)
     (g.Q.Hash.hash_input c.args.key.now) = record {
       feeds = g.met.Q.Equivalent.hashes_as_key c.args.key.now;
@@ -56,8 +56,8 @@ exchange_for_tombstone-requires-clause-place g c =
     g.met.K.Hash.respects_eq b w.begun.book (g.Q.Equivalent.matches c.args.key.now) (g.Q.Hash.hash_input c.args.key.now) lawful (Judges g.F.FnMut)
     c.args.agrees.now h.0 log h.2.0 w.chunked c.fits.ensures hit.table met h.2.3 live c.agrees.new.self judged).1
 
-pub exchange_for_tombstone-requires-clause-can : goal.exchange_for_tombstone-requires-clause-can
-exchange_for_tombstone-requires-clause-can g c =
+pub bury_met-requires-clause-can : goal.bury_met-requires-clause-can
+bury_met-requires-clause-can g c =
     let lawful : IsQuery g.K.PartialEq.eq g.K.Hash.hash_input (g.Q.Equivalent.matches c.args.key.now)
     (g.Q.Hash.hash_input c.args.key.now) = record {
       feeds = g.met.Q.Equivalent.hashes_as_key c.args.key.now;
@@ -75,8 +75,8 @@ exchange_for_tombstone-requires-clause-can g c =
     g.met.K.Eq.laws g.met.K.Hash.respects_eq b w.begun.book (g.Q.Equivalent.matches c.args.key.now) (g.Q.Hash.hash_input c.args.key.now) lawful
     (Judges g.F.FnMut) c.args.agrees.now h.0 log h.2.0 w.chunked c.fits.ensures hit.table met h.2.3 live c.agrees.new.self judged)
 
-pub returns-then-not-exchange_for_tombstone-clause-removed : goal.returns-then-not-exchange_for_tombstone-clause-removed
-returns-then-not-exchange_for_tombstone-clause-removed g c =
+pub returns-then-not-bury_met-clause-removed : goal.returns-then-not-bury_met-clause-removed
+returns-then-not-bury_met-clause-removed g c =
     let lawful : IsQuery g.K.PartialEq.eq g.K.Hash.hash_input (g.Q.Equivalent.matches c.args.key.now)
     (g.Q.Hash.hash_input c.args.key.now) = record {
       feeds = g.met.Q.Equivalent.hashes_as_key c.args.key.now;
@@ -90,9 +90,9 @@ returns-then-not-exchange_for_tombstone-clause-removed g c =
     let judged : Judges g.F.FnMut c.args.agrees.now met.stored true
     c.agrees.new.self = subst (λ (z : Bool). Judges g.F.FnMut c.args.agrees.now met.stored z c.agrees.new.self) said
     (hit.key, hit.value, (h.2.1, h.2.2), c.agrees.ensures) in
-    let log' = c.exchange_for_tombstone.new.window.sight.log in
+    let log' = c.bury_met.new.window.sight.log in
     let was = held_wider g.K.PartialEq.eq (g.Q.Equivalent.matches c.args.key.now) (history_of h.0) (history_of h.0) (history_of log) (history_of log')
-    ([], append-nil (history_of h.0)) (history_since log log' c.exchange_for_tombstone.ensures.sees.log) (Some met.stored)
+    ([], append-nil (history_of h.0)) (history_since log log' c.bury_met.ensures.sees.log) (Some met.stored)
     (hit_was g.K.PartialEq.eq g.K.Hash.hash_input g.S.BuildHasher.build_hasher g.S.Hasher.Hasher.write g.S.Hasher.Hasher.finish g.met.K.Eq.laws
     g.met.K.Hash.respects_eq b w.begun.book (g.Q.Equivalent.matches c.args.key.now) (g.Q.Hash.hash_input c.args.key.now) lawful (Judges g.F.FnMut)
     c.args.agrees.now h.0 log h.2.0 w.chunked c.fits.ensures hit.table met h.2.3 live c.agrees.new.self judged) in
@@ -114,7 +114,7 @@ returns-clause-removed g c =
     let judged : Judges g.F.FnMut c.args.agrees.now met.stored true
     c.agrees.new.self = subst (λ (z : Bool). Judges g.F.FnMut c.args.agrees.now met.stored z c.agrees.new.self) said
     (hit.key, hit.value, (h.2.1, h.2.2), c.agrees.ensures) in
-    let put = c.exchange_for_tombstone in let t = put.ensures.tried in
+    let put = c.bury_met in let t = put.ensures.tried in
     let went : put.result ≡ true = search rules in
     let is : (t.found == met.word) ≡ true = sym t.went_is ∙ went in
     let same = t.same went in
@@ -140,7 +140,7 @@ returns-in_default-clause-removed g c =
 
 pub returns-clause-ends : goal.returns-clause-ends
 returns-clause-ends g c = record {
-  sees = sees_trans _ _ _ c.find.ensures.sees c.exchange_for_tombstone.ensures.sees;
+  sees = sees_trans _ _ _ c.find.ensures.sees c.bury_met.ensures.sees;
   lawful = search rules;
   made =
       let lawful : IsQuery g.K.PartialEq.eq g.K.Hash.hash_input (g.Q.Equivalent.matches c.args.key.now)
@@ -156,7 +156,7 @@ returns-clause-ends g c = record {
       let judged : Judges g.F.FnMut c.args.agrees.now met.stored true
       c.agrees.new.self = subst (λ (z : Bool). Judges g.F.FnMut c.args.agrees.now met.stored z c.agrees.new.self) said
       (hit.key, hit.value, (h.2.1, h.2.2), c.agrees.ensures) in
-      let put = c.exchange_for_tombstone in let t = put.ensures.tried in
+      let put = c.bury_met in let t = put.ensures.tried in
       let went : put.result ≡ true = search rules in
       let is : (t.found == met.word) ≡ true = sym t.went_is ∙ went in
       let does = subst (λ (z : Bool). Does z c.find.new.window put.new.window) went put.ensures.does in

@@ -219,8 +219,8 @@ returns-in-Insert g c =
       };
     }
 
-pub delete-requires : goal.delete-requires
-delete-requires g c =
+pub bury-requires : goal.bury-requires
+bury-requires g c =
     let w = c.args.window.now in let log = w.sight.log in let key = c.args.key in let b = begun_of w.book.now.parts in
     let name = w.book.now.begun.book in let met = c.args.live in let p = met.stored in
     let write = Writing (record { place = met.place; old = met.word }) in let show = Showing (record { place = met.place; word = met.word }) in
@@ -228,14 +228,14 @@ delete-requires g c =
     let led = c.requires.led in
     rw c.met-in-Remove.ensures (record { shows = (key, led.0, led.1.found Computes show refl) })
 
-pub returns-then-not-delete : goal.returns-then-not-delete
-returns-then-not-delete g c =
+pub returns-then-not-bury : goal.returns-then-not-bury
+returns-then-not-bury g c =
     let w = c.args.window.now in let log = w.sight.log in let key = c.args.key in let b = begun_of w.book.now.parts in
     let name = w.book.now.begun.book in let met = c.args.live in let p = met.stored in
     let write = Writing (record { place = met.place; old = met.word }) in let show = Showing (record { place = met.place; word = met.word }) in
     let table = c.args.table.now in
-    let tried = c.delete.ensures.ends in let then = c.delete.new.window in
-    let not : c.delete.result ≡ false = search rules in
+    let tried = c.bury.ensures.ends in let then = c.bury.new.window in
+    let not : c.bury.result ≡ false = search rules in
     record {
       does = record {
         sees = tried.sees;
@@ -243,7 +243,7 @@ returns-then-not-delete g c =
         made = tt;
         refused = λ cause e. absurd (cc e);
         right = tt;
-        idle = subst (λ (z : Bool). Does z w then) not c.delete.ensures.does;
+        idle = subst (λ (z : Bool). Does z w then) not c.bury.ensures.does;
         starts = λ begun found.
             let there = found Computes show refl in
             let was = pair_found g.K.PartialEq.eq g.K.Hash.hash_input g.S.BuildHasher.build_hasher g.S.Hasher.Hasher.write g.S.Hasher.Hasher.finish
@@ -274,8 +274,8 @@ returns-in-Remove g c =
     let name = w.book.now.begun.book in let met = c.args.live in let p = met.stored in
     let write = Writing (record { place = met.place; old = met.word }) in let show = Showing (record { place = met.place; word = met.word }) in
     let table = c.args.table.now in
-    let tried = c.delete.ensures.ends in let then = c.delete.new.window in
-    let did : c.delete.result ≡ true = search rules in
+    let tried = c.bury.ensures.ends in let then = c.bury.new.window in
+    let did : c.bury.result ≡ true = search rules in
     record {
       does = record {
         sees = tried.sees;
@@ -288,7 +288,7 @@ returns-in-Remove g c =
             g.met.K.Eq.laws g.met.K.Hash.respects_eq b name key begun log table met.place met.word p there in
             let later = held_wider g.K.PartialEq.eq (g.K.PartialEq.eq key) (history_of begun) (history_of begun)
             (history_of log) (history_of then.sight.log) ([], append-nil (history_of begun)) (history_since log then.sight.log tried.sees.log) (Some p) was in
-            let t = subst (λ (z : Met _ _). TakesOut w then key table z) c.met-in-Remove.ensures (c.delete.ensures.went did key) begun there in
+            let t = subst (λ (z : Met _ _). TakesOut w then key table z) c.met-in-Remove.ensures (c.bury.ensures.went did key) begun there in
             removed g.K.PartialEq.eq key _ _ (Some p) later c.args.operation p t.0 refl c.in-Remove.is t.1 t.2 c.args.old.0 c.args.old.1 c.requires.shown;
         idle = tt;
         starts = tt;

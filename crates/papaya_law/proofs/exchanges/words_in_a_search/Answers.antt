@@ -1,11 +1,11 @@
 use Rattle.papaya_law.proofs.exchanges.words_in_a_search.Goals as goal
-use Rattle.papaya_law.proofs.CodeViews.{other_key, past_closed, past_tombstone, word_of_kind}
+use Rattle.papaya_law.proofs.CodeViews.{other_key, past_closed, past_buried, word_of_kind}
 
 pub returns-clause-kind : goal.returns-clause-kind
 returns-clause-kind g c = λ h d w. word_of_kind h d w
 
-pub returns-clause-past_tombstone : goal.returns-clause-past_tombstone
-returns-clause-past_tombstone g c = λ h d k w e. past_tombstone h d k w e
+pub returns-clause-past_buried : goal.returns-clause-past_buried
+returns-clause-past_buried g c = λ h d k w e. past_buried h d k w e
 
 pub returns-clause-past_closed : goal.returns-clause-past_closed
 returns-clause-past_closed g c = λ h d k w e. past_closed h d k w e

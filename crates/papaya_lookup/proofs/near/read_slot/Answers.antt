@@ -63,8 +63,8 @@ returns-in-Empty-clause-near g c = λ began hash table reading.
     c.requires.within table reading
     s.new.window.sight.log s.ensures.sees.log s.result.0 s.result.1.state s.ensures.slot (sym c.kind.ensures ∙ c.in-Empty.is))
 
-pub returns-in-Tombstone-clause-near : goal.returns-in-Tombstone-clause-near
-returns-in-Tombstone-clause-near g c = λ began hash table reading.
+pub returns-in-Buried-clause-near : goal.returns-in-Buried-clause-near
+returns-in-Buried-clause-near g c = λ began hash table reading.
     let lawful : IsQuery g.K.PartialEq.eq g.K.Hash.hash_input (g.Q.Equivalent.matches c.args.key.now) (g.Q.Hash.hash_input c.args.key.now) =
     record { feeds = g.met.Q.Equivalent.hashes_as_key c.args.key.now; class = λ k l. g.met.Q.Equivalent.matches_equal_keys c.args.key.now k l } in
     let w = c.args.window.now.book.now in

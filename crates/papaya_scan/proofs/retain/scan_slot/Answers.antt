@@ -15,7 +15,7 @@ use Rattle.papaya_lookup.specs.History.{history_of}
 use Rattle.papaya_change.specs.Showings.{Judges}
 use Rattle.papaya_scan.specs.Meeting.{HadPair, has_pair}
 use Rattle.papaya_scan.proofs.TableScans.{scans_none, scans_on, scans_stopped, table_on, taken_on}
-use Rattle.papaya_scan.proofs.Scanning.{deletion_done, other_word, same_word, so_kept, so_past, so_shown, so_tombstone, some_same}
+use Rattle.papaya_scan.proofs.Scanning.{burial_done, other_word, same_word, so_kept, so_past, so_shown, so_buried, some_same}
 use Rattle.papaya_scan.proofs.retain.scan_slot.Goals as goal
 
 pub loop-init : goal.loop-init
@@ -55,19 +55,19 @@ returns-then-show-clause-scans g c = λ began taken.
     (own c.loop.window) c.loop.stays c.args.place c.loop.word c.loop.pair c.loop.invariant.stands (c.loop.invariant.scans began taken) live c.in-Some-pair.stored
     c.in-Some-pair.is had c.show.new.stays (false ≡ false) (subst (λ (b : Bool). Judges g.F.FnMut c.loop.stays c.in-Some-pair.stored b c.show.new.stays) c.if-show.true c.show.ensures.shown)
 
-pub delete-found-requires-clause-table : goal.delete-found-requires-clause-table
-delete-found-requires-clause-table g c = table_on c.args.window.now c.loop.window c.args.number c.args.table.now c.loop.invariant.sees c.requires.table
+pub bury-found-requires-clause-table : goal.bury-found-requires-clause-table
+bury-found-requires-clause-table g c = table_on c.args.window.now c.loop.window c.args.number c.args.table.now c.loop.invariant.sees c.requires.table
 
-pub delete-found-requires-clause-stood : goal.delete-found-requires-clause-stood
-delete-found-requires-clause-stood g c =
+pub bury-found-requires-clause-stood : goal.bury-found-requires-clause-stood
+bury-found-requires-clause-stood g c =
     let hash = hash_of g.K.Hash.hash_input g.S.BuildHasher.build_hasher g.S.Hasher.Hasher.write g.S.Hasher.Hasher.finish in
     let stands = subst (λ (z : Bor (Book _ _ _ _)). IsSlot g.K.PartialEq.eq hash (begun_of z.now.parts) z.now.begun.book c.args.number c.args.place
     c.loop.word c.loop.window.sight.log c.loop.pair) (sym c.loop.invariant.sees.book) c.loop.invariant.stands in
     subst (λ (o : Option (Stored _ _)). IsSlot g.K.PartialEq.eq hash (begun_of c.loop.window.book.now.parts) c.loop.window.book.now.begun.book
     c.args.number c.args.place c.loop.word c.loop.window.sight.log o) c.in-Some-pair.is stands
 
-pub delete-found-requires-clause-taken : goal.delete-found-requires-clause-taken
-delete-found-requires-clause-taken g c = (
+pub bury-found-requires-clause-taken : goal.bury-found-requires-clause-taken
+bury-found-requires-clause-taken g c = (
   c.requires.taken.0,
   taken_on c.requires.taken.0 c.args.window.now c.loop.window c.args.number c.loop.invariant.sees c.requires.taken.1,
 )
@@ -75,38 +75,38 @@ delete-found-requires-clause-taken g c = (
 pub returns-then-found-word-clause-scans : goal.returns-then-found-word-clause-scans
 returns-then-found-word-clause-scans g c = λ began taken.
     let hash = hash_of g.K.Hash.hash_input g.S.BuildHasher.build_hasher g.S.Hasher.Hasher.write g.S.Hasher.Hasher.finish in
-    let then' = c.delete-found.new.window in
+    let then' = c.bury-found.new.window in
     let live : kind_of c.loop.word ≡ kinds.Live = sym c.kind.ensures ∙ c.in-Live.is in
     let met = (c.loop.invariant.met began taken).had (ap has_pair live) in
     let same = some_same met.0 c.in-Some-pair.stored (sym met.1 ∙ c.in-Some-pair.is) in
     let had = subst (λ (p : Stored _ _). HadPair g.K.PartialEq.eq (history_of began) (history_of c.loop.window.sight.log) p) same met.2 in
-    let stood = same_word c.delete-found.result.0 c.loop.word c.if-found-word.true in
+    let stood = same_word c.bury-found.result.0 c.loop.word c.if-found-word.true in
     let lawful = subst (λ (z : Bor (Book _ _ _ _)). IsLawfulLog g.K.PartialEq.eq hash (begun_of z.now.parts) then'.sight.log)
-    (c.delete-found.ensures.sees.book ∙ c.loop.invariant.sees.book) c.delete-found.ensures.lawful in
-    let does = subst (λ (b : Bool). then'.own.done ≡ c.loop.window.own.done ++ last_if b (steps_of then'.sight.log)) stood c.delete-found.ensures.does in
-    so_tombstone g.K.PartialEq.eq g.K.Hash.hash_input g.S.BuildHasher.build_hasher g.S.Hasher.Hasher.write g.S.Hasher.Hasher.finish g.met.K.Eq.laws
+    (c.bury-found.ensures.sees.book ∙ c.loop.invariant.sees.book) c.bury-found.ensures.lawful in
+    let does = subst (λ (b : Bool). then'.own.done ≡ c.loop.window.own.done ++ last_if b (steps_of then'.sight.log)) stood c.bury-found.ensures.does in
+    so_buried g.K.PartialEq.eq g.K.Hash.hash_input g.S.BuildHasher.build_hasher g.S.Hasher.Hasher.write g.S.Hasher.Hasher.finish g.met.K.Eq.laws
     g.met.K.Hash.respects_eq (begun_of c.args.window.now.book.now.parts) (Judges g.F.FnMut) began c.args.window.now.sight.log
     (own c.args.window.now) c.args.stays.now c.args.number c.args.window.now.book.now.begun.book c.loop.window.sight.log c.loop.invariant.sees.log
     (own c.loop.window) c.loop.stays c.args.place c.loop.word c.loop.pair c.loop.invariant.stands (c.loop.invariant.scans began taken) live c.in-Some-pair.stored
     c.in-Some-pair.is had c.show.new.stays (false ≡ false) (subst (λ (b : Bool). Judges g.F.FnMut c.loop.stays c.in-Some-pair.stored b c.show.new.stays) c.if-show.false c.show.ensures.shown)
-    then'.sight.log c.delete-found.ensures.sees.log lawful
-    (c.delete-found.ensures.tombstone stood) (own then')
-    (λ r. deletion_done then'.sight.log c.args.number c.args.place c.in-Some-pair.stored r c.loop.window.own.done then'.own.done does)
+    then'.sight.log c.bury-found.ensures.sees.log lawful
+    (c.bury-found.ensures.buried stood) (own then')
+    (λ r. burial_done then'.sight.log c.args.number c.args.place c.in-Some-pair.stored r c.loop.window.own.done then'.own.done does)
 
 pub loop-preserved : goal.loop-preserved
 loop-preserved g c =
     let hash = hash_of g.K.Hash.hash_input g.S.BuildHasher.build_hasher g.S.Hasher.Hasher.write g.S.Hasher.Hasher.finish in
-    let then' = c.delete-found.new.window in
+    let then' = c.bury-found.new.window in
     let live : kind_of c.loop.word ≡ kinds.Live = sym c.kind.ensures ∙ c.in-Live.is in
-    let lost = other_word c.delete-found.result.0 c.loop.word c.if-found-word.false in
-    let does = subst (λ (b : Bool). then'.own.done ≡ c.loop.window.own.done ++ last_if b (steps_of then'.sight.log)) lost c.delete-found.ensures.does
+    let lost = other_word c.bury-found.result.0 c.loop.word c.if-found-word.false in
+    let does = subst (λ (b : Bool). then'.own.done ≡ c.loop.window.own.done ++ last_if b (steps_of then'.sight.log)) lost c.bury-found.ensures.does
     in record {
-      sees = sees_trans c.args.window.now c.loop.window then' c.loop.invariant.sees c.delete-found.ensures.sees;
+      sees = sees_trans c.args.window.now c.loop.window then' c.loop.invariant.sees c.bury-found.ensures.sees;
       callable = c.show.ensures.callable;
       stands = subst (λ (z : Bor (Book _ _ _ _)).
-          IsSlot g.K.PartialEq.eq hash (begun_of z.now.parts) z.now.begun.book c.args.number c.args.place c.delete-found.result.0 then'.sight.log
-          c.delete-found.result.1) c.loop.invariant.sees.book (c.delete-found.ensures.found lost);
-      met = λ began taken. c.delete-found.ensures.met began (taken_on began c.args.window.now c.loop.window c.args.number c.loop.invariant.sees taken);
+          IsSlot g.K.PartialEq.eq hash (begun_of z.now.parts) z.now.begun.book c.args.number c.args.place c.bury-found.result.0 then'.sight.log
+          c.bury-found.result.1) c.loop.invariant.sees.book (c.bury-found.ensures.found lost);
+      met = λ began taken. c.bury-found.ensures.met began (taken_on began c.args.window.now c.loop.window c.args.number c.loop.invariant.sees taken);
       scans = λ began taken.
           let met = (c.loop.invariant.met began taken).had (ap has_pair live) in
           let same = some_same met.0 c.in-Some-pair.stored (sym met.1 ∙ c.in-Some-pair.is) in
@@ -119,5 +119,5 @@ loop-preserved g c =
           c.loop.invariant.sees.log (own c.loop.window) c.loop.stays c.args.place c.loop.word c.loop.pair c.loop.invariant.stands
           (c.loop.invariant.scans began taken) live c.in-Some-pair.stored c.in-Some-pair.is had c.show.new.stays
           (subst (λ (b : Bool). Judges g.F.FnMut c.loop.stays c.in-Some-pair.stored b c.show.new.stays) c.if-show.false c.show.ensures.shown))
-          c.delete-found.ensures.sees (does ∙ append-nil c.loop.window.own.done);
+          c.bury-found.ensures.sees (does ∙ append-nil c.loop.window.own.done);
     }

@@ -52,6 +52,6 @@ returns-in-Copied-clause-settles g c =
     λ kind is. looks_at g.K.PartialEq.eq (hash g) c.args.mode c.args.slot s c.word-word.result kind (sym c.word-word.ensures) (sym c.kind.ensures ∙ is) in
     elim c.in-Copied.is [
       | inl is ↦ settled kinds.Copied is
-      | inr (inl is) ↦ settled kinds.Tombstone is
+      | inr (inl is) ↦ settled kinds.Buried is
       | inr (inr is) ↦ settled kinds.Closed is
     ]

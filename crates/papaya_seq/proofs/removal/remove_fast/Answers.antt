@@ -5,7 +5,7 @@ use Rattle.papaya_store.specs.Store.{pair_of}
 use Rattle.papaya_seq.specs.Searches.{IsRootTurn}
 use Rattle.papaya_seq.specs.declared.search.Turn.{Turn}
 use Rattle.papaya_seq.specs.declared.search.Turn.TheVariants as turns
-use Rattle.papaya_seq.proofs.Deleting.{found_it, found_none}
+use Rattle.papaya_seq.proofs.Burying.{found_it, found_none}
 use Rattle.papaya_seq.proofs.TableSearch.{some_matched}
 use Rattle.papaya_seq.proofs.removal.remove_fast.Goals as goal
 use Rattle.papaya_seq.proofs.removal.remove_fast.Goals.{In-Some-Here}
@@ -17,12 +17,12 @@ here : (g : Over) (c : In-Some-Here g) → IsRootTurn (g.Q.Equivalent.matches c.
 here g c = subst (λ (t : Turn). IsRootTurn (g.Q.Equivalent.matches c.args.key.now) c.args.store.now c.args.hash t) (search rules)
     (c.search_root.ensures c.in-Some-Here.field-0 c.in-Some-Here.is)
 
-pub delete-requires-clause-stands : goal.delete-requires-clause-stands
-delete-requires-clause-stands g c = (here g (goal.at.delete-requires-clause-stands g c).In-Some-Here).stands
+pub bury-requires-clause-stands : goal.bury-requires-clause-stands
+bury-requires-clause-stands g c = (here g (goal.at.bury-requires-clause-stands g c).In-Some-Here).stands
 
-pub delete-requires-clause-logged : goal.delete-requires-clause-logged
-delete-requires-clause-logged g c = some_matched (g.Q.Equivalent.matches c.args.key.now) (pair_of c.args.store.now (number_of c.in-Some-Here.word))
-    (here g (goal.at.delete-requires-clause-logged g c).In-Some-Here).matched
+pub bury-requires-clause-logged : goal.bury-requires-clause-logged
+bury-requires-clause-logged g c = some_matched (g.Q.Equivalent.matches c.args.key.now) (pair_of c.args.store.now (number_of c.in-Some-Here.word))
+    (here g (goal.at.bury-requires-clause-logged g c).In-Some-Here).matched
 
 pub returns-in-Some-Empty-clause-removed : goal.returns-in-Some-Empty-clause-removed
 returns-in-Some-Empty-clause-removed g c mode initial limit =
@@ -37,5 +37,5 @@ pub returns-in-Some-Here-clause-removed : goal.returns-in-Some-Here-clause-remov
 returns-in-Some-Here-clause-removed g c mode initial limit =
     let live : kind_of c.in-Some-Here.word ≡ Live = search rules in
     found_it g.F.FnMut (g.Q.Equivalent.matches c.args.key.now) c.args.store.now c.args.agrees.now c.args.hash mode initial limit c.in-Some-Here.place
-    c.in-Some-Here.word live (here g (goal.at.returns-in-Some-Here-clause-removed g c).In-Some-Here) c.delete.result c.delete.new.store
-    c.delete.new.agrees (c.delete.ensures.tombstone (g.Q.Equivalent.matches c.args.key.now))
+    c.in-Some-Here.word live (here g (goal.at.returns-in-Some-Here-clause-removed g c).In-Some-Here) c.bury.result c.bury.new.store
+    c.bury.new.agrees (c.bury.ensures.buried (g.Q.Equivalent.matches c.args.key.now))

@@ -15,8 +15,8 @@ use Rattle.papaya_change.specs.Showings.{Judges}
 use Rattle.papaya_lookup.specs.History.{key_of}
 use Rattle.papaya_lookup.proofs.Readings.{IsQuery}
 use Rattle.papaya_change.proofs.Doing.{idle, left_alone}
-use Rattle.papaya_change.proofs.Removing.{compared_last, compared_on, counted_on, delete_can}
-use Rattle.papaya_change.proofs.Removing.{delete_held, delete_on, hint_held, hinted_on, load_held}
+use Rattle.papaya_change.proofs.Removing.{compared_last, compared_on, counted_on, bury_can}
+use Rattle.papaya_change.proofs.Removing.{bury_held, bury_on, hint_held, hinted_on, load_held}
 use Rattle.papaya_change.proofs.Removing.{loaded_as, shown_last, shown_on, size_held, sized_on}
 use Rattle.papaya_change.proofs.removal.Removal.answer.Goals as goal
 
@@ -96,8 +96,8 @@ show-requires-clause-last g c =
     (g.Q.Equivalent.matches c.args.key.now) (g.Q.Hash.hash_input c.args.key.now) lawful (Judges g.F.FnMut) c.requires.can.0 c.requires.can.1
     c.args.window.now.sight.log c.args.self.now c.args.agrees.now c.requires.can.2 c.requires.standing some.0 some.1
 
-pub delete-requires-clause-held : goal.delete-requires-clause-held
-delete-requires-clause-held g c =
+pub bury-requires-clause-held : goal.bury-requires-clause-held
+bury-requires-clause-held g c =
     let lawful : IsQuery g.K.PartialEq.eq g.K.Hash.hash_input (g.Q.Equivalent.matches c.args.key.now)
     (g.Q.Hash.hash_input c.args.key.now) = record {
       feeds = g.met.Q.Equivalent.hashes_as_key c.args.key.now;
@@ -107,14 +107,14 @@ delete-requires-clause-held g c =
     let asks : ask_of c.args.self.now.call.machine ≡ Call
     (Exchange (Slot c.in-Exchange-Slot-default-default.number c.in-Exchange-Slot-default-default.place) c.in-Exchange-Slot-default-default.old
     c.in-Exchange-Slot-default-default.new) = search rules in
-    delete_held g.K.PartialEq.eq g.K.Hash.hash_input g.S.BuildHasher.build_hasher g.S.Hasher.Hasher.write g.S.Hasher.Hasher.finish g.met.K.Eq.laws
+    bury_held g.K.PartialEq.eq g.K.Hash.hash_input g.S.BuildHasher.build_hasher g.S.Hasher.Hasher.write g.S.Hasher.Hasher.finish g.met.K.Eq.laws
     g.met.K.Hash.respects_eq (begun_of c.args.window.now.book.now.parts) c.args.window.now.book.now.begun.book
     (g.Q.Equivalent.matches c.args.key.now) (g.Q.Hash.hash_input c.args.key.now) lawful (Judges g.F.FnMut) c.requires.can.0 c.requires.can.1
     c.args.window.now.sight.log c.args.self.now c.args.agrees.now c.requires.can.2 c.requires.standing c.in-Exchange-Slot-default-default.number
     c.in-Exchange-Slot-default-default.place c.in-Exchange-Slot-default-default.old c.in-Exchange-Slot-default-default.new asks
 
-pub delete-requires-clause-can : goal.delete-requires-clause-can
-delete-requires-clause-can g c =
+pub bury-requires-clause-can : goal.bury-requires-clause-can
+bury-requires-clause-can g c =
     let lawful : IsQuery g.K.PartialEq.eq g.K.Hash.hash_input (g.Q.Equivalent.matches c.args.key.now)
     (g.Q.Hash.hash_input c.args.key.now) = record {
       feeds = g.met.Q.Equivalent.hashes_as_key c.args.key.now;
@@ -124,7 +124,7 @@ delete-requires-clause-can g c =
     let asks : ask_of c.args.self.now.call.machine ≡ Call
     (Exchange (Slot c.in-Exchange-Slot-default-default.number c.in-Exchange-Slot-default-default.place) c.in-Exchange-Slot-default-default.old
     c.in-Exchange-Slot-default-default.new) = search rules in
-    delete_can g.K.PartialEq.eq g.K.Hash.hash_input g.S.BuildHasher.build_hasher g.S.Hasher.Hasher.write g.S.Hasher.Hasher.finish g.met.K.Eq.laws
+    bury_can g.K.PartialEq.eq g.K.Hash.hash_input g.S.BuildHasher.build_hasher g.S.Hasher.Hasher.write g.S.Hasher.Hasher.finish g.met.K.Eq.laws
     g.met.K.Hash.respects_eq (begun_of c.args.window.now.book.now.parts) c.args.window.now.book.now.begun.book
     (g.Q.Equivalent.matches c.args.key.now) (g.Q.Hash.hash_input c.args.key.now) lawful (Judges g.F.FnMut) c.requires.can.0 c.requires.can.1
     c.args.window.now.sight.log c.args.self.now c.args.agrees.now c.requires.can.2 c.requires.standing c.in-Exchange-Slot-default-default.number
@@ -239,13 +239,13 @@ returns-in-Exchange-Slot-default-default-clause-removes g c = λ first begun r.
     let asks : ask_of c.args.self.now.call.machine ≡ Call
     (Exchange (Slot c.in-Exchange-Slot-default-default.number c.in-Exchange-Slot-default-default.place) c.in-Exchange-Slot-default-default.old
     c.in-Exchange-Slot-default-default.new) = search rules in
-    let b = c.delete.ensures.deletes in
-    delete_on g.K.PartialEq.eq g.K.Hash.hash_input g.S.BuildHasher.build_hasher g.S.Hasher.Hasher.write g.S.Hasher.Hasher.finish g.met.K.Eq.laws
+    let b = c.bury.ensures.buries in
+    bury_on g.K.PartialEq.eq g.K.Hash.hash_input g.S.BuildHasher.build_hasher g.S.Hasher.Hasher.write g.S.Hasher.Hasher.finish g.met.K.Eq.laws
     g.met.K.Hash.respects_eq (begun_of c.args.window.now.book.now.parts) c.args.window.now.book.now.begun.book
     (g.Q.Equivalent.matches c.args.key.now) (g.Q.Hash.hash_input c.args.key.now) lawful (Judges g.F.FnMut) first begun c.args.window.now.sight.log
     c.args.self.now c.args.agrees.now r c.requires.standing c.in-Exchange-Slot-default-default.number c.in-Exchange-Slot-default-default.place
-    c.in-Exchange-Slot-default-default.old c.in-Exchange-Slot-default-default.new asks c.delete.new.window.sight.log c.delete.ensures.sees.log b.0
-    b.1 b.2 c.delete.new.self c.delete.result b.3
+    c.in-Exchange-Slot-default-default.old c.in-Exchange-Slot-default-default.new asks c.bury.new.window.sight.log c.bury.ensures.sees.log b.0
+    b.1 b.2 c.bury.new.self c.bury.result b.3
 
 pub returns-in-AddToShard-clause-removes : goal.returns-in-AddToShard-clause-removes
 returns-in-AddToShard-clause-removes g c = λ first begun r.

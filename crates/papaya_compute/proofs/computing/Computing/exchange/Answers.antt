@@ -7,14 +7,14 @@ use Rattle.papaya_compute.proofs.ComputePuts.{puts}
 use Rattle.papaya_compute.proofs.computing.Computing.exchange.Goals.{in_default-via-in-Some+in_default, in_default-via-in_default}
 use Rattle.papaya_compute.proofs.computing.Computing.exchange.Goals as goal
 
-pub returns-in-Some-Delete-clause-computes : goal.returns-in-Some-Delete-clause-computes
-returns-in-Some-Delete-clause-computes g c = λ key begun heard r.
-    let e = c.delete.ensures.tries in
+pub returns-in-Some-Bury-clause-computes : goal.returns-in-Some-Bury-clause-computes
+returns-in-Some-Bury-clause-computes g c = λ key begun heard r.
+    let e = c.bury.ensures.tries in
     goes_untold g.K.PartialEq.eq g.K.Hash.hash_input g.S.BuildHasher.build_hasher g.S.Hasher.Hasher.write g.S.Hasher.Hasher.finish g.met.K.Eq.laws
     g.met.K.Hash.respects_eq (begun_of c.args.window.now.book.now.parts) c.args.window.now.book.now.begun.book key begun c.args.window.now.sight.log
     c.args.self.now heard r c.requires.standing (Exchange (Slot c.args.number c.args.place) c.args.words.0 c.args.words.1) c.requires.asks tt
-    c.delete.result (λ number. number) c.delete.new.window.sight.log e.sees.log c.delete.new.self e.machine e.value e.unsaid
-    (c.delete.ensures.writes key r.made begun r.writing)
+    c.bury.result (λ number. number) c.bury.new.window.sight.log e.sees.log c.bury.new.self e.machine e.value e.unsaid
+    (c.bury.ensures.writes key r.made begun r.writing)
 
 pub put-requires-clause-kind : goal.put-requires-clause-kind
 put-requires-clause-kind g c = puts g.K.PartialEq.eq g.K.Hash.hash_input g.S.BuildHasher.build_hasher g.S.Hasher.Hasher.write g.S.Hasher.Hasher.finish

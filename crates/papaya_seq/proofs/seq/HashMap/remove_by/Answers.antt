@@ -3,9 +3,9 @@ use Rattle.papaya_ask.specs.declared.call.Task.TheVariants.{RemoveIf}
 use Rattle.papaya_call.specs.Machine.{started}
 use Rattle.papaya_keys.specs.Hashes.{hash_of}
 use Rattle.papaya_timeline.proofs.KeptCore.{keys_lawful}
-use Rattle.papaya_seq.specs.Deletes.{itself}
+use Rattle.papaya_seq.specs.Buries.{itself}
 use Rattle.papaya_seq.specs.Map.{MapState}
-use Rattle.papaya_seq.proofs.Deleting.{leads_under_way}
+use Rattle.papaya_seq.proofs.Burying.{leads_under_way}
 use Rattle.papaya_seq.proofs.RemovalDone.{RemovalDone, removal_finished}
 use Rattle.papaya_seq.proofs.RemovalWays.{IsQuery, under_way}
 use Rattle.papaya_seq.proofs.seq.HashMap.remove_by.Goals as goal

@@ -1,7 +1,7 @@
 use Rattle.std.proofs.Common.{rules, ◌≡◌, ℕ, suc, ◌+◌, ◌<◌, Bool, true, false, cond, Some, inl, inr, refl, sym, ◌∙◌, ap, subst, arith}
 use Rattle.std.specs.Prelude.{negsuc}
 use Rattle.papaya_words.specs.Counter.{added}
-use Rattle.papaya_words.specs.Word.{kind_of, pair_of as number_of, tombstone_word}
+use Rattle.papaya_words.specs.Word.{kind_of, pair_of as number_of, buried_word}
 use Rattle.papaya_words.specs.declared.word.Kind.TheVariants.{Live}
 use Rattle.papaya_ask.specs.declared.ask.Answer.TheVariants.{Yes}
 use Rattle.papaya_ask.specs.declared.ask.At.TheVariants.{Slot}
@@ -12,7 +12,7 @@ use Rattle.papaya_timeline.proofs.KeptCore.{keys_lawful}
 use Rattle.papaya_timeline.proofs.KeptSettings.{IsLawfulKeys}
 use Rattle.papaya_seq.specs.Map.{IsLawfulMap, MapState, next_of, slots_of}
 use Rattle.papaya_seq.specs.Retains.{Answers, IsRetaining}
-use Rattle.papaya_seq.proofs.RetainLaw.{live_logged, root_word, tombstone_at, tombstone_lawful}
+use Rattle.papaya_seq.proofs.RetainLaw.{live_logged, root_word, buried_at, buried_lawful}
 use Rattle.papaya_seq.proofs.Exchanging.{exchange_done}
 use Rattle.papaya_seq.proofs.RetainSteps.{IsScanned, scanned_more, shown_answers}
 use Rattle.papaya_seq.proofs.seq.HashMap.retain_at.Goals as goal
@@ -60,20 +60,20 @@ module _ (g : Over) where
       (ap (pair_of c.self.inside.store) (c.pair.ensures ∙ ap number_of (word_is c)) ∙ (logged c).1) c.show.ensures.shown
 
   -- it was deleted
-  tombstone : (c : After-add_to_shard g) → c.add_to_shard.new.self ≡ tombstone_at c.self.inside.store c.args.slot
-  tombstone c =
+  buried : (c : After-add_to_shard g) → c.add_to_shard.new.self ≡ buried_at c.self.inside.store c.args.slot
+  buried c =
       let s = c.self.inside.store in
       let shown = (goal.at.After-add_to_shard g c).After-show in
-      let grave : c.tombstone-grave.result.0 ≡ tombstone_word (number_of (root_word s c.args.slot)) = c.tombstone-grave.ensures
-      ∙ ap tombstone_word (c.pair-2.ensures ∙ ap number_of (word_is shown)) in
-      let made : c.exchange.new.self ≡ record s { words = put s.words (Slot c.args.table c.args.slot) c.tombstone-grave.result.0 } = exchange_done s
-      (Slot c.args.table c.args.slot) c.word.result c.tombstone-grave.result.0 (sym c.word.ensures) c.exchange.new.self c.exchange.result
+      let grave : c.buried-grave.result.0 ≡ buried_word (number_of (root_word s c.args.slot)) = c.buried-grave.ensures
+      ∙ ap buried_word (c.pair-2.ensures ∙ ap number_of (word_is shown)) in
+      let made : c.exchange.new.self ≡ record s { words = put s.words (Slot c.args.table c.args.slot) c.buried-grave.result.0 } = exchange_done s
+      (Slot c.args.table c.args.slot) c.word.result c.buried-grave.result.0 (sym c.word.ensures) c.exchange.new.self c.exchange.result
       c.exchange.ensures in
       c.add_to_shard.ensures
       ∙ ap (λ (y : StoreState g.row.K.Denot g.row.V.Denot g.row.S.Denot). record y { count = added y.count 0 (negsuc 0) }) made
       ∙ ap (λ n. record s { words = put s.words (Slot c.args.table c.args.slot) n; count = added s.count 0 (negsuc 0) }) grave
       ∙ ap (λ t. record s {
-        words = put s.words (Slot t c.args.slot) (tombstone_word (number_of (root_word s c.args.slot)));
+        words = put s.words (Slot t c.args.slot) (buried_word (number_of (root_word s c.args.slot)));
         count = added s.count 0
             (negsuc 0);
       }) (root shown)
@@ -93,7 +93,7 @@ module _ (g : Over) where
 agreed : (g : Over) (c : After-show g) (b : Bool) → Answers g.F.FnMut c.args.agrees.now (logged g c).0 b c.show.new.agrees → c.show.result ≡ Yes b
     → (c.show.result ≡ Yes false → ⊥)
     → (agrees : Bool) × Answers g.F.FnMut c.args.agrees.now (logged g c).0 agrees c.show.new.agrees
-    × (c.self.inside.store ≡ cond agrees c.self.inside.store (tombstone_at c.self.inside.store c.args.slot))
+    × (c.self.inside.store ≡ cond agrees c.self.inside.store (buried_at c.self.inside.store c.args.slot))
 agreed g c true answers is not = (true, answers, refl)
 agreed g c false answers is not = absurd (not is)
 
@@ -121,8 +121,8 @@ pub invariant_of-self : goal.invariant_of-self
 invariant_of-self g c =
     let at = (goal.at.invariant_of-self g c).After-show in
     subst (λ (y : StoreState g.row.K.Denot g.row.V.Denot g.row.S.Denot).
-    IsLawfulMap g.K.PartialEq.eq (key_hash g y.hasher) y c.self.inside.mode c.self.inside.initial) (sym (tombstone g c))
-    (tombstone_lawful g.K.PartialEq.eq (key_hash g c.self.inside.store.hasher) (view g at) c.self.invariant (keys g (view g at)) c.args.slot
+    IsLawfulMap g.K.PartialEq.eq (key_hash g y.hasher) y c.self.inside.mode c.self.inside.initial) (sym (buried g c))
+    (buried_lawful g.K.PartialEq.eq (key_hash g c.self.inside.store.hasher) (view g at) c.self.invariant (keys g (view g at)) c.args.slot
     (within g at) (live g at) (last g at) c.count-count.ensures.fits)
 
 pub returns-clause-scanned : goal.returns-clause-scanned
@@ -139,5 +139,5 @@ returns-clause-scanned g c s f retaining =
       false,
       subst (λ b. Answers g.F.FnMut c.args.agrees.now (logged g at).0 b c.show.new.agrees)
           answer (said g at).1,
-      tombstone g c,
+      buried g c,
     )) s f before

@@ -33,7 +33,7 @@ use Rattle.papaya_book.specs.Windows.{Does}
 use Rattle.papaya_lookup.specs.Drivers.{own, past}
 use Rattle.papaya_lookup.specs.History.{Change, Makes, changes_of, history_of, key_of}
 use Rattle.papaya_lookup.specs.Lookups.{coding_for, setting_for}
-use Rattle.papaya_lookup.proofs.Driving.{can_delete}
+use Rattle.papaya_lookup.proofs.Driving.{can_bury}
 use Rattle.papaya_lookup.proofs.Histories.{changes-append, history_since}
 use Rattle.papaya_lookup.proofs.Readings.{IsQuery}
 use Rattle.papaya_change.specs.Changes.{IsChangeOf}
@@ -63,12 +63,12 @@ module _ {K V S H : Type 0} (eq : K → K → Bool) (input : K → List (List �
   shows = seeker_at Computes h b.mode 1 (nothing_made b.limit) (Showing (record { place = at; word = word }))
 
   -- and was told that it is to go
-  abbrev deletes : Machine
-  deletes = after shows (answers.Call (Op kinds.Remove))
+  abbrev buries : Machine
+  buries = after shows (answers.Call (Op kinds.Remove))
 
   -- and has deleted it
   abbrev pub ends : Machine
-  ends = after deletes (answers.Call Exchanged)
+  ends = after buries (answers.Call Exchanged)
 
   abbrev grave : ℕ
   grave = grave_word word
@@ -89,7 +89,7 @@ module _ {K V S H : Type 0} (eq : K → K → Bool) (input : K → List (List �
     met_same = let both : Some may.pair ≡ Some p = sym may.last ∙ last_is in let one : may.pair ≡ p = cc both in
         subst (λ (z : Stored K V). eq key (key_of z) ≡ true) one may.same
 
-    said : IsCalling eq hash b name (eq key) h (Some key) begun log deletes (Some lent) r.2 None [] None None None
+    said : IsCalling eq hash b name (eq key) h (Some key) begun log buries (Some lent) r.2 None [] None None None
     said =
         quiet eq input build write finish classes respects b (eq key) (input key) query (Some key) name begun log log ([], append-nil log) r.4.lawful
         shows (Some lent) r.2 None [] None None None r.4 (ShowPair (pair_of word)) refl (Op kinds.Remove) r.2 [] (Some lent) None
@@ -102,30 +102,30 @@ module _ {K V S H : Type 0} (eq : K → K → Bool) (input : K → List (List �
         }) r.4.holds_table r.4.last_placed r.4.made_placed
 
     -- the slot is one of the table
-    pub delete_there : IsTable log at.table table × (at.probe.i < length table.slots)
-    delete_there =
+    pub bury_there : IsTable log at.table table × (at.probe.i < length table.slots)
+    bury_there =
         subst (λ (z : Sheet). IsTable log at.table z × (at.probe.i < length z.slots)) r.1
-        (slot_table eq input build write finish classes respects b (eq key) (input key) query (Some key) name begun log deletes (Some lent) r.2 None
+        (slot_table eq input build write finish classes respects b (eq key) (input key) query (Some key) name begun log buries (Some lent) r.2 None
         [] None None None said at.table at.probe.i (inr (word, grave, refl)))
 
     -- the pair may be deleted
-    pub delete_can : CanExchange eq hash b (Slot at.table at.probe.i) (Some steps.Delete) word grave None names.Nothing log
-    delete_can =
-        can_delete eq input build write finish classes respects b (eq key) (input key) query (Some key) (exchanges_of begun) log said.lawful
-        deletes.call (call_loaded eq input build write finish classes respects b (eq key) (input key) query (Some key) name begun r.2 [])
-        (call_relies eq input build write finish classes respects b (eq key) (input key) query (Some key) name begun log deletes (Some lent) r.2 None
+    pub bury_can : CanExchange eq hash b (Slot at.table at.probe.i) (Some steps.Bury) word grave None names.Nothing log
+    bury_can =
+        can_bury eq input build write finish classes respects b (eq key) (input key) query (Some key) (exchanges_of begun) log said.lawful
+        buries.call (call_loaded eq input build write finish classes respects b (eq key) (input key) query (Some key) name begun r.2 [])
+        (call_relies eq input build write finish classes respects b (eq key) (input key) query (Some key) name begun log buries (Some lent) r.2 None
         [] None None None said) at.table at.probe.i word grave refl refl
 
     -- it was deleted
     module _ (log' : List (Event K V S)) (found : ℕ) (before : Option (Stored K V))
-        (tried : IsSlotTried eq hash b name at.table at.probe.i (Some steps.Delete) word grave None names.Nothing log found log' before)
+        (tried : IsSlotTried eq hash b name at.table at.probe.i (Some steps.Bury) word grave None names.Nothing log found log' before)
         (is : (found == word) ≡ true) where
       ended : IsCalling eq hash b name (eq key) h (Some key) begun log' ends (Some lent) r.2 None [] before None None
-      ended = exchanged eq input build write finish classes respects b (eq key) (input key) query (Some key) name begun log log' deletes (Some lent)
+      ended = exchanged eq input build write finish classes respects b (eq key) (input key) query (Some key) name begun log log' buries (Some lent)
           r.2 None [] None None None said at.table at.probe.i word grave found None before refl tried (λ q e. absurd (cc e)) (λ claims q e. absurd (cc e)) is
 
-      pub delete_changed : (change : Option ℕ × Option ℕ) → change_in ends.call.state ≡ Some change → HasChanged eq (Some key) begun log' before None change
-      delete_changed = ended.changed
+      pub bury_changed : (change : Option ℕ × Option ℕ) → change_in ends.call.state ≡ Some change → HasChanged eq (Some key) begun log' before None change
+      bury_changed = ended.changed
 
       changed : HasChanged eq (Some key) begun log' before None (Some (pair_of word), None)
       changed = ended.changed (Some (pair_of word), None) refl
@@ -136,8 +136,8 @@ module _ {K V S H : Type 0} (eq : K → K → Bool) (input : K → List (List �
             MatchOption w (Some (pair_of word) ≡ None) (λ z. (Some (pair_of word) ≡ Some z.index) × (changed.class ≡ key_of z))) took changed.taken_is
 
         -- so the history ends with it, where it is that one
-        pub delete_traded : p.value ≡ taken.value → IsChangeOf (eq key) (history_of begun) (history_of log') (Some taken) None
-        delete_traded value =
+        pub bury_traded : p.value ≡ taken.value → IsChangeOf (eq key) (history_of begun) (history_of log') (Some taken) None
+        bury_traded value =
             let c = changed in record {
               before = history_of c.before;
               change = record { class = c.class; taken = before; put = None };

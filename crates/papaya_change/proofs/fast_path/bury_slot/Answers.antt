@@ -1,17 +1,17 @@
 use Rattle.std.proofs.Common.{◌≡◌, ap, eqb-true, ◌∙◌, rules, sym}
-use Rattle.papaya_words.specs.Word.{tombstone_word}
+use Rattle.papaya_words.specs.Word.{buried_word}
 use Rattle.papaya_call.specs.Remove.{grave_word}
-use Rattle.papaya_change.proofs.fast_path.delete_slot.Goals.{then-found-word+in-Some, else-found-word}
-use Rattle.papaya_change.proofs.fast_path.delete_slot.Goals as goal
+use Rattle.papaya_change.proofs.fast_path.bury_slot.Goals.{then-found-word+in-Some, else-found-word}
+use Rattle.papaya_change.proofs.fast_path.bury_slot.Goals as goal
 
 pub exchange_slot-found-requires-clause-can : goal.exchange_slot-found-requires-clause-can
 exchange_slot-found-requires-clause-can g c =
-    let word : c.tombstone-grave.result.0 ≡ grave_word c.args.word = c.tombstone-grave.ensures ∙ ap tombstone_word c.pair.ensures in
+    let word : c.buried-grave.result.0 ≡ grave_word c.args.word = c.buried-grave.ensures ∙ ap buried_word c.pair.ensures in
     rw word c.requires.can
 
 pub returns-clause-tried : goal.returns-clause-tried
 returns-clause-tried g c =
-    let word : c.tombstone-grave.result.0 ≡ grave_word c.args.word = c.tombstone-grave.ensures ∙ ap tombstone_word c.pair.ensures in
+    let word : c.buried-grave.result.0 ≡ grave_word c.args.word = c.buried-grave.ensures ∙ ap buried_word c.pair.ensures in
     rw (sym word) c.exchange_slot-found.ensures.tried
 
 pub returns-clause-same : goal.returns-clause-same

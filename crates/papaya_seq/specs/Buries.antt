@@ -49,8 +49,8 @@ module _ {K V S F : Type 0} (g : Mut F (Bor K × (Bor V × Unit {0})) Bool) (mat
     pub replied : ask_of end ≡ asks.Call (Done reply)
 
   -- any removal that was to show this pair has replied
-  abbrev pub IsDeleted : Removal → StoreState K V S → F → Reply → StoreState K V S → F → Type 0
-  IsDeleted removal s f reply s' f' = (m : Call_machine)
+  abbrev pub IsBuried : Removal → StoreState K V S → F → Reply → StoreState K V S → F → Type 0
+  IsBuried removal s f reply s' f' = (m : Call_machine)
       → IsRemovedFrom s f (itself (record m { task = RemoveIf; state = Showing removal })) reply s' f'
 
   -- a removal has replied, whatever the map's settings are

@@ -22,7 +22,7 @@ use Rattle.papaya_ask.specs.declared.call.Task.TheVariants.{RemoveIf}
 use Rattle.papaya_ask.specs.declared.search.Place.{Place}
 use Rattle.papaya_call.specs.declared.machine.Machine.{Machine as Call_machine}
 use Rattle.papaya_call.specs.declared.machine.State.{State}
-use Rattle.papaya_call.specs.declared.machine.State.TheVariants.{AtRoot, Showing, Deleting, Ended}
+use Rattle.papaya_call.specs.declared.machine.State.TheVariants.{AtRoot, Showing, Burying, Ended}
 use Rattle.papaya_call.specs.declared.remove.Removal.{Removal}
 use Rattle.papaya_call.specs.Machine.{after as call_after, ask_of as call_ask, goes, removes, started}
 use Rattle.papaya_call.specs.Remove.{grave_word}
@@ -33,14 +33,14 @@ use Rattle.papaya_chain.specs.Machine.{after}
 use Rattle.papaya_store.specs.Performs.{Exchanges}
 use Rattle.papaya_store.specs.Store.{StoreState, pair_of}
 use Rattle.papaya_store.specs.Tables.{put, word_at}
-use Rattle.papaya_seq.specs.Deletes.{IsDeleted, IsRemovedFrom, Leads, itself}
+use Rattle.papaya_seq.specs.Buries.{IsBuried, IsRemovedFrom, Leads, itself}
 use Rattle.papaya_seq.specs.Looks.{Comes, IsSearchAsk, IsToldBy}
 use Rattle.papaya_seq.specs.Map.{MapState}
 use Rattle.papaya_seq.specs.Removes.{IsRemovalAnswer, IsShown}
 use Rattle.papaya_seq.specs.Searches.{IsRootTurn, seen_by}
 use Rattle.papaya_seq.specs.declared.search.Turn.{Turn}
 use Rattle.papaya_seq.specs.declared.search.Turn.TheVariants as turns
-use Rattle.papaya_seq.specs.Writes.{deleting, slot_of}
+use Rattle.papaya_seq.specs.Writes.{burying, slot_of}
 use Rattle.papaya_seq.proofs.Driving.{goes_itself}
 use Rattle.papaya_seq.proofs.Exchanging.{exchange_made}
 use Rattle.papaya_seq.proofs.RemovalWays.{IsUnderWay, under_way_more}
@@ -106,7 +106,7 @@ module _ {K V S F : Type 0} (g : Mut F (Bor K × (Bor V × Unit {0})) Bool) (mat
 
       -- or it agreed, and the pair was deleted and counted out
       pub removed : (f' : F) → IsShown g (pair_of s (number_of removal.word)) f (Yes true) f' → word_at s.words (slot_of removal.place) ≡ removal.word
-          → (n : ℕ) → n ≡ number_of removal.word → IsRemovedFrom g matches s f (stands_at (Showing removal)) (Removed n) (deleting s removal) f'
+          → (n : ℕ) → n ≡ number_of removal.word → IsRemovedFrom g matches s f (stands_at (Showing removal)) (Removed n) (burying s removal) f'
       removed f' shown stands n n_is = record {
         answers = Yes true ∷ Exchanged ∷ Ok_done ∷ [];
         end = stands_at (Ended (Removed (number_of removal.word)));
@@ -118,11 +118,11 @@ module _ {K V S F : Type 0} (g : Mut F (Bor K × (Bor V × Unit {0})) Bool) (mat
             record s { words = put s.words (slot_of removal.place) (grave_word removal.word) },
             f',
             record {
-              ask = call_ask (record m { task = RemoveIf; state = Deleting removal });
+              ask = call_ask (record m { task = RemoveIf; state = Burying removal });
               asked = refl;
               answered = (exchange_made s (slot_of removal.place) removal.word (grave_word removal.word) stands, refl);
             },
-            (deleting s removal, f', record { ask = AddToShard (negsuc 0); asked = refl; answered = (refl, (0, refl), refl) }, (refl, refl, refl)),
+            (burying s removal, f', record { ask = AddToShard (negsuc 0); asked = refl; answered = (refl, (0, refl), refl) }, (refl, refl, refl)),
           ),
         );
         replied = ap (λ z. asks.Call (Ask_done (Removed z))) (sym n_is);
@@ -154,10 +154,10 @@ module _ {K V S F : Type 0} (g : Mut F (Bor K × (Bor V × Unit {0})) Bool) (mat
           (record { answers = []; end = removing (Ended Absent); leads = (refl, refl, refl); replied = refl })
 
       pub found_it : (at : Place) (word : ℕ) → kind_of word ≡ Live → IsRootTurn matches s hashed (turns.Here at word)
-          → (reply : Reply) (s' : StoreState K V S) (f' : F) → IsDeleted g matches (record { place = at; word = word }) s f reply s' f'
+          → (reply : Reply) (s' : StoreState K V S) (f' : F) → IsBuried g matches (record { place = at; word = word }) s f reply s' f'
           → IsRemovedFrom g matches s f (removing AtRoot) reply s' f'
-      found_it at word live root reply s' f' tombstone = root_led (turns.Here at word) (Showing (record { place = at; word = word })) root
-          (ap (λ kind. removes kind at word) live) reply s' f' (tombstone (started RemoveIf hashed mode initial limit))
+      found_it at word live root reply s' f' buried = root_led (turns.Here at word) (Showing (record { place = at; word = word })) root
+          (ap (λ kind. removes kind at word) live) reply s' f' (buried (started RemoveIf hashed mode initial limit))
 
 -- each answer leads a removal on
 pub leads_under_way : {K V S F : Type 0} (g : Mut F (Bor K × (Bor V × Unit {0})) Bool) (eq : K → K → Bool) (hash : S → K → ℕ) (matches : K → Bool)

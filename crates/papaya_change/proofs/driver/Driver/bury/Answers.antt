@@ -5,7 +5,7 @@ use Rattle.papaya_book.specs.Calls.{IsTable}
 use Rattle.papaya_book.specs.Sheets.{Sheet}
 use Rattle.papaya_book.specs.Windows.{TriesSlot}
 use Rattle.papaya_change.proofs.Doing.{tried}
-use Rattle.papaya_change.proofs.driver.Driver.delete.Goals as goal
+use Rattle.papaya_change.proofs.driver.Driver.bury.Goals as goal
 
 pub unreachable-requires : goal.unreachable-requires
 unreachable-requires g c = subst (λ (o : Option (Bor Sheet)).
@@ -17,8 +17,8 @@ exchange_slot-found-requires g c =
     MatchOption o ⊥ (λ z. IsTable c.args.window.now.sight.log c.args.number z.now × (c.args.place < length z.now.slots))) c.in-Some.is c.requires.held in
     record { table = held.0; place = held.1; can = rw c.kind-kind.ensures c.requires.can }
 
-pub returns-clause-deletes : goal.returns-clause-deletes
-returns-clause-deletes g c =
+pub returns-clause-buries : goal.returns-clause-buries
+returns-clause-buries g c =
     let found = c.exchange_slot-found in (
       found.result.0,
       found.result.1,
