@@ -49,7 +49,7 @@ quoted docs/GUIDE.md rust "${sources[@]}"
 quoted docs/GUIDE.md antt crates/papaya_uses/specs/*.antt
 quoted docs/DEFINITIONS.md text crates/papaya_*/specs/*.antt
 
-stands 'docs/SIGNATURES.md' "$(tools/signatures --check)" 'signatures: 1 passed, 0 failed'
+stands 'docs/SIGNATURES.md and docs/CONTRACTS.md' "$(tools/signatures --check)" 'signatures: 2 passed, 0 failed'
 stands 'links between documents' "$(python3 -B tests/links.py 2>&1 | sed 's/[0-9]* passed/all passed/')" \
     'links.py: all passed, 0 failed'
 version="$(sed -n 's/^version //p' VERSION)"
