@@ -69,7 +69,7 @@ pub struct Remembered {
 }
 
 impl Remembered {
-    /// Returns a memory without results.
+    /// Returns no results: the closure was not called yet.
     #[inline(always)]
     pub fn nothing() -> Remembered
         ensures value { result ≡ nothing }
@@ -97,8 +97,8 @@ impl Remembered {
         }
     }
 
-    /// Returns the memory after the closure was called with a pair. An insertion is remembered only
-    /// once its pair is made.
+    /// Returns the remembered results after the closure was called with a pair. An insertion is
+    /// remembered only once its pair is made.
     pub fn with_choice(self, shown: Removal, kind: OpKind) -> Remembered
         requires { IsRemembered self }
         ensures value { result ≡ with_choice self shown kind }
@@ -113,8 +113,8 @@ impl Remembered {
         }
     }
 
-    /// Returns the memory after the pair of this number was made. If it is for an absent key, no
-    /// pair with which the closure was called before comes again.
+    /// Returns the remembered results after the pair of this number was made. If it is for an
+    /// absent key, no pair with which the closure was called before comes again.
     pub fn with_pair(self, purpose: Purpose, pair: u64) -> Remembered
         requires remembered { IsRemembered self }
         requires pair { pair < 2 ^ 48 }

@@ -141,7 +141,7 @@ pub fn shows<K, P>()
 /// A machine acts only on results that its closure returned for exactly the pair concerned.
 ///
 /// A removal deletes a pair only after its closure was called with it and agreed. A compute stores
-/// a pair only if it was made of the value that its closure returned for the pair that it replaces.
+/// a pair only if it was made of the value that its closure returned for what the pair replaces.
 /// Its closure is called at most once without a pair. A pair with which a closure is called has a
 /// word that is not 0: a call that begins calls no closure, and each answer keeps this.
 ///

@@ -65,7 +65,7 @@ use std::marker::Model;
 /// `A` gives the results of the closures of calls: [`papaya_call::answers::Listed`], or a type of
 /// the user's own.
 ///
-/// Its model has the words, the arena of pairs, and the calls under way.
+/// Contracts see the words, the arena of pairs, and the calls under way.
 #[derive(Drop)]
 pub struct Core<K: Hash + Eq, V, S: BuildHasher, A> {
     alloc: Global,
@@ -487,7 +487,7 @@ impl<K: Hash + Eq + Drop, V: Drop, S: BuildHasher, A: Answers<K, V> + Drop> Core
         outcome
     }
 
-    /// Makes the turns of a schedule, one after the other. A `Begin` of a caller that is in a call
+    /// Runs the turns of a schedule, one after the other. A `Begin` of a caller that is in a call
     /// is skipped, and so is a `Step` or `Finish` of one that is in none.
     ///
     /// # Errors
@@ -516,7 +516,7 @@ impl<K: Hash + Eq + Drop, V: Drop, S: BuildHasher, A: Answers<K, V> + Drop> Core
         Ok(Trace { entries })
     }
 
-    /// Makes one turn of a schedule, and adds its entries.
+    /// Runs one turn of a schedule, and adds its entries.
     fn turn_into(
         &mut self,
         entries: &mut Vec<Entry>,

@@ -14,11 +14,12 @@ use std::sync::atomic::raw;
 
 /// The part of a rule that is about hints.
 pub trait Hinting<E> {
-    // Holds of the number of a hint beside the word with this key, at a log that was reached.
+    // The statement about the number of a hint beside the word with this key, at a log that was
+    // reached.
     ghost hinted_beside: { ℕ → ℕ → List E → Type 0 };
 }
 
-/// A number beside a word of the book, which threads change in single atomic steps. Its model has
+/// A number beside a word of the book, which threads change in single atomic steps. Contracts see
 /// the word beside it. While no book tracks that word, the hint is fresh and holds 0.
 pub struct Hint<E, A, P: Rule<E, A> + Hinting<E>> {
     bits: u64,

@@ -63,7 +63,7 @@ impl<A: Allocator> Equivalent<String<A>> for TextKey<'_> {
 }
 
 /// The source of guards. It replaces the type of that name of the crate `seize`, by which 0.2.5
-/// frees memory. Its model is its number.
+/// frees memory. Contracts see its number.
 ///
 /// Here it frees nothing, and only gives its guards their numbers. Collectors are compared by the
 /// number that their maker gave them, and not by address.

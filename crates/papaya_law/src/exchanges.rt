@@ -135,7 +135,7 @@ pub fn slow_readers<K, P>()
 {}
 
 /// If a search met a copier's work, there is a next table. Without blocking, if there is no next
-/// table, the map has no pair.
+/// table, the map has no pair of the key.
 pub fn goes_on<K, P>()
     ensures shut { (g : Setting K P) (s : State P) (m : K → Option P) → IsKeeping g s m → (t x : ℕ)
         → shut (s.slot t x) ≡ true → 0 < s.next t }

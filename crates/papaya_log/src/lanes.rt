@@ -18,7 +18,7 @@ struct Lane {
     apart: [u64; 15],
 }
 
-/// A counter for each lane. Its model has the counters' names.
+/// A counter for each lane. Contracts see the counters' names.
 #[derive(Drop)]
 pub(crate) struct Lanes {
     lanes: Vec<Lane>,

@@ -24,7 +24,7 @@ use std::hash::{BuildHasher, Hash};
 use std::marker::Model;
 
 /// An iterator over the entries of a map, slot by slot of the root that it took: `Iter` of 0.2.5.
-/// It keeps the root's number, its length, and the slots that are left. Its model has the book, the
+/// It keeps the root's number, its length, and the slots that are left. Contracts see the book, the
 /// history observed when the iteration began, and the history observed by now.
 #[derive(Drop)]
 pub struct Iter<'a, K: Hash + Eq, V, S: BuildHasher> {

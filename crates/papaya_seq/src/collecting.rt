@@ -62,6 +62,10 @@ impl<K: Hash + Eq + Drop, V: Drop, S: BuildHasher> HashMap<K, V, S> {
 impl<K: Hash + Eq + Copy + Drop, V: Copy + Drop, S: BuildHasher> HashMap<K, V, S> {
     /// Inserts entries that it copies from references, as [`HashMap::extend`] does: what the trait
     /// `Extend` of such entries does in 0.2.5.
+    ///
+    /// # Errors
+    ///
+    /// Fails as [`HashMap::extend`] does.
     pub fn extend_ref<'a, U: IntoIterator<Item = (&'a K, &'a V)>>(
         &mut self,
         iter: U,

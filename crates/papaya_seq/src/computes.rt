@@ -25,6 +25,10 @@ impl<K: Hash + Eq + Drop, V: Drop, S: BuildHasher> HashMap<K, V, S> {
     ///
     /// The contract needs the closure to be callable only with what the map holds, since it is
     /// called once.
+    ///
+    /// # Errors
+    ///
+    /// Fails as [`HashMap::compute`] does.
     pub fn compute_numbered<T: Drop, F: FnMut(Option<(&K, &V)>) -> Operation<V, T>>(
         &mut self,
         key: K,
@@ -80,6 +84,10 @@ impl<K: Hash + Eq + Drop, V: Drop, S: BuildHasher> HashMap<K, V, S> {
     /// Computes the key's entry as [`HashMap::compute`] does, and writes the closure's abort value
     /// to `aborted`. So the result owns nothing, and the contract states what the map is
     /// afterwards.
+    ///
+    /// # Errors
+    ///
+    /// Fails as [`HashMap::compute`] does.
     pub fn compute_into<T: Drop, F: FnMut(Option<(&K, &V)>) -> Operation<V, T>>(
         &mut self,
         key: K,

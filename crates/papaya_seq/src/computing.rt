@@ -133,7 +133,7 @@ fn operate<K: Hash + Eq + Drop, V: Drop, S: BuildHasher, T: Drop>(
     }
 }
 
-/// Makes a compute at once. Returns key and closure if there is no root, if the root has no place
+/// Runs a compute at once. Returns key and closure if there is no root, if the root has no place
 /// for the key, or if the key's pair is being moved.
 #[inline(always)]
 fn compute_fast<
@@ -176,7 +176,7 @@ fn compute_fast<
 }
 
 impl<K: Hash + Eq + Drop, V: Drop, S: BuildHasher> HashMap<K, V, S> {
-    /// Makes a compute. Returns the number of the pair with which its closure was called, if any,
+    /// Runs a compute. Returns the number of the pair with which its closure was called, if any,
     /// and its result. Most computes end with the root's search, and run no machine.
     #[inline]
     pub(crate) fn compute_by<T: Drop, F: FnOnce(Option<(&K, &V)>) -> Operation<V, T>>(
@@ -204,7 +204,7 @@ impl<K: Hash + Eq + Drop, V: Drop, S: BuildHasher> HashMap<K, V, S> {
         }
     }
 
-    /// Makes a compute by the machine, step by step.
+    /// Runs a compute by the machine, step by step.
     #[inline(never)]
     fn compute_slow<T: Drop, F: FnOnce(Option<(&K, &V)>) -> Operation<V, T>>(
         &mut self,

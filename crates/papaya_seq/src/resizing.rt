@@ -13,8 +13,7 @@ use papaya_words::probe::Refused;
 use std::hash::{BuildHasher, Hash};
 
 impl<K: Hash + Eq + Drop, V: Drop, S: BuildHasher> HashMap<K, V, S> {
-    /// Resizes the map as requested. No entry of it changes. A chunk alone is copied only beside a
-    /// call.
+    /// Resizes the map as requested. No entry of it changes. No call requests a single chunk.
     fn resize_by(&mut self, resize: Resize) -> Result<(), Refused>
         requires { resize ≢ Resize.Chunk }
         ensures done { OnOk result (IsResizedTo K.eq resize self.old.store self.new.store) }
@@ -25,7 +24,7 @@ impl<K: Hash + Eq + Drop, V: Drop, S: BuildHasher> HashMap<K, V, S> {
         ensures words { self.new.store ≡ record self.old.store { words = self.new.store.words } }
         ensures keeps { Keeps self.old self.new }
     {
-        // This read proves that the count fits in 64 bits.
+        // This read gives the proof that the count fits in 64 bits.
         let _count = self.store.count();
         let number = copies_from(&self.store);
         let mut resizer = Resizer::new(resize, self.mode.resize, self.initial, number);
@@ -49,8 +48,8 @@ impl<K: Hash + Eq + Drop, V: Drop, S: BuildHasher> HashMap<K, V, S> {
     ///
     /// Fails with `Refused::Capacity` if no table of at most
     /// [`papaya_words::limits::MAX_TABLE_LEN`] slots has room for the entries; the map is then as
-    /// it was. Otherwise fails as [`HashMap::insert`] does if it needs a next table; moved entries
-    /// then stay moved.
+    /// it was. Otherwise fails as an [`HashMap::insert`] that needs a next table does; moved
+    /// entries then stay moved.
     pub fn reserve(&mut self, additional: usize) -> Result<(), Refused>
         ensures ok { OnOk result (HasRoomFor K.eq self.old.store additional self.new.store) }
         ensures err { IfErr result (λ e. IsReserveCause K.eq self.old additional e self.new) }
@@ -68,7 +67,7 @@ impl<K: Hash + Eq + Drop, V: Drop, S: BuildHasher> HashMap<K, V, S> {
     ///
     /// # Errors
     ///
-    /// Fails as [`HashMap::insert`] does if it needs a next table; moved entries then stay moved.
+    /// Fails as an [`HashMap::insert`] that needs a next table does. Moved entries then stay moved.
     pub fn copy_all(&mut self) -> Result<(), Refused>
         ensures ok { OnOk result (next_of self.new.store ≡ 0) }
         ensures err { IfErr result (λ e. IsCopyCause self.old e self.new) }

@@ -23,7 +23,7 @@ impl<K: Hash + Eq + Drop, V: Drop, S: BuildHasher> HashMap<K, V, S> {
         ensures scanned { (s : _) (f : _) → IsRetaining F.FnMut s f slot self.old agrees.old
             → IsRetaining F.FnMut s f (slot + 1) self.new agrees.new }
     {
-        // This read proves that the count fits in 64 bits.
+        // This read gives the proof that the count fits in 64 bits.
         let _count = self.store.count();
         let at = At::Slot(table, slot);
         let word = Word(self.store.word(at));

@@ -66,7 +66,7 @@ fn resized(done: Result<(), Refused>) -> Reply
 /// A hash map for one caller: the machines of the shared map, on plain words.
 ///
 /// It ports `papaya::HashMap` to code that has a `&mut` map. It needs no guard and no atomics, and
-/// results borrow the map. Its model has its words and its arena, which represent the finite map
+/// results borrow the map. Contracts see its words and its arena, which represent the finite map
 /// that `map_in` computes.
 ///
 /// Entries that were replaced or removed stay in the arena until [`HashMap::reclaim`], or until the
@@ -127,6 +127,12 @@ impl<K: Hash + Eq + Drop, V: Drop, S: BuildHasher + Drop> HashMap<K, V, S> {
     }
 
     /// Creates a map for this many entries, with this hasher: `with_capacity_and_hasher` of 0.2.5.
+    ///
+    /// # Errors
+    ///
+    /// Fails with `Refused::Capacity` for a table longer than
+    /// [`papaya_words::limits::MAX_TABLE_LEN`] slots, and with `Refused::Memory` if memory runs
+    /// out.
     pub fn with_capacity_and_hasher(
         alloc: Global,
         capacity: usize,
@@ -144,6 +150,10 @@ impl<K: Hash + Eq + Drop, V: Drop, S: BuildHasher + Drop> HashMap<K, V, S> {
 
     /// Creates a map with this hasher: `with_hasher` of 0.2.5. The first change makes its first
     /// table.
+    ///
+    /// # Errors
+    ///
+    /// Fails with `Refused::Memory` if memory runs out.
     pub fn with_hasher(alloc: Global, hasher: S) -> Result<HashMap<K, V, S>, Refused>
         ensures ok { IfOk result (λ map. IsNew {A = Unit {0}}
             (ResizeMode.Incremental DEFAULT_CHUNK) 0 1 hasher (core_of map)) }
@@ -157,6 +167,10 @@ impl<K: Hash + Eq + Drop, V: Drop, S: BuildHasher + Drop> HashMap<K, V, S> {
 impl<K: Hash + Eq + Drop, V: Drop> HashMap<K, V, BuildHasherDefault<FoldHasher>> {
     /// Creates a map that makes its first table at its first change: `new` of 0.2.5. Only the
     /// hasher differs, which is the same in each run.
+    ///
+    /// # Errors
+    ///
+    /// Fails with `Refused::Memory` if memory runs out.
     pub fn new(alloc: Global) -> Result<HashMap<K, V, BuildHasherDefault<FoldHasher>>, Refused>
         ensures new { IfOk result (λ map. IsNew {A = Unit {0}}
             (ResizeMode.Incremental DEFAULT_CHUNK) 0 1 map.store.hasher (core_of map)) }
@@ -168,6 +182,10 @@ impl<K: Hash + Eq + Drop, V: Drop> HashMap<K, V, BuildHasherDefault<FoldHasher>>
     }
 
     /// Creates a map for this many entries: `with_capacity` of 0.2.5.
+    ///
+    /// # Errors
+    ///
+    /// Fails as [`HashMap::with_capacity_and_hasher`] does.
     pub fn with_capacity(
         alloc: Global,
         capacity: usize,
@@ -183,6 +201,10 @@ impl<K: Hash + Eq + Drop, V: Drop> HashMap<K, V, BuildHasherDefault<FoldHasher>>
     }
 
     /// Creates a map as [`HashMap::new`] does: what the trait `Default` gives in 0.2.5.
+    ///
+    /// # Errors
+    ///
+    /// Fails as [`HashMap::new`] does.
     pub fn default(alloc: Global) -> Result<HashMap<K, V, BuildHasherDefault<FoldHasher>>, Refused>
         ensures new { IfOk result (λ map. IsNew {A = Unit {0}}
             (ResizeMode.Incremental DEFAULT_CHUNK) 0 1 map.store.hasher (core_of map)) }
@@ -197,7 +219,7 @@ impl<K: Hash + Eq + Drop, V: Drop> HashMap<K, V, BuildHasherDefault<FoldHasher>>
 impl<K: Hash + Eq, V, S: BuildHasher> HashMap<K, V, S> {
     /// Returns the number of entries.
     ///
-    /// The contract also states that a map with a limit has never stored more entries than the
+    /// The contract also states that the arena of a map with a limit has no more entries than the
     /// limit.
     pub fn len(&self) -> usize
         ensures count { result ≡ length (content K.eq self.now.store) }
@@ -231,7 +253,7 @@ impl<K: Hash + Eq, V, S: BuildHasher> HashMap<K, V, S> {
         ensures long { (slots_of self.now.store ≡ 0)
             ⊎ (self.now.initial ≤ slots_of self.now.store) }
     {
-        // This read proves the map's invariant.
+        // This read gives the proof the map's invariant.
         let _mode = self.mode;
         self.store.root().map_or(0, |table| table.len())
     }
@@ -310,7 +332,7 @@ impl<K: Hash + Eq, V, S: BuildHasher> HashMap<K, V, S> {
             self.now.mode.limit) found
             × (result ≡ is_some found) }
     {
-        // This read proves the map's invariant.
+        // This read gives the proof the map's invariant.
         let _mode = self.mode;
         self.look_up(key).is_some()
     }
@@ -351,9 +373,8 @@ impl<K: Hash + Eq + Drop, V: Drop, S: BuildHasher> HashMap<K, V, S> {
     /// The map is then as it was, and the arguments are dropped, at once or with the map.
     ///
     /// - `Refused::Memory` if memory runs out.
-    /// - `Refused::Capacity` if the arena is full. Also if a next table is needed, but the map has
-    ///   made all the tables that it may, or the table would exceed
-    ///   [`papaya_words::limits::MAX_TABLE_LEN`] slots.
+    /// - `Refused::Capacity` if the arena is full, or if a next table is needed and would be one
+    ///   too many or longer than [`papaya_words::limits::MAX_TABLE_LEN`] slots.
     /// - `Refused::Limit` if the map has a limit and that many numbers were taken for entries.
     pub fn insert(&mut self, key: K, value: V) -> Result<Option<&V>, Refused>
         ensures* inserts { sem 𝓛 (ends_so K.row V.row S.row S.Hasher.row K.Hash S.BuildHasher
@@ -491,8 +512,7 @@ impl<K: Hash + Eq + Drop, V: Drop, S: BuildHasher> HashMap<K, V, S> {
     ///
     /// # Errors
     ///
-    /// Fails during a resize as [`HashMap::insert`] does, if it needs a next table that can't be
-    /// made.
+    /// Fails only during a resize, as an [`HashMap::insert`] that needs a next table does.
     pub fn remove<Q: Equivalent<K>>(&mut self, key: &Q) -> Result<Option<&V>, Refused>
         ensures* removes { sem 𝓛 (ends_so K.row V.row S.row S.Hasher.row K.Hash S.BuildHasher
             S.Hasher.Hasher self.entry (IsRemoved K.eq (Q.matches key.now) (λ p. p.value) self.old
@@ -570,7 +590,7 @@ impl<K: Hash + Eq + Drop, V: Drop, S: BuildHasher> HashMap<K, V, S> {
         }
     }
 
-    /// Makes one call that is a value.
+    /// Runs one call that is given as a value.
     fn call<A: Answers<K, V> + Drop>(&mut self, call: Call<K, V, A>) -> Outcome
         ensures called { IsCalled K.eq (record { op = A.op_gives; yes = A.yes_gives }) self.old call
             (reply_told result) self.new }
@@ -604,7 +624,7 @@ impl<K: Hash + Eq + Drop, V: Drop, S: BuildHasher> HashMap<K, V, S> {
         }
     }
 
-    /// Makes calls, one after the other, and returns the outcome of each: its reply, or for an
+    /// Runs calls, one after the other, and returns the outcome of each: its reply, or for an
     /// iteration the numbers of the map's entries in the order of [`HashMap::iter`]. A call that
     /// fails has its refusal as its reply, and the next one is made.
     ///

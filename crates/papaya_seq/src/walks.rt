@@ -81,7 +81,7 @@ impl<K: Hash + Eq, V, S: BuildHasher> HashMap<K, V, S> {
         requires within { at.slot < length table.now.slots }
         ensures { IsStepped K.eq self.now.store at result }
     {
-        // This read proves the map's invariant.
+        // This read gives the proof the map's invariant.
         let _mode = self.mode;
         let word = Word(table.slot(at.slot));
         // Most slots without a pair are empty, and one comparison finds those.
@@ -256,7 +256,7 @@ impl<'a, K: Hash + Eq, V, S: BuildHasher> IntoIterator for &'a HashMap<K, V, S> 
     }
 }
 
-/// An iterator over the entries of a map. Its model is the list of those that are left.
+/// An iterator over the entries of a map. Contracts see the list of those that are left.
 #[derive(Drop)]
 pub struct Iter<'a, K: Hash + Eq, V, S: BuildHasher> {
     map: &'a HashMap<K, V, S>,
@@ -309,7 +309,7 @@ impl<'a, K: Hash + Eq, V, S: BuildHasher> Iterator for Iter<'a, K, V, S> {
     }
 }
 
-/// An iterator over the keys of a map. Its model is the list of those that are left.
+/// An iterator over the keys of a map. Contracts see the list of those that are left.
 #[derive(Drop)]
 pub struct Keys<'a, K: Hash + Eq, V, S: BuildHasher> {
     pub(crate) pairs: Iter<'a, K, V, S>,
@@ -339,7 +339,7 @@ impl<'a, K: Hash + Eq, V, S: BuildHasher> Iterator for Keys<'a, K, V, S> {
     }
 }
 
-/// An iterator over the values of a map. Its model is the list of those that are left.
+/// An iterator over the values of a map. Contracts see the list of those that are left.
 #[derive(Drop)]
 pub struct Values<'a, K: Hash + Eq, V, S: BuildHasher> {
     pub(crate) pairs: Iter<'a, K, V, S>,

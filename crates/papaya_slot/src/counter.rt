@@ -12,7 +12,7 @@ use std::sync::atomic::raw;
 /// How many numbers a counter has.
 const NUMBERS: u64 = 0x7fff_ffff_ffff_ffff;
 
-/// A counter that gives out the numbers from 0, each to one caller. Its model is its name.
+/// A counter that gives out the numbers from 0, each to one caller. Contracts see its name.
 pub struct Counter {
     next: u64,
 }

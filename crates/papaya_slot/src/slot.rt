@@ -23,7 +23,7 @@ impl Model for Right {
     ghost also_owns = { λ right. ticket right.counter right.number };
 }
 
-/// A place for a value, which holds a blank until it is written. Its model has its `id`, its
+/// A place for a value, which holds a blank until it is written. Contracts see its `id`, its
 /// `counter`, and its `number` there.
 pub struct Slot<T> {
     value: T,

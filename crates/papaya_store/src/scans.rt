@@ -25,7 +25,7 @@ pub struct Scanning<A> {
     pub given: Numbers,
 }
 
-/// Numbers of pairs, in the order in which they came. Its model is a list.
+/// Numbers of pairs, in the order in which they came. Contracts see them as a list.
 #[derive(Drop)]
 pub struct Numbers {
     listed: Vec<u64>,

@@ -1,5 +1,4 @@
-//! The data that the machines of all callers ask about: the words of the tables, the arena of
-//! pairs, how many numbers were taken for them, and the count.
+//! The words of the tables, the arena of pairs, how many numbers were taken, and the count.
 ghost use Rattle.std.specs.Prelude.{◌≡◌, ℤ, ◌+◌, ◌-◌, ◌<◌, ◌^◌, ◌⊎◌, [], ◌∷◌, ◌++◌, ◌+ℤ◌, length};
 ghost use Rattle.std.specs.Prelude.{vec_len, vec_capacity, Some, None, FitsSigned, MatchOption};
 ghost use Rattle.std.specs.Prelude.{OnOk, IfOk, IfErr, IsSome, ◌*◌, ◌≤◌, slice_get};
@@ -90,8 +89,7 @@ fn note_slot(table: &mut Table, i: usize, hint: u8)
     }
 }
 
-/// Makes room for one more item of a list that has none. It is a function of its own, so that a
-/// push is straight code.
+/// Makes room for one more item of a full list. Apart from the push, which is then straight code.
 #[cold]
 #[inline(never)]
 fn reserve_one<T>(items: &mut Vec<T>) -> Result<(), Refused>
@@ -124,8 +122,7 @@ fn next_in<T>(items: &mut Vec<T>) -> Result<usize, Refused>
     Ok(n)
 }
 
-/// Stores a pair of this key and this value at its number, for which there is room. Returns what
-/// the call has of the value from then on.
+/// Stores a pair at its number, for which there is room. Returns what the call has of the value.
 #[inline(always)]
 fn log_pair<K: Drop, V: Drop>(
     pairs: &mut Vec<Pair<K, V>>,
@@ -249,8 +246,7 @@ impl<K: Hash + Eq, V, S: BuildHasher> Store<K, V, S> {
         }
     }
 
-    /// Returns the value of a pair that is stored. It reads nothing of a key that another pair
-    /// brought.
+    /// Returns the value of a pair that is stored, and reads nothing of a key of another pair.
     #[inline(always)]
     pub fn logged_value(&self, n: u64) -> &V
         requires { IsSome (pair_of self.now n) }
@@ -422,8 +418,7 @@ impl<K: Hash + Eq, V, S: BuildHasher> Store<K, V, S> {
         }
     }
 
-    /// Returns the chunk at which the next copy to table `n` may begin, or 0 if there is no such
-    /// table.
+    /// Returns the chunk at which the next copy to table `n` may begin, or 0 without such a table.
     pub fn begin(&self, n: u64) -> usize {
         match self.table(n) {
             Some(table) => table.begin(),
@@ -517,7 +512,7 @@ impl<K: Hash + Eq, V, S: BuildHasher> Store<K, V, S> {
 }
 
 impl<K: Hash + Eq + Drop, V: Drop, S: BuildHasher + Drop> Store<K, V, S> {
-    /// Creates a store without pairs, with a first table if `capacity` is not 0. Returns it with
+    /// Creates a store without pairs, with a first table unless `capacity` is 0. Returns it with
     /// its initial capacity in slots.
     ///
     /// # Errors
@@ -704,8 +699,7 @@ impl<K: Hash + Eq + Drop, V: Drop, S: BuildHasher> Store<K, V, S> {
         }
     }
 
-    /// Returns `None`, with which a closure is called without a pair. Like a pair it borrows the
-    /// store.
+    /// Returns `None`, which borrows the store like a pair, to call a closure without a pair.
     fn no_pair(&self) -> Option<(&K, &V)>
         ensures { result ≡ None }
     {
@@ -741,7 +735,7 @@ impl<K: Hash + Eq + Drop, V: Drop, S: BuildHasher> Store<K, V, S> {
         }
     }
 
-    /// Performs the asks that make a part of a pair.
+    /// Performs the asks that make something, or refuses them with `Refused::Memory` if `refuse`.
     #[inline(always)]
     fn make<A: Answers<K, V>>(
         &mut self,

@@ -9,7 +9,7 @@ use crate::probe::Refused;
 use std::alloc::Global;
 use std::marker::Model;
 
-/// A signed number that is the sum of its shards. Its model has the number of shards, the value of
+/// A signed number that is the sum of its shards. Contracts see the number of shards, the value of
 /// each, and their sum, wrapped to 64 bits. The sum is exact whenever it fits.
 ///
 /// The shards are plain words. In 0.2.5 each shard has a cache line of its own, and their number
