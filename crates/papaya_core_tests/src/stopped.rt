@@ -143,7 +143,7 @@ fn said_by<S: BuildHasher>(
     heard(alloc, core, outcome)
 }
 
-/// Returns the value that an iteration returned for a key, if it returned at most one.
+/// Returns what an iteration found for a key, or `None` if it returned the key more than once.
 fn given_to(key: u64, given: &[(u64, u64)]) -> Option<Reply> {
     let mut told = Some(Reply::Absent);
     for (each, value) in given {

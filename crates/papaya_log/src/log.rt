@@ -49,9 +49,9 @@ pub(crate) struct Place {
     slot: usize,
 }
 
-/// Values by number, which threads push and read without a lock. Row `r` has the numbers from `r *
-/// 2^42`. The first row is as long as the requested capacity, and each further one as long as all
-/// before it.
+/// Values by number, which threads push and read without a lock. Row `r` has the numbers from
+/// `r * 2^42`. The first row is as long as the requested capacity, and each further one as long as
+/// all before it.
 ///
 /// A row has a part for each of eight lanes. The pushes of each lane take numbers from a counter of
 /// its own. The caller selects the lane by any number. The more these numbers differ, the more
@@ -328,8 +328,8 @@ impl<T: Blank + Drop> Log<T> {
         None
     }
 
-    /// Returns whether this push writes slots of the next row ahead. None does so in the first row,
-    /// so that an arena within its capacity has no other row.
+    /// Returns whether this push writes slots of the next row ahead. No push does so in the first
+    /// row, so that an arena within its capacity has no other row.
     #[inline(always)]
     fn is_due(&self, place: &Place, row: &Written<Row<T>>) -> bool
         requires { IsMade self.now.buckets place.now row.now.of }

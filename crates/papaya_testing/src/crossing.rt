@@ -30,7 +30,7 @@ impl Crossing {
         }
     }
 
-    /// Waits until all threads have come here `times` times.
+    /// Waits until all threads have come here `times` times, and returns whether they have.
     pub fn meets(&self, times: u64) -> bool {
         self.here.fetch_add(1, Ordering::SeqCst);
         for _ in 0..TURNS {
@@ -42,8 +42,8 @@ impl Crossing {
         false
     }
 
-    /// Begins a thread once all are here. If one is to wait at the gate for others to end, these
-    /// begin when it is at the gate.
+    /// Waits until all threads are here and, if a thread at the gate awaits this one, until that
+    /// thread is there. Returns whether they came.
     pub fn begins(&self, is_awaited: bool) -> bool {
         let met = self.meets(1);
         if self.others == 0 || !is_awaited {
@@ -52,7 +52,7 @@ impl Crossing {
         self.gate.turn_until(&self.gate.reached) && met
     }
 
-    /// Ends a thread. The last one for which the gate waits opens it.
+    /// Records that a thread has ended. The last one for which the gate waits opens it.
     pub fn ends(&self) {
         let before = self.ended.fetch_add(1, Ordering::SeqCst);
         if before.wrapping_add(1) == self.others {
