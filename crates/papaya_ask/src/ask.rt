@@ -45,8 +45,7 @@ pub enum Ask {
     ShowPair(u64),
     /// Return the size of a table, which never changes. Answered by `Size`.
     SizeOf(u64),
-    /// Store the call's key. This and the other asks that make something are answered by `Made` or
-    /// `Refused`.
+    /// Store the call's key. Answered by `Made` or `Refused`, as are all asks that make something.
     MakeKey,
     /// Store the call's value, or the value that its closure returned last.
     MakeValue,
@@ -81,8 +80,7 @@ pub enum Answer {
     Yes(bool),
     /// The result of a compute's closure. The backend keeps the value of an insertion.
     Op(OpKind),
-    /// The number of slots of a table, and its probe limit: how many places after the first a
-    /// search looks at.
+    /// The number of slots of a table, and how many places after the first a search looks at.
     Size { len: usize, limit: usize },
     /// The number of what was made.
     Made(u64),

@@ -14,9 +14,8 @@ pub enum Call<K, V, A> {
     TryInsert(K, V),
     /// Removes the key's entry if the closure returns `true` for it: `remove_if` of 0.2.5.
     RemoveIf(K, A),
-    /// Stores, removes or keeps the key's entry as the closure decides, which is called with the
-    /// entry or with `None`: `compute` of 0.2.5. A removal without an entry is refused; in 0.2.5 it
-    /// panics.
+    /// Stores, removes or keeps the key's entry as the closure decides: `compute` of 0.2.5. Without
+    /// an entry it is called with `None`, and a removal is refused; in 0.2.5 it panics.
     Compute(K, A),
     /// Makes room for this many entries more than the map counts: `reserve` of 0.2.5.
     Reserve(usize),

@@ -156,8 +156,7 @@ impl Search {
         }
     }
 
-    /// Continues with whether the keys match. If the matching pair was copied, the search goes on
-    /// in a later table.
+    /// Continues with whether the keys match. A pair that was copied is found in a later table.
     #[inline(always)]
     pub fn at_yes(self, yes: bool) -> Probed
         requires { IsSearching self }

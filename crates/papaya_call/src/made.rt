@@ -1,5 +1,4 @@
-//! The parts that a call has stored for the pairs that it makes, and those that the next pair
-//! needs.
+//! The parts that a call has stored for its pairs, and those that the next pair still needs.
 ghost use Rattle.std.specs.Prelude.{◌≡◌, ◌<◌, ◌^◌};
 ghost use Rattle.papaya_call.specs.Made.{IsGrown, IsMade, IsTold, answered, grown, nothing_made, number_kind, pair_ask, serves_at, taken, told, wanted};
 
@@ -189,8 +188,7 @@ impl Made {
         }
     }
 
-    /// Continues with the result of a compute's closure. A value that it returned is yet to be
-    /// stored.
+    /// Continues with the result of a compute's closure. Its value, if any, is yet to be stored.
     #[inline]
     pub fn answered(self, kind: OpKind) -> Made
         requires { IsMade self }

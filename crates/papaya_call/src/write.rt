@@ -47,8 +47,7 @@ impl Write {
         )
     }
 
-    /// Returns the next ask of an insertion: first the parts that its pair still needs, then the
-    /// exchange.
+    /// Returns the next ask of an insertion: for a part that its pair needs, or the exchange.
     #[inline(always)]
     pub fn ask(self, made: Made) -> Ask
         requires { IsMade made }

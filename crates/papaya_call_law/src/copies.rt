@@ -28,8 +28,7 @@ ghost use Rattle.papaya_call_law.specs.Copier.{aim_of, last_after, link_in_copyi
 ghost use Rattle.papaya_call_law.specs.Relies.{IsCutAs, IsModeOf};
 ghost use Rattle.papaya_call_law.specs.Told.{IsWritten, word_of};
 
-/// The facts on which a copier relies stay true, whatever others exchange and whichever tables are
-/// made.
+/// A copier's facts stay true, whatever others exchange and whichever tables are made.
 pub fn copiers_stable<K, P>()
     ensures exchanges { (g : Setting K P) (c : Coding K P) → IsHashed g c
         → (s : State P) (m : K → Option P) → IsKeeping g s m → (es : List (Exchange P))

@@ -1,5 +1,4 @@
-//! The facts on which a machine relies while others exchange words between its asks, and its
-//! replies.
+//! The facts on which a machine relies while others exchange words, and so its replies.
 //!
 //! The law of exchanges and the machines meet here. A backend that answers truly needs only these
 //! laws and never looks into a machine: [`relies`] for any schedule, [`alone`] for a call whose

@@ -152,8 +152,7 @@ impl Machine {
         }
     }
 
-    /// Returns the table that a table in the making will follow, or 0 for a first table or for
-    /// none.
+    /// Returns the table that a table in the making will follow, or 0 for a first one or none.
     #[inline]
     pub fn follows(&self) -> u64
         ensures { result ≡ follows_of self.now }
@@ -210,8 +209,7 @@ impl Machine {
         self.call.answer(answer);
     }
 
-    /// Continues after an answer to the call. Sets the call aside if the answer is the next table's
-    /// number.
+    /// Continues after an answer to the call, which the next table's number sets aside.
     #[inline(always)]
     fn called(&mut self, answer: CallAnswer)
         requires standing { IsStanding self.old }

@@ -80,8 +80,7 @@ pub enum State {
     },
     /// The resize is finished.
     Done,
-    /// A table could not be made. Marked words stay marked, and the next copier carries their pairs
-    /// on.
+    /// A table could not be made. Marked words stay marked, and the next copier continues.
     Refused(Refused),
 }
 
@@ -306,8 +305,7 @@ impl Resizer {
         }
     }
 
-    /// Returns the table that a table in the making will follow, or 0 for a first table or for
-    /// none.
+    /// Returns the table that a table in the making will follow, or 0 for a first one or none.
     pub fn follows(&self) -> u64
         ensures { result ≡ follows_of self.now }
     {

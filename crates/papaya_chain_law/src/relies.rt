@@ -36,8 +36,7 @@ pub fn begins<K, P>()
         → Relies g c begun [] k (started task (c.hash k) mode initial number limit) nothing_loaded }
 {}
 
-/// The facts on which a call relies stay true, whatever others exchange and whichever tables are
-/// made.
+/// A call's facts stay true, whatever others exchange and whichever tables are made.
 pub fn stable<K, P>()
     ensures exchanges { (g : Setting K P) (c : Coding K P) → IsHashed g c
         → (begun since es : List (Exchange P)) → AllAllowed g start (begun ++ (since ++ es))

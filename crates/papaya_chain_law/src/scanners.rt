@@ -124,10 +124,9 @@ pub fn scanners_undisturbed<K, P>()
         → StandsAtRoot s scanner.state → reply_of scanner ≡ Some (Reply_refused refused) → ⊥ }
 {}
 
-/// The state at the end of a scan. An iteration has returned exactly once each key that was in the
-/// map all the time, and nothing that was not there; it deletes no pair. A clear leaves none of the
-/// pairs that the map had when it began, and a retain those for which the closure last returned
-/// `true`.
+/// The end of a scan. An iteration has returned exactly once each key that was in the map all the
+/// time, and nothing that was not there; it deletes no pair. A clear leaves none of the pairs of
+/// the map as it began, and a retain those for which the closure last returned `true`.
 pub fn scanners_end<K, P>()
     ensures walked { (g : Setting K P) (c : Coding K P) (s : State P) (m : K → Option P)
         (since : List (Exchange P)) (scanner : Scanner) (loaded : LoadedPairs P)

@@ -310,8 +310,7 @@ impl Aim {
         }
     }
 
-    /// Continues after a chunk was copied, with the next one. Only a call that copies everything
-    /// copies that chunk too.
+    /// Continues after a chunk was copied. Only a call that copies everything copies the next one.
     #[inline]
     fn further(self, chunk: Chunk) -> Copied
         requires { IsStandingChunk chunk }
@@ -326,8 +325,7 @@ impl Aim {
         }
     }
 
-    /// Continues after a copy: with the call's search or slot, or, if it copies everything, at the
-    /// root.
+    /// Continues after a copy: with the search, the slot, or, to copy everything, at the root.
     #[inline]
     fn over(self) -> Copied
         ensures value { result ≡ over self }

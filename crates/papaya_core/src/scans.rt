@@ -35,8 +35,7 @@ fn unheard(ask: ScanAsk, answer: Answer) -> Option<Refused>
     }
 }
 
-/// Returns the outcome of a call that scans a table, for this reply. A finished iteration has a
-/// list.
+/// Returns the outcome of a call that scans a table: a finished iteration has a list.
 fn outcome_of<A: Drop>(scanning: Scanning<A>, reply: Reply) -> Outcome
     ensures told { reply_told result ≡ reply }
     ensures listed { ListsGiven scanning.scanner.scan scanning.given result }

@@ -23,8 +23,7 @@ fn hashes_as<K: Hash + Eq, Q: Equivalent<K>>(query: &Q, key: &K) -> bool
     !query.equivalent(key) || hash_of(query) == hash_of(key)
 }
 
-/// Returns whether a query that matches `key` matches `other` if and only if the two are equal,
-/// which is always so.
+/// Returns whether a query that matches `key` matches exactly its equals, which is always so.
 fn matches_equals<K: Hash + Eq, Q: Equivalent<K>>(query: &Q, key: &K, other: &K) -> bool
     ensures { result ≡ true }
 {

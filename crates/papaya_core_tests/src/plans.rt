@@ -163,8 +163,7 @@ fn called(plan: Plan, held: Option<u64>) -> Then {
     }
 }
 
-/// Returns a call's result for a key, and the value that the key has afterwards. The result of an
-/// iteration is what it returns.
+/// Returns a call's result for a key (of an iteration the pair), and the key's value afterwards.
 fn at_key(plan: Plan, key: u64, held: Option<u64>) -> (Option<Reply>, Option<u64>) {
     match (plan, held) {
         (Plan::Clear, _) => (None, None),
@@ -194,7 +193,7 @@ fn the_other_way(plans: (Plan, Plan), key: u64, held: Option<u64>) -> Told {
     (first, second, held)
 }
 
-/// Returns what was found if two calls may have it. Otherwise returns the results of the first call
+/// Returns what was found if two calls may have it, and otherwise the results of the first call
 /// before the second. A first call that scans may meet the key before the second call and again
 /// after.
 pub(crate) fn as_allowed(found: &Told, plans: (Plan, Plan), key: u64, held: Option<u64>) -> Told {

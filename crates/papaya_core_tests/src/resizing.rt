@@ -89,8 +89,7 @@ fn retain_beside(
     is_gone(rt, alloc, core, steps)
 }
 
-/// Checks that a retain without other callers calls its closure once for each pair, and deletes the
-/// pair if the closure returns `false`.
+/// Checks that a retain alone calls its closure once for each pair, and deletes the refused ones.
 fn asks_once(rt: &impl Abort, alloc: Global, core: &mut Numbers) -> Result<(), Fail> {
     let trace = begin(alloc, core, 2, retain_of_nothing(alloc), WHOLE)?;
     let mut asked = answers_in(alloc, &trace)?;
@@ -121,8 +120,7 @@ fn without_memory(alloc: Global, core: &mut Numbers) -> Result<Trace, Fail> {
     Ok(core.run(turns)?)
 }
 
-/// Checks that a table without memory is refused, that the map is unchanged, and that it works with
-/// memory.
+/// Checks that a table without memory is refused, and that the map then works with memory.
 fn refuses_table(rt: &impl Abort, alloc: Global, core: &mut Numbers) -> Result<(), Fail> {
     let trace = without_memory(alloc, core)?;
     let refused = Some(Reply::Refused(Refused::Memory));

@@ -94,11 +94,9 @@ fn stopped(
     Ok(core.run(turns)?)
 }
 
-/// Returns the replies of two insertions that never replace, if the first is stopped after `steps`
-/// steps.
+/// Returns the replies of two insertions that never replace, the first stopped after `steps` steps.
 fn kept_at(steps: usize) -> Replies {
-    // Caller 0 claims the slot in its tenth step. Its hint comes later: the pair is found without
-    // it.
+    // Caller 0 claims the slot in its tenth step, and its pair is found before it has a hint.
     if steps < 10 {
         (
             Reply::Occupied(200),

@@ -102,8 +102,7 @@ fn makes<S: BuildHasher>(
     Ok(goes_on(core, caller, most))
 }
 
-/// The outcome of a call: its reply, by the values of pairs, and the pairs that it returned, by
-/// key.
+/// The outcome of a call: its reply, by the values of pairs, and the pairs of an iteration.
 #[derive(Drop)]
 struct Said {
     reply: Option<Reply>,
@@ -178,8 +177,7 @@ fn found<S: BuildHasher>(core: &mut Ruled<S>, key: u64) -> Result<Option<u64>, F
     }
 }
 
-/// Checks that both calls are as in a plain map at each key, and that an iteration then returns
-/// what lookups find.
+/// Checks both calls against a plain map at each key, and an iteration against lookups.
 fn is_plain<S: BuildHasher>(
     rt: &impl Abort,
     alloc: Global,
@@ -257,8 +255,7 @@ fn both_said<S: BuildHasher>(
     })
 }
 
-/// Checks the case in which the first call is stopped after `steps` steps. Returns whether it ended
-/// before.
+/// Stops the first call after `steps` steps. Returns whether it ended before.
 fn one_stop<S: BuildHasher>(
     rt: &impl Abort,
     alloc: Global,
@@ -296,8 +293,7 @@ fn each_stop<S: BuildHasher + Copy>(
     Ok(())
 }
 
-/// Returns the calls: those on all keys, and those on the first key and on one that the map never
-/// had.
+/// Returns the calls: those on all keys, on the first key, and on a key that the map never had.
 fn plans(alloc: Global, start: Start, value: u64) -> Result<Vec<Plan>, Fail> {
     let mut plans = Vec::new(alloc);
     for plan in ON_ALL {

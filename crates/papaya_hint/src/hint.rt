@@ -63,8 +63,7 @@ impl<E, A, P: Rule<E, A> + Hinting<E>> Hint<E, A, P> {
         ensures { self.new ≡ word.now }
     {}
 
-    /// Returns the number. The rule's statement about it holds for the log that the caller has then
-    /// observed.
+    /// Returns the number. The rule's statement on it holds for the log that the caller then knows.
     #[inline(always)]
     pub fn load(&self, seen: &mut Seen<E, A, P>) -> u64
         requires { (self.now.tracked ≡ true) × (seen.old.book ≡ self.now.book)

@@ -39,12 +39,12 @@ fn put(members: &mut Map<String, Value>, name: String, member: Value) -> Result<
     }
 }
 
-/// Returns the object of these entries: for each a member, whose text and value the functions
-/// return.
+/// Returns the object of these entries, with the text and the value that the functions return for
+/// each.
 ///
-/// Fails with `Refused::Item` at the first entry for which one of them returns `None`. Otherwise
-/// fails with `Refused::KeyClash` after the last entry if two texts are equal. Fails with
-/// `Refused::Memory` at once if memory runs out.
+/// Fails with `Refused::Item` at the first entry for which one of them returns `None`, with
+/// `Refused::KeyClash` after the last entry if two texts are equal, or with `Refused::Memory` at
+/// once.
 pub(crate) fn object_from<'a, K, V, U, T, W>(
     alloc: Global,
     pairs: U,

@@ -172,8 +172,7 @@ impl Guard for LocalGuard<'_> {
 
 /// A guard of [`Collector::enter_owned`]: `seize`'s type of that name.
 ///
-/// There it may be sent to another thread, and a local guard may not. Here the two differ only in
-/// name.
+/// There it may be sent to another thread, and a local guard may not. Here only the names differ.
 #[derive(Drop)]
 pub struct OwnedGuard<'a> {
     guard: LocalGuard<'a>,

@@ -7,8 +7,7 @@
 pub enum NotInserted<'a, V> {
     /// The value that was passed in. A map for one caller always returns it.
     Value(V),
-    /// A reference to the value. The call had stored it in the arena when another insertion came
-    /// first, and it stays there.
+    /// The value, in the arena: it was stored there before another insertion came first.
     Logged(&'a V),
 }
 

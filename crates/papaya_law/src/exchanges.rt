@@ -152,8 +152,7 @@ pub fn goes_on<K, P>()
         → s.next t ≡ 0 → m k ≡ None }
 {}
 
-/// Iterations over the slots of a root: which pairs one meets, and what a remove learns that lost
-/// its exchange.
+/// Iterations over the slots of a root: which pairs one meets. Removes that lost their exchange.
 pub fn walks_of_a_root<K, P>()
     ensures holds { (g : Setting K P) → IsLawful g → (s : State P) (m : K → Option P)
         → IsKeeping g s m → (g.blocking ≡ false → s.next s.root ≡ 0) → (k : K) (p : P)

@@ -65,8 +65,7 @@ impl Lanes {
         &self.lanes[lane].counter
     }
 
-    /// Returns how many numbers the lanes have given out. It loads the counters one after the
-    /// other.
+    /// Returns how many numbers the lanes have given out. It loads one counter after another.
     pub(crate) fn given(&self) -> u64 {
         let mut given: u64 = 0;
         for lane in &self.lanes {

@@ -38,8 +38,7 @@ const AHEAD_PUSHES: usize = 8;
 /// It writes this many, because a row has at most twice the slots of the one before.
 const AHEAD_SLOTS: usize = 2 * AHEAD_PARTS * AHEAD_PUSHES;
 
-/// A number of a lane's counter, and the location of its value: a row, and a slot of the lane's
-/// part.
+/// A number of a lane's counter, and where its value is: a row, and a slot of the lane's part.
 #[derive(Drop)]
 pub(crate) struct Place {
     push: u64,
@@ -50,12 +49,11 @@ pub(crate) struct Place {
 }
 
 /// Values by number, which threads push and read without a lock. Row `r` has the numbers from
-/// `r * 2^42`. The first row is as long as the requested capacity, and each further one as long as
-/// all before it.
+/// `r * 2^42`. The first row has the requested capacity, each further one as much as all before it.
 ///
-/// A row has a part for each of eight lanes. The pushes of each lane take numbers from a counter of
-/// its own. The caller selects the lane by any number. The more these numbers differ, the more
-/// evenly the parts fill.
+/// A row has a part for each of eight lanes, whose pushes take numbers from a counter of their own.
+/// The caller selects the lane by any number. The more these numbers differ, the more evenly the
+/// parts fill.
 #[derive(Drop)]
 pub struct Log<T> {
     rows: Vec<RowSlot<T>>,
@@ -214,8 +212,7 @@ impl<T: Blank + Drop> Log<T> {
         made
     }
 
-    /// Returns whether a lane has slots left in a row, before the last piece, in which slots are
-    /// written ahead.
+    /// Returns whether a lane has slots left in a row before its last piece (see `AHEAD_PARTS`).
     fn has_room(&self, lane: usize, row: usize) -> bool
         requires { (lane < 8) × (row < 38) }
     {
@@ -228,9 +225,8 @@ impl<T: Blank + Drop> Log<T> {
         found == row && slot < part - part / AHEAD_PARTS
     }
 
-    /// Writes some slots of a row that is not made yet, so that the push that makes it pays for
-    /// few. Does nothing while most lanes have room in the row before, since few keys may fill one
-    /// lane.
+    /// Writes some slots of a row that is not made yet, so that making it is cheaper. Does nothing
+    /// while most lanes have room in the row before, since few keys may fill one lane.
     fn write_ahead(&self, row: usize, value: &T) {
         if row == 0 || row >= ROWS {
             return;

@@ -226,8 +226,7 @@ pub fn find<'a, K: Hash + Eq, V, S: BuildHasher, Q: Equivalent<K>>(
     None
 }
 
-/// Looks up the entry whose key matches `key`, as [`find`] does, and returns only its key and
-/// value.
+/// Looks up an entry whose key matches `key`, as [`find`] does. Returns only its key and value.
 #[inline(always)]
 pub fn look_up_pair<'a, K: Hash + Eq, V, S: BuildHasher, Q: Equivalent<K>>(
     window: &mut Window<'a, K, V, S>,

@@ -198,8 +198,7 @@ fn search_slots<'a, K: Hash + Eq, V, S: BuildHasher, Q: Equivalent<K>>(
     }
 }
 
-/// Returns the result of a lookup if the root alone decides it, or `None` if the whole search is
-/// needed.
+/// Returns the result of a lookup, or `None` if the root alone does not decide it.
 #[inline(always)]
 pub(crate) fn search_near<'a, K: Hash + Eq, V, S: BuildHasher, Q: Equivalent<K>>(
     window: &mut Window<'a, K, V, S>,

@@ -141,8 +141,7 @@ fn copy_slot<K: Hash + Eq, V, S: BuildHasher>(
     }
 }
 
-/// Writes that a chunk is copied, and passes the chunks after it that are. Returns the copy's
-/// state.
+/// Writes that a chunk is copied, and passes the copied ones after it. Returns the copy's state.
 #[inline]
 fn advance<K: Hash + Eq, V, S: BuildHasher>(store: &mut Store<K, V, S>, mut cursor: Cursor) -> Step
     requires { IsStandingCursor cursor }

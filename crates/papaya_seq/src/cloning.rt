@@ -103,8 +103,8 @@ impl<K: Hash + Eq + Clone + Drop, V: Clone + Drop, S: BuildHasher + Clone + Drop
         self.mode.limit = limit;
     }
 
-    /// Makes room for this many entries. A map built without a capacity gets no table for no
-    /// entries.
+    /// Makes room for this many entries, but no table for none if the map was built without a
+    /// capacity.
     #[tactic(auto, using(crate::proofs::Filled::keeps_itself))]
     fn make_room(&mut self, pairs: usize) -> Result<(), Refused>
         ensures err { IfErr result (λ e. IsReserveCause K.eq self.old pairs e self.new) }

@@ -38,8 +38,7 @@ use papaya_words::word::{Kind, Word};
 use std::alloc::Global;
 use std::hash::{BuildHasher, Hash};
 
-/// Returns `None`, with which a closure is called without an entry. Like an entry it borrows the
-/// store.
+/// Returns `None`, which borrows the store like an entry, to call a closure without an entry.
 #[inline(always)]
 fn no_pair<K: Hash + Eq, V, S: BuildHasher>(_store: &Store<K, V, S>) -> Option<(&K, &V)>
     ensures { result ≡ None }

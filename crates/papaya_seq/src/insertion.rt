@@ -75,8 +75,8 @@ impl<K: Hash + Eq + Drop, V: Drop, S: BuildHasher> HashMap<K, V, S> {
         }
     }
 
-    /// Inserts a pair by the machine, step by step. It continues after the search of a full root,
-    /// if any.
+    /// Inserts a pair by the machine, step by step, after the search of a full root if there was
+    /// one.
     #[inline(never)]
     fn insert_slow(&mut self, key: K, value: V, replace: bool, full: u64) -> (Reply, Option<V>)
         requires { IsLedTo (K.eq key) self.old.store

@@ -154,8 +154,7 @@ impl<K: Hash + Eq, V, S: BuildHasher> HashMap<K, V, S> {
         }
     }
 
-    /// Returns the next pair of the map. The iterator holds the root, of `end` slots, until it is
-    /// finished.
+    /// Returns the next pair of the map. The iterator holds the root, of `end` slots, to its end.
     #[inline(always)]
     fn next_held(&self, root: Option<&Table>, end: &mut usize, at: &mut Stand) -> Option<u64>
         requires stands { IsStand self.now at.old }
@@ -166,8 +165,7 @@ impl<K: Hash + Eq, V, S: BuildHasher> HashMap<K, V, S> {
     {
         if at.slot < *end {
             let Some(table) = root else { unreachable!() };
-            // It is 0 already. The write tells the compiler so, which then drops the test for
-            // copies.
+            // It is 0 already. This write lets the compiler drop the test for copies.
             at.passed = 0;
             let pair = self.next_in(table, *end, at);
             if pair.is_some() {
@@ -215,8 +213,7 @@ impl<K: Hash + Eq, V, S: BuildHasher> HashMap<K, V, S> {
         Ok(list)
     }
 
-    /// Returns an iterator over the entries, each once. It allocates nothing, copies nothing and
-    /// never fails.
+    /// Returns an iterator over the entries, each once. It allocates nothing and never fails.
     pub fn iter(&self) -> Iter<'_, K, V, S>
         ensures { result ≡ map entry_of (content K.eq self.now.store) }
     {

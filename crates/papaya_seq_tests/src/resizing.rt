@@ -204,8 +204,7 @@ fn kept(map: &Numbers, done: Result<(), Refused>, end: u64) -> Result<bool, Refu
     }
 }
 
-/// Stores a key, and again if memory ran out. Returns whether the map was as before after a
-/// refusal.
+/// Stores a key, again if memory ran out. Returns whether a refusal left the map as it was.
 fn stores_again(map: &mut Numbers, key: u64) -> Result<bool, Refused> {
     match map.insert(key, key).map(|_| ()) {
         Err(Refused::Memory) => {

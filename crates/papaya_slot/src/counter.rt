@@ -37,8 +37,7 @@ impl Counter {
         Counter { next: 0 }
     }
 
-    /// Returns the next number and the right to write a slot with it, or `None` if no number is
-    /// left.
+    /// Returns the next number and the right to write a slot with it. `None` if no number is left.
     #[inline(always)]
     pub fn take(&self) -> Option<(u64, Right)>
         ensures right { IfSome result (λ taken. (taken.1.counter ≡ self.now)

@@ -1,5 +1,5 @@
-//! Places for values. Each is written once, by the caller that has its number; no word records that
-//! it is written.
+//! Places for values, each written once by the caller that has its number. No word records the
+//! write.
 //!
 //! Begin with [`counter::Counter`]: it gives each number to one caller, with a [`slot::Right`] of
 //! no bytes. A [`slot::Slot`] belongs to a counter and a number. It holds a blank until the value

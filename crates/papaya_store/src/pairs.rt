@@ -42,8 +42,7 @@ pub struct Running<K, V, A> {
 }
 
 impl<T> Part<T> {
-    /// Returns the part with which pair `n` is to be stored, and the part that the call has from
-    /// then on.
+    /// Returns the part that pair `n` is stored with, and the part that the call then has.
     #[inline(always)]
     pub(crate) fn lend(self, n: usize) -> (Part<T>, Part<T>)
         ensures { result ≡ (self, Part.Logged (brought_by n self)) }

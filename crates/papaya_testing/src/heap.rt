@@ -2,8 +2,7 @@
 // that no test needs.
 use std::alloc::Global;
 
-/// The first command's number of bytes, and the distance to the next. A command's argument is
-/// added.
+/// The first command's number of bytes, without its argument, and the distance to the next one.
 const WORDS: usize = 7_000_000;
 
 const BETWEEN: usize = 1_000_000;

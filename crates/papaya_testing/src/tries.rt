@@ -30,8 +30,7 @@ fn goes_on<T: Ready>(ready: &mut T) -> bool {
     ready.is_kept() && ready.is_made() == Ok(true)
 }
 
-/// Makes a call with the request of this number refused. Returns `Answers` if no request was
-/// refused.
+/// Makes a call with this request refused. Returns `Answers` if no request was refused.
 pub fn tries<T: Ready>(alloc: Global, ready: &mut T, number: usize) -> Outcome {
     refuse(alloc, number);
     let first = ready.is_made();

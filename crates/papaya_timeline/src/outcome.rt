@@ -9,8 +9,7 @@ use papaya_ask::call::Reply;
 pub enum Outcome {
     /// The call replied with this.
     Replied(Reply),
-    /// The call was an iteration, and is finished. It returned the pairs with these numbers, in
-    /// order.
+    /// The call was an iteration and is finished: the numbers of its pairs, in order.
     Walked(Vec<u64>),
 }
 

@@ -9,8 +9,7 @@ pub enum Turn<K, V, A> {
     Begin(usize, Call<K, V, A>),
     /// This caller makes a step. If the second field is true, memory runs out in that step.
     Step(usize, bool),
-    /// This caller makes as many steps as its call needs, but at most the second number. Memory
-    /// does not run out.
+    /// This caller makes all steps that its call needs, with memory, and at most the second number.
     Finish(usize, usize),
 }
 

@@ -27,8 +27,7 @@ impl Room {
         }
     }
 
-    /// Returns the room with up to 1024 more slots, but at most `len`, or as it was if memory for
-    /// `len` slots runs out.
+    /// Returns the room with up to 1024 more slots, at most `len`; as it was if memory runs out.
     pub fn with_more(self, len: usize) -> Room {
         let Self {
             mut slots,
@@ -45,8 +44,7 @@ impl Room {
         }
     }
 
-    /// Returns `len` slots and their hints. Uses those of the room if it was reserved for exactly
-    /// `len`.
+    /// Returns `len` slots and their hints: those of the room if it was reserved for exactly `len`.
     pub(crate) fn into_slots(
         self,
         alloc: Global,
