@@ -1,5 +1,5 @@
-//! What an answer leaves to a call over a chain of tables, and to a copy, with no other caller
-//! beside it. The functions do nothing: their contracts are the laws.
+//! How an answer brings calls over a chain of tables, and copies, nearer to their end if there is
+//! no other caller. The functions have empty bodies; their contracts are the laws.
 ghost use Rattle.std.specs.Prelude.{◌≡◌, ◌⊎◌, ℕ, ◌<◌, ◌^◌, List, Option, Some, ◌++◌};
 ghost use Rattle.papaya_words.specs.declared.probe.ResizeMode.{ResizeMode};
 ghost use Rattle.papaya_ask.specs.declared.call.Reply.TheVariants.{Done as Reply_done};
@@ -33,8 +33,8 @@ use papaya_chain::ask::Answer;
 use papaya_chain::machine::Machine;
 use papaya_chain::resizer::{Resize, Resizer};
 
-/// Each answer brings a copy nearer its end: it spends the budget, or less is left. What the copy
-/// has read stands there still, so no exchange is lost.
+/// Each answer brings a copy nearer to its end: it spends some of the budget, or less work is left.
+/// The words that the copy has read have not changed, so no exchange fails.
 pub fn alone_copiers<K, P>()
     ensures nearer { (g : Setting K P) (c : Coding K P) → IsHashed g c
         → (s : State P) (m : K → Option P) → IsKeeping g s m → IsBounded g s
@@ -61,10 +61,10 @@ pub fn alone_copiers<K, P>()
         (copying_after copying mode initial number answer) }
 {}
 
-/// Each answer brings a call over a chain nearer its end: its measure falls. What the call has
-/// read stands there still, so no exchange is lost. A budget counts how many tables may be
-/// made and words exchanged yet; what is to be made for the call is made or refused, and its
-/// closure answers.
+/// Each answer brings a call over a chain nearer to its end: its measure falls. The words that the
+/// call has read have not changed, so no exchange fails. A budget counts how many tables may still
+/// be made and words exchanged. Whatever the call asks for is made or refused, and its closure
+/// returns.
 pub fn alone_calls<K, P>()
     ensures begins { (words : At → ℕ) (task : Task) (hash : ℕ) (mode : ResizeMode)
         (initial number : ℕ) (limit : Option ℕ)
@@ -92,8 +92,8 @@ pub fn alone_calls<K, P>()
         → IsCurrent (word_of g c (run (begun ++ (since ++ es)) start)) (after m answer) }
 {}
 
-/// Each answer brings a resizer nearer its end: its measure falls, and what it has read stands
-/// there still. When it has ended, what was wanted is done.
+/// Each answer brings a resizer nearer to its end: its measure falls, and the words that it has
+/// read have not changed. When it has ended, the resize that was wanted is finished.
 pub fn alone_resizers<K, P>()
     ensures begins { (words : At → ℕ) (resize : Resize) (mode : ResizeMode)
         (initial number : ℕ) → IsResizerRead words (begun resize mode initial number) }

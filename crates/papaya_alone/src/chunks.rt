@@ -1,5 +1,5 @@
-//! How many copies of a chunk end a resize without blocking, with no other caller beside them. The
-//! function does nothing: its contract is the law.
+//! How many copies of a chunk end a resize without blocking, if there is no other caller. The
+//! function has an empty body; its contract is the law.
 ghost use Rattle.std.specs.Prelude.{◌≡◌, ℕ, ◌+◌, ◌-◌, ◌/◌, ◌<◌, List, Option, Some};
 ghost use Rattle.papaya_words.specs.declared.probe.ResizeMode.TheVariants.{Incremental};
 ghost use Rattle.papaya_ask.specs.declared.call.Reply.TheVariants.{Done as Reply_done};
@@ -21,9 +21,9 @@ use papaya_ask::ask::At;
 use papaya_chain::ask::Answer;
 use papaya_chain::resizer::Resizer;
 
-/// A copy of a chunk that is not refused ends the resize that is pending, or copies a chunk more
-/// and leaves one that is not copied. So the resize is ended by at most as many of them as the root
-/// has chunks: its slots by those of a chunk, rounded up.
+/// A copy of a chunk that is not refused ends the pending resize, or copies one more chunk and
+/// leaves one that is not copied. So at most as many copies as the root has chunks end the resize:
+/// its slots divided by those of a chunk, rounded up.
 pub fn alone_chunks<K, P>()
     ensures begins { (words : At → ℕ) (size : ℕ → ℕ) (from to slots due initial number : ℕ)
         → IsDue words from to (chunks_of (size from) slots) due

@@ -1,7 +1,7 @@
-//! A call over a chain of tables with no other caller beside it comes to an end.
+//! A call over a chain of tables ends if there is no other caller.
 //!
-//! A measure falls at each of its steps: how many tables and exchanges there may still be, which
-//! its backend counts, and how much is left to it between two of them.
+//! A measure falls at each of its steps. It combines how many tables and exchanges there may still
+//! be, which the backend counts, and how much work is left between two of them.
 #![tactic(auto)]
 
 pub mod alone;

@@ -1,5 +1,5 @@
-//! How a call takes numbers for the pairs that it makes, where a map has a limit on them, with no
-//! other caller beside it. The function does nothing: its contract is the law.
+//! How a call takes numbers for the pairs that it makes, in a map that limits them, if there is no
+//! other caller. The function has an empty body; its contract is the law.
 ghost use Rattle.std.specs.Prelude.{◌≡◌, ◌⊎◌, ℕ, ◌+◌, ◌<◌, ◌≤◌, Option, Some};
 ghost use Rattle.papaya_words.specs.declared.probe.ResizeMode.{ResizeMode};
 ghost use Rattle.papaya_ask.specs.declared.ask.StepKind.TheVariants.{Take};
@@ -13,12 +13,12 @@ use papaya_chain::ask::{Answer, Ask};
 use papaya_chain::machine::Machine;
 use papaya_words::probe::Refused;
 
-/// A call that is about to make a pair loads how many numbers were taken. Where that is the limit,
-/// it ends refused. Below the limit it takes the next number, which is free still, since nobody
-/// else takes one; and then it goes on, and has something logged.
+/// A call that is about to make a pair loads how many numbers were taken. If that is the limit, the
+/// call ends refused. Below the limit it takes the next number, which is still free because nobody
+/// else takes one. Then it continues, and stores something.
 ///
-/// Each pair needs a number of its own. So a call logs nothing before it has taken one, and where
-/// it has logged a pair, nothing more before it has taken the next.
+/// Each pair needs a number of its own. So a call stores nothing before it has taken a number, and
+/// after it has stored a pair, nothing more before it has taken the next.
 pub fn alone_limits()
     ensures full { (m : Machine) (most count : ℕ) → m.call.made.limit ≡ Some most
         → ask_of m ≡ Ask.Call (CallAsk.Load At.Made) → most ≤ count

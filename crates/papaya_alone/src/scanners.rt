@@ -1,5 +1,5 @@
-//! What an answer leaves to a call that scans a table, with no other caller beside it. The
-//! function does nothing: its contract is the law.
+//! How an answer brings a call that scans a table nearer to its end if there is no other caller.
+//! The function has an empty body; its contract is the law.
 ghost use Rattle.std.specs.Prelude.{◌≡◌, ℕ, ◌<◌, ◌^◌, List, Option, Some, ◌++◌};
 ghost use Rattle.papaya_words.specs.declared.probe.ResizeMode.{ResizeMode};
 ghost use Rattle.papaya_law.specs.Allows.{AllAllowed};
@@ -20,9 +20,9 @@ use papaya_chain::ask::Answer;
 use papaya_chain::scan_ask::ScanAsk;
 use papaya_chain::scanner::{Scan, Scanner};
 
-/// Each answer brings a scanner nearer its end: its measure falls, and what it has read
-/// stands there still, so no exchange is lost. Where a walk, a clear or a retain ends is said
-/// by `scanners_end`.
+/// Each answer brings a scanner nearer to its end: its measure falls. The words that it has read
+/// have not changed, so no exchange fails. `scanners_end` states what holds when an iteration, a
+/// clear or a retain ends.
 pub fn alone_scanners<K, P>()
     ensures begins { (words : At → ℕ) (scan : Scan) (mode : ResizeMode)
         (initial number : ℕ) → IsScannerRead words (begun scan mode initial number) }

@@ -1,56 +1,56 @@
-//! Calls, as a caller hands them in, and what they reply.
+//! Calls with their arguments, and their replies.
 use papaya_words::probe::Refused;
 
-/// A call that a caller begins, with what it hands in. `A` gives the answers of the closure of a
-/// call that takes one, as `papaya_call::answers::Listed` does.
+/// A call that a caller begins, with its arguments. `A` gives the results of the closure if the
+/// call takes one, as `papaya_call::answers::Listed` does.
 #[derive(Debug, Drop)]
 pub enum Call<K, V, A> {
-    /// Looks a key up: `get` of 0.2.5.
+    /// Looks up a key: `get` of 0.2.5.
     Get(K),
-    /// Stores a pair, in place of one with an equal key, whose key stays: `insert` of 0.2.5, as its
-    /// documentation has it.
+    /// Stores an entry. If an equal key is present, its value is replaced and its key stays, as the
+    /// documentation of `insert` in 0.2.5 says.
     Insert(K, V),
-    /// Stores a pair where the key is absent: `try_insert` of 0.2.5.
+    /// Stores an entry if the key is absent: `try_insert` of 0.2.5.
     TryInsert(K, V),
-    /// Removes the key's pair if the closure, which is shown it, answers yes: `remove_if` of 0.2.5.
+    /// Removes the key's entry if the closure returns `true` for it: `remove_if` of 0.2.5.
     RemoveIf(K, A),
-    /// Stores, removes or leaves the key's pair, as the closure answers that is shown it, or that
-    /// there is none: `compute` of 0.2.5. Where nothing is there to be removed, 0.2.5 panics.
+    /// Stores, removes or keeps the key's entry as the closure decides: `compute` of 0.2.5. Without
+    /// an entry it is called with `None`, and a removal is refused; in 0.2.5 it panics.
     Compute(K, A),
-    /// Makes room for so many pairs more than the map counts: `reserve` of 0.2.5.
+    /// Makes room for this many entries more than the map counts: `reserve` of 0.2.5.
     Reserve(usize),
-    /// Ends the resize that is under way. In 0.2.5 no public call does only this.
+    /// Finishes the resize that is under way. In 0.2.5 no public call does only this.
     CopyAll,
-    /// Takes out each pair that it meets: `clear` of 0.2.5.
+    /// Removes each entry that it meets: `clear` of 0.2.5.
     Clear,
-    /// Shows each pair that it meets to the closure, and takes it out where that answers that it
-    /// does not stay: `retain` of 0.2.5.
+    /// Calls the closure with each entry that it meets, and removes the entry if the closure
+    /// returns that it does not stay: `retain` of 0.2.5.
     Retain(A),
-    /// Gives each pair that it meets, and changes nothing: `iter` of 0.2.5.
+    /// Returns each entry that it meets, and changes nothing: `iter` of 0.2.5.
     Walk,
 }
 
-/// What a machine does: the call without what was handed in, which the backend keeps.
+/// The work of a machine: the call without its arguments, which the backend keeps.
 #[derive(Clone, Copy, Debug, PartialEq)]
 pub enum Task {
     /// A lookup.
     Get,
-    /// An insertion: `insert` of 0.2.5, or with `replace: false` its `try_insert`, which answers
-    /// with the pair that it finds.
+    /// An insertion: `insert` of 0.2.5, or with `replace: false` its `try_insert`, which returns
+    /// the pair that it finds.
     Insert { replace: bool },
     /// A removal of a pair that its closure agrees to: `remove_if` of 0.2.5.
     RemoveIf,
-    /// What a closure answers that is shown the key's pair, or that there is none: `compute`
-    /// of 0.2.5.
+    /// A change that its closure decides, called with the key's pair or without one: `compute` of
+    /// 0.2.5.
     Compute,
 }
 
-/// What a call replies. Pairs are named by their numbers in the log.
+/// The reply of a call. Pairs are named by their numbers in the arena.
 #[derive(Clone, Copy, Debug, PartialEq, Eq)]
 pub enum Reply {
     /// The key is not in the map.
     Absent,
-    /// A lookup's pair.
+    /// The lookup found this pair.
     Found(u64),
     /// The key was absent, and got this pair.
     Inserted(u64),
@@ -58,15 +58,15 @@ pub enum Reply {
     Replaced { old: u64, new: u64 },
     /// The key had this pair, and keeps it.
     Occupied(u64),
-    /// The closure answered yes for this pair, and it was removed.
+    /// The closure returned `true` for this pair, and it was removed.
     Removed(u64),
-    /// The closure answered no for this pair, and it stays.
+    /// The closure returned `false` for this pair, and it stays.
     Kept(u64),
-    /// The closure ended the call so, and changed nothing.
+    /// The closure ended the call with this, and nothing was changed.
     Aborted(u64),
-    /// A call on no key has done what it was to do.
+    /// A call without a key has finished.
     Done,
-    /// The call changed nothing: what it was to make was refused, there is no room for it, or the
-    /// closure would remove where nothing is.
+    /// The call changed nothing. Memory ran out, there is no room, or the closure returned a
+    /// removal without an entry.
     Refused(Refused),
 }

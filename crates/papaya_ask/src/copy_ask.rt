@@ -1,28 +1,28 @@
-//! What the machines of a resize ask, and each call that meets one on its way over tables.
+//! The asks of a machine that resizes, and of each call that meets a resize.
 use crate::ask::At;
 
-/// What a copier asks next: one atomic step on one word or hint at most.
+/// The next ask of a copier: one atomic step on at most one word or hint.
 #[derive(Clone, Copy)]
 pub enum CopyAsk {
-    /// The word that stands there.
+    /// Load this word.
     Load(At),
-    /// The second word in place of the first, if the first stands there.
+    /// Exchange the word for the second number if it is the first.
     Exchange(At, u64, u64),
-    /// The hint of a slot: the table, and the slot's place in it from 0.
+    /// Load the hint of a slot: the table, and the slot's index in it, from 0.
     LoadHint(u64, usize),
-    /// This hint for a slot that has none: the table, the slot's place, the hint.
+    /// Write a hint for a slot that has none: the table, the slot's index, the hint.
     WriteHint(u64, usize, u8),
-    /// The size of a table, which never changes.
+    /// Return the size of a table, which never changes.
     SizeOf(u64),
-    /// The hash of the key of the pair of this number, which was loaded last and is carried from
-    /// now on.
+    /// Return the hash of the key of the pair with this number. The pair was loaded last and is
+    /// carried from now on.
     HashOf(u64),
-    /// Have the pair that is carried and the one loaded last, of these numbers, equal keys?
+    /// Compare the keys of the pair that is carried and of the one loaded last, with these numbers.
     SamePair(u64, u64),
-    /// How many pairs the map counts.
+    /// Return how many pairs the map counts.
     Count,
-    /// Make a table of so many slots, all empty, which a search looks at in `limit + 1` places, and
-    /// to which a table of so many chunks is copied.
+    /// Make a table of `len` slots, all empty, that a search looks at in `limit + 1` places, and to
+    /// which a table of `chunks` chunks is copied.
     MakeTable {
         len: usize,
         limit: usize,

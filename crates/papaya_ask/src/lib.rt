@@ -1,4 +1,4 @@
-//! What a call asks of its backend, what it is answered and replies, and the search of one table.
+//! The asks of a call to its backend, the answers and replies, and the search of one table.
 #![tactic(auto)]
 
 pub mod ask;

@@ -6,15 +6,15 @@ use crate::ask::{Ask, At};
 use papaya_words::probe::Probe;
 use papaya_words::word::{Kind, Word, h1, may_hold};
 
-/// A place of a key in a table. A search carries its table's size along, which never changes, so
-/// that the size is asked for once a table.
+/// A place of a key in a table. A search carries its table's size with it, so that it asks for the
+/// size once a table. The size never changes.
 #[derive(Clone, Copy)]
 pub struct Place {
     /// The table's number.
     pub table: u64,
-    /// How many slots the table has: a power of two.
+    /// The number of slots of the table, a power of two.
     pub len: usize,
-    /// How many places after the first a search looks at.
+    /// The probe limit: how many places after the first a search looks at.
     pub limit: usize,
     /// The slot, and how many places came before it.
     pub probe: Probe,
@@ -23,22 +23,22 @@ pub struct Place {
 /// A search of one table, between two answers.
 #[derive(Clone, Copy)]
 pub enum Search {
-    /// It asks for the size of this table.
+    /// Asks for the size of this table.
     Sizing(u64),
-    /// It loads the hint of this place.
+    /// Loads the hint of this place.
     Looking(Place),
-    /// The hint says nothing, or is the key's, so it loads the word at this place.
+    /// The hint is 0 or the key's: loads the word at this place.
     Reading(Place),
-    /// It compares the key of the pair that this word names, which was loaded at this place.
+    /// Compares the key of the pair that this word names, which was loaded at this place.
     Comparing(Place, u64),
 }
 
-/// Where an answer led a search.
+/// The outcome of an answer to a search.
 #[derive(Clone, Copy)]
 pub enum Probed {
-    /// The search goes on.
+    /// The search continues.
     On(Search),
-    /// Nothing was ever at this place, so the key is not here.
+    /// Nothing was ever written at this place, so the key is not here.
     Empty(Place),
     /// The word at this place names a pair with a matching key.
     Here(Place, u64),
@@ -47,7 +47,7 @@ pub enum Probed {
 }
 
 impl Place {
-    /// The first place of a key with this hash.
+    /// Returns the first place of a key with this hash.
     #[inline(always)]
     pub fn first(hash: u64, table: u64, len: usize, limit: usize) -> Place
         requires { IsSize len limit }
@@ -62,14 +62,14 @@ impl Place {
         }
     }
 
-    /// Did the search pass more than one in four of the places that it may look at? Then the table
-    /// has few empty places left, and its next one is not far.
+    /// Returns whether the search passed more than a quarter of the places that it may look at. The
+    /// table then has few empty places left, and will soon get a next one.
     #[inline(always)]
     pub fn is_crowded(&self) -> bool {
         self.probe.len > self.limit / 4
     }
 
-    /// The key is not at this place, so the next one is looked at, while there is one.
+    /// Moves to the next place, if there is one.
     #[inline(always)]
     fn go_on(mut self) -> Probed
         requires { IsWithin self }
@@ -84,8 +84,8 @@ impl Place {
         }
     }
 
-    /// This hint stands at the place. One of another key, or of a slot that is shut, saves
-    /// the word.
+    /// Continues with the hint of the place. The hint of another key, or of a sealed slot, saves
+    /// loading the word.
     #[inline(always)]
     pub fn hinted(self, hash: u64, found: u64) -> Probed
         requires { IsWithin self }
@@ -99,7 +99,7 @@ impl Place {
         }
     }
 
-    /// This word stands at the place.
+    /// Continues with the word at the place.
     #[inline(always)]
     pub fn look(self, word: u64) -> Probed
         requires { IsWithin self }
@@ -115,7 +115,7 @@ impl Place {
 }
 
 impl Search {
-    /// What the search asks next.
+    /// Returns the next ask of the search.
     #[inline(always)]
     pub fn ask(self) -> Ask
         ensures { result ≡ ask_of self }
@@ -128,7 +128,7 @@ impl Search {
         }
     }
 
-    /// The table has this size.
+    /// Continues with the size of the table.
     #[inline(always)]
     pub fn at_size(self, hash: u64, len: usize, limit: usize) -> Search
         requires searching { IsSearching self }
@@ -142,7 +142,7 @@ impl Search {
         }
     }
 
-    /// This word, or this hint, was loaded.
+    /// Continues with the word or the hint that was loaded.
     #[inline(always)]
     pub fn at_word(self, hash: u64, word: u64) -> Probed
         requires { IsSearching self }
@@ -156,7 +156,7 @@ impl Search {
         }
     }
 
-    /// The keys match, or they do not. A pair that was copied has to be looked for further on.
+    /// Continues with whether the keys match. A pair that was copied is found in a later table.
     #[inline(always)]
     pub fn at_yes(self, yes: bool) -> Probed
         requires { IsSearching self }

@@ -1,46 +1,46 @@
-//! The answers of closures, as values: what a call's closure is shown, and what it answers.
+//! Results of closures, as values: for calls that are values themselves.
 ghost use Rattle.std.specs.Prelude.{◌≡◌, ℕ, Option, Bool, option_map, false};
 ghost use Rattle.papaya_call.specs.declared.answers.Operation.{Operation};
 ghost use Rattle.papaya_call.specs.Answers.{first_or, rest_of};
 
-/// What a closure answers that may insert, remove or abort: `Operation` of 0.2.5.
+/// The result of a closure that may insert, remove or abort: `Operation` of 0.2.5.
 #[derive(Debug, PartialEq, Eq, Drop)]
 pub enum Operation<V, T> {
-    /// Store this value, in place of what was shown, if anything was.
+    /// Store this value. It replaces the entry's value, if there is an entry.
     Insert(V),
-    /// Remove what was shown.
+    /// Remove the entry.
     Remove,
-    /// Change nothing, and answer this.
+    /// Change nothing, and return this.
     Abort(T),
 }
 
-/// What stands for the closure of a call that takes one, wherever calls are values.
+/// The closure of a call, where calls are values.
 ///
-/// A type of answers tells contracts which answer and which next value each of its calls gives.
+/// A type of answers states in contracts which result and which next state each of its calls gives.
 pub trait Answers<K, V> {
     ghost op_gives: { Self → Option (K × V) → Operation V ℕ → Self → Type 0 };
 
     ghost yes_gives: { Self → K → V → Bool → Self → Type 0 };
 
-    /// The answer of a closure that may insert, remove or abort. `None` is shown where the key
-    /// is absent.
+    /// Returns the result of a closure that may insert, remove or abort. It is called with `None`
+    /// if the key is absent.
     fn op(&mut self, shown: Option<(&K, &V)>) -> Operation<V, u64>
         ensures { op_gives self.old (option_map (λ p. (p.0.now, p.1.now)) shown.entry) result
             self.new };
 
-    /// The answer of a closure that says whether the pair that it is shown is to be removed.
+    /// Returns whether the entry is to be removed.
     fn yes(&mut self, key: &K, value: &V) -> bool
         ensures { yes_gives self.old key.now value.now result self.new };
 }
 
-/// Answers that are given in turn, whatever is shown.
+/// Results that are listed in advance, whatever the closure is called with.
 ///
-/// Where they are used up, `op` answers `Abort(0)`, and `yes` answers false.
+/// After the last one, `op` returns `Abort(0)`, and `yes` returns `false`.
 #[derive(Drop)]
 pub struct Listed<V> {
-    /// What `op` answers, the first one first.
+    /// The results of `op`, the first one first.
     pub ops: Vec<Operation<V, u64>>,
-    /// What `yes` answers, the first one first.
+    /// The results of `yes`, the first one first.
     pub yes: Vec<bool>,
 }
 

@@ -1,4 +1,4 @@
-//! What a compute holds between its closure's answers and its change.
+//! The data of a compute between its closure's result and its change.
 ghost use Rattle.std.specs.Prelude.{◌≡◌, ◌<◌, ◌^◌};
 ghost use Rattle.papaya_ask.specs.declared.call.Task.{Task};
 ghost use Rattle.papaya_ask.specs.declared.call.Task.TheVariants.{Compute};
@@ -19,30 +19,29 @@ use papaya_ask::search::Place;
 use papaya_words::probe::Refused;
 use papaya_words::word::Word;
 
-/// Where the key was found to be absent, and so where its pair is to stand.
+/// The place where the key was found to be absent, and so where its pair will be.
 #[derive(Clone, Copy)]
 pub enum Gap {
     /// There is no root.
     NoRoot,
     /// This place is empty.
     At(Place),
-    /// The key is in no place of this table, and it has no next one.
+    /// The key is in no place of this table, which has no next one.
     After(u64),
 }
 
-/// What a pair is made for, with a value that the closure answered.
+/// The purpose of a pair that is made with a value that the closure returned.
 #[derive(Clone, Copy)]
 pub enum Purpose {
-    /// The closure was shown that the key is absent.
+    /// The closure was called without a pair, because the key is absent.
     Fill(Gap),
-    /// It was shown the pair that the old word of this write names.
+    /// The closure was called with the pair that the old word of this write names.
     Replace(Write),
-    /// It was shown the pair that the old word of this write names, and a pair was made of its
-    /// answer, but for another slot.
+    /// As for `Replace`, but a pair was already made with the returned value, for another slot.
     Again(Write),
 }
 
-/// A pair that was made, and where it is to stand.
+/// A pair that was made, and where it will be.
 #[derive(Clone, Copy)]
 pub struct Put {
     pub write: Write,
@@ -50,27 +49,27 @@ pub struct Put {
     pub pair: u64,
 }
 
-/// What the closure answered of a pair.
+/// The closure's result for a pair.
 #[derive(Clone, Copy)]
 pub enum Choice {
-    /// The new pair, which was made of what it answered, is to take the place of the old one.
+    /// The new pair, made with the returned value, is to replace the old one.
     Replace { old: u64, new: Of },
     /// This pair is to be removed.
     Remove(u64),
 }
 
-/// What a compute remembers of its closure's answers, so that a change that another call was
-/// first to make does not show the closure the same again.
+/// The results of its closure that a compute remembers. If another call's change comes first, the
+/// closure is not called again with the same pair.
 #[derive(Clone, Copy)]
 pub struct Remembered {
-    /// The pair that is to stand where the key is absent.
+    /// The pair to store if the key is absent.
     pub fill: Option<u64>,
-    /// What was answered of the pair last shown.
+    /// The closure's result for the pair with which it was called last.
     pub choice: Option<Choice>,
 }
 
 impl Remembered {
-    /// The closure has answered nothing yet.
+    /// Returns no results: the closure was not called yet.
     #[inline(always)]
     pub fn nothing() -> Remembered
         ensures value { result ≡ nothing }
@@ -82,8 +81,8 @@ impl Remembered {
         }
     }
 
-    /// A Live word names a pair with the key: the closure is shown it, unless what it answered of
-    /// it is remembered.
+    /// Continues at a `Live` word that names a pair with the key. The closure is called with the
+    /// pair, unless its result for it is remembered.
     pub fn meets(self, place: Place, word: u64) -> State
         requires within { IsWithin place }
         requires remembered { IsRemembered self }
@@ -98,8 +97,8 @@ impl Remembered {
         }
     }
 
-    /// What is remembered after the closure was shown a pair. An insertion is remembered once its
-    /// pair is made.
+    /// Returns the remembered results after the closure was called with a pair. An insertion is
+    /// remembered only once its pair is made.
     pub fn with_choice(self, shown: Removal, kind: OpKind) -> Remembered
         requires { IsRemembered self }
         ensures value { result ≡ with_choice self shown kind }
@@ -114,8 +113,8 @@ impl Remembered {
         }
     }
 
-    /// What is remembered after the pair of this number was made. Where it is for an absent key, no
-    /// pair that the closure was shown before comes again.
+    /// Returns the remembered results after the pair of this number was made. If it is for an
+    /// absent key, no pair with which the closure was called before comes again.
     pub fn with_pair(self, purpose: Purpose, pair: u64) -> Remembered
         requires remembered { IsRemembered self }
         requires pair { pair < 2 ^ 48 }
@@ -140,7 +139,7 @@ impl Remembered {
 }
 
 impl Purpose {
-    /// The word in whose place the pair is to stand.
+    /// Returns the word that the pair is to replace.
     #[inline(always)]
     pub fn in_place_of(self) -> u64
         ensures { result ≡ in_place_of self }
@@ -153,8 +152,8 @@ impl Purpose {
 }
 
 impl State {
-    /// A pair was made of what the closure answered of the pair that this word names. Where that
-    /// stands in another slot than it was made for, a new one of its value is made.
+    /// Continues with a pair that was made with the closure's result for the pair that this word
+    /// names. If that is in another slot now, a new pair of the value is made.
     pub(crate) fn recalled(new: Of, place: Place, word: u64) -> State
         requires within { IsWithin place }
         requires pair { new.pair < 2 ^ 48 }
@@ -172,7 +171,7 @@ impl State {
         }
     }
 
-    /// The pair of this number goes where its key is absent.
+    /// Continues by storing the pair of this number where its key is absent.
     pub(crate) fn fills(gap: Gap, pair: u64) -> State
         requires gap { IsGap gap }
         requires pair { pair < 2 ^ 48 }
@@ -189,7 +188,7 @@ impl State {
         }
     }
 
-    /// What the closure answered where it was shown that the key is absent.
+    /// Continues with the closure's result for an absent key.
     pub(crate) fn offered(gap: Gap, kind: OpKind) -> State
         requires { IsGap gap }
         ensures value { result ≡ offered gap kind }
@@ -202,7 +201,7 @@ impl State {
         }
     }
 
-    /// What the closure answered where it was shown a pair.
+    /// Continues with the closure's result for a pair.
     pub(crate) fn chosen(shown: Removal, kind: OpKind) -> State
         requires { IsWithin shown.place }
         ensures value { result ≡ chosen shown kind }
@@ -221,7 +220,7 @@ impl State {
         }
     }
 
-    /// A pair was made of the value that the closure answered.
+    /// Continues after a pair was made with the value that the closure returned.
     pub(crate) fn provides(purpose: Purpose, pair: u64) -> State
         requires purpose { IsPurpose purpose }
         requires pair { pair < 2 ^ 48 }

@@ -1,4 +1,4 @@
-//! The machine of a call: what it asks, and what it does with each answer.
+//! The machine of a call: what it asks, and how it continues after each answer.
 ghost use Rattle.std.specs.Prelude.{◌≡◌, ◌<◌, ◌≤◌, ◌^◌};
 ghost use Rattle.papaya_ask.specs.Search.{IsSize, IsProbed, IsWithin};
 ghost use Rattle.papaya_ask.specs.declared.call.Task.{Task};
@@ -20,68 +20,68 @@ use papaya_words::limits::{FIRST_TABLE_LEN, FIRST_TABLE_LIMIT};
 use papaya_words::probe::{Refused, ResizeMode};
 use papaya_words::word::{Kind, Word};
 
-/// Where a call stands, between two answers.
+/// The state of a call, between two answers.
 #[derive(Clone, Copy)]
 pub enum State {
-    /// It loads the root.
+    /// Loads the root.
     AtRoot,
-    /// There is no root, so it makes the first table.
+    /// There is no root: makes the first table.
     Making,
-    /// It puts this table, which it made, in as the root.
+    /// Makes this table, which the call made, the root.
     Opening(u64),
-    /// It searches a table.
+    /// Searches a table.
     Searching(Search),
-    /// It makes its pair, and writes it.
+    /// Makes a pair, and writes it.
     Writing(Write),
-    /// It shows its closure that its key is absent.
+    /// Calls the closure without a pair, because the key is absent.
     Offering(Gap),
-    /// It shows its closure this pair.
+    /// Calls the closure with this pair.
     Showing(Removal),
-    /// It makes a pair of the value that its closure answered.
+    /// Makes a pair of the value that the closure returned.
     Pairing(Purpose),
-    /// It writes the pair that it made so.
+    /// Writes the pair that was made in this way.
     Putting(Put),
-    /// Its closure would have this pair removed, and it removes it.
+    /// Removes this pair, as the closure decided.
     Burying(Removal),
-    /// Its pair was claimed, and is to be counted.
+    /// The pair was claimed: counts it.
     Counting(Claimed),
-    /// Its pair was claimed and counted, and it writes the hint of its key.
+    /// The pair was claimed and counted: writes the hint of its key.
     Noting(Claimed),
-    /// The pair of this number was deleted, and is to be counted out.
+    /// The pair of this number was deleted: counts it out.
     Uncounting(u64),
-    /// Its key is not in this table, and it loads the number of the next.
+    /// The key is not in this table: loads the number of the next one.
     Leaving(u64),
-    /// It needs the table after one, and loads its number.
+    /// The call needs the table after one: loads its number.
     Growing(Need),
-    /// It has replied.
+    /// The call has replied.
     Ended(Reply),
 }
 
-/// A call under way. It is plain data and holds no key, value or memory: what it asks is all that
-/// a backend does for it.
+/// A call under way. It is plain data and holds no key, value or memory. A backend does nothing for
+/// it but what it asks.
 #[derive(Clone, Copy)]
 pub struct Machine {
-    /// What the call does.
+    /// The call's task.
     pub task: Task,
     /// The hash of the call's key.
     pub hash: u64,
     /// How the map's tables are copied.
     pub mode: ResizeMode,
-    /// The initial capacity of the map in slots: no table is made shorter.
+    /// The initial capacity of the map in slots. No table is made shorter.
     pub initial: usize,
-    /// What the call has logged for its pair.
+    /// The parts of its pair that the call has stored.
     pub made: Made,
-    /// What a compute remembers.
+    /// The results of its closure that a compute remembers.
     pub remembered: Remembered,
-    /// Where the call stands.
+    /// The call's state.
     pub state: State,
 }
 
 impl Machine {
-    /// A call that begins. It logs no pair where so many were logged as the limit says, if there
-    /// is one.
+    /// Begins a call. If there is a limit on pairs, the call stores no pair once that many are
+    /// stored.
     ///
-    /// It stands for the whole of a call of 0.2.5, whose steps run one after another there.
+    /// It replaces the whole of a call of 0.2.5, whose steps run one after another.
     #[inline(always)]
     pub fn new(
         task: Task,
@@ -105,7 +105,7 @@ impl Machine {
         }
     }
 
-    /// What the machine asks next. Until it is answered it asks the same.
+    /// Returns the next ask of the machine: the same until it is answered.
     #[inline(always)]
     pub fn ask(&self) -> Ask
         requires { IsStanding self.now }
@@ -137,8 +137,8 @@ impl Machine {
         }
     }
 
-    /// The kind of the exchange that the machine asks for, if it asks for one. The words alone do
-    /// not tell it.
+    /// Returns the exchange's kind, if the next ask is an exchange. The words alone do not show the
+    /// kind.
     #[inline]
     pub fn kind(&self) -> Option<StepKind>
         ensures { result ≡ kind_of_ask self.now }
@@ -156,7 +156,7 @@ impl Machine {
         }
     }
 
-    /// Goes on after an answer to what was asked. A machine that has replied stays as it is.
+    /// Continues after an answer to the last ask. A machine that has replied does not change.
     #[inline(always)]
     pub fn answer(&mut self, answer: Answer)
         requires standing { IsStanding self.old }
@@ -221,7 +221,7 @@ impl Machine {
         }
     }
 
-    /// So many numbers were taken for pairs. Where that is the limit the call ends.
+    /// Continues with the count of numbers taken for pairs. If it is the limit, the call ends.
     #[inline]
     fn told(&mut self, count: u64)
         requires { IsStanding self.old }
@@ -234,7 +234,7 @@ impl Machine {
         }
     }
 
-    /// The pair of this number was written.
+    /// Continues after the pair of this number was written.
     #[inline(always)]
     fn written(&self, write: Write, pair: u64) -> State
         requires { MayInsert self.now.task }
@@ -273,8 +273,8 @@ impl Machine {
         }
     }
 
-    /// A deletion found this word in the place of its own. Where another call deleted the pair of a
-    /// removal, the key was absent then.
+    /// Continues after a deletion found `word` instead of its own. If another call deleted the pair
+    /// of a removal, the key was absent at that point.
     #[inline(always)]
     fn beaten(&self, removal: Removal, word: u64) -> State
         requires within { IsWithin removal.place }
@@ -376,7 +376,7 @@ impl Machine {
         }
     }
 
-    /// Only what was to be made can be refused, and no change was made before it.
+    /// Ends because something could not be made. The call has made no change before.
     #[inline(always)]
     fn at_refused(&self, refused: Refused) -> State
         requires { IsStanding self.now }
@@ -394,7 +394,7 @@ impl Machine {
         }
     }
 
-    /// The root is this table, or there is none.
+    /// Continues with the number of the root, or 0.
     #[inline(always)]
     fn at_root(&self, word: u64) -> State
         requires { IsStanding self.now }
@@ -410,7 +410,7 @@ impl Machine {
         }
     }
 
-    /// What the search saw leads here.
+    /// Continues with the outcome of a search's step.
     #[inline(always)]
     fn goes(&self, seen: Probed) -> State
         requires seen { IsProbed seen }
@@ -432,8 +432,8 @@ impl Machine {
         }
     }
 
-    /// A word at this place names a pair with a matching key. One that is marked can't be changed
-    /// here, and each call but a lookup carries it on first.
+    /// Continues at a word that names a pair with a matching key. A marked pair can't be changed
+    /// here, so each call but a lookup first carries it on.
     #[inline(always)]
     fn found(&self, place: Place, word: u64) -> State
         requires within { IsWithin place }
@@ -455,8 +455,7 @@ impl Machine {
         }
     }
 
-    /// A call that looks for its key goes past a table. In `Blocking` what it looks for never is
-    /// in a later one.
+    /// Passes a table in the search for the key. With `Blocking`, no later table has the key.
     #[inline(always)]
     fn passes(&self, table: u64) -> State
         requires { IsStanding self.now }
@@ -469,7 +468,7 @@ impl Machine {
         }
     }
 
-    /// The next table has this number, or there is none.
+    /// Continues with the number of the next table, or 0.
     #[inline(always)]
     fn left(&self, table: u64, word: u64) -> State
         requires { IsStanding self.now }
@@ -483,7 +482,7 @@ impl Machine {
         }
     }
 
-    /// The key is absent, and a pair of it would stand there.
+    /// Continues because the key is absent and its pair would be in this gap.
     #[inline(always)]
     fn absent(&self, gap: Gap) -> State
         requires gap { IsGap gap }

@@ -1,4 +1,4 @@
-//! What a call has logged for the pairs that it makes, and what the next one still needs.
+//! The parts that a call has stored for its pairs, and those that the next pair still needs.
 ghost use Rattle.std.specs.Prelude.{◌≡◌, ◌<◌, ◌^◌};
 ghost use Rattle.papaya_call.specs.Made.{IsGrown, IsMade, IsTold, answered, grown, nothing_made, number_kind, pair_ask, serves_at, taken, told, wanted};
 
@@ -6,31 +6,31 @@ use papaya_ask::ask::{Ask, At, OpKind, StepKind};
 use papaya_ask::search::Place;
 use papaya_words::word::Word;
 
-/// How far a call is with a number for its next pair, in a map that has a limit on them.
+/// The progress of a call towards a number for its next pair, in a map that limits them.
 #[derive(Clone, Copy)]
 pub enum Number {
-    /// It loads how many were taken.
+    /// Loads how many were taken.
     Wanted,
-    /// So many were taken, which is below the limit, and it takes the next.
+    /// This many were taken, which is below the limit: takes the next.
     Free(u64),
-    /// It has taken one, or needs none.
+    /// The call has taken a number, or needs none.
     Taken,
 }
 
-/// A pair that was made with the key of the pair that was met in a slot. It serves in that slot
-/// alone, whose key never changes: no other is known to have just this key.
+/// A pair that was made with the key of a pair in a slot. It serves in that slot only, because a
+/// slot's key never changes and no other slot is known to have just this key.
 #[derive(Clone, Copy)]
 pub struct Of {
     /// The number of the pair that was made.
     pub pair: u64,
     /// The table of the slot.
     pub table: u64,
-    /// The slot's place in it.
+    /// The slot's index in it.
     pub index: usize,
 }
 
 impl Of {
-    /// The pair was made for this place.
+    /// Returns whether the pair was made for this place.
     #[inline]
     pub fn serves(self, place: Place) -> bool
         ensures { result ≡ serves_at self place.table place.probe.i }
@@ -39,36 +39,36 @@ impl Of {
     }
 }
 
-/// What a call has logged so far. A key is logged once a call, and a value once, before the first
-/// pair that has it; a pair is made before the first word that names it, and serves each exchange
-/// that is tried where its key is the right one.
+/// The parts that a call has stored so far. A call stores its key once, and each value once, before
+/// the first pair that has it. A pair is made before the first word that names it. It serves every
+/// attempt at an exchange for which its key is the right one.
 #[derive(Clone, Copy)]
 pub struct Made {
-    /// How many pairs may be logged, if there is a limit.
+    /// How many pairs may be stored, if there is a limit.
     pub limit: Option<u64>,
     /// The number of the next pair.
     pub number: Number,
-    /// The call's key is logged.
+    /// Whether the call's key is stored.
     pub keyed: bool,
-    /// The value of the next pair is logged.
+    /// Whether the value of the next pair is stored.
     pub valued: bool,
     /// The pair of the call's own key that an insertion made, for an empty place.
     pub own: Option<u64>,
-    /// The pair that an insertion made last of a key that it met.
+    /// The last pair that an insertion made with a key that it met.
     pub of: Option<Of>,
 }
 
-/// Where a thing that was made leads a call.
+/// The outcome of one thing that was made for a pair.
 #[derive(Clone, Copy)]
 pub enum Grown {
-    /// More is to be made before the pair.
+    /// More must be made before the pair.
     On(Made),
-    /// This was the pair.
+    /// The pair was made.
     Pair(Made),
 }
 
 impl Number {
-    /// A number is needed where there is a limit.
+    /// Returns the first state: a number is needed if there is a limit.
     #[inline(always)]
     pub fn wanted(limit: Option<u64>) -> Number
         ensures { result ≡ wanted limit }
@@ -81,7 +81,7 @@ impl Number {
 }
 
 impl Made {
-    /// Nothing is logged yet.
+    /// Returns a state in which nothing is stored yet.
     #[inline(always)]
     pub fn nothing(limit: Option<u64>) -> Made
         ensures value { result ≡ nothing_made limit }
@@ -97,8 +97,8 @@ impl Made {
         }
     }
 
-    /// What is asked next for a pair that is to stand in place of this word: a number, then the
-    /// key where the word is empty, then the value, then the pair.
+    /// Returns the next ask for a pair that is to replace this word: a number, then the key if the
+    /// word is empty, then the value, then the pair.
     #[inline(always)]
     pub fn ask(self, old: u64) -> Ask
         requires { IsMade self }
@@ -114,7 +114,7 @@ impl Made {
         }
     }
 
-    /// The kind of the exchange that is asked for, if one is.
+    /// Returns the exchange's kind, if the next ask is an exchange.
     #[inline]
     pub fn kind(self) -> Option<StepKind>
         ensures { result ≡ number_kind self.number }
@@ -125,7 +125,7 @@ impl Made {
         }
     }
 
-    /// So many numbers were taken. None is left where that is the limit.
+    /// Continues with the count of numbers taken. Returns `None` if the limit is reached.
     #[inline]
     pub fn told(self, count: u64) -> Option<Made>
         requires { IsMade self }
@@ -148,7 +148,7 @@ impl Made {
         }
     }
 
-    /// The number was taken.
+    /// Continues after the number was taken.
     #[inline]
     pub fn taken(self) -> Made
         requires { IsMade self }
@@ -164,7 +164,7 @@ impl Made {
         }
     }
 
-    /// What was asked for was logged, for a pair that is to stand in place of this word.
+    /// Continues after the thing asked for was stored, for a pair that is to replace this word.
     #[inline(always)]
     pub fn grown(self, old: u64) -> Grown
         requires { IsMade self }
@@ -188,7 +188,7 @@ impl Made {
         }
     }
 
-    /// The closure of a compute answered so. A value that it answered is yet to be logged.
+    /// Continues with the result of a compute's closure. Its value, if any, is yet to be stored.
     #[inline]
     pub fn answered(self, kind: OpKind) -> Made
         requires { IsMade self }

@@ -7,18 +7,18 @@ use papaya_ask::ask::{Ask, At};
 use papaya_ask::search::Place;
 use papaya_words::word::Word;
 
-/// A pair that is to be removed if the call's closure agrees: the word that names it, and where
-/// that was found.
+/// A pair that is to be removed if the call's closure agrees: the word that names it, and the place
+/// of the word.
 #[derive(Clone, Copy)]
 pub struct Removal {
-    /// Where the word stands, or stood when it was loaded.
+    /// The place at which the word was loaded.
     pub place: Place,
-    /// A Live word, which names a pair with a matching key.
+    /// A `Live` word, which names a pair with a matching key.
     pub word: u64,
 }
 
 impl Removal {
-    /// The number of the pair.
+    /// Returns the number of the pair.
     #[inline(always)]
     pub fn pair(self) -> u64
         ensures { result ≡ pair_of self.word }
@@ -26,7 +26,7 @@ impl Removal {
         Word(self.word).pair()
     }
 
-    /// Shows the pair to the closure.
+    /// Returns the ask that calls the closure with the pair.
     #[inline(always)]
     pub fn show(self) -> Ask
         ensures { result ≡ show_ask self }
@@ -34,7 +34,7 @@ impl Removal {
         Ask::ShowPair(self.pair())
     }
 
-    /// Deletes the pair: its number stays in the slot.
+    /// Returns the ask that deletes the pair. The slot keeps its number.
     #[inline(always)]
     pub fn ask(self) -> Ask
         ensures { result ≡ removal_ask self }

@@ -8,18 +8,18 @@ use papaya_ask::ask::{Ask, At, StepKind};
 use papaya_ask::search::Place;
 use papaya_words::word::{Word, hint};
 
-/// A pair is to stand at this place, in place of the word that was found there.
+/// A write of a pair at this place, over the word that was found there.
 #[derive(Clone, Copy)]
 pub struct Write {
-    /// Where the pair is to stand.
+    /// The place where the pair will be.
     pub place: Place,
     /// 0, or a word that names a pair with a matching key.
     pub old: u64,
 }
 
 impl Write {
-    /// The pair that an insertion made and that may stand here, if there is one: of the call's own
-    /// key where the place is empty, and else of the key that is there.
+    /// Returns the pair that an insertion made and that may be written here, if there is one. If
+    /// the place is empty its key is the call's own, and otherwise the key that is there.
     #[inline(always)]
     pub fn served(self, made: Made) -> Option<u64>
         ensures value { result ≡ serves made self }
@@ -34,7 +34,7 @@ impl Write {
         }
     }
 
-    /// The exchange by which the pair of this number comes to stand here.
+    /// Returns the exchange that writes the pair of this number here.
     #[inline(always)]
     pub fn put(self, pair: u64) -> Ask
         requires { pair < 2 ^ 48 }
@@ -47,7 +47,7 @@ impl Write {
         )
     }
 
-    /// What an insertion asks next: what its pair still needs, then the exchange.
+    /// Returns the next ask of an insertion: for a part that its pair needs, or the exchange.
     #[inline(always)]
     pub fn ask(self, made: Made) -> Ask
         requires { IsMade made }
@@ -59,7 +59,7 @@ impl Write {
         }
     }
 
-    /// The pair of this number was made for this place.
+    /// Continues after the pair of this number was made for this place.
     #[inline(always)]
     pub fn with_pair(self, made: Made, pair: u64) -> Made
         requires made { IsMade made }
@@ -79,7 +79,7 @@ impl Write {
         }
     }
 
-    /// The pair of this number was made with the key that is here.
+    /// Returns the pair of this number, as one that was made with the key that is here.
     #[inline]
     pub fn of(self, pair: u64) -> Of
         ensures { result ≡ made_of self pair }
@@ -91,7 +91,7 @@ impl Write {
         }
     }
 
-    /// What an insertion asked for was logged: the number is that of its pair, if this was it.
+    /// Continues after the thing asked for was stored. `number` is the pair's if the pair was made.
     #[inline]
     pub fn grown(self, made: Made, number: u64) -> Made
         requires made { IsMade made }
@@ -108,7 +108,7 @@ impl Write {
         }
     }
 
-    /// The kind of the exchange, which says under what conditions it is allowed.
+    /// Returns the kind of the exchange, which decides under what conditions it is allowed.
     #[inline]
     pub fn kind(self) -> StepKind
         ensures { result ≡ write_kind self }
@@ -121,7 +121,7 @@ impl Write {
     }
 }
 
-/// A pair that was claimed, and where it stands.
+/// A pair that was claimed, and its place.
 #[derive(Clone, Copy)]
 pub struct Claimed {
     pub place: Place,
@@ -130,8 +130,8 @@ pub struct Claimed {
 }
 
 impl Claimed {
-    /// The hint of the pair's key, which has this hash, is written once the pair stands there, so
-    /// that no hint names a key that a slot may not hold.
+    /// Returns the ask that writes the hint of the pair's key, which has this hash. It comes after
+    /// the pair, so that no hint names a key that the slot may not hold.
     #[inline(always)]
     pub fn note(self, hash: u64) -> Ask
         ensures { result ≡ note_ask self hash }

@@ -1,6 +1,6 @@
 //! A call whose words nobody else changes.
 //!
-//! The functions do nothing: their contracts are laws, on which a backend with one caller relies.
+//! The functions have empty bodies. Their contracts are laws, for backends with one caller.
 ghost use Rattle.std.specs.Prelude.{◌≡◌, ℕ, ◌<◌};
 ghost use Rattle.papaya_call_law.specs.Alone.{HasMetNone, IsCurrent, IsPrompt, IsSeeker, IsUnmatched, left};
 ghost use Rattle.papaya_call.specs.Machine.{IsLookup, after, ask_of};
@@ -10,8 +10,8 @@ use papaya_ask::ask::{Answer, Ask, At};
 use papaya_ask::call::Reply;
 use papaya_call::machine::Machine;
 
-/// Each answer brings a call nearer its end, while no table has a next one: what it has read stands
-/// there still, so no exchange is lost.
+/// Each answer brings a call nearer to its end, while no table has a next one. The words that the
+/// call has read have not changed, so no exchange fails.
 pub fn calls_end()
     ensures nearer { (words words' : At → ℕ) (m : Machine) (answer : Answer)
         → IsCurrent words m → ((t : ℕ) → words (At.Next t) ≡ 0)
@@ -24,7 +24,7 @@ pub fn calls_end()
         → (t : ℕ) → words' (At.Next t) ≡ 0 }
 {}
 
-/// A call that looks for its key, and meets no pair with it, only loads, and finds nothing.
+/// A call that looks for its key and meets no pair with it only loads, and finds nothing.
 pub fn unmatched_keys_are_absent()
     ensures goes_on { (m : Machine) (answer : Answer) → IsSeeker m.task → HasMetNone m.state
         → IsUnmatched (ask_of m) answer → HasMetNone (after m answer).state }

@@ -1,9 +1,9 @@
-//! What a copier relies on, while others exchange words between its asks.
+//! The facts on which a copier relies, while others exchange words between its asks.
 //!
-//! The machines of a resize ask and are answered as those of calls are. What they rely on are facts
-//! of the words alone, which no exchange undoes, so no list of exchanges and no moment comes into
-//! these laws. `last` is the pair that a copier was told of last, `kept` the one that it carries.
-//! The functions do nothing: their contracts are the laws.
+//! The machines of a resize ask and are answered as those of calls are. They rely only on facts of
+//! the words that no exchange undoes, so these laws mention no list of exchanges and no point in
+//! time. `last` is the pair that the copier was last given, `kept` the one that it carries. The
+//! functions have empty bodies; their contracts are the laws.
 ghost use Rattle.std.specs.Prelude.{◌≡◌, ℕ, ◌+◌, ◌<◌, List, Option, Some};
 ghost use Rattle.papaya_words.specs.declared.probe.Refused.{Refused};
 ghost use Rattle.papaya_words.specs.declared.probe.ResizeMode.{ResizeMode};
@@ -28,7 +28,7 @@ ghost use Rattle.papaya_call_law.specs.Copier.{aim_of, last_after, link_in_copyi
 ghost use Rattle.papaya_call_law.specs.Relies.{IsCutAs, IsModeOf};
 ghost use Rattle.papaya_call_law.specs.Told.{IsWritten, word_of};
 
-/// What a copier relies on stays so, whatever others exchange and whichever tables are made.
+/// A copier's facts stay true, whatever others exchange and whichever tables are made.
 pub fn copiers_stable<K, P>()
     ensures exchanges { (g : Setting K P) (c : Coding K P) → IsHashed g c
         → (s : State P) (m : K → Option P) → IsKeeping g s m → (es : List (Exchange P))
@@ -40,8 +40,8 @@ pub fn copiers_stable<K, P>()
         → ReliesCopying g' c s last kept copying }
 {}
 
-/// An exchange whose old word stands there is one of the law, allowed, and writes just its word. A
-/// table that is linked was made with as many words for chunks as were asked for.
+/// An exchange that finds its old word is one of the law, is allowed, and writes only its word. A
+/// table that is linked was made with as many words for chunks as the ask said.
 pub fn copiers_guarantee<K, P>()
     ensures guarantee { (g : Setting K P) (c : Coding K P) → IsHashed g c
         → (s : State P) (m : K → Option P) → IsKeeping g s m
@@ -56,7 +56,7 @@ pub fn copiers_guarantee<K, P>()
         → IsCopyAsked c kind at new s kept e' → e ≡ e' }
 {}
 
-/// A hint that a copier writes may be there: it put a pair of that key into the slot, or shut it.
+/// A hint that a copier writes may be there: it put a pair of that key into the slot, or sealed it.
 pub fn copiers_guarantee_hint<K, P>()
     ensures { (g : Setting K P) (c : Coding K P) → IsHashed g c → (s : State P) (m : K → Option P)
         → IsKeeping g s m → (mode : ResizeMode) → IsModeOf mode g.blocking
@@ -64,21 +64,21 @@ pub fn copiers_guarantee_hint<K, P>()
         → (t x n : ℕ) → copying_ask copying ≡ asks.WriteHint t x n → IsHint g c s t x n }
 {}
 
-/// A copier names only words of tables that were opened or linked, slots within them, the pair last
-/// told of and the one that it carries.
+/// A copier names only words of tables that were opened or linked, slots within them, the pair that
+/// it was last given and the one that it carries.
 pub fn copiers_name<K, P>()
     ensures { (g : Setting K P) (c : Coding K P) → IsHashed g c → (s : State P) (m : K → Option P)
         → IsKeeping g s m → (last kept : Option P) (copying : Copying)
         → ReliesCopying g c s last kept copying → AreThere g c s last kept (copying_ask copying) }
 {}
 
-/// After an answer that is true of the words a copier relies on what holds again, or it tells what
-/// was copied: the table in which the call is to look for its key, or the root.
+/// After a true answer the facts on which a copier relies hold again, or it returns where it ended:
+/// the table in which the call is to look for its key, or the root.
 ///
-/// A load and an exchange are answered by the word that stands there, and the load of a hint by any
-/// that may be there. Asked for a hash, a copier carries the pair that it was told of last. What
-/// makes a table gives it a number above the one that it follows, and where the table is linked, as
-/// many words for chunks as were asked for.
+/// A load and an exchange are answered with the word that is there, and the load of a hint with any
+/// that may be there. A copier that asks for a hash carries the pair that it was last given. A new
+/// table gets a number above that of the table before. If it is linked, it has as many words for
+/// chunks as the ask said.
 pub fn copiers_learn<K, P>()
     ensures begins { (g : Setting K P) (c : Coding K P) (s : State P) (last kept : Option P)
         (aim : Aim) → ReliesAim g c s last kept aim

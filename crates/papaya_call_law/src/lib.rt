@@ -1,8 +1,8 @@
-//! What a machine relies on while others exchange words between its asks, and so what it replies.
+//! The facts on which a machine relies while others exchange words, and so its replies.
 //!
-//! The law of exchanges and the machines meet here. A backend that answers truly needs these laws
-//! and never looks into a machine: [`relies`] for any schedule, [`alone`] for a call whose words
-//! nobody else changes, [`loads`] for how much a lookup loads.
+//! The law of exchanges and the machines meet here. A backend that answers truly needs only these
+//! laws and never looks into a machine: [`relies`] for any schedule, [`alone`] for a call whose
+//! words nobody else changes, [`loads`] for how much a lookup loads.
 #![tactic(auto)]
 
 pub mod alone;

@@ -1,4 +1,4 @@
-//! How much a lookup loads. The function does nothing; its contract is the bound.
+//! A bound on what a lookup loads. The function has an empty body; its contract is the bound.
 ghost use Rattle.std.specs.Prelude.{ℕ, List, Option};
 ghost use Rattle.papaya_words.specs.declared.probe.ResizeMode.{ResizeMode};
 ghost use Rattle.papaya_ask.specs.declared.ask.Answer.{Answer};
@@ -6,10 +6,9 @@ ghost use Rattle.papaya_ask.specs.declared.call.Task.TheVariants.{Get};
 ghost use Rattle.papaya_call.specs.Machine.{started};
 ghost use Rattle.papaya_call_law.specs.Loads.{AreAnswers, IsBounded, asked};
 
-/// A law, with nothing to run: whatever words and hints a lookup loads, it loads at most one slot
-/// word more than a table's limit of each table, and at most as many hints, and only of tables that
-/// it entered; it enters no table twice, since each has a greater number than the one before; and
-/// it changes and makes nothing.
+/// A lookup loads at most `limit + 1` slot words, and at most as many hints, of each table that it
+/// enters, whatever they are. It enters no table twice, since each has a greater number than the
+/// one before. It loads from no other table, and changes and makes nothing.
 pub fn lookups_are_bounded()
     ensures { (hash initial : ℕ) (mode : ResizeMode) (most : Option ℕ) (limit : ℕ → ℕ)
         (answers : List Answer) → AreAnswers limit (started Get hash mode initial most) answers

@@ -1,8 +1,8 @@
-//! What a machine relies on, while others exchange words between its asks.
+//! The facts on which a machine relies, while others exchange words between its asks.
 //!
-//! A backend answers what machines ask, and keeps for each call the exchanges that there were when
-//! it began, those since then, and the pairs that it has loaded. By the laws below it need not
-//! look into a machine. The functions do nothing: their contracts are the laws.
+//! A backend answers what machines ask. For each call it keeps the exchanges before the call began,
+//! those since then, and the pairs that the call has loaded. By these laws it need not look into a
+//! machine. The functions have empty bodies; their contracts are the laws.
 ghost use Rattle.std.specs.Prelude.{◌≡◌, ◌⊎◌, ℕ, Bool, true, ◌<◌, ◌^◌, ◌++◌, List, [], Option, None, Some};
 ghost use Rattle.papaya_words.specs.Word.{pair_of};
 ghost use Rattle.papaya_words.specs.declared.probe.Refused.{Refused};
@@ -37,7 +37,7 @@ pub fn begins<K, P>()
         → Relies g c begun [] k (started task (c.hash k) mode initial limit) nothing_loaded }
 {}
 
-/// What a machine relies on stays so, whatever others exchange and whichever tables are made.
+/// A machine's facts stay true, whatever others exchange and whichever tables are made.
 pub fn stable<K, P>()
     ensures exchanges { (g : Setting K P) (c : Coding K P) → IsHashed g c
         → (begun since es : List (Exchange P)) → AllAllowed g start (begun ++ (since ++ es))
@@ -51,7 +51,7 @@ pub fn stable<K, P>()
 {}
 
 /// A machine names only tables that were opened or linked, slots within them with their hints, and
-/// the pair last loaded. Of that one's key it makes a pair only where it is the call's.
+/// the pair last loaded. It makes a pair with that pair's key only if the key is the call's.
 pub fn names<K, P>()
     ensures size { (g : Setting K P) (c : Coding K P) → IsHashed g c
         → (begun since : List (Exchange P)) → AllAllowed g start (begun ++ since)
@@ -106,9 +106,8 @@ pub fn guarantees_hint<K, P>()
         → ask_of m ≡ Ask.WriteHint t x n → IsHint g c (run (begun ++ since) start) t x n }
 {}
 
-/// A machine names no table but the one whose number it was told last, asks what its task asks,
-/// tries to open a table once, and has nothing left to do but to count and to write a hint once it
-/// changed the map.
+/// A machine names no table but the one whose number it was given last, and asks only what its task
+/// asks. It tries to open a table once. After it changed the map it only counts and writes a hint.
 pub fn follows()
     ensures begins { (task : Task) (hash : ℕ) (mode : ResizeMode) (initial table : ℕ)
         (limit : Option ℕ) → IsAtTable table (started task hash mode initial limit).state }
@@ -124,8 +123,8 @@ pub fn follows()
         → IsCounting (ask_of m) }
 {}
 
-/// What a closure is shown is the map's at a moment of the call: that the key has no pair, or the
-/// pair last loaded, which has the call's key.
+/// A closure is called with what the map has at some point during the call: with no pair, or with
+/// the pair last loaded, which has the call's key.
 pub fn shows<K, P>()
     ensures none { (g : Setting K P) (c : Coding K P) (begun since : List (Exchange P)) (k : K)
         (m : Machine) (loaded : LoadedPairs P) → Relies g c begun since k m loaded
@@ -138,17 +137,17 @@ pub fn shows<K, P>()
         × (g.same k (g.key p) ≡ true) × WasAtMoment g c begun since k (Some p) }
 {}
 
-/// What a machine stands on was said by its closure, when it was shown just that.
+/// A machine acts only on results that its closure returned for exactly the pair concerned.
 ///
-/// A removal has a pair deleted only after its closure was shown it and agreed; a compute stores a
-/// pair only where it was made of the value that its closure answered to what the pair takes the
-/// place of, and its closure is shown once at most that there is none. What a closure is shown has
-/// a word that is not 0: a call that begins shows nothing, and so it stays with each answer.
+/// A removal deletes a pair only after its closure was called with it and agreed. A compute stores
+/// a pair only if it was made of the value that its closure returned for what the pair replaces.
+/// Its closure is called at most once without a pair. A pair with which a closure is called has a
+/// word that is not 0: a call that begins calls no closure, and each answer keeps this.
 ///
-/// A compute stands on one pair for an absent key, and on one answer of a pair: a newer answer of
-/// a pair takes the older one's place, and leaves the pair for an absent key. A pair that is to
-/// stand in another slot than it was made for is made again of the same value, which was logged
-/// last. What a compute exchanges in a slot is what it stands on.
+/// A compute keeps one pair for an absent key, and one result for a pair. A newer result for a pair
+/// replaces the older one, and leaves the pair for an absent key. A pair that would be needed in
+/// another slot than the one it was made for is made again of the same value, which was stored
+/// last. A compute exchanges in a slot only what it keeps.
 pub fn says()
     ensures begins { (task : Task) (hash : ℕ) (mode : ResizeMode) (initial : ℕ) (limit : Option ℕ)
         (said : Said) → StandsOn (started task hash mode initial limit) said → ⊥ }
@@ -200,7 +199,7 @@ pub fn removals_are_not_refused<K, P>()
         (Reply.Refused refused) → ⊥ }
 {}
 
-/// An exchange whose old word stands there is one of the law, allowed, and writes just its word.
+/// An exchange that finds its old word is one of the law, is allowed, and writes only its word.
 pub fn guarantees<K, P>()
     ensures { (g : Setting K P) (c : Coding K P) → IsHashed g c → (begun since : List (Exchange P))
         → AllAllowed g start (begun ++ since) → (k : K) (m : Machine) (loaded : LoadedPairs P)
@@ -212,8 +211,8 @@ pub fn guarantees<K, P>()
         new (state_after (run (begun ++ since) start) e) }
 {}
 
-/// After an answer that is true of the words the machine relies on what holds again, and what was
-/// exchanged was allowed.
+/// After a true answer the facts on which the machine relies hold again, and its exchange was
+/// allowed.
 pub fn learns<K, P>()
     ensures { (g : Setting K P) (c : Coding K P) → IsHashed g c → (begun since : List (Exchange P))
         → AllAllowed g start (begun ++ since) → (k : K) (m : Machine) (loaded : LoadedPairs P)
@@ -223,8 +222,8 @@ pub fn learns<K, P>()
         × Relies g c begun (since ++ es) k (after m answer) loaded' }
 {}
 
-/// A reply is the map's at a moment of the call; a change was made by an exchange of its own, at
-/// most one in a call; and a refusal follows none.
+/// A reply is true of the map at some point during the call. A change was made by an exchange of
+/// the call's own, at most one in a call, and no refusal follows a change.
 pub fn replies<K, P>()
     ensures reply { (g : Setting K P) (c : Coding K P) (begun since : List (Exchange P)) (k : K)
         (m : Machine) (loaded : LoadedPairs P) → Relies g c begun since k m loaded → (reply : Reply)
@@ -251,8 +250,8 @@ pub fn replies<K, P>()
         × (answer ≡ Answer.Op OpKind.Remove)) }
 {}
 
-/// What a machine has yet to add to the count after an answer is what the map grew by: it counts a
-/// claim by its next step, and a replacement never.
+/// The amount that a machine has yet to add to the count after an answer is what the map grew by.
+/// It counts a claim in its next step, and a replacement never.
 pub fn counts<K, P>()
     ensures { (g : Setting K P) (c : Coding K P) (k : K) (s : _) (m : Machine)
         (loaded : LoadedPairs P)
@@ -261,8 +260,8 @@ pub fn counts<K, P>()
         → owed_by (ask_of (after m answer)) ≡ grows_by (kind_of_ask m) (ask_of m) answer }
 {}
 
-/// A lookup by a further form of a key meets the words that there are: the law `further_keys` says
-/// what such a form is.
+/// A lookup by a further form of a key meets the words that there are. The law `further_keys`
+/// defines such a form.
 pub fn further_words<K, P>()
     ensures { (g : Setting K P) (c : Coding K P) (matches : K → Bool) (hash : ℕ) (s : State P)
         (at : At) → word_of (with_key g matches hash) (coding_with c hash) s at ≡ word_of g c s at }

@@ -1,20 +1,20 @@
-//! What a call over a chain of tables asks of its backend, and what it is answered.
+//! The asks of a call over a chain of tables to its backend, and the answers.
 use papaya_ask::ask::{Answer as CallAnswer, Ask as CallAsk};
 use papaya_ask::copy_ask::CopyAsk;
 
-/// What is asked next: one atomic step on one word or hint at most.
+/// The next ask: one atomic step on at most one word or hint.
 #[derive(Clone, Copy)]
 pub enum Ask {
-    /// The call asks, in a table that it has come to.
+    /// The call asks, in a table that it has reached.
     Call(CallAsk),
     /// A table is made or copied.
     Copy(CopyAsk),
 }
 
-/// What was answered.
+/// The answer to an ask.
 #[derive(Clone, Copy)]
 pub enum Answer {
-    /// An answer as a call is given it.
+    /// An answer to the call.
     Call(CallAnswer),
     /// The hash of the key of the pair that is carried.
     Hash(u64),

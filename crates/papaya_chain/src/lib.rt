@@ -1,9 +1,9 @@
 //! Calls over a chain of tables.
 //!
-//! A call of `papaya_call` goes from table to table. Where it needs the next one it is set aside
-//! here: the next table is made, or the root is copied for a while, and then the call goes on in
-//! the next table. Clear, retain and walk scan a whole table (`scanner`): without `Blocking` all is
-//! copied first, and the table that this leaves is the one that is scanned. Nobody waits for
+//! A call of `papaya_call` goes from table to table. If it needs the next one it is set aside here:
+//! the next table is made, or the root is copied for a while. Then the call continues in the next
+//! table. Clear, retain and iterations scan a whole table (`scanner`). Without `Blocking`
+//! everything is copied first, and they scan the table in which the copy ended. No call waits for
 //! another caller.
 #![tactic(auto)]
 

@@ -21,18 +21,18 @@ use papaya_copy::settle::{Settle, Slot};
 use papaya_copy::step::Step;
 use papaya_words::probe::{Refused, ResizeMode};
 
-/// Who asks, between two answers.
+/// The part of the machine that asks, between two answers.
 #[derive(Clone, Copy)]
 pub enum Phase {
     /// The call itself.
     Calling,
-    /// The call needs the table after one, and it is made.
+    /// The call needs the table after one: makes it.
     Linking(Link),
-    /// The root is copied, before the call goes on in the next table.
+    /// Copies the root before the call continues in the next table.
     Copying(Copying),
 }
 
-/// What follows an answer while a table is made. One that was not asked for leads nowhere.
+/// Returns the outcome of an answer while a table is made. Ignores an answer to another ask.
 #[inline]
 pub(crate) fn link_after(link: Link, answer: Answer, mode: ResizeMode, initial: usize) -> Linked
     requires standing { IsStandingLink link }
@@ -52,7 +52,7 @@ pub(crate) fn link_after(link: Link, answer: Answer, mode: ResizeMode, initial: 
     }
 }
 
-/// What follows an answer while the root is copied. One that was not asked for leads nowhere.
+/// Returns the outcome of an answer while the root is copied. Ignores an answer to another ask.
 #[inline]
 pub(crate) fn copying_after(
     copying: Copying,
@@ -84,8 +84,8 @@ pub(crate) fn copying_after(
     }
 }
 
-/// A call under way, over any number of tables. It is plain data and holds no key, value or memory:
-/// what it asks is all that a backend does for it.
+/// A call under way, over any number of tables. It is plain data and holds no key, value or memory.
+/// A backend does nothing for it but what it asks.
 ///
 /// In 0.2.5 these are the loops of `get`, `insert_with`, `remove_if` and `compute_with`, with
 /// `prepare_retry_insert` and `help_copy` between two tables.
@@ -93,17 +93,17 @@ pub(crate) fn copying_after(
 pub struct Machine {
     /// The call, set aside while the next table is made or the root is copied.
     pub call: CallMachine,
-    /// From which chunk on it copies a table, of as many as there are.
+    /// Decides at which chunk the call starts to copy a table, modulo the number of chunks.
     pub number: u64,
-    /// A call copies one chunk of slots, and was about to.
+    /// Whether the call has already begun to copy its chunk. A call copies one chunk at most.
     pub helped: bool,
-    /// Who asks.
+    /// The part of the machine that asks.
     pub phase: Phase,
 }
 
 impl Machine {
-    /// A call that begins. Calls with different numbers copy a table from different chunks on. It
-    /// logs no pair where so many were logged as the limit says, if there is one.
+    /// Begins a call. Calls with different numbers start to copy a table at different chunks. If
+    /// there is a limit on pairs, the call stores no pair once that many are stored.
     #[inline(always)]
     pub fn new(
         task: Task,
@@ -126,7 +126,7 @@ impl Machine {
         }
     }
 
-    /// What is asked next. Until it is answered the same is asked.
+    /// Returns the next ask: the same until it is answered.
     #[inline(always)]
     pub fn ask(&self) -> Ask
         requires { IsStanding self.now }
@@ -140,7 +140,7 @@ impl Machine {
         }
     }
 
-    /// The kind of the exchange that is asked for, if one is. The words alone do not tell it.
+    /// Returns the exchange's kind, if the next ask is an exchange. The words alone do not show it.
     #[inline]
     pub fn kind(&self) -> Option<StepKind>
         ensures { result ≡ kind_of_ask self.now }
@@ -152,7 +152,7 @@ impl Machine {
         }
     }
 
-    /// The table that one in the making is to follow; 0 for a first table, or where none is made.
+    /// Returns the table that a table in the making will follow, or 0 for a first one or none.
     #[inline]
     pub fn follows(&self) -> u64
         ensures { result ≡ follows_of self.now }
@@ -164,7 +164,7 @@ impl Machine {
         }
     }
 
-    /// Goes on after an answer to what was asked. A call that has replied stays as it is.
+    /// Continues after an answer to the last ask. A call that has replied does not change.
     #[inline(always)]
     pub fn answer(&mut self, answer: Answer)
         requires standing { IsStanding self.old }
@@ -197,7 +197,7 @@ impl Machine {
 }
 
 impl Machine {
-    /// The call goes on for itself.
+    /// Passes an answer to the call.
     #[inline(always)]
     #[tactic(auto, using(crate::proofs::Settings::settings_stable))]
     fn step(&mut self, answer: CallAnswer)
@@ -209,7 +209,7 @@ impl Machine {
         self.call.answer(answer);
     }
 
-    /// The call was answered. Where it was told the number of the next table, it is set aside.
+    /// Continues after an answer to the call, which the next table's number sets aside.
     #[inline(always)]
     fn called(&mut self, answer: CallAnswer)
         requires standing { IsStanding self.old }
@@ -230,7 +230,7 @@ impl Machine {
         }
     }
 
-    /// The call needs the next table, which has this number, or there is none. With `Blocking` all
+    /// Continues with the number of the next table that the call needs, or 0. With `Blocking`, all
     /// of this table is copied first, to whichever table takes it.
     #[inline]
     fn grows(&mut self, need: Need, next: u64)
@@ -255,8 +255,8 @@ impl Machine {
         }
     }
 
-    /// The call goes on in the next table, which has this number. Before that it copies a chunk,
-    /// once, and the slot in which it met its key's pair.
+    /// Continues the call in the next table, which has this number. Before that it copies a chunk,
+    /// once a call, and the slot in which it met its key's pair.
     #[inline]
     fn onward(&mut self, next: u64)
         requires standing { IsStanding self.old }
@@ -282,7 +282,7 @@ impl Machine {
         }
     }
 
-    /// The call looks for its key in this table.
+    /// Continues the call with a search of this table.
     #[inline]
     fn enter(&mut self, table: u64)
         requires standing { IsStanding self.old }
@@ -293,7 +293,7 @@ impl Machine {
         self.phase = Phase::Calling;
     }
 
-    /// The call is told of the root, as one that begins.
+    /// Continues the call at the root, as one that begins.
     #[inline]
     fn begin_anew(&mut self, root: u64)
         requires standing { IsStanding self.old }
@@ -305,7 +305,7 @@ impl Machine {
         self.step(CallAnswer::Word(root));
     }
 
-    /// A table could not be made, and the call ends with that.
+    /// Ends the call because a table could not be made.
     #[inline]
     fn refuse(&mut self, refused: Refused)
         requires standing { IsStanding self.old }
@@ -316,7 +316,7 @@ impl Machine {
         self.phase = Phase::Calling;
     }
 
-    /// The making of the next table leads here.
+    /// Continues with the outcome of making the next table.
     #[inline]
     fn linked(&mut self, linked: Linked)
         requires standing { IsStanding self.old }
@@ -331,8 +331,8 @@ impl Machine {
         }
     }
 
-    /// The copy of the root leads here: to a next table, or with `Blocking` to the root as it is
-    /// now, at which the call begins anew. No call copies a chunk for its own sake.
+    /// Continues with the outcome of copying the root: in a next table, or with `Blocking` from the
+    /// start, at the present root. No call copies only a chunk.
     #[inline]
     fn copied(&mut self, copied: Copied)
         requires standing { IsStanding self.old }

@@ -1,5 +1,5 @@
-//! Calls that resize the map and change no pair of it: a copy of a chunk or of all, and room that
-//! is made ahead.
+//! Calls that resize the map and change none of its pairs: they copy a chunk or everything, or make
+//! room ahead.
 ghost use Rattle.std.specs.Prelude.{◌≡◌, ◌+◌};
 ghost use Rattle.std.specs.Int.{IsPowerOfTwo};
 ghost use Rattle.papaya_words.specs.Mode.{IsChunked};
@@ -25,66 +25,66 @@ use papaya_words::limits::MAX_TABLE_LEN;
 use papaya_words::probe::{Refused, ResizeMode, entries_for, limit};
 use papaya_words::table::table_len;
 
-/// What is wanted.
+/// The resize that is wanted.
 #[derive(Clone, Copy)]
 pub enum Resize {
     /// A copy of one chunk of the root, if the root is being copied.
     Chunk,
-    /// The end of the resize that is under way: then the root has no next table.
+    /// The end of the resize that is under way. The root has no next table then.
     CopyAll,
-    /// A root with slots for so many pairs more than the map counts: `reserve` of 0.2.5.
+    /// A root with slots for this many pairs more than the map counts: `reserve` of 0.2.5.
     Reserve(usize),
 }
 
 /// The size of a table that is made for a number of pairs.
 #[derive(Clone, Copy)]
 pub struct Room {
-    /// How many slots it has.
+    /// The number of slots.
     pub len: usize,
-    /// At how many places, but for the first, a search of it looks.
+    /// The probe limit: how many places after the first a search looks at.
     pub limit: usize,
 }
 
-/// Where a resizer stands, between two answers.
+/// The state of a resizer, between two answers.
 #[derive(Clone, Copy)]
 pub enum State {
-    /// It loads the root.
+    /// Loads the root.
     AtRoot,
-    /// There is no root, and it makes one of this size.
+    /// There is no root: makes one of this size.
     Making(Room),
-    /// It opens this table, which it made.
+    /// Opens this table, which the resizer made.
     Opening(u64),
-    /// It asks for the size of this root.
+    /// Asks for the size of this root.
     Sizing(u64),
-    /// It asks for the count of pairs.
+    /// Asks for the count of pairs.
     Counting {
         root: u64,
-        /// How many slots the root has.
+        /// The number of slots of the root.
         len: usize,
     },
-    /// It looks for the table after this root.
+    /// Loads the number of the table after this root.
     Looking {
         root: u64,
-        /// How many slots the root has; 0 where no table is to be made.
+        /// The number of slots of the root, or 0 if no table is to be made.
         len: usize,
-        /// The size of the next table, where one is to be made if there is none.
+        /// The size of the next table, if one is to be made in case there is none.
         room: Option<Room>,
     },
-    /// It makes the next table.
+    /// Makes the next table.
     Linking(Link),
-    /// It copies.
+    /// Copies.
     Copying {
-        /// All of the root is copied, which was this table as the copy began; 0 for a chunk.
+        /// The table that was the root when the copy of everything began, or 0 for a chunk.
         from: u64,
         copying: Copying,
     },
-    /// What was wanted is done.
+    /// The resize is finished.
     Done,
-    /// A table could not be made. What is marked stays marked, and the next copier carries it on.
+    /// A table could not be made. Marked words stay marked, and the next copier continues.
     Refused(Refused),
 }
 
-/// The size of a table for so many pairs more than the map counts, where there may be such a one.
+/// Returns the size of a table for `more` pairs more than `count`, if a table may be that large.
 #[tactic(auto, using(crate::proofs::Room::too_many, crate::proofs::Room::too_long, crate::proofs::Room::fits, crate::proofs::Room::fits_size))]
 fn room_for(count: usize, more: usize) -> Option<Room>
     ensures value { result ≡ room_of (count + more) }
@@ -104,7 +104,7 @@ fn room_for(count: usize, more: usize) -> Option<Room>
 }
 
 impl State {
-    /// The first table is made, for so many pairs.
+    /// Makes the first table, for this many pairs.
     fn making(more: usize) -> State
         ensures value { result ≡ makes (room_of more) }
         ensures standing { IsStandingIn result }
@@ -115,7 +115,7 @@ impl State {
         }
     }
 
-    /// All of this root is copied.
+    /// Copies all of this root.
     fn copying(root: u64) -> State
         ensures value { result ≡ Rattle.papaya_chain.specs.Resizer.copies root }
         ensures standing { IsStandingIn result }
@@ -128,7 +128,7 @@ impl State {
 }
 
 impl Resize {
-    /// The root is this table, or there is none.
+    /// Continues with the number of the root, or 0.
     fn at_root(self, root: u64) -> State
         ensures value { result ≡ at_root self root }
         ensures standing { IsStandingIn result }
@@ -145,7 +145,7 @@ impl Resize {
         }
     }
 
-    /// The map counts so many pairs, and its root has so many slots.
+    /// Continues with the count of pairs; the root has `len` slots.
     fn at_count(self, root: u64, len: usize, count: usize) -> State
         ensures value { result ≡ at_count self root len count }
         ensures standing { IsStandingIn result }
@@ -160,7 +160,7 @@ impl Resize {
         }
     }
 
-    /// A copy of a chunk, or of all of a root, is over.
+    /// Continues after the copy of a chunk, or of a whole root, is finished.
     fn over(self) -> State
         ensures value { result ≡ over self }
         ensures standing { IsStandingIn result }
@@ -171,7 +171,7 @@ impl Resize {
         }
     }
 
-    /// A copy led here, which began when `from` was the root.
+    /// Continues with the outcome of copying, which began when `from` was the root.
     fn copied(self, from: u64, copied: Copied) -> State
         requires { IsStandingCopied copied }
         ensures value { result ≡ Rattle.papaya_chain.specs.Resizer.copied self from copied }
@@ -185,7 +185,7 @@ impl Resize {
     }
 }
 
-/// The table after the root, which has so many slots, is this one, or there is none.
+/// Continues with the number of the table after the root, or 0. The root has `before` slots.
 fn at_next(mode: ResizeMode, root: u64, before: usize, room: Option<Room>, next: u64) -> State
     requires { IsStandingRoom room }
     ensures value { result ≡ at_next mode root before room next }
@@ -205,7 +205,7 @@ fn at_next(mode: ResizeMode, root: u64, before: usize, room: Option<Room>, next:
     }
 }
 
-/// The making of the table after this root led here.
+/// Continues with the outcome of making the table after this root.
 fn linked(root: u64, linked: Linked) -> State
     requires { IsStandingLinked linked }
     ensures value { result ≡ Rattle.papaya_chain.specs.Resizer.linked root linked }
@@ -220,24 +220,24 @@ fn linked(root: u64, linked: Linked) -> State
 
 /// A resizer under way. It is plain data, as a call is.
 ///
-/// In 0.2.5 these are `reserve`, and what `clear`, `retain` and the iterators begin with, a copy
-/// of all.
+/// In 0.2.5 these are `reserve`, and the copy of everything with which `clear`, `retain` and the
+/// iterators begin.
 #[derive(Clone, Copy)]
 pub struct Resizer {
     /// How the map's tables are copied.
     pub mode: ResizeMode,
-    /// The initial capacity of the map in slots: no table is made shorter.
+    /// The initial capacity of the map in slots. No table is made shorter.
     pub initial: usize,
-    /// What is wanted.
+    /// The resize that is wanted.
     pub resize: Resize,
-    /// From which chunk on it copies a table, of as many as there are.
+    /// Decides at which chunk it starts to copy a table, modulo the number of chunks.
     pub number: u64,
-    /// Where it stands.
+    /// The resizer's state.
     pub state: State,
 }
 
 impl Resizer {
-    /// One that begins. Calls with different numbers copy a table from different chunks on.
+    /// Begins a resize. Calls with different numbers start to copy a table at different chunks.
     pub fn new(resize: Resize, mode: ResizeMode, initial: usize, number: u64) -> Resizer
         requires chunked { IsChunked mode }
         requires initial { IsPowerOfTwo initial }
@@ -260,7 +260,7 @@ impl Resizer {
         }
     }
 
-    /// What is asked next; nothing more where it has ended.
+    /// Returns the next ask, or `None` if the resizer has ended.
     pub fn ask(&self) -> Option<CopyAsk>
         requires { IsStandingResizer self.now }
         ensures { result ≡ ask_of self.now }
@@ -282,7 +282,7 @@ impl Resizer {
         }
     }
 
-    /// The reply of one that has ended.
+    /// Returns the reply if the resizer has ended.
     pub fn reply(&self) -> Option<Reply>
         ensures { result ≡ reply_of self.now }
     {
@@ -293,7 +293,7 @@ impl Resizer {
         }
     }
 
-    /// The kind of the exchange that is asked for, if one is.
+    /// Returns the exchange's kind, if the next ask is an exchange.
     pub fn kind(&self) -> Option<StepKind>
         ensures { result ≡ kind_of_ask self.now }
     {
@@ -305,7 +305,7 @@ impl Resizer {
         }
     }
 
-    /// The table that one in the making is to follow; 0 for a first table, or where none is made.
+    /// Returns the table that a table in the making will follow, or 0 for a first one or none.
     pub fn follows(&self) -> u64
         ensures { result ≡ follows_of self.now }
     {
@@ -316,8 +316,8 @@ impl Resizer {
         }
     }
 
-    /// What follows an answer while nothing is linked or copied. One that was not asked for
-    /// leads nowhere.
+    /// Returns the state after an answer while nothing is linked or copied. Ignores an answer to
+    /// another ask.
     fn called(&self, answer: Answer) -> State
         requires standing { IsStandingIn self.now.state }
         requires fit { IsFit answer }
@@ -346,7 +346,7 @@ impl Resizer {
         }
     }
 
-    /// Goes on after an answer to what was asked.
+    /// Continues after an answer to the last ask.
     pub fn answer(&mut self, answer: Answer)
         requires standing { IsStandingResizer self.old }
         requires fit { IsFit answer }

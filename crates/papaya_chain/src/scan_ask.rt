@@ -1,15 +1,15 @@
-//! What a call that scans a table asks of its backend.
+//! The asks of a call that scans a table to its backend.
 use papaya_ask::copy_ask::CopyAsk;
 
-/// What is asked next: one atomic step on one word at most.
+/// The next ask: one atomic step on at most one word.
 #[derive(Clone, Copy)]
 pub enum ScanAsk {
-    /// A word of a table is loaded or exchanged, or it is asked for what a copy needs.
+    /// Load or exchange a word of a table, or do what a copy needs.
     Copy(CopyAsk),
-    /// The call's closure is shown the pair of this number, and answers whether it stays. Answered
+    /// Call the closure with the pair of this number; it returns whether the pair stays. Answered
     /// by `Yes`.
     Show(u64),
-    /// The caller gets the pair of this number. Answered by `Ok`.
+    /// Pass the pair of this number to the caller. Answered by `Ok`.
     Given(u64),
     /// Add to the count of pairs, in the caller's shard. Answered by `Ok`.
     AddToShard(i64),

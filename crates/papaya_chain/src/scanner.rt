@@ -20,14 +20,14 @@ use papaya_ask::copy_ask::CopyAsk;
 use papaya_words::probe::{Refused, ResizeMode};
 use papaya_words::word::{Kind, Word};
 
-/// What is done with the pairs that are met.
+/// The work of a scan on each pair that it meets.
 #[derive(Clone, Copy)]
 pub enum Scan {
-    /// Each is taken out: `clear` of 0.2.5.
+    /// Removes it: `clear` of 0.2.5.
     Clear,
-    /// Each is shown to the closure, and taken out where that answers no: `retain` of 0.2.5.
+    /// Calls the closure with it, and removes it if the closure returns `false`: `retain` of 0.2.5.
     Retain,
-    /// Each is given to the caller, and nothing changes: `iter` of 0.2.5.
+    /// Passes it to the caller, and changes nothing: `iter` of 0.2.5.
     Walk,
 }
 
@@ -36,40 +36,40 @@ pub enum Scan {
 pub struct Spot {
     /// The table's number.
     pub table: u64,
-    /// How many slots the table has.
+    /// The number of slots of the table.
     pub len: usize,
-    /// The slot's place in it, from 0.
+    /// The slot's index in it, from 0.
     pub slot: usize,
 }
 
-/// Where a scanner stands, between two answers.
+/// The state of a scanner, between two answers.
 #[derive(Clone, Copy)]
 pub enum State {
-    /// All is copied, and this is where the copy stands. The root that it finds without a next
-    /// table is scanned then, and not a root that is loaded anew: that may have got a next table.
+    /// Copies everything; this is the state of the copy. The scan then takes the root that the copy
+    /// found without a next table. A root that is loaded again may have got a next table.
     Copying(Stage),
-    /// With `Blocking`, it loads the root.
+    /// With `Blocking`, loads the root.
     AtRoot,
-    /// It asks for the size of this table, which it scans.
+    /// Asks for the size of this table, which it scans.
     Sizing(u64),
-    /// It loads the word of this slot.
+    /// Loads the word of this slot.
     Looking(Spot),
-    /// It gives the pair of this word.
+    /// Passes the pair of this word to the caller.
     Giving(Spot, u64),
-    /// It shows the pair of this word to the closure.
+    /// Calls the closure with the pair of this word.
     Showing(Spot, u64),
-    /// It deletes the pair of this word.
+    /// Deletes the pair of this word.
     Burying(Spot, u64),
-    /// It has deleted a pair, and takes 1 from the count.
+    /// The scanner has deleted a pair: takes 1 from the count.
     Uncounting(Spot),
     /// Each slot was scanned.
     Done,
-    /// A table could not be made. What was taken out stays out, and what is marked stays marked.
+    /// A table could not be made. Removed pairs stay removed, and marked words stay marked.
     Refused(Refused),
 }
 
 impl Spot {
-    /// The slot is looked at, if the table has so many.
+    /// Loads the slot's word, or ends if the table has no more slots.
     fn look(self) -> State
         ensures value { result ≡ looks self }
         ensures standing { IsStandingIn result }
@@ -81,7 +81,7 @@ impl Spot {
         }
     }
 
-    /// Deletes the pair of this word: its number stays in the slot.
+    /// Returns the exchange that deletes the pair of this word. The slot keeps its number.
     fn bury(self, word: u64) -> CopyAsk
         ensures { result ≡ buries self word }
     {
@@ -89,7 +89,7 @@ impl Spot {
         CopyAsk::Exchange(At::Slot(self.table, self.slot), word, buried.0)
     }
 
-    /// The slot after this one.
+    /// Moves to the next slot.
     fn next(self) -> State
         requires { IsStandingSpot self }
         ensures value { result ≡ next self }
@@ -104,8 +104,8 @@ impl Spot {
 }
 
 impl Scan {
-    /// This word stands in the slot. Where clear or retain meet a copier's work they copy all and
-    /// begin again.
+    /// Continues with the slot's word. If a clear or a retain meets a copier's work, it copies
+    /// everything and begins again.
     fn meet(self, spot: Spot, word: u64) -> State
         requires { IsStandingSpot spot }
         ensures value { result ≡ meets self spot word (kind_of word) }
@@ -123,7 +123,7 @@ impl Scan {
     }
 }
 
-/// This root is scanned, or there is none.
+/// Scans this root, or ends if it is 0.
 fn at_root(root: u64) -> State
     ensures value { result ≡ at_root root }
     ensures standing { IsStandingIn result }
@@ -135,7 +135,7 @@ fn at_root(root: u64) -> State
     }
 }
 
-/// The root that a copy of all found in this state, if an answer ended it.
+/// Returns the root that a copy of everything found, if it ended in this state.
 fn found_by(stage: Stage) -> u64
     ensures { result ≡ found_by stage }
 {
@@ -145,7 +145,7 @@ fn found_by(stage: Stage) -> u64
     }
 }
 
-/// The copy of all went from one state to the other.
+/// Continues after an answer changed the copy of everything from one state to another.
 fn copied(from: Stage, to: Stage) -> State
     requires { IsStandingStage to }
     ensures value { result ≡ copied from to }
@@ -163,18 +163,18 @@ fn copied(from: Stage, to: Stage) -> State
 pub struct Scanner {
     /// How the map's tables are copied.
     pub mode: ResizeMode,
-    /// The initial capacity of the map in slots: no table is made shorter.
+    /// The initial capacity of the map in slots. No table is made shorter.
     pub initial: usize,
-    /// What is done with the pairs.
+    /// The work of the scan on each pair.
     pub scan: Scan,
-    /// From which chunk on it copies a table, of as many as there are.
+    /// Decides at which chunk it starts to copy a table, modulo the number of chunks.
     pub number: u64,
-    /// Where it stands.
+    /// The scanner's state.
     pub state: State,
 }
 
 impl Scanner {
-    /// One that begins. Calls with different numbers copy a table from different chunks on.
+    /// Begins a scan. Calls with different numbers start to copy a table at different chunks.
     pub fn new(scan: Scan, mode: ResizeMode, initial: usize, number: u64) -> Scanner
         requires chunked { IsChunked mode }
         requires initial { IsPowerOfTwo initial }
@@ -194,7 +194,7 @@ impl Scanner {
         }
     }
 
-    /// The copy of all, which stands so.
+    /// Returns the resizer that copies everything, in this state.
     fn resizer(&self, stage: Stage) -> Resizer
         requires standing { IsStandingScanner self.now }
         requires stage { IsStandingStage stage }
@@ -210,7 +210,7 @@ impl Scanner {
         }
     }
 
-    /// What is asked next; nothing more where it has ended.
+    /// Returns the next ask, or `None` if the scanner has ended.
     pub fn ask(&self) -> Option<ScanAsk>
         requires { IsStandingScanner self.now }
         ensures { result ≡ ask_of self.now }
@@ -233,7 +233,7 @@ impl Scanner {
         }
     }
 
-    /// The reply of one that has ended.
+    /// Returns the reply if the scanner has ended.
     pub fn reply(&self) -> Option<Reply>
         ensures { result ≡ reply_of self.now }
     {
@@ -244,7 +244,7 @@ impl Scanner {
         }
     }
 
-    /// The kind of the exchange that is asked for, if one is.
+    /// Returns the exchange's kind, if the next ask is an exchange.
     pub fn kind(&self) -> Option<StepKind>
         requires { IsStandingScanner self.now }
         ensures { result ≡ kind_of_ask self.now }
@@ -256,7 +256,7 @@ impl Scanner {
         }
     }
 
-    /// The table that one in the making is to follow; 0 where none is made.
+    /// Returns the table that a table in the making will follow, or 0 if none is made.
     pub fn follows(&self) -> u64
         requires { IsStandingScanner self.now }
         ensures { result ≡ follows_of self.now }
@@ -267,7 +267,7 @@ impl Scanner {
         }
     }
 
-    /// What follows an answer while nothing is copied. One that was not asked for leads nowhere.
+    /// Returns the state after an answer while nothing is copied. Ignores an answer to another ask.
     fn scanned(&self, answer: Answer) -> State
         requires standing { IsStandingIn self.now.state }
         requires fit { IsFit answer }
@@ -296,7 +296,7 @@ impl Scanner {
         }
     }
 
-    /// Goes on after an answer to what was asked.
+    /// Continues after an answer to the last ask.
     pub fn answer(&mut self, answer: Answer)
         requires standing { IsStandingScanner self.old }
         requires fit { IsFit answer }

@@ -1,5 +1,5 @@
-//! What a call over a chain of tables relies on. The functions do nothing: their contracts are
-//! the laws.
+//! The facts on which a call over a chain of tables relies. The functions have empty bodies; their
+//! contracts are the laws.
 ghost use Rattle.std.specs.Prelude.{◌≡◌, ◌⊎◌, ℕ, List, [], Option, ◌++◌};
 ghost use Rattle.papaya_words.specs.declared.probe.ResizeMode.{ResizeMode};
 ghost use Rattle.papaya_ask.specs.declared.ask.Answer.TheVariants.{Exchanged};
@@ -36,7 +36,7 @@ pub fn begins<K, P>()
         → Relies g c begun [] k (started task (c.hash k) mode initial number limit) nothing_loaded }
 {}
 
-/// What a call relies on stays so, whatever others exchange and whichever tables are made.
+/// A call's facts stay true, whatever others exchange and whichever tables are made.
 pub fn stable<K, P>()
     ensures exchanges { (g : Setting K P) (c : Coding K P) → IsHashed g c
         → (begun since es : List (Exchange P)) → AllAllowed g start (begun ++ (since ++ es))
@@ -49,8 +49,8 @@ pub fn stable<K, P>()
         → Relies g' c begun since k m loaded }
 {}
 
-/// What is asked as the call asks is what the call asks, and it relies on what calls rely on, so
-/// the laws of `papaya_call_law` hold of it. What a copy names is there.
+/// An ask of the call itself relies on what calls rely on, so the laws of `papaya_call_law` hold
+/// for it. An ask of a copy names only what is there.
 pub fn names<K, P>()
     ensures calls { (g : Setting K P) (c : Coding K P) (begun since : List (Exchange P)) (k : K)
         (m : Machine) (loaded : LoadedPairs P) → Relies g c begun since k m loaded → (ask : CallAsk)
@@ -63,10 +63,10 @@ pub fn names<K, P>()
         → AreThere g c (run (begun ++ since) start) loaded.call.last loaded.kept ask }
 {}
 
-/// An exchange of a copy whose old word stands there is one of the law, allowed, and writes just
-/// its word. It is a link, a mark, a shut slot, a placed copy, a finished slot, the word of a
-/// chunk, a new root or a table that is given up, and never a change of the map. A table that is
-/// linked has to have as many words for chunks as were asked for.
+/// An exchange of a copy that finds its old word is one of the law, is allowed, and writes only its
+/// word. It never changes the map. It is a link, a mark, a sealed slot, a placed copy, a finished
+/// slot, the word of a chunk, a new root or a table that is given up. A table that is linked must
+/// have as many words for chunks as the ask said.
 pub fn copies_guarantee<K, P>()
     ensures { (g : Setting K P) (c : Coding K P) → IsHashed g c → (begun since : List (Exchange P))
         → AllAllowed g start (begun ++ since) → (k : K) (m : Machine) (loaded : LoadedPairs P)
@@ -79,7 +79,7 @@ pub fn copies_guarantee<K, P>()
 {}
 
 /// A hint that a copy writes may be there: a pair of its key was put into that slot, or the slot
-/// was shut.
+/// was sealed.
 pub fn copies_guarantee_hint<K, P>()
     ensures { (g : Setting K P) (c : Coding K P) → IsHashed g c → (begun since : List (Exchange P))
         → AllAllowed g start (begun ++ since) → (k : K) (m : Machine) (loaded : LoadedPairs P)
@@ -88,9 +88,8 @@ pub fn copies_guarantee_hint<K, P>()
         → IsHint g c (run (begun ++ since) start) t x n }
 {}
 
-/// After an answer that is true of the words the call relies on what holds again, and what was
-/// exchanged was allowed. Where a table was linked, it has to have as many words for chunks as were
-/// asked for.
+/// After a true answer the facts on which the call relies hold again, and its exchange was allowed.
+/// A table that was linked must have as many words for chunks as the ask said.
 pub fn learns<K, P>()
     ensures { (g : Setting K P) (c : Coding K P) → IsHashed g c → (begun since : List (Exchange P))
         → AllAllowed g start (begun ++ since) → (k : K) (m : Machine) (loaded : LoadedPairs P)
@@ -103,9 +102,9 @@ pub fn learns<K, P>()
         × Relies g c begun (since ++ es) k (after m answer) loaded' }
 {}
 
-/// An answer is for the call itself, or the call was set aside: it waits, goes on in a further
-/// table, begins anew at the root, or ends refused. So a copy changes no pair of the map, counts
-/// none and asks no closure.
+/// An answer goes to the call itself, or to what the call waits for. Then the call still waits,
+/// continues in a later table, begins again at the root, or ends refused. So a copy changes no pair
+/// of the map, counts none and calls no closure.
 pub fn goes<K, P>()
     ensures leaves { (g : Setting K P) (c : Coding K P) (begun since : List (Exchange P)) (k : K)
         (m : Machine) (loaded : LoadedPairs P) → Relies g c begun since k m loaded
@@ -150,8 +149,8 @@ pub fn goes<K, P>()
         → StandsOn m.call said ⊎ ((own : IsOwnStep m answer) × IsSaidBy m.call own.told said) }
 {}
 
-/// A closure is shown once at most that its key is absent, however often the call is set aside: one
-/// that was shown it is shown it no more.
+/// A closure is called at most once without a pair, however often the call is set aside: after that
+/// call it is not called so again.
 pub fn once<K, P>()
     ensures stable { (g : Setting K P) (c : Coding K P) (begun since : List (Exchange P)) (k : K)
         (m : Machine) (loaded : LoadedPairs P) → Relies g c begun since k m loaded
@@ -167,9 +166,9 @@ pub fn once<K, P>()
         (after m (Answer.Call (CallAnswer.Op kind))).call.state }
 {}
 
-/// A call is refused for one of five reasons. What it asked to be made was refused, as many pairs
-/// were logged as the limit says, or its closure would remove a pair where there is none. Or, when
-/// it was set aside, the next table was refused, or would be longer than a table may be.
+/// A call is refused for one of five reasons: something that it asked for was refused, as many
+/// pairs were stored as the limit allows, or its closure returned a removal without a pair. Or,
+/// while it was set aside, the next table was refused or would be longer than a table may be.
 pub fn refusals<K, P>()
     ensures { (g : Setting K P) (c : Coding K P) (begun since : List (Exchange P)) (k : K)
         (m : Machine) (loaded : LoadedPairs P) → Relies g c begun since k m loaded

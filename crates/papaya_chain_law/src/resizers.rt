@@ -1,5 +1,5 @@
-//! What a call that resizes the map relies on: facts of the words alone, which no exchange undoes.
-//! The functions do nothing: their contracts are the laws.
+//! The facts on which a call that resizes the map relies, all of the words alone. No exchange
+//! undoes them. The functions have empty bodies; their contracts are the laws.
 ghost use Rattle.std.specs.Prelude.{◌≡◌, ℕ, List, None, Option, Some};
 ghost use Rattle.papaya_words.specs.declared.probe.Refused.{Refused};
 ghost use Rattle.papaya_words.specs.declared.probe.ResizeMode.{ResizeMode};
@@ -26,8 +26,8 @@ use papaya_ask::copy_ask::CopyAsk;
 use papaya_chain::ask::Answer;
 use papaya_chain::resizer::{Resize, Resizer};
 
-/// A resizer that begins relies on nothing, and what it relies on stays so, whatever others
-/// exchange and whichever tables are made.
+/// A resizer that begins relies on nothing. The facts on which it relies later stay true, whatever
+/// others exchange and whichever tables are made.
 pub fn resizers_rely<K, P>()
     ensures begins { (g : Setting K P) (c : Coding K P) (s : State P) (loaded : LoadedPairs P)
         (resize : Resize) (mode : ResizeMode) (initial number : ℕ) → IsModeOf mode g.blocking
@@ -42,12 +42,11 @@ pub fn resizers_rely<K, P>()
         → ReliesResizer g c s resizer loaded → ReliesResizer g' c s resizer loaded }
 {}
 
-/// A resizer names only what is there, and an exchange of it whose old word stands there is allowed
-/// and writes just its word. A hint that it writes may be there. After an answer that is true of
-/// the words it relies on what holds again, and what was exchanged was allowed. It is refused for
-/// one of three reasons: a table was refused, the next one would be longer than a table may be, or
-/// room was asked for that no table has. A table that is linked has to have as many words for
-/// chunks as were asked for.
+/// A resizer names only what is there. Its exchange that finds its old word is allowed and writes
+/// only its word. A hint that it writes may be there. After a true answer the facts on which it
+/// relies hold again, and its exchange was allowed. It is refused for one of three reasons: a table
+/// was refused, the next one would be longer than a table may be, or no table has the room asked
+/// for. A table that is linked must have as many words for chunks as the ask said.
 pub fn resizers_go_on<K, P>()
     ensures names { (g : Setting K P) (c : Coding K P) → IsHashed g c
         → (s : State P) (m : K → Option P) → IsKeeping g s m

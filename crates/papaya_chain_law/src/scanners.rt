@@ -1,5 +1,5 @@
-//! What a call that scans a whole table relies on. The functions do nothing: their contracts are
-//! the laws.
+//! The facts on which a call that scans a whole table relies. The functions have empty bodies;
+//! their contracts are the laws.
 ghost use Rattle.std.specs.Prelude.{◌≡◌, ◌++◌, ℕ, List, [], Option, Some};
 ghost use Rattle.papaya_words.specs.declared.probe.ResizeMode.{ResizeMode};
 ghost use Rattle.papaya_words.specs.declared.probe.Refused.{Refused};
@@ -29,8 +29,8 @@ use papaya_chain::ask::Answer;
 use papaya_chain::scan_ask::ScanAsk;
 use papaya_chain::scanner::{Scan, Scanner};
 
-/// A scanner that begins relies on the words as they are, and what it relies on stays so, whatever
-/// others exchange and whichever tables are made.
+/// A scanner that begins relies on the words as they are. The facts on which it relies stay true,
+/// whatever others exchange and whichever tables are made.
 pub fn scanners_rely<K, P>()
     ensures begins { (g : Setting K P) (c : Coding K P) (s : State P) (m : K → Option P)
         (scan : Scan) (mode : ResizeMode) (initial number : ℕ) → IsModeOf mode g.blocking
@@ -48,10 +48,9 @@ pub fn scanners_rely<K, P>()
         → ReliesScanner g' c s m since scanner loaded }
 {}
 
-/// A scanner names only what is there. An exchange of it whose old word stands there is allowed and
-/// writes just its word: it is one of the copy, or deletes the pair that stands in its slot. A hint
-/// that it writes may be there. A table that is linked has to have as many words for chunks as were
-/// asked for.
+/// A scanner names only what is there. Its exchange that finds its old word is allowed and writes
+/// only its word: it is one of the copy, or deletes the pair in its slot. A hint that it writes may
+/// be there. A table that is linked must have as many words for chunks as the ask said.
 pub fn scanners_ask<K, P>()
     ensures names { (g : Setting K P) (c : Coding K P) → IsHashed g c
         → (s : State P) (m : K → Option P) → IsKeeping g s m → (since : List (Exchange P))
@@ -75,9 +74,8 @@ pub fn scanners_ask<K, P>()
         → ask_of scanner ≡ Some (Copy_ask (WriteHint t x n)) → IsHint g c (run since s) t x n }
 {}
 
-/// After an answer that is true of the words a scanner relies on what holds again, and what was
-/// exchanged was allowed. Where a table was linked, it has to have as many words for chunks as were
-/// asked for.
+/// After a true answer the facts on which a scanner relies hold again, and its exchange was
+/// allowed. A table that was linked must have as many words for chunks as the ask said.
 pub fn scanners_learn<K, P>()
     ensures { (g : Setting K P) (c : Coding K P) → IsHashed g c
         → (s : State P) (m : K → Option P) → IsKeeping g s m → (since : List (Exchange P))
@@ -90,9 +88,9 @@ pub fn scanners_learn<K, P>()
         × ReliesScanner g c s m (since ++ es) (after scanner answer) loaded' }
 {}
 
-/// What an answer did. A walk changes no pair of the map. A clear and a retain delete one pair at a
-/// time, and take 1 from the count next; and none of their other exchanges changes a pair. They are
-/// refused, as a walk is, only where a table is: that was refused, or would be too long.
+/// The effect of an answer. An iteration changes no pair of the map. A clear and a retain delete
+/// one pair at a time and take 1 from the count next; their other exchanges change no pair. All
+/// three are refused only if a table is refused or would be too long.
 pub fn scanners_do<K, P>()
     ensures changes { (g : Setting K P) (c : Coding K P) (s : State P) (m : K → Option P)
         (since : List (Exchange P)) (scanner : Scanner) (loaded : LoadedPairs P)
@@ -109,7 +107,7 @@ pub fn scanners_do<K, P>()
         → IsScanCause scanner answer refused }
 {}
 
-/// While the root has no next table, and nobody else makes one, a scan copies nothing, so no table
+/// While the root has no next table, and nobody else makes one, a scan copies nothing. So no table
 /// is made for it and it is not refused.
 pub fn scanners_undisturbed<K, P>()
     ensures begins { (s : State P) (scan : Scan) (mode : ResizeMode) (initial number : ℕ)
@@ -126,9 +124,9 @@ pub fn scanners_undisturbed<K, P>()
         → StandsAtRoot s scanner.state → reply_of scanner ≡ Some (Reply_refused refused) → ⊥ }
 {}
 
-/// What is so at the end. A walk has given each key that was in the map all the time just once, and
-/// nothing that was not there; it deletes no pair. Of the pairs that the map had as it began, a
-/// clear has left none, and a retain just those of which the last answer was that they stay.
+/// The end of a scan. An iteration has returned exactly once each key that was in the map all the
+/// time, and nothing that was not there; it deletes no pair. A clear leaves none of the pairs of
+/// the map as it began, and a retain those for which the closure last returned `true`.
 pub fn scanners_end<K, P>()
     ensures walked { (g : Setting K P) (c : Coding K P) (s : State P) (m : K → Option P)
         (since : List (Exchange P)) (scanner : Scanner) (loaded : LoadedPairs P)

@@ -1,4 +1,4 @@
-//! A copier puts the pair of a marked word into a table.
+//! The carry: a copier moves the pair of a marked word into a later table.
 ghost use Rattle.std.specs.Prelude.{◌≡◌};
 ghost use Rattle.std.specs.Int.{IsPowerOfTwo};
 ghost use Rattle.papaya_copy.specs.Carry.{IsStandingCarry, IsStandingCarried, at_count, at_exchanged, at_found, at_hash, at_ok};
@@ -14,39 +14,39 @@ use papaya_ask::search::Place;
 use papaya_words::probe::{Refused, ResizeMode};
 use papaya_words::word::{Kind, Word, hint, may_hold};
 
-/// Where it stands, between two answers.
+/// The state of a carry, between two answers.
 ///
 /// In 0.2.5 this is `insert_copy`.
 #[derive(Clone, Copy)]
 pub enum Carry {
-    /// It asks for the hash of the pair's key, to go to this table.
+    /// Asks for the hash of the pair's key, to carry the pair to this table.
     Hashing(u64),
-    /// It asks for the size of this table.
+    /// Asks for the size of this table.
     Sizing { hash: u64, table: u64 },
-    /// It loads the hint of this place.
+    /// Loads the hint of this place.
     Looking { hash: u64, place: Place },
-    /// The hint says nothing, or is the key's, so it loads the word at this place.
+    /// The hint is 0 or the key's: loads the word at this place.
     Reading { hash: u64, place: Place },
-    /// It compares the key of the pair that this word names, which was loaded at this place.
+    /// Compares the key of the pair that this word names, which was loaded at this place.
     Comparing { hash: u64, place: Place, word: u64 },
-    /// It puts the pair into this place.
+    /// Puts the pair into this place.
     Placing { hash: u64, place: Place },
-    /// It put the pair into this place, and writes the hint of its key.
+    /// The pair is in this place: writes the hint of its key.
     Placed { hash: u64, place: Place },
-    /// There is no place left in this table, and it loads the number of the next.
+    /// This table has no place left: loads the number of the next one.
     Passing { hash: u64, table: u64 },
-    /// It makes the next table.
+    /// Makes the next table.
     Linking { hash: u64, link: Link },
-    /// There is no place left in this table, and it gives the table up.
+    /// This table has no place left: gives the table up.
     Aborting(u64),
 }
 
-/// Where an answer led.
+/// The outcome of an answer to a carry.
 #[derive(Clone, Copy)]
 pub enum Carried {
-    /// It goes on.
+    /// The carry continues.
     On(Carry),
-    /// A word of the pair's key stands in a table that takes the pair.
+    /// A word of the pair's key is in a table that takes the pair.
     Carried,
     /// This table was given up.
     Unfit(u64),
@@ -55,7 +55,7 @@ pub enum Carried {
 }
 
 impl Carry {
-    /// What is asked next, for the pair of this marked word.
+    /// Returns the next ask, for the pair of this marked word.
     #[inline]
     pub fn ask(self, marked: u64) -> CopyAsk
         requires { IsStandingCarry self }
@@ -83,7 +83,7 @@ impl Carry {
         }
     }
 
-    /// The kind of the exchange that is asked for, if one is.
+    /// Returns the exchange's kind, if the next ask is an exchange.
     #[inline]
     pub fn kind(self) -> Option<StepKind>
         ensures { result ≡ carry_kind self }
@@ -96,7 +96,7 @@ impl Carry {
         }
     }
 
-    /// The table that one in the making is to follow, 0 where none is made.
+    /// Returns the table that a table in the making will follow, or 0 if none is made.
     #[inline]
     pub fn follows(self) -> u64
         ensures { result ≡ carry_follows self }
@@ -107,7 +107,7 @@ impl Carry {
         }
     }
 
-    /// The pair's key has this hash.
+    /// Continues with the hash of the pair's key.
     #[inline]
     pub fn at_hash(self, hash: u64) -> Carry
         requires { IsStandingCarry self }
@@ -120,7 +120,7 @@ impl Carry {
         }
     }
 
-    /// The table has this size.
+    /// Continues with the size of the table.
     #[inline]
     pub fn at_size(self, len: usize, limit: usize) -> Carry
         requires standing { IsStandingCarry self }
@@ -141,7 +141,7 @@ impl Carry {
         }
     }
 
-    /// This word, or this hint, was loaded.
+    /// Continues with the word or the hint that was loaded.
     #[inline]
     pub fn at_word(self, mode: ResizeMode, word: u64) -> Carried
         requires { IsStandingCarry self }
@@ -156,7 +156,7 @@ impl Carry {
         }
     }
 
-    /// The keys match, or they do not.
+    /// Continues with whether the keys match.
     #[inline]
     pub fn at_yes(self, mode: ResizeMode, yes: bool) -> Carried
         requires { IsStandingCarry self }
@@ -175,7 +175,7 @@ impl Carry {
         }
     }
 
-    /// The exchange was made.
+    /// Continues after the exchange was made.
     #[inline]
     pub fn at_exchanged(self) -> Carried
         requires { IsStandingCarry self }
@@ -190,7 +190,7 @@ impl Carry {
         }
     }
 
-    /// The hint was written, or one stood there.
+    /// Continues after the hint was written, or another was found there.
     #[inline]
     pub fn at_ok(self) -> Carried
         requires { IsStandingCarry self }
@@ -203,7 +203,7 @@ impl Carry {
         }
     }
 
-    /// The exchange was not made: this word stands there.
+    /// Continues after the exchange failed because `word` is there.
     #[inline]
     pub fn at_found(self, mode: ResizeMode, word: u64) -> Carried
         requires { IsStandingCarry self }
@@ -218,7 +218,7 @@ impl Carry {
         }
     }
 
-    /// The map counts so many pairs, and its initial capacity is this.
+    /// Continues with the map's count of pairs and its initial capacity.
     #[inline]
     pub fn at_count(self, mode: ResizeMode, count: usize, initial: usize) -> Carried
         requires standing { IsStandingCarry self }
@@ -234,7 +234,7 @@ impl Carry {
         }
     }
 
-    /// A table was made, and has this number.
+    /// Continues with the number of the table that was made.
     #[inline]
     pub fn at_made(self, number: u64) -> Carry
         requires { IsStandingCarry self }
@@ -250,7 +250,7 @@ impl Carry {
         }
     }
 
-    /// A table was not made.
+    /// Ends because a table could not be made.
     #[inline]
     pub fn at_refused(self, refused: Refused) -> Carried
         requires { IsStandingCarry self }
@@ -265,7 +265,7 @@ impl Carry {
 }
 
 impl Carry {
-    /// This hint stands at the place. A buried slot keeps its key's, so it is met too.
+    /// Continues with the hint of the place. A buried slot keeps its key's hint, so it is met too.
     #[inline]
     fn hinted(hash: u64, place: Place, mode: ResizeMode, found: u64) -> Carried
         requires { IsWithin place }
@@ -279,8 +279,8 @@ impl Carry {
         }
     }
 
-    /// This word stands at the place. A word of the pair's key says that the pair came there
-    /// before, also where it was removed since.
+    /// Continues with the word at the place. A word of the pair's key shows that the pair was
+    /// already copied, even if it was removed since.
     #[inline]
     fn look(hash: u64, place: Place, mode: ResizeMode, word: u64) -> Carried
         requires { IsWithin place }
@@ -296,8 +296,8 @@ impl Carry {
         }
     }
 
-    /// The pair's key is not at this place, so the next one is looked at, while there is one. With
-    /// `Blocking` a table into which a pair does not fit is given up.
+    /// Moves to the next place, if there is one. With `Blocking`, a table into which a pair does
+    /// not fit is given up.
     #[inline]
     fn goes_on(hash: u64, mut place: Place, mode: ResizeMode) -> Carried
         requires { IsWithin place }
@@ -317,7 +317,7 @@ impl Carry {
         }
     }
 
-    /// The next table has this number, or there is none.
+    /// Continues with the number of the next table, or 0 if there is none.
     #[inline]
     fn passed(hash: u64, table: u64, next: u64) -> Carry
         ensures value { result ≡ passed hash table next }
@@ -337,7 +337,7 @@ impl Carry {
         }
     }
 
-    /// The making of the next table leads here.
+    /// Continues with the outcome of making the next table.
     #[inline]
     fn linked(hash: u64, linked: Linked) -> Carried
         requires { IsStandingLinked linked }

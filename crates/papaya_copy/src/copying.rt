@@ -1,4 +1,4 @@
-//! The copy of the root, for what a call wants of it.
+//! The copy of the root, as far as a call needs it.
 ghost use Rattle.std.specs.Prelude.{◌≡◌};
 ghost use Rattle.std.specs.Int.{IsPowerOfTwo};
 ghost use Rattle.papaya_copy.specs.Copying.{IsStandingCopying, IsStandingCopied, at_count, at_exchanged, at_found, at_hash, at_made, at_ok};
@@ -15,48 +15,48 @@ use papaya_ask::ask::StepKind;
 use papaya_ask::copy_ask::CopyAsk;
 use papaya_words::probe::{Refused, ResizeMode};
 
-/// What a call copies for: how much, and where it leads.
+/// How much a call copies, and where it continues.
 #[derive(Clone, Copy)]
 pub enum Aim {
-    /// A chunk, then the key is looked for in this table.
+    /// Copies a chunk, then searches this table for the key.
     Search(u64),
-    /// A chunk, then this slot, then the key is looked for in the table that took its pair.
+    /// Copies a chunk, then this slot, then searches the table that took its pair for the key.
     Settle(Slot),
-    /// A chunk.
+    /// Copies a chunk.
     Chunk,
-    /// All, then the call takes the root as it is. With `Blocking`: all of this root; 0 stands for
-    /// the one that is met first.
+    /// Copies everything, then the call takes the root as it is. With `Blocking`, copies all of
+    /// this root, where 0 is the first root that the call meets.
     All(u64),
 }
 
-/// Where a call that copies stands, between two answers.
+/// The state of a call that copies, between two answers.
 ///
-/// In 0.2.5 this is `help_copy`, and the loop around it of calls that copy all.
+/// In 0.2.5 this is `help_copy`, and the loop around it in calls that copy everything.
 #[derive(Clone, Copy)]
 pub enum Copying {
-    /// It copies a chunk.
+    /// Copies a chunk.
     Stepping(Aim, Step),
-    /// It copies one slot more, in which it met its key's pair.
+    /// Copies one more slot, in which the call met its key's pair.
     Lone(Slot, Settle),
 }
 
-/// Where an answer led.
+/// The outcome of an answer to a call that copies.
 #[derive(Clone, Copy)]
 pub enum Copied {
-    /// It goes on.
+    /// The copy continues.
     On(Copying),
-    /// It looks for its key in this table.
+    /// The call searches this table for its key.
     Search(u64),
-    /// It begins anew at this root, or at none.
+    /// The call starts again at this root, or with no root if it is 0.
     Root(u64),
-    /// The chunk that it was to copy is copied.
+    /// The chunk that the call was to copy is copied.
     Chunk,
     /// A next table could not be made.
     Refused(Refused),
 }
 
 impl Copying {
-    /// What is asked next.
+    /// Returns the next ask.
     #[inline]
     pub fn ask(self) -> CopyAsk
         requires { IsStandingCopying self }
@@ -69,7 +69,7 @@ impl Copying {
         }
     }
 
-    /// The kind of the exchange that is asked for, if one is.
+    /// Returns the exchange's kind, if the next ask is an exchange.
     #[inline]
     pub fn kind(self) -> Option<StepKind>
         ensures { result ≡ copying_kind self }
@@ -80,7 +80,7 @@ impl Copying {
         }
     }
 
-    /// The table that one in the making is to follow, 0 where none is made.
+    /// Returns the table that a table in the making will follow, or 0 if none is made.
     #[inline]
     pub fn follows(self) -> u64
         ensures { result ≡ copying_follows self }
@@ -91,7 +91,7 @@ impl Copying {
         }
     }
 
-    /// The key of the pair that is carried has this hash.
+    /// Continues with the hash of the key of the pair that is carried.
     #[inline]
     pub fn at_hash(self, hash: u64) -> Copying
         requires standing { IsStandingCopying self }
@@ -104,7 +104,7 @@ impl Copying {
         }
     }
 
-    /// A table has this size. The number says from which chunk on a table is copied.
+    /// Continues with the size of a table. `number` decides at which chunk the copy starts.
     #[inline]
     pub fn at_size(self, mode: ResizeMode, number: u64, len: usize, limit: usize) -> Copying
         requires standing { IsStandingCopying self }
@@ -120,7 +120,7 @@ impl Copying {
         }
     }
 
-    /// This word, or this hint, was loaded.
+    /// Continues with the word or the hint that was loaded.
     #[inline]
     pub fn at_word(self, mode: ResizeMode, word: u64) -> Copied
         requires standing { IsStandingCopying self }
@@ -133,7 +133,7 @@ impl Copying {
         }
     }
 
-    /// The keys match, or they do not.
+    /// Continues with whether the keys match.
     #[inline]
     pub fn at_yes(self, mode: ResizeMode, yes: bool) -> Copied
         requires standing { IsStandingCopying self }
@@ -146,7 +146,7 @@ impl Copying {
         }
     }
 
-    /// The exchange was made.
+    /// Continues after the exchange was made.
     #[inline]
     pub fn at_exchanged(self, mode: ResizeMode) -> Copied
         requires standing { IsStandingCopying self }
@@ -159,7 +159,7 @@ impl Copying {
         }
     }
 
-    /// A hint was written, or one stood there.
+    /// Continues after a hint was written, or another was found there.
     #[inline]
     pub fn at_ok(self, mode: ResizeMode) -> Copied
         requires standing { IsStandingCopying self }
@@ -172,7 +172,7 @@ impl Copying {
         }
     }
 
-    /// The exchange was not made: this word stands there.
+    /// Continues after the exchange failed because `word` is there.
     #[inline]
     pub fn at_found(self, mode: ResizeMode, word: u64) -> Copied
         requires standing { IsStandingCopying self }
@@ -185,7 +185,7 @@ impl Copying {
         }
     }
 
-    /// The map counts so many pairs, and its initial capacity is this.
+    /// Continues with the map's count of pairs and its initial capacity.
     #[inline]
     pub fn at_count(self, mode: ResizeMode, count: usize, initial: usize) -> Copied
         requires standing { IsStandingCopying self }
@@ -202,7 +202,7 @@ impl Copying {
         }
     }
 
-    /// A table was made, and has this number.
+    /// Continues with the number of the table that was made.
     #[inline]
     pub fn at_made(self, number: u64) -> Copying
         requires standing { IsStandingCopying self }
@@ -215,7 +215,7 @@ impl Copying {
         }
     }
 
-    /// A table was not made.
+    /// Ends because a table could not be made.
     #[inline]
     pub fn at_refused(self, mode: ResizeMode, refused: Refused) -> Copied
         requires standing { IsStandingCopying self }
@@ -228,7 +228,7 @@ impl Copying {
         }
     }
 
-    /// The copy of the one slot leads here.
+    /// Continues with the outcome of copying the one slot.
     #[inline]
     fn lone(slot: Slot, settled: Settled) -> Copied
         requires { IsStandingSettled settled }
@@ -244,7 +244,7 @@ impl Copying {
 }
 
 impl Aim {
-    /// The copy of a chunk leads here.
+    /// Continues with the outcome of copying a chunk.
     #[inline]
     fn leads(self, mode: ResizeMode, stepped: Stepped) -> Copied
         requires { IsStandingStepped stepped }
@@ -261,8 +261,8 @@ impl Aim {
         }
     }
 
-    /// The root is this table, or there is none. With `Blocking`, what was to be copied is copied
-    /// once another table is the root.
+    /// Continues with the number of the root, or 0. With `Blocking`, the copy is finished once
+    /// another table is the root.
     #[inline]
     fn at_root(self, mode: ResizeMode, root: u64) -> Copied
         ensures value { result ≡ at_root self mode root }
@@ -298,7 +298,7 @@ impl Aim {
         }
     }
 
-    /// This root has no next table, so all is copied.
+    /// Continues at this root, which has no next table, so that nothing is left to copy.
     #[inline]
     fn last(self, root: u64) -> Copied
         ensures value { result ≡ last self root }
@@ -310,7 +310,7 @@ impl Aim {
         }
     }
 
-    /// A chunk was copied, and this one was not yet. Who copies all copies it too.
+    /// Continues after a chunk was copied. Only a call that copies everything copies the next one.
     #[inline]
     fn further(self, chunk: Chunk) -> Copied
         requires { IsStandingChunk chunk }
@@ -325,7 +325,7 @@ impl Aim {
         }
     }
 
-    /// What was to be copied is copied.
+    /// Continues after a copy: with the search, the slot, or, to copy everything, at the root.
     #[inline]
     fn over(self) -> Copied
         ensures value { result ≡ over self }

@@ -11,45 +11,45 @@ use papaya_words::chunks::chunk_count;
 use papaya_words::probe::{Refused, ResizeMode};
 use papaya_words::table::{next_len, next_limit, table_len};
 
-/// Where it stands, between two answers.
+/// The state of making a table, between two answers.
 ///
 /// In 0.2.5 this is `get_or_alloc_next`. There one caller makes the table and the others wait for
-/// it; here each makes one, and all go on with the one that was put in first.
+/// it. Here each makes one, and all continue with the one that was linked first.
 #[derive(Clone, Copy)]
 pub enum Link {
-    /// It asks for the size of this table, which is to get a next one. `unfit` says that a pair
-    /// found no place, or that this table was given up.
+    /// Asks for the size of this table, which is to get a next one. `unfit` says that a pair found
+    /// no place, or that this table was given up.
     Sizing {
         after: u64,
-        /// The table that is copied to the next one: this one, or the root, if this one was
-        /// given up.
+        /// The table that is copied to the next one: this one, or the root if this one was given
+        /// up.
         copied: u64,
         unfit: bool,
     },
-    /// It asks for the size of the table that is copied, which is another one.
+    /// Asks for the size of the table that is copied, which is another one.
     Measuring {
         after: u64,
         copied: u64,
         unfit: bool,
-        /// How many slots the table has that is to get a next one.
+        /// The number of slots of the table that is to get a next one.
         len: usize,
     },
-    /// It asks for the count of pairs.
+    /// Asks for the count of pairs.
     Counting {
         after: u64,
         unfit: bool,
         len: usize,
-        /// How many slots the table has that is copied.
+        /// The number of slots of the table that is copied.
         copied: usize,
     },
-    /// It makes a table of so many slots, with a word for each chunk of the table that is copied.
+    /// Makes a table of `len` slots, with a word for each chunk of the table that is copied.
     Making {
         after: u64,
         len: usize,
         limit: usize,
         chunks: usize,
     },
-    /// It puts this table, which it made so, in as the next.
+    /// Links this table, which it made, as the next one.
     Linking {
         after: u64,
         table: u64,
@@ -57,10 +57,10 @@ pub enum Link {
     },
 }
 
-/// Where an answer led.
+/// The outcome of an answer while a table is made.
 #[derive(Clone, Copy)]
 pub enum Linked {
-    /// It goes on.
+    /// The making continues.
     On(Link),
     /// This is the next table.
     Table(u64),
@@ -69,7 +69,7 @@ pub enum Linked {
 }
 
 impl Link {
-    /// What is asked next.
+    /// Returns the next ask.
     #[inline]
     pub fn ask(self) -> CopyAsk
         requires { IsStandingLink self }
@@ -90,7 +90,7 @@ impl Link {
         }
     }
 
-    /// The kind of the exchange that is asked for, if one is.
+    /// Returns the exchange's kind, if the next ask is an exchange.
     #[inline]
     pub fn kind(self) -> Option<StepKind>
         ensures { result ≡ link_kind self }
@@ -101,7 +101,7 @@ impl Link {
         }
     }
 
-    /// The table that is to get a next one: the one that is made has a greater number.
+    /// Returns the table that is to get a next one. The table that is made has a greater number.
     #[inline]
     pub fn follows(self) -> u64
         ensures { result ≡ follows self }
@@ -115,7 +115,7 @@ impl Link {
         }
     }
 
-    /// The table has so many slots.
+    /// Continues with the size of the table.
     #[inline]
     pub fn at_size(self, len: usize, limit: usize) -> Link
         requires standing { IsStandingLink self }
@@ -160,7 +160,7 @@ impl Link {
         }
     }
 
-    /// The map counts so many pairs, and its initial capacity is this.
+    /// Continues with the map's count of pairs and its initial capacity.
     #[inline]
     pub fn at_count(self, mode: ResizeMode, count: usize, initial: usize) -> Linked
         requires standing { IsStandingLink self }
@@ -190,7 +190,7 @@ impl Link {
         }
     }
 
-    /// The table was made, and has this number.
+    /// Continues with the number of the table that was made.
     #[inline]
     pub fn at_made(self, number: u64) -> Link
         requires { IsStandingLink self }
@@ -207,7 +207,7 @@ impl Link {
         }
     }
 
-    /// The table was not made.
+    /// Ends because the table could not be made.
     #[inline]
     pub fn at_refused(self, refused: Refused) -> Linked
         requires { IsStandingLink self }
@@ -220,7 +220,7 @@ impl Link {
         }
     }
 
-    /// The table was put in.
+    /// Ends because the table was linked.
     #[inline]
     pub fn at_exchanged(self) -> Linked
         requires { IsStandingLink self }
@@ -233,7 +233,7 @@ impl Link {
         }
     }
 
-    /// Another caller put this table in before.
+    /// Ends because another caller linked this table first.
     #[inline]
     pub fn at_found(self, word: u64) -> Linked
         requires { IsStandingLink self }

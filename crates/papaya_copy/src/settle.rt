@@ -17,49 +17,49 @@ use papaya_words::word::{Kind, SHUT, Word};
 /// A slot that is copied.
 #[derive(Clone, Copy)]
 pub struct Slot {
-    /// The table it is in.
+    /// The slot's table.
     pub from: u64,
-    /// Its place in that table, from 0.
+    /// The slot's index in that table, from 0.
     pub index: usize,
-    /// The table to which its pair goes first.
+    /// The first table in which its pair is to be placed.
     pub to: u64,
 }
 
-/// Where its copy stands, between two answers.
+/// The state of a slot's copy, between two answers.
 ///
 /// In 0.2.5 this is `copy_at_incremental` and `copy_at_blocking`. There a caller that meets a mark
-/// waits for the one that set it; here each carries the copy on.
+/// waits for the one that set it; here each continues the copy.
 #[derive(Clone, Copy)]
 pub enum Settle {
-    /// It loads the slot's word.
+    /// Loads the slot's word.
     Looking,
-    /// It shuts the slot, which is empty.
+    /// Seals the slot, which is empty.
     Closing,
-    /// It shut the slot, and writes that into its hint.
+    /// The slot is sealed: writes the hint that says so.
     Shutting,
-    /// It marks this word.
+    /// Marks this word.
     Marking(u64),
-    /// It puts the pair of this word, which is marked, into another table.
+    /// Carries the pair of this word, which is marked, to another table.
     Carrying(u64, Carry),
-    /// The pair of this word was put there, and the word is to say so.
+    /// The pair of this word is in a later table: marks the word as copied.
     Finishing(u64),
 }
 
-/// Where an answer led.
+/// The outcome of an answer to a slot's copy.
 #[derive(Clone, Copy)]
 pub enum Settled {
-    /// It goes on.
+    /// The copy continues.
     On(Settle),
-    /// The slot is settled: whoever looks for its pair finds it further on.
+    /// The slot is settled: a search for its pair finds it in a later table.
     Settled,
-    /// This table, to which copies go, was given up.
+    /// This table, to which pairs are copied, was given up.
     Unfit(u64),
     /// A next table could not be made.
     Refused(Refused),
 }
 
 impl Settle {
-    /// What is asked next.
+    /// Returns the next ask.
     #[inline]
     pub fn ask(self, slot: Slot) -> CopyAsk
         requires { IsStandingSettle self }
@@ -79,7 +79,7 @@ impl Settle {
         }
     }
 
-    /// The kind of the exchange that is asked for, if one is.
+    /// Returns the exchange's kind, if the next ask is an exchange.
     #[inline]
     pub fn kind(self) -> Option<StepKind>
         ensures { result ≡ settle_kind self }
@@ -93,7 +93,7 @@ impl Settle {
         }
     }
 
-    /// The table that one in the making is to follow, 0 where none is made.
+    /// Returns the table that a table in the making will follow, or 0 if none is made.
     #[inline]
     pub fn follows(self) -> u64
         ensures { result ≡ settle_follows self }
@@ -104,7 +104,7 @@ impl Settle {
         }
     }
 
-    /// The key of the pair that is carried has this hash.
+    /// Continues with the hash of the key of the pair that is carried.
     #[inline]
     pub fn at_hash(self, hash: u64) -> Settle
         requires { IsStandingSettle self }
@@ -117,7 +117,7 @@ impl Settle {
         }
     }
 
-    /// A table has this size.
+    /// Continues with the size of a table.
     #[inline]
     pub fn at_size(self, len: usize, limit: usize) -> Settle
         requires standing { IsStandingSettle self }
@@ -131,7 +131,7 @@ impl Settle {
         }
     }
 
-    /// This word, or this hint, was loaded.
+    /// Continues with the word or the hint that was loaded.
     #[inline]
     pub fn at_word(self, slot: Slot, mode: ResizeMode, word: u64) -> Settled
         requires { IsStandingSettle self }
@@ -147,7 +147,7 @@ impl Settle {
         }
     }
 
-    /// The keys match, or they do not.
+    /// Continues with whether the keys match.
     #[inline]
     pub fn at_yes(self, mode: ResizeMode, yes: bool) -> Settled
         requires { IsStandingSettle self }
@@ -162,7 +162,7 @@ impl Settle {
         }
     }
 
-    /// The exchange was made. A pair that was marked is carried on by whoever marked it.
+    /// Continues after the exchange was made. The caller that marked a pair carries it on.
     #[inline]
     pub fn at_exchanged(self, slot: Slot, mode: ResizeMode) -> Settled
         requires { IsStandingSettle self }
@@ -182,7 +182,7 @@ impl Settle {
         }
     }
 
-    /// The hint was written, or one stood there.
+    /// Continues after the hint was written, or another was found there.
     #[inline]
     pub fn at_ok(self, mode: ResizeMode) -> Settled
         requires { IsStandingSettle self }
@@ -196,7 +196,7 @@ impl Settle {
         }
     }
 
-    /// The exchange was not made: this word stands there.
+    /// Continues after the exchange failed because `word` is there.
     #[inline]
     pub fn at_found(self, slot: Slot, mode: ResizeMode, word: u64) -> Settled
         requires { IsStandingSettle self }
@@ -214,7 +214,7 @@ impl Settle {
         }
     }
 
-    /// The map counts so many pairs, and its initial capacity is this.
+    /// Continues with the map's count of pairs and its initial capacity.
     #[inline]
     pub fn at_count(self, mode: ResizeMode, count: usize, initial: usize) -> Settled
         requires standing { IsStandingSettle self }
@@ -230,7 +230,7 @@ impl Settle {
         }
     }
 
-    /// A table was made, and has this number.
+    /// Continues with the number of the table that was made.
     #[inline]
     pub fn at_made(self, number: u64) -> Settle
         requires { IsStandingSettle self }
@@ -243,7 +243,7 @@ impl Settle {
         }
     }
 
-    /// A table was not made.
+    /// Ends because a table could not be made.
     #[inline]
     pub fn at_refused(self, mode: ResizeMode, refused: Refused) -> Settled
         requires { IsStandingSettle self }
@@ -260,7 +260,7 @@ impl Settle {
 }
 
 impl Settle {
-    /// This word stands in the slot.
+    /// Continues with the slot's word.
     #[inline]
     fn look(slot: Slot, word: u64) -> Settled
         ensures value { result ≡ look slot word }
@@ -274,7 +274,7 @@ impl Settle {
         }
     }
 
-    /// This word, with its pair marked.
+    /// Returns this word with its pair marked.
     #[inline]
     fn marked(word: u64) -> u64
         ensures { result ≡ marked_as word }
@@ -282,7 +282,7 @@ impl Settle {
         Word::marked(Word(word).pair()).0
     }
 
-    /// The carry of the pair of this marked word leads here.
+    /// Continues with the outcome of carrying this marked word's pair.
     #[inline]
     fn carried(marked: u64, mode: ResizeMode, carried: Carried) -> Settled
         requires { IsStandingCarried carried }

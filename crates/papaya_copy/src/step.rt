@@ -1,4 +1,4 @@
-//! One chunk of the copy of the root: slots that are copied one after another.
+//! One chunk of the copy of the root: neighbouring slots that are copied one after another.
 ghost use Rattle.std.specs.Prelude.{◌≡◌, ◌≤◌, ◌^◌};
 ghost use Rattle.std.specs.Int.{IsPowerOfTwo};
 ghost use Rattle.papaya_copy.specs.Link.{IsFitCopyAsk, IsStandingLink, IsStandingLinked};
@@ -18,17 +18,17 @@ use papaya_ask::copy_ask::CopyAsk;
 use papaya_words::chunks::{chunk_count, chunk_len};
 use papaya_words::probe::{Refused, ResizeMode};
 
-/// The words of a table's chunks, loaded one after another: from one of them to the last, and then
-/// from the first on. Each that was passed by says that its chunk is copied.
+/// A cursor over the words of a table's chunks. It loads them from one chunk to the last, and then
+/// from the first on. Each word that it has passed says that its chunk is copied.
 #[derive(Clone, Copy)]
 pub struct Cursor {
     /// The table that is copied.
     pub from: u64,
-    /// The table to which its pairs go first.
+    /// The first table in which its pairs are to be placed.
     pub to: u64,
-    /// How many slots the first table has.
+    /// The number of slots of the table that is copied.
     pub len: usize,
-    /// How many slots a chunk has.
+    /// The length of a chunk in slots.
     pub slots: usize,
     /// The chunk whose word was loaded first.
     pub start: usize,
@@ -36,16 +36,16 @@ pub struct Cursor {
     pub at: usize,
     /// The first slot of that chunk.
     pub begun: usize,
-    /// The last chunk was passed by.
+    /// Whether the cursor has passed the last chunk.
     pub wrapped: bool,
-    /// A chunk was copied.
+    /// Whether this caller has copied a chunk.
     pub copied: bool,
 }
 
-/// Slots of a table that are copied one after another.
+/// A chunk that is being copied.
 #[derive(Clone, Copy)]
 pub struct Chunk {
-    /// Where the cursor came to the chunk.
+    /// The cursor, at this chunk.
     pub cursor: Cursor,
     /// The slot that is copied now.
     pub at: usize,
@@ -53,51 +53,51 @@ pub struct Chunk {
     pub end: usize,
 }
 
-/// Where the copy of a chunk stands, between two answers.
+/// The state of a chunk's copy, between two answers.
 ///
-/// In 0.2.5 this is `help_copy` with `help_copy_incremental` and `help_copy_blocking`, and its
-/// end `try_promote`.
+/// In 0.2.5 this is `help_copy` with `help_copy_incremental` and `help_copy_blocking`, and its end
+/// `try_promote`.
 #[derive(Clone, Copy)]
 pub enum Step {
-    /// It loads the root, which is the table to be copied.
+    /// Loads the root, which is the table to copy.
     AtRoot,
-    /// It loads the number of the table after this one, to which the root is copied perhaps.
+    /// Loads the number of the table after this one, to which the root may be copied.
     Aiming { from: u64, after: u64 },
-    /// There is none, and it makes it.
+    /// There is no next table: makes it.
     Linking { from: u64, link: Link },
-    /// It loads whether this table was given up.
+    /// Loads whether this table was given up.
     Judging { from: u64, to: u64 },
-    /// It asks for the size of the table that is copied.
+    /// Asks for the size of the table that is copied.
     Sizing { from: u64, to: u64 },
-    /// It loads the word of a chunk.
+    /// Loads the word of a chunk.
     AtChunk(Cursor),
-    /// It copies a slot.
+    /// Copies a slot.
     Settling(Chunk, Settle),
-    /// The chunk was copied, and its word is to say so.
+    /// The chunk is copied: writes that into its word.
     Advancing(Cursor),
-    /// All chunks were copied, and the other table is to be the root.
+    /// All chunks are copied: makes the other table the root.
     Promoting { from: u64, to: u64 },
 }
 
-/// Where an answer led.
+/// The outcome of an answer to a chunk's copy.
 #[derive(Clone, Copy)]
 pub enum Stepped {
-    /// It goes on.
+    /// The copy continues.
     On(Step),
-    /// This is the root, or there is none.
+    /// This is the root, or 0.
     Root(u64),
-    /// This root has no next table, so nothing is to be copied.
+    /// This root has no next table, so there is nothing to copy.
     Last(u64),
-    /// A chunk was copied, and this one was not yet.
+    /// A chunk was copied, and this one is not yet.
     Further(Chunk),
-    /// What was to be copied is copied, or the root is another table now.
+    /// The copy is finished, or another table is the root now.
     Over,
     /// A next table could not be made.
     Refused(Refused),
 }
 
 impl Cursor {
-    /// The words are loaded from the chunk of this number on, of as many as there are.
+    /// Returns a cursor that starts at the chunk of this number, taken modulo the number of chunks.
     #[inline]
     #[tactic(auto, using(crate::proofs::Starts::start_within, crate::proofs::Starts::start_low))]
     fn new(from: u64, to: u64, len: usize, mode: ResizeMode, number: u64) -> Cursor
@@ -121,8 +121,8 @@ impl Cursor {
         }
     }
 
-    /// This chunk is copied, and the next one's word is loaded, while there is one that was not
-    /// loaded yet.
+    /// Passes this chunk, which is copied: loads the next chunk's word, or promotes once all were
+    /// loaded.
     #[inline]
     pub fn next(mut self) -> Step
         requires { IsStandingCursor self }
@@ -147,14 +147,14 @@ impl Cursor {
         }
     }
 
-    /// The chunk whose word is loaded now.
+    /// Returns the chunk whose word is loaded now.
     #[inline]
     fn chunk(self) -> Chunk
         requires { IsStandingCursor self }
         ensures value { result ≡ chunk_at self }
         ensures standing { IsStandingChunk result }
     {
-        // A chunk may be any number of 64 bits.
+        // A chunk's length may be any 64-bit number.
         let end = if self.slots < self.len - self.begun {
             self.begun + self.slots
         } else {
@@ -167,7 +167,7 @@ impl Cursor {
         }
     }
 
-    /// The chunk's word says that it is copied, or that it is not.
+    /// Continues with the chunk's word, which says whether the chunk is copied.
     #[inline]
     fn word(self, done: u64) -> Stepped
         requires { IsStandingCursor self }
@@ -183,7 +183,7 @@ impl Cursor {
         }
     }
 
-    /// This caller copied the chunk, and its word says so.
+    /// Continues after this caller copied the chunk and wrote its word.
     #[inline]
     fn advanced(mut self) -> Stepped
         requires { IsStandingCursor self }
@@ -196,7 +196,7 @@ impl Cursor {
 }
 
 impl Chunk {
-    /// The slot that is copied now.
+    /// Returns the slot that is copied now.
     #[inline]
     pub fn slot(self) -> Slot
         ensures { result ≡ slot_of self }
@@ -210,7 +210,7 @@ impl Chunk {
 }
 
 impl Step {
-    /// What is asked next.
+    /// Returns the next ask.
     #[inline]
     pub fn ask(self) -> CopyAsk
         requires { IsStandingStep self }
@@ -230,7 +230,7 @@ impl Step {
         }
     }
 
-    /// The kind of the exchange that is asked for, if one is.
+    /// Returns the exchange's kind, if the next ask is an exchange.
     #[inline]
     pub fn kind(self) -> Option<StepKind>
         ensures { result ≡ step_kind self }
@@ -244,7 +244,7 @@ impl Step {
         }
     }
 
-    /// The table that one in the making is to follow, 0 where none is made.
+    /// Returns the table that a table in the making will follow, or 0 if none is made.
     #[inline]
     pub fn follows(self) -> u64
         ensures { result ≡ step_follows self }
@@ -256,7 +256,7 @@ impl Step {
         }
     }
 
-    /// The key of the pair that is carried has this hash.
+    /// Continues with the hash of the key of the pair that is carried.
     #[inline]
     pub fn at_hash(self, hash: u64) -> Step
         requires { IsStandingStep self }
@@ -269,7 +269,7 @@ impl Step {
         }
     }
 
-    /// A table has this size. The number says from which chunk on it is copied.
+    /// Continues with the size of a table. `number` decides at which chunk its copy starts.
     #[inline]
     pub fn at_size(self, mode: ResizeMode, number: u64, len: usize, limit: usize) -> Step
         requires standing { IsStandingStep self }
@@ -288,7 +288,7 @@ impl Step {
         }
     }
 
-    /// This word, or this hint, was loaded.
+    /// Continues with the word or the hint that was loaded.
     #[inline]
     pub fn at_word(self, mode: ResizeMode, word: u64) -> Stepped
         requires standing { IsStandingStep self }
@@ -307,7 +307,7 @@ impl Step {
         }
     }
 
-    /// The keys match, or they do not.
+    /// Continues with whether the keys match.
     #[inline]
     pub fn at_yes(self, mode: ResizeMode, yes: bool) -> Stepped
         requires { IsStandingStep self }
@@ -320,7 +320,7 @@ impl Step {
         }
     }
 
-    /// The exchange was made.
+    /// Continues after the exchange was made.
     #[inline]
     pub fn at_exchanged(self, mode: ResizeMode) -> Stepped
         requires { IsStandingStep self }
@@ -338,7 +338,7 @@ impl Step {
         }
     }
 
-    /// A hint was written, or one stood there.
+    /// Continues after a hint was written, or another was found there.
     #[inline]
     pub fn at_ok(self, mode: ResizeMode) -> Stepped
         requires { IsStandingStep self }
@@ -351,7 +351,7 @@ impl Step {
         }
     }
 
-    /// The exchange was not made: this word stands there.
+    /// Continues after the exchange failed because `word` is there.
     #[inline]
     pub fn at_found(self, mode: ResizeMode, word: u64) -> Stepped
         requires { IsStandingStep self }
@@ -369,7 +369,7 @@ impl Step {
         }
     }
 
-    /// The map counts so many pairs, and its initial capacity is this.
+    /// Continues with the map's count of pairs and its initial capacity.
     #[inline]
     pub fn at_count(self, mode: ResizeMode, count: usize, initial: usize) -> Stepped
         requires standing { IsStandingStep self }
@@ -388,7 +388,7 @@ impl Step {
         }
     }
 
-    /// A table was made, and has this number.
+    /// Continues with the number of the table that was made.
     #[inline]
     pub fn at_made(self, number: u64) -> Step
         requires { IsStandingStep self }
@@ -405,7 +405,7 @@ impl Step {
         }
     }
 
-    /// A table was not made.
+    /// Ends because a table could not be made.
     #[inline]
     pub fn at_refused(self, mode: ResizeMode, refused: Refused) -> Stepped
         requires { IsStandingStep self }
@@ -421,8 +421,8 @@ impl Step {
 }
 
 impl Step {
-    /// The table after `after` has this number, or there is none. Without `Blocking` copies go to
-    /// the next table alone, and where there is none nothing is to be copied.
+    /// Continues with the number of the table after `after`, or 0. Without `Blocking`, pairs are
+    /// copied to the next table only, and without a next table there is nothing to copy.
     #[inline]
     fn aimed(from: u64, after: u64, mode: ResizeMode, next: u64) -> Stepped
         ensures value { result ≡ aimed from after mode next }
@@ -453,7 +453,7 @@ impl Step {
         }
     }
 
-    /// The table was given up, or was not.
+    /// Continues with whether the table was given up.
     #[inline]
     fn judged(from: u64, to: u64, aborted: u64) -> Step
         ensures value { result ≡ judged from to aborted }
@@ -466,7 +466,7 @@ impl Step {
         }
     }
 
-    /// The copy of a slot leads here.
+    /// Continues with the outcome of copying a slot.
     #[inline]
     fn settled(mut chunk: Chunk, settled: Settled) -> Stepped
         requires chunk { IsStandingChunk chunk }
@@ -492,7 +492,7 @@ impl Step {
         }
     }
 
-    /// The making of a table leads here.
+    /// Continues with the outcome of making a table.
     #[inline]
     fn linked(from: u64, linked: Linked) -> Stepped
         requires { IsStandingLinked linked }

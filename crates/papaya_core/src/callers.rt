@@ -1,4 +1,4 @@
-//! The callers, and the calls that they have under way: on one key, or to resize the map.
+//! The callers and their calls under way: on one key, to resize the map, or to scan a table.
 ghost use Rattle.std.specs.Prelude.{◌≡◌, ◌<◌, length, [], ◌∷◌, ◌++◌, None, Some, is_some, IsSome, OnOk, IfErr, slice_get, slice_set};
 ghost use Rattle.papaya_timeline.specs.Callers.{working, with_seat, with_work, IsSeated, IsSeatAt};
 
@@ -7,8 +7,8 @@ use papaya_words::probe::Refused;
 use std::alloc::Global;
 use std::marker::Model;
 
-/// The callers that ever began a call, in the order of their first begins. A large number of a
-/// caller takes no more memory than a small one.
+/// The callers that ever began a call, in the order of their first begins. A large caller number
+/// takes no more memory than a small one.
 #[derive(Drop)]
 pub struct Callers<K, V, A> {
     seats: Vec<Seat<K, V, A>>,
@@ -23,7 +23,7 @@ impl<K, V, A> Model for Callers<K, V, A> {
     ghost view = { λ c. c.seats.items };
 }
 
-/// The first place among the seats with this caller, or their number.
+/// Returns the first index among the seats with this caller, or the number of seats.
 fn place_of<K, V, A>(seats: &[Seat<K, V, A>], caller: usize) -> usize
     ensures { IsSeatAt seats.now caller result }
 {
@@ -76,7 +76,7 @@ fn put_work<K: Drop, V: Drop, A: Drop>(
 }
 
 impl<K, V, A> Callers<K, V, A> {
-    /// No callers.
+    /// Creates a list without callers.
     pub fn new(alloc: Global) -> Callers<K, V, A>
         ensures { result ≡ [] }
     {
@@ -85,7 +85,7 @@ impl<K, V, A> Callers<K, V, A> {
         }
     }
 
-    /// Is this caller in a call?
+    /// Returns whether this caller is in a call.
     pub fn is_running(&self, caller: usize) -> bool
         ensures { result ≡ is_some (working self.now caller) }
     {
@@ -111,7 +111,7 @@ impl<K, V, A> Callers<K, V, A> {
 }
 
 impl<K: Drop, V: Drop, A: Drop> Callers<K, V, A> {
-    /// Makes a seat for this caller, where it has none.
+    /// Makes a seat for this caller, unless it has one, or fails with `Refused::Memory`.
     pub fn seat(&mut self, caller: usize) -> Result<(), Refused>
         ensures ok { OnOk result ((self.new ≡ with_seat self.old caller)
             × IsSeated self.new caller) }

@@ -15,7 +15,7 @@ use papaya_timeline::trace::{Entry, Event};
 use papaya_words::probe::Refused;
 use papaya_words::word::Word;
 
-/// The event of an exchange that was made.
+/// Returns the event of an exchange that was made.
 fn exchange_event(kind: StepKind, old: u64, new: u64) -> Event
     ensures { result ≡ exchange_event kind old new }
 {
@@ -28,7 +28,7 @@ fn exchange_event(kind: StepKind, old: u64, new: u64) -> Event
     }
 }
 
-/// The event of an exchange that was asked for: where another word stood there, none was made.
+/// Returns the event of an exchange that was asked for, which may have failed.
 fn answered_event(kind: Option<StepKind>, old: u64, new: u64, answer: CallAnswer) -> Event
     ensures { result ≡ answered_event kind old new answer }
 {
@@ -38,7 +38,7 @@ fn answered_event(kind: Option<StepKind>, old: u64, new: u64, answer: CallAnswer
     }
 }
 
-/// The event of a call of a closure.
+/// Returns the event of a call of a closure.
 fn shown_event(shown: Option<u64>, answer: CallAnswer) -> Event
     ensures { result ≡ shown_event shown answer }
 {
@@ -52,7 +52,7 @@ fn shown_event(shown: Option<u64>, answer: CallAnswer) -> Event
     }
 }
 
-/// The event of an ask of the call itself that was answered.
+/// Returns the event of an ask of the call itself, with its answer.
 fn call_event(kind: Option<StepKind>, ask: CallAsk, answer: CallAnswer) -> Event
     ensures { result ≡ call_event kind ask answer }
 {
@@ -64,7 +64,7 @@ fn call_event(kind: Option<StepKind>, ask: CallAsk, answer: CallAnswer) -> Event
     }
 }
 
-/// The event of an ask that was answered while a table is made or copied. A copy shows nothing.
+/// Returns the event of an ask while a table is made or copied. A copy calls no closure.
 fn copy_event(kind: Option<StepKind>, ask: CopyAsk, answer: CallAnswer) -> Event
     ensures { result ≡ copy_event kind ask answer }
 {
@@ -74,7 +74,7 @@ fn copy_event(kind: Option<StepKind>, ask: CopyAsk, answer: CallAnswer) -> Event
     }
 }
 
-/// The event of an ask that was answered.
+/// Returns the event of an ask, with its answer.
 pub(crate) fn event_of(kind: Option<StepKind>, ask: Ask, answer: Answer) -> Event
     ensures { result ≡ event_of kind ask answer }
 {
@@ -85,7 +85,7 @@ pub(crate) fn event_of(kind: Option<StepKind>, ask: Ask, answer: Answer) -> Even
     }
 }
 
-/// The event of an ask of a call that scans a table that was answered.
+/// Returns the event of an ask of a call that scans a table, with its answer.
 pub(crate) fn event_of_scan(kind: Option<StepKind>, ask: ScanAsk, answer: Answer) -> Event
     ensures { result ≡ event_of_scan kind ask answer }
 {
@@ -100,7 +100,7 @@ pub(crate) fn event_of_scan(kind: Option<StepKind>, ask: ScanAsk, answer: Answer
     }
 }
 
-/// Makes room for so many more entries.
+/// Makes room for `more` further entries.
 pub(crate) fn reserve_entries(entries: &mut Vec<Entry>, more: usize) -> Result<(), Refused>
     ensures room { OnOk result (vec_len entries.new + more ≤ vec_capacity entries.new) }
     ensures err { IfErr result (λ e. e ≡ Refused.Memory) }
@@ -155,7 +155,7 @@ pub(crate) fn push_step(
     }
 }
 
-/// The reply of a call, if it has ended.
+/// Returns the reply of a call, if it has ended.
 pub(crate) fn reply_of(outcome: &Option<Outcome>) -> Option<Reply>
     ensures { result ≡ as_reply outcome.now }
 {

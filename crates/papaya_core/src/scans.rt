@@ -25,7 +25,7 @@ use papaya_words::probe::Refused;
 use std::alloc::Global;
 use std::hash::{BuildHasher, Hash};
 
-/// Why the list of a scan could not grow, if that is what was answered.
+/// Returns why the list of a scan could not grow, if it could not.
 fn unheard(ask: ScanAsk, answer: Answer) -> Option<Refused>
     ensures { result ≡ unheard ask answer }
 {
@@ -35,7 +35,7 @@ fn unheard(ask: ScanAsk, answer: Answer) -> Option<Refused>
     }
 }
 
-/// What a call that scans a table comes to where it replies so: a walk that is done has a list.
+/// Returns the outcome of a call that scans a table: a finished iteration has a list.
 fn outcome_of<A: Drop>(scanning: Scanning<A>, reply: Reply) -> Outcome
     ensures told { reply_told result ≡ reply }
     ensures listed { ListsGiven scanning.scanner.scan scanning.given result }
@@ -46,8 +46,8 @@ fn outcome_of<A: Drop>(scanning: Scanning<A>, reply: Reply) -> Outcome
     }
 }
 
-/// One ask of a call that scans a table: what happened, what the call came to where it ended, and
-/// the call if it goes on.
+/// Performs one ask of a call that scans a table. Returns the event, the outcome if the call ended,
+/// and the call if it continues.
 pub(crate) fn advance_scan<K: Hash + Eq + Drop, V: Drop, S: BuildHasher, A: Answers<K, V> + Drop>(
     alloc: Global,
     store: &mut Store<K, V, S>,

@@ -1,13 +1,13 @@
 //! Any number of callers, and any schedule of their steps.
 //!
-//! A call is on one key, or it resizes the map: it makes room ahead, or copies all that is left to
-//! copy, and leaves every pair as it is; or it scans a table: it clears the map, retains what its
-//! closure agrees to, or walks the pairs. The steps of all mix in any order.
+//! A call is on one key, or it resizes the map or scans a table. A resize makes room ahead or
+//! finishes the copy, and leaves every pair as it is. A scan clears the map, retains what its
+//! closure accepts, or iterates over the pairs. The steps of all calls mix in any order.
 //!
-//! The map grows. A call that finds no place for its pair makes the next table, and goes on in it.
-//! Calls that may change the map copy pairs on their way, a chunk of the root each where the core
-//! is `Incremental`; where it is `Blocking` they copy all of the root. A caller that stops in the
-//! midst of a copy stops no other caller.
+//! The map grows. A call that finds no place for its pair makes the next table, and continues in
+//! it. Calls that may change the map copy pairs on their way: each a chunk of the root if the core
+//! is `Incremental`, and all of the root if it is `Blocking`. A caller that stops in the middle of
+//! a copy stops no other caller.
 ghost use Rattle.std.specs.Prelude.{◌≡◌, ℕ, ◌<◌, ◌^◌, length, IfOk, IfErr, OnOk, IsSome};
 ghost use Rattle.std.specs.Prelude.{Some, None, is_some, MatchOption, reverse, ◌+◌, ◌*◌, ◌≤◌, []};
 ghost use Rattle.std.specs.Int.{IsPowerOfTwo};
@@ -62,8 +62,8 @@ use std::marker::Model;
 
 /// A map on plain words, whose callers' steps come in any order that its user chooses.
 ///
-/// `A` gives the answers of the closures of calls that take one: [`papaya_call::answers::Listed`],
-/// or a type of the user's own.
+/// `A` gives the results of the closures of calls: [`papaya_call::answers::Listed`], or a type of
+/// the user's own.
 ///
 /// Contracts see the words, the arena of pairs, and the calls under way.
 #[derive(Drop)]
@@ -96,7 +96,7 @@ impl<K: Hash + Eq, V, S: BuildHasher, A> Model for Core<K, V, S, A> {
         c.callers c.mode × IsCounted K.eq c.store c.callers × IsPowerOfTwo c.initial };
 }
 
-/// A value that was handed in is the call's own.
+/// Returns a value that was passed in as the call's own.
 fn handed_in<V>(value: Option<V>) -> Option<Part<V>>
     ensures { result ≡ handed value }
 {
@@ -106,7 +106,7 @@ fn handed_in<V>(value: Option<V>) -> Option<Part<V>>
     }
 }
 
-/// A call on one key as it begins: its task, the key, and what else it was handed.
+/// Begins a call on one key, with its task, the key, and its other arguments.
 fn call_on<K: Hash + Eq, V: Drop, S: BuildHasher, A>(
     store: &Store<K, V, S>,
     mode: Mode,
@@ -139,7 +139,7 @@ fn call_on<K: Hash + Eq, V: Drop, S: BuildHasher, A>(
     })
 }
 
-/// A call that scans a table as it begins.
+/// Begins a call that scans a table.
 fn scan_on<K, V, A>(
     alloc: Global,
     mode: ResizeMode,
@@ -159,7 +159,7 @@ fn scan_on<K, V, A>(
     })
 }
 
-/// A call as it begins. Calls with different numbers copy a table from different chunks on.
+/// Begins a call. Calls with different numbers start to copy a table at different chunks.
 fn begin_call<K: Hash + Eq, V: Drop, S: BuildHasher, A>(
     alloc: Global,
     store: &Store<K, V, S>,
@@ -197,7 +197,7 @@ fn begin_call<K: Hash + Eq, V: Drop, S: BuildHasher, A>(
     call_on(store, mode, initial, number, task, key, handed)
 }
 
-/// The reply of a machine that asks no more.
+/// Returns the reply of a machine that asks nothing more.
 fn reply_in(ask: Ask) -> Option<Reply>
     ensures { result ≡ reply_in ask }
 {
@@ -207,8 +207,8 @@ fn reply_in(ask: Ask) -> Option<Reply>
     }
 }
 
-/// One ask of a call on one key: what happened, what the call came to where it ended, and the call
-/// if it goes on.
+/// Performs one ask of a call on one key. Returns the event, the outcome if the call ended, and the
+/// call if it continues.
 fn advance_call<K: Hash + Eq + Drop, V: Drop, S: BuildHasher, A: Answers<K, V> + Drop>(
     alloc: Global,
     store: &mut Store<K, V, S>,
@@ -235,8 +235,8 @@ fn advance_call<K: Hash + Eq + Drop, V: Drop, S: BuildHasher, A: Answers<K, V> +
     }
 }
 
-/// One ask of a call that resizes the map: what happened, what the call came to where it ended, and
-/// the call if it goes on.
+/// Performs one ask of a call that resizes the map. Returns the event, the outcome if the call
+/// ended, and the call if it continues.
 fn advance_resizer<K: Hash + Eq + Drop, V: Drop, S: BuildHasher, A>(
     alloc: Global,
     store: &mut Store<K, V, S>,
@@ -266,8 +266,8 @@ fn advance_resizer<K: Hash + Eq + Drop, V: Drop, S: BuildHasher, A>(
     }
 }
 
-/// One ask of a call: what happened, what the call came to where it ended, and the call if it
-/// goes on.
+/// Performs one ask of a call. Returns the event, the outcome if the call ended, and the call if it
+/// continues.
 fn advance_work<K: Hash + Eq + Drop, V: Drop, S: BuildHasher, A: Answers<K, V> + Drop>(
     alloc: Global,
     store: &mut Store<K, V, S>,
@@ -291,11 +291,11 @@ fn advance_work<K: Hash + Eq + Drop, V: Drop, S: BuildHasher, A: Answers<K, V> +
 }
 
 impl<K: Hash + Eq, V, S: BuildHasher, A> Core<K, V, S, A> {
-    /// Is this caller in a call?
+    /// Returns whether this caller is in a call.
     ///
-    /// The contract also says of any core, whatever calls are under way, that its count is the
-    /// number of pairs, but for what the calls have yet to add, and that no more numbers were taken
-    /// for pairs than its limit says, where it has one.
+    /// The contract also states two facts of any core, whatever calls are under way. Its count,
+    /// with what the calls have yet to add, is the number of pairs. And no more numbers were taken
+    /// for pairs than its limit allows, if it has one.
     pub fn running(&self, caller: usize) -> bool
         ensures running { result ≡ is_some (work_of self.now caller) }
         ensures apart { AreApart K.eq (λ p. p.key) (content K.eq self.now.store) }
@@ -305,7 +305,7 @@ impl<K: Hash + Eq, V, S: BuildHasher, A> Core<K, V, S, A> {
         self.callers.is_running(caller)
     }
 
-    /// The key and the value of a pair, by its number.
+    /// Returns the key and the value of a pair, by its number.
     pub fn pair(&self, n: u64) -> Option<(&K, &V)>
         ensures { MatchOption result (pair_of self.now.store n ≡ None)
             (λ p. pair_of self.now.store n ≡ Some (record
@@ -316,12 +316,14 @@ impl<K: Hash + Eq, V, S: BuildHasher, A> Core<K, V, S, A> {
 }
 
 impl<K: Hash + Eq + Drop, V: Drop, S: BuildHasher + Drop, A> Core<K, V, S, A> {
-    /// A core with no pairs, no limit on them, and no callers. `capacity` is for how many pairs its
-    /// first table is made at once; with 0 the first change makes one.
+    /// Creates a core with no pairs, no limit on them, and no callers. Its first table has room for
+    /// `capacity` pairs; with 0 the first change makes one.
     ///
-    /// `Refused::ZeroChunk` for chunks of no slots. `Refused::Capacity` for more shards than
-    /// [`papaya_words::limits::MAX_SHARDS`], and for a table past
-    /// [`papaya_words::limits::MAX_TABLE_LEN`]. `Refused::Memory` where a growth was refused.
+    /// # Errors
+    ///
+    /// Fails with `Refused::ZeroChunk` for chunks of no slots. Fails with `Refused::Capacity` for
+    /// more shards than [`papaya_words::limits::MAX_SHARDS`] or a table longer than
+    /// [`papaya_words::limits::MAX_TABLE_LEN`]. Fails with `Refused::Memory` if memory runs out.
     pub fn new(
         alloc: Global,
         mode: ResizeMode,
@@ -338,11 +340,13 @@ impl<K: Hash + Eq + Drop, V: Drop, S: BuildHasher + Drop, A> Core<K, V, S, A> {
         Core::of(alloc, mode, capacity, shards, hasher, None)
     }
 
-    /// The same of a core that logs `n` pairs at most: a call that needs one more is refused
-    /// `Refused::Limit`. One that took a number for its pair, and was then refused the memory for
-    /// it, has used the number up.
+    /// Creates a core as [`Core::new`] does, which stores at most `n` pairs. A call that needs one
+    /// more fails with `Refused::Limit`. A call that took a number for its pair, and then ran out
+    /// of memory, has used the number up.
     ///
-    /// Refused as [`Core::new`].
+    /// # Errors
+    ///
+    /// Fails as [`Core::new`] does.
     pub fn with_pair_limit(
         alloc: Global,
         mode: ResizeMode,
@@ -360,7 +364,7 @@ impl<K: Hash + Eq + Drop, V: Drop, S: BuildHasher + Drop, A> Core<K, V, S, A> {
         Core::of(alloc, mode, capacity, shards, hasher, Some(n))
     }
 
-    /// A core with no pairs and no callers, and with this limit, if there is one.
+    /// Creates a core with no pairs and no callers, and with this limit, if there is one.
     fn of(
         alloc: Global,
         mode: ResizeMode,
@@ -389,10 +393,13 @@ impl<K: Hash + Eq + Drop, V: Drop, S: BuildHasher + Drop, A> Core<K, V, S, A> {
 }
 
 impl<K: Hash + Eq + Drop, V: Drop, S: BuildHasher, A: Answers<K, V> + Drop> Core<K, V, S, A> {
-    /// Begins a call of a caller that is in none. Its number says from which chunk on the call
-    /// copies a table.
+    /// Begins a call of a caller that is in none. The caller's number decides at which chunk the
+    /// call starts to copy a table.
     ///
-    /// `Refused::Memory` where a growth was refused: the call and what it was handed are dropped.
+    /// # Errors
+    ///
+    /// Fails with `Refused::Memory` if memory runs out. The call and its arguments are then
+    /// dropped.
     pub fn begin(&mut self, caller: usize, call: Call<K, V, A>) -> Result<(), Refused>
         requires { work_of self.old caller ≡ None }
         ensures ok { OnOk result (Begins (hash_of K.hash_input S.build_hasher S.Hasher.write
@@ -419,7 +426,7 @@ impl<K: Hash + Eq + Drop, V: Drop, S: BuildHasher, A: Answers<K, V> + Drop> Core
         Ok(())
     }
 
-    /// One step of a caller: what happened, and what its call came to where it ended.
+    /// Makes one step of a caller. Returns the event, and the outcome if its call ended.
     fn advance(&mut self, caller: usize, refuse: bool) -> (Event, Option<Outcome>)
         requires { IsSome (work_of self.old caller) }
         ensures steps { Steps K.eq (record { op = A.op_gives; yes = A.yes_gives })
@@ -448,18 +455,18 @@ impl<K: Hash + Eq + Drop, V: Drop, S: BuildHasher, A: Answers<K, V> + Drop> Core
         (event, outcome)
     }
 
-    /// One step of a caller that is in a call, and what the call came to, where it ended by it. A
-    /// walk that is done answers the numbers of the pairs that it gave.
+    /// Makes one step of a caller that is in a call, and returns the outcome if the call ended. A
+    /// finished iteration returns the numbers of the pairs that it passed to its caller.
     ///
-    /// A step changes the map only as the call under way intends: by the value that was handed in
-    /// with it, or as its closure answered when it was shown just what goes. The contracts of
-    /// `begin` and of each step say where intents come from.
+    /// A step changes the map only as the call under way intends: with the value that was passed
+    /// in, or as its closure returned when called with exactly the pair taken out. The contracts of
+    /// `begin` and of each step state where intents come from.
     ///
-    /// With `refuse_memory` a step that would log a key, a value or a pair, or make a table,
-    /// answers `Refused::Memory`, and any other step is an ordinary one.
+    /// With `refuse_memory` a step that would store a key, a value or a pair, or make a table, ends
+    /// with `Refused::Memory`; any other step is an ordinary one.
     ///
-    /// `Refused::Limit` is answered where as many numbers were taken for pairs as the limit says
-    /// and the call needs one more, and only there.
+    /// A call ends with `Refused::Limit` if and only if it needs one more number for a pair and the
+    /// limit is reached.
     pub fn step(&mut self, caller: usize, refuse_memory: bool) -> Option<Outcome>
         requires { IsSome (work_of self.old caller) }
         ensures steps { (event : _) × Steps K.eq (record { op = A.op_gives; yes = A.yes_gives })
@@ -480,11 +487,13 @@ impl<K: Hash + Eq + Drop, V: Drop, S: BuildHasher, A: Answers<K, V> + Drop> Core
         outcome
     }
 
-    /// Makes the turns of a schedule, one after the other. A `Begin` of a caller that is in a
-    /// call, and a `Step` or `Finish` of one that is in none, are passed over.
+    /// Runs the turns of a schedule, one after the other. A `Begin` of a caller that is in a call
+    /// is skipped, and so is a `Step` or `Finish` of one that is in none.
     ///
-    /// `Refused::Memory` where a growth was refused to a `Begin` or to the trace: the turns
-    /// before were made, and of a `Finish` perhaps some steps.
+    /// # Errors
+    ///
+    /// Fails with `Refused::Memory` if memory for a `Begin` or for the trace runs out. The turns
+    /// before were made, and perhaps some steps of a `Finish`.
     pub fn run(&mut self, schedule: Vec<Turn<K, V, A>>) -> Result<Trace, Refused>
         ensures ok { IfOk result (λ trace. TurnsRun K.eq
             (record { op = A.op_gives; yes = A.yes_gives })
@@ -507,7 +516,7 @@ impl<K: Hash + Eq + Drop, V: Drop, S: BuildHasher, A: Answers<K, V> + Drop> Core
         Ok(Trace { entries })
     }
 
-    /// One turn of a schedule, and its entries.
+    /// Runs one turn of a schedule, and adds its entries.
     fn turn_into(
         &mut self,
         entries: &mut Vec<Entry>,
@@ -540,7 +549,7 @@ impl<K: Hash + Eq + Drop, V: Drop, S: BuildHasher, A: Answers<K, V> + Drop> Core
         Ok(())
     }
 
-    /// The begin of a call, and its entry.
+    /// Begins a call, and adds its entry.
     fn begin_into(
         &mut self,
         entries: &mut Vec<Entry>,
@@ -570,7 +579,7 @@ impl<K: Hash + Eq + Drop, V: Drop, S: BuildHasher, A: Answers<K, V> + Drop> Core
         Ok(())
     }
 
-    /// One step of a caller, and its entries.
+    /// Makes one step of a caller, and adds its entries.
     fn step_into(
         &mut self,
         entries: &mut Vec<Entry>,
@@ -587,14 +596,14 @@ impl<K: Hash + Eq + Drop, V: Drop, S: BuildHasher, A: Answers<K, V> + Drop> Core
         ensures counted { IsCounted K.eq self.old.store self.old.callers
             → IsCounted K.eq self.new.store self.new.callers }
     {
-        // The room is there before the step, so no step goes unrecorded.
+        // The room is reserved before the step, so that every step is recorded.
         reserve_entries(entries, 2)?;
         let (event, outcome) = self.advance(caller, refuse_memory);
         push_step(entries, turn, caller, event, reply_of(&outcome));
         Ok(())
     }
 
-    /// So many steps of a caller, as far as its call goes on, and their entries.
+    /// Makes up to `steps` steps of a caller, while its call continues, and adds their entries.
     fn finish_into(
         &mut self,
         entries: &mut Vec<Entry>,

@@ -16,21 +16,21 @@ fn hash_of<T: Hash>(value: &T) -> u64
     state.finish()
 }
 
-/// Does the query hash as the key, where it matches it? It does, always.
+/// Returns whether the query hashes as the key if it matches it, which it always does.
 fn hashes_as<K: Hash + Eq, Q: Equivalent<K>>(query: &Q, key: &K) -> bool
     ensures { result ≡ true }
 {
     !query.equivalent(key) || hash_of(query) == hash_of(key)
 }
 
-/// Does a query that matches the key match the other just where the two are equal? It does, always.
+/// Returns whether a query that matches `key` matches exactly its equals, which is always so.
 fn matches_equals<K: Hash + Eq, Q: Equivalent<K>>(query: &Q, key: &K, other: &K) -> bool
     ensures { result ≡ true }
 {
     !query.equivalent(key) || query.equivalent(other) == (*key == *other)
 }
 
-/// Asks of each pair of keys, by both laws, and what the query answers to each key.
+/// Checks both laws for each pair of keys, and which keys the query matches.
 #[test]
 fn text_key_matches_the_equal_text(rt: HostRuntime) -> Result<(), Fail> {
     let texts = ["", "red", "re", "redd", "réd", "Red"];
@@ -59,14 +59,14 @@ fn keys_match_their_equals(rt: HostRuntime) -> Result<(), Fail> {
     Ok(())
 }
 
-/// The number of the guard's collector, through the bound.
+/// Returns the number of the guard's collector, through the bound.
 fn collector_of<G: Guard>(guard: &G) -> u64
     ensures { result ≡ G.collector_number guard.now }
 {
     guard.collector_number()
 }
 
-/// The number of the collector, as its guards of both kinds say it.
+/// Returns the number of the collector, as each kind of its guards gives it.
 fn number_by_guards(collector: &Collector) -> (u64, u64)
     ensures { result ≡ (collector.now, collector.now) }
 {

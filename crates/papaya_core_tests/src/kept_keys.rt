@@ -1,5 +1,5 @@
-// A call that stores a value where a key is found keeps the key that is stored. The keys here are
-// equal where their numbers are, and a label tells which of them is stored.
+// A call that stores a value where a key is found keeps the stored key. The keys here are equal if
+// their numbers are, and a label shows which of them is stored.
 ghost use Rattle.std.specs.Prelude.{◌≡◌, ◌==◌};
 ghost use Rattle.std.proofs.Common.{ap};
 ghost use Rattle.std.specs.Cmp.{nat_eq_equiv, on_equiv, partial_equiv_from_equiv, unsigned_Decides};
@@ -18,7 +18,7 @@ use std::hash::{Hash, Hasher};
 use std::process::Abort;
 use std::test::Fail;
 
-/// A number with a label that no comparison looks at.
+/// A number with a label that comparisons ignore.
 #[derive(Clone, Copy)]
 struct Labelled {
     number: u64,
@@ -51,7 +51,7 @@ impl Hash for Labelled {
 
 type Labels = Core<Labelled, u64, Times, Listed<u64>>;
 
-/// A call on key 7. What it stores is this value, and its own key has this label.
+/// A call on key 7. It stores this value, and its own key has this label.
 #[derive(Clone, Copy)]
 enum Step {
     Insert(char, u64),
@@ -62,7 +62,7 @@ enum Step {
     Get(char),
 }
 
-/// Key 7 with this label.
+/// Returns key 7 with this label.
 fn seven(label: char) -> Labelled {
     Labelled { number: 7, label }
 }
@@ -86,7 +86,7 @@ impl Step {
         })
     }
 
-    /// The label of the key that it is handed.
+    /// Returns the label of the key that is passed in.
     fn label(self) -> char {
         match self {
             Step::Insert(label, _)
@@ -98,10 +98,10 @@ impl Step {
     }
 }
 
-/// A pair, by its label and its value.
+/// A pair, as its label and its value.
 type Shown = (char, u64);
 
-/// What a call came to.
+/// The result of a call.
 #[derive(Clone, Copy, Debug, PartialEq)]
 enum Came {
     Absent,
@@ -132,7 +132,7 @@ fn came_to(core: &Labels, outcome: Option<Outcome>) -> Option<Came> {
     })
 }
 
-/// A caller makes so many steps of its call at most.
+/// Makes at most `most` steps of a caller's call.
 fn goes_on(core: &mut Labels, caller: usize, most: usize) -> Option<Outcome> {
     for _ in 0..most {
         if !core.running(caller) {
@@ -145,7 +145,7 @@ fn goes_on(core: &mut Labels, caller: usize, most: usize) -> Option<Outcome> {
     None
 }
 
-/// A caller begins a call, and makes so many steps of it at most.
+/// Begins a call of a caller, unless it is in one, and makes at most `most` steps of it.
 fn makes(
     alloc: Global,
     core: &mut Labels,
@@ -159,7 +159,7 @@ fn makes(
     Ok(goes_on(core, caller, most))
 }
 
-/// Each of these calls is made whole, and comes to this.
+/// Makes each of these calls whole, and checks its result.
 fn come_to(
     rt: &impl Abort,
     alloc: Global,
@@ -173,7 +173,7 @@ fn come_to(
     Ok(())
 }
 
-/// A new map, which is made for so many pairs.
+/// Creates a map for 6 pairs.
 fn map_of(alloc: Global, mode: ResizeMode, hasher: Times) -> Result<Labels, Fail> {
     Ok(Core::new(alloc, mode, 6, 16, hasher)?)
 }
@@ -201,8 +201,8 @@ fn stored_key_stays(rt: HostRuntime) -> Result<(), Fail> {
     Ok(())
 }
 
-/// A value was stored by a call that was handed this label: of a key that was absent it has that
-/// label, and else the label of the pair whose place it took.
+/// Returns whether a call with this label stored the right key. If the key was absent it is the
+/// call's, and otherwise that of the pair that was replaced.
 fn keeps(label: char, came: Came) -> bool {
     match came {
         Came::Inserted((own, _)) => own == label,
@@ -211,8 +211,8 @@ fn keeps(label: char, came: Came) -> bool {
     }
 }
 
-/// The first call is stopped after so many steps, and the others are made whole. Then it goes on.
-/// Did it end before it was stopped?
+/// Stops the first call after `steps` steps, makes the others whole, and continues the first.
+/// Returns whether it ended before it was stopped.
 fn stopped(
     rt: &impl Abort,
     alloc: Global,
@@ -241,7 +241,7 @@ fn stopped(
     Ok(is_over)
 }
 
-/// The first call is stopped after each number of its steps.
+/// Stops the first call after each number of its steps.
 fn each_stop(
     rt: &impl Abort,
     alloc: Global,
@@ -260,8 +260,8 @@ fn each_stop(
     Ok(())
 }
 
-/// A call that is to replace a pair, which is removed meanwhile, or removed and put in again with
-/// another label, or replaced.
+/// A call that is to replace a pair. Meanwhile the pair is removed, or removed and inserted again
+/// with another label, or replaced.
 #[test]
 fn stored_key_stays_beside_other_calls(rt: HostRuntime) -> Result<(), Fail> {
     for first in [Step::Insert('y', 2), Step::Compute('y', 2)] {

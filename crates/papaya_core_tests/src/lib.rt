@@ -1,6 +1,6 @@
 //! The tests of the crates below the maps: the words of slots and tables, machines, guards and
-//! queries, and the map on plain words under schedules of its callers' steps. What papaya-run can
-//! show stands in the runs of the repository's shell tests.
+//! queries, and the map on plain words under schedules of its callers' steps. The repository's
+//! shell tests run the cases that papaya-run can show.
 #![tactic(auto)]
 
 #[cfg(test)]

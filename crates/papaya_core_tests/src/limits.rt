@@ -1,5 +1,5 @@
-// A map with a limit on its pairs: just as many are logged as it says, a call that needs one more
-// is refused there, and no memory is wanted for it.
+// Maps with a limit on their pairs: exactly that many are stored, and a call that needs one more is
+// refused there and requests no memory.
 use crate::expect::{is, is_at};
 use crate::plain::{
     Asked, MODES, Numbers, WHOLE, begin, compute, removal, replies, reply_to, times, value,
@@ -16,13 +16,13 @@ use std::alloc::Global;
 use std::process::Abort;
 use std::test::Fail;
 
-/// No number is left for a pair.
+/// The reply if no number is left for a pair.
 const LIMIT: Reply = Reply::Refused(Refused::Limit);
 
-/// There is no memory.
+/// The reply if memory runs out.
 const MEMORY: Reply = Reply::Refused(Refused::Memory);
 
-/// So many callers insert at once, of whose pairs so many may be logged.
+/// How many callers insert at the same time. `MOST` of their pairs may be stored.
 const CALLERS: usize = 8;
 
 const MOST: u64 = 5;
@@ -30,12 +30,12 @@ const MOST: u64 = 5;
 /// More steps than an insertion into a new map makes.
 const STEPS_OF_INSERT: usize = 16;
 
-/// A new map with this limit, which is made for so many pairs.
+/// Creates a map with this limit and this capacity.
 fn limited(alloc: Global, mode: ResizeMode, capacity: usize, most: u64) -> Result<Numbers, Fail> {
     Ok(Core::with_pair_limit(alloc, mode, capacity, 16, APART, most)?)
 }
 
-/// How many pairs were logged.
+/// Returns how many pairs were stored.
 fn logged(core: &Numbers) -> u64 {
     let mut count = 0u64;
     for number in 0..20 {
@@ -46,7 +46,7 @@ fn logged(core: &Numbers) -> u64 {
     count
 }
 
-/// Two keys are stored, and the value of one is replaced: three pairs.
+/// Stores two keys, and replaces the value of one: three pairs.
 fn stores_three(rt: &impl Abort, alloc: Global, core: &mut Numbers) -> Result<(), Fail> {
     let replaced = Reply::Replaced { old: 10, new: 11 };
     for (call, reply) in [
@@ -59,7 +59,7 @@ fn stores_three(rt: &impl Abort, alloc: Global, core: &mut Numbers) -> Result<()
     Ok(())
 }
 
-/// At the limit nothing is stored, and all else is as ever.
+/// Checks that at the limit nothing is stored, and everything else works.
 fn stores_no_more(rt: &impl Abort, alloc: Global, core: &mut Numbers) -> Result<(), Fail> {
     let fills = compute(alloc, vec![in alloc; Operation::Insert(12)]?);
     let leaves = compute(alloc, vec![in alloc; Operation::Abort(3)]?);
@@ -91,7 +91,7 @@ fn calls_at_a_limit(rt: HostRuntime) -> Result<(), Fail> {
     Ok(())
 }
 
-/// Each caller begins an insertion and is stopped after so many steps. Then all go on.
+/// Stops the insertion of each caller after `steps` steps. Then continues all of them.
 fn together(
     alloc: Global,
     core: &mut Numbers,
@@ -110,8 +110,8 @@ fn together(
     Ok(core.run(turns)?)
 }
 
-/// How many numbers were taken, how many callers were refused for the limit, and how many were not
-/// refused.
+/// Returns how many numbers were taken, how many callers were refused for the limit, and how many
+/// succeeded.
 fn ends(trace: &Trace) -> (usize, usize, usize) {
     let (mut refused, mut stored) = (0usize, 0usize);
     for entry in &trace.entries {
@@ -126,7 +126,7 @@ fn ends(trace: &Trace) -> (usize, usize, usize) {
     (times(trace, StepKind::Take), refused, stored)
 }
 
-/// The same of callers that insert together.
+/// Returns the same for callers that insert together.
 fn ends_together(
     alloc: Global,
     core: &mut Numbers,
@@ -137,8 +137,8 @@ fn ends_together(
     Ok(ends(&trace))
 }
 
-/// Eight callers, of different keys or of one, leave just as many pairs as the limit says. Of
-/// different keys each pair that is logged is stored.
+/// Checks that eight callers, with different keys or with one, store exactly as many pairs as the
+/// limit allows. With different keys each of these pairs is in the map.
 fn just_so_many(
     rt: &impl Abort,
     alloc: Global,
@@ -165,8 +165,8 @@ fn callers_that_are_stopped_at_a_limit(rt: HostRuntime) -> Result<(), Fail> {
     Ok(())
 }
 
-/// What a caller is replied that inserts key 7, where no step of that has memory, and how many
-/// numbers it takes.
+/// The reply to an insertion of key 7 whose steps all run out of memory, and how many numbers it
+/// takes.
 type Unmade = (Option<Reply>, usize);
 
 fn without_memory(alloc: Global, core: &mut Numbers) -> Result<Unmade, Fail> {
@@ -178,8 +178,8 @@ fn without_memory(alloc: Global, core: &mut Numbers) -> Result<Unmade, Fail> {
     Ok((reply_to(&trace, 0), times(&trace, StepKind::Take)))
 }
 
-/// A map that was made for some pairs has this limit, and there is no memory. Then there is, and no
-/// number is left.
+/// Checks an insertion without memory into a map that was made for some pairs and has this limit.
+/// Checks that no number is left afterwards, with memory.
 fn unmade_at(
     rt: &impl Abort,
     alloc: Global,
@@ -194,8 +194,8 @@ fn unmade_at(
     Ok(())
 }
 
-/// There are tables already. At the limit no memory is wanted. Below it the number stays taken,
-/// though there is no memory for its pair.
+/// There are tables already. At the limit no memory is requested. Below it the number stays taken,
+/// although there is no memory for its pair.
 #[test]
 fn no_memory_at_a_limit(rt: HostRuntime) -> Result<(), Fail> {
     for mode in MODES {
@@ -205,18 +205,18 @@ fn no_memory_at_a_limit(rt: HostRuntime) -> Result<(), Fail> {
     Ok(())
 }
 
-/// A caller makes this call whole: its reply, and how many tables it opens.
+/// Makes this call whole. Returns its reply, and how many tables it opens.
 fn opens(alloc: Global, core: &mut Numbers, call: Asked) -> Result<(Option<Reply>, usize), Fail> {
     let trace = begin(alloc, core, 0, call, WHOLE)?;
     Ok((reply_to(&trace, 0), times(&trace, StepKind::Open)))
 }
 
-/// A compute of a key that is absent, whose closure answers an insertion.
+/// Returns a compute of an absent key, whose closure returns an insertion.
 fn fills(alloc: Global) -> Result<Asked, Fail> {
     Ok(compute(alloc, vec![in alloc; Operation::Insert(10)]?))
 }
 
-/// Nothing is stored, and one call opens a table.
+/// Checks that nothing is stored, and that one call opens a table.
 fn logs_none(rt: &impl Abort, alloc: Global, core: &mut Numbers) -> Result<(), Fail> {
     is(rt, opens(alloc, core, fills(alloc)?)?, (Some(LIMIT), 0));
     is(rt, without_memory(alloc, core)?, (Some(MEMORY), 0));
@@ -235,9 +235,9 @@ fn logs_none(rt: &impl Abort, alloc: Global, core: &mut Numbers) -> Result<(), F
     )
 }
 
-/// A map without a table that may log no pair. An insertion makes the table first, and is refused
-/// for want of memory where there is none for that. A compute shows that there is no pair, and
-/// makes no table.
+/// A map without a table that may store no pair. An insertion makes the table first, and runs out
+/// of memory if there is none for it. A compute calls its closure without a pair, and makes no
+/// table.
 #[test]
 fn limit_of_no_pairs(rt: HostRuntime) -> Result<(), Fail> {
     for mode in MODES {

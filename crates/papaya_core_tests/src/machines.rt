@@ -1,5 +1,5 @@
-// What machines ask and reply over words that stand in tables: worked values, where specs and
-// code might agree and both be wrong.
+// The asks and replies of machines for given words of tables. These are worked values, for errors
+// that specs and code might share.
 ghost use Rattle.std.specs.Prelude.{◌<◌, ◌^◌};
 ghost use Rattle.papaya_words.specs.Mode.{IsChunked};
 ghost use Rattle.papaya_call.specs.Machine.{IsFit, IsStanding};
@@ -35,13 +35,13 @@ const MARKED: u64 = 7170;
 const CLOSED: u64 = 5;
 
 const EMPTY: u64 = 0;
-/// What an insertion puts where its pair has the number 12.
+/// The word that an insertion writes for the pair of number 12.
 const LIVE_12: u64 = 12_289;
 
-/// The same of the number 13.
+/// The word for the pair of number 13.
 const LIVE_13: u64 = 13_313;
 
-/// The machine asks this, and is answered.
+/// Checks that the machine asks this, and answers it.
 fn told(rt: &impl Abort, machine: &mut Machine, ask: Ask, answer: Answer)
     requires standing { IsStanding machine.old }
     requires fit { IsFit answer }
@@ -51,7 +51,7 @@ fn told(rt: &impl Abort, machine: &mut Machine, ask: Ask, answer: Answer)
     machine.answer(answer);
 }
 
-/// The machine loads the root, and enters that table, which has 8 slots.
+/// Lets the machine load the root, and enter that table, which has 8 slots.
 fn enters_root(rt: &impl Abort, machine: &mut Machine, table: u64)
     requires { IsStanding machine.old }
     ensures { IsStanding machine.new }
@@ -68,7 +68,7 @@ fn enters(rt: &impl Abort, machine: &mut Machine, table: u64)
     told(rt, machine, Ask::SizeOf(table), size);
 }
 
-/// The machine loads a hint.
+/// Lets the machine load a hint.
 fn hints(rt: &impl Abort, machine: &mut Machine, table: u64, slot: usize, hint: u64)
     requires { IsStanding machine.old }
     ensures { IsStanding machine.new }
@@ -76,7 +76,7 @@ fn hints(rt: &impl Abort, machine: &mut Machine, table: u64, slot: usize, hint: 
     told(rt, machine, Ask::LoadHint(table, slot), Answer::Word(hint));
 }
 
-/// The machine loads a slot, whose hint is its own, or, where there is no pair, says nothing.
+/// Lets the machine load a slot. The slot's hint is the key's, or 0 if it has no pair.
 fn loads(rt: &impl Abort, machine: &mut Machine, table: u64, slot: usize, word: u64)
     requires { IsStanding machine.old }
     ensures { IsStanding machine.new }
@@ -92,7 +92,7 @@ fn loads(rt: &impl Abort, machine: &mut Machine, table: u64, slot: usize, word: 
     told(rt, machine, ask, Answer::Word(word));
 }
 
-/// The machine compares its key with a pair's.
+/// Lets the machine compare its key with a pair's.
 fn compares(rt: &impl Abort, machine: &mut Machine, pair: u64, same: bool)
     requires { IsStanding machine.old }
     ensures { IsStanding machine.new }
@@ -100,7 +100,7 @@ fn compares(rt: &impl Abort, machine: &mut Machine, pair: u64, same: bool)
     told(rt, machine, Ask::SameKey(pair), Answer::Yes(same));
 }
 
-/// The machine replies.
+/// Checks the machine's reply.
 fn replies(rt: &impl Abort, machine: &Machine, reply: Reply)
     requires { IsStanding machine.now }
 {
@@ -115,7 +115,7 @@ fn lookup_passes_each_kind_of_word(rt: HostRuntime) {
     hints(&rt, &mut lookup, 1, 3, SHUT as u64);
     loads(&rt, &mut lookup, 1, 5, CLOSED);
     loads(&rt, &mut lookup, 1, 0, TOMBSTONE);
-    // Whoever placed this pair has not written its hint yet.
+    // The caller that placed this pair has not written its hint yet.
     hints(&rt, &mut lookup, 1, 4, 0);
     let ask = Ask::Load(At::Slot(1, 4));
     told(&rt, &mut lookup, ask, Answer::Word(COPIED));
@@ -140,7 +140,7 @@ fn lookup_follows_a_copied_pair(rt: HostRuntime) {
     replies(&rt, &lookup, Reply::Found(3));
 }
 
-/// The machine tries to delete the pair at the first place of table 1.
+/// Lets the machine try to delete the pair at the first place of table 1.
 fn buries(rt: &impl Abort, machine: &mut Machine, old: u64, new: u64, answer: Answer)
     requires standing { IsStanding machine.old }
     requires fit { IsFit answer }
@@ -150,7 +150,7 @@ fn buries(rt: &impl Abort, machine: &mut Machine, old: u64, new: u64, answer: An
     told(rt, machine, Ask::Exchange(At::Slot(1, 2), old, new), answer);
 }
 
-/// The machine shows its closure that its key is absent.
+/// Lets the machine call its closure without a pair, because the key is absent.
 fn shows_none(rt: &impl Abort, machine: &mut Machine, kind: OpKind)
     requires { IsStanding machine.old }
     ensures { IsStanding machine.new }
@@ -159,7 +159,7 @@ fn shows_none(rt: &impl Abort, machine: &mut Machine, kind: OpKind)
     told(rt, machine, Ask::ShowNone, Answer::Op(kind));
 }
 
-/// The machine shows its closure a pair, and is told what to do with it.
+/// Lets the machine call its closure with a pair.
 fn decides(rt: &impl Abort, machine: &mut Machine, pair: u64, kind: OpKind)
     requires { IsStanding machine.old }
     ensures { IsStanding machine.new }
@@ -168,7 +168,7 @@ fn decides(rt: &impl Abort, machine: &mut Machine, pair: u64, kind: OpKind)
     told(rt, machine, Ask::ShowPair(pair), Answer::Op(kind));
 }
 
-/// The machine makes the pair 12 of its key and of what its closure answered.
+/// Lets the machine make the pair 12 of its key and the value that its closure returned.
 fn makes_12(rt: &impl Abort, machine: &mut Machine)
     requires { IsStanding machine.old }
     ensures { IsStanding machine.new }
@@ -179,7 +179,7 @@ fn makes_12(rt: &impl Abort, machine: &mut Machine)
     told(rt, machine, Ask::MakePair, Answer::Made(12));
 }
 
-/// The machine makes a pair of the key of the pair 3 and of the value that it has logged.
+/// Lets the machine make a pair of the key of the pair 3 and the value that it has stored.
 fn makes_of_3(rt: &impl Abort, machine: &mut Machine, pair: u64)
     requires standing { IsStanding machine.old }
     requires pair { pair < 2 ^ 48 }
@@ -189,7 +189,7 @@ fn makes_of_3(rt: &impl Abort, machine: &mut Machine, pair: u64)
     told(rt, machine, Ask::MakePairOf(3), Answer::Made(pair));
 }
 
-/// The machine tries to put a pair into an empty slot of table 1.
+/// Lets the machine try to put a pair into an empty slot of table 1.
 fn claims(rt: &impl Abort, machine: &mut Machine, slot: usize, new: u64, answer: Answer)
     requires standing { IsStanding machine.old }
     requires fit { IsFit answer }
@@ -200,7 +200,7 @@ fn claims(rt: &impl Abort, machine: &mut Machine, slot: usize, new: u64, answer:
     told(rt, machine, ask, answer);
 }
 
-/// The machine tries to put a pair in place of the one at the first place of table 1.
+/// Lets the machine try to replace the pair at the first place of table 1.
 fn replaces(rt: &impl Abort, machine: &mut Machine, old: u64, new: u64, answer: Answer)
     requires standing { IsStanding machine.old }
     requires fit { IsFit answer }
@@ -210,8 +210,8 @@ fn replaces(rt: &impl Abort, machine: &mut Machine, old: u64, new: u64, answer: 
     told(rt, machine, Ask::Exchange(At::Slot(1, 2), old, new), answer);
 }
 
-/// The claim is lost to a pair, and that one to another removal: the closure, which had answered
-/// what to insert, is not shown again that its key is absent.
+/// The claim is lost to another pair, which another call then removes. The closure has returned an
+/// insertion, and is not called without a pair again.
 #[test]
 fn compute_remembers_what_it_inserts(rt: HostRuntime) {
     let mut compute = Machine::new(Task::Compute, HASH, ResizeMode::Blocking, 1, None);
@@ -230,8 +230,8 @@ fn compute_remembers_what_it_inserts(rt: HostRuntime) {
     replies(&rt, &compute, Reply::Inserted(12));
 }
 
-/// The pair 3 was copied meanwhile: in the next table the closure is not shown it again. The pair
-/// 12 has the key that stood in the first table, and so the next slot gets another with its value.
+/// The pair 3 was copied meanwhile: in the next table the closure is not called with it again. The
+/// pair 12 has the key from the first table, so the next slot gets another pair with its value.
 #[test]
 fn compute_remembers_what_it_answered_to_a_pair(rt: HostRuntime) {
     let mut compute = Machine::new(Task::Compute, HASH, ResizeMode::Incremental(64), 1, None);
@@ -254,7 +254,7 @@ fn compute_remembers_what_it_answered_to_a_pair(rt: HostRuntime) {
     replies(&rt, &compute, Reply::Replaced { old: 3, new: 13 });
 }
 
-/// The machine loads how many numbers were taken for pairs.
+/// Lets the machine load how many numbers were taken for pairs.
 fn counts(rt: &impl Abort, machine: &mut Machine, made: u64)
     requires { IsStanding machine.old }
     ensures { IsStanding machine.new }
@@ -263,7 +263,7 @@ fn counts(rt: &impl Abort, machine: &mut Machine, made: u64)
     told(rt, machine, Ask::Load(At::Made), Answer::Word(made));
 }
 
-/// The machine tries to take the number after so many.
+/// Lets the machine try to take the next number.
 fn takes(rt: &impl Abort, machine: &mut Machine, made: u64, next: u64, answer: Answer)
     requires standing { IsStanding machine.old }
     requires fit { IsFit answer }
@@ -273,7 +273,7 @@ fn takes(rt: &impl Abort, machine: &mut Machine, made: u64, next: u64, answer: A
     told(rt, machine, Ask::Exchange(At::Made, made, next), answer);
 }
 
-/// An insertion of at most three pairs finds an empty place.
+/// Lets an insertion, into a map of at most three pairs, find an empty place.
 fn finds_a_place(rt: &impl Abort) -> Machine
     ensures { IsStanding result }
 {
@@ -284,7 +284,7 @@ fn finds_a_place(rt: &impl Abort) -> Machine
     insertion
 }
 
-/// Nothing is made then, and so no memory is wanted.
+/// Nothing is made then, and so no memory is requested.
 #[test]
 fn insertion_is_refused_at_the_limit(rt: HostRuntime) {
     let mut insertion = finds_a_place(&rt);
@@ -302,7 +302,7 @@ fn insertion_loses_the_last_number(rt: HostRuntime) {
     replies(&rt, &insertion, Reply::Refused(Refused::Limit));
 }
 
-/// One below the limit is taken, and the pair is made and claims its place.
+/// One below the limit, the number is taken, and the pair is made and claims its place.
 #[test]
 fn insertion_takes_the_last_number(rt: HostRuntime) {
     let mut insertion = finds_a_place(&rt);

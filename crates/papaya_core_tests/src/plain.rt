@@ -1,5 +1,5 @@
-// A core of numbers, calls that its callers make whole or in part, and what they reply, by the
-// values of the pairs.
+// A core of numbers, calls that its callers make whole or in part, and their replies, with pairs
+// named by their values.
 use crate::expect::is_at;
 use papaya_ask::ask::StepKind;
 use papaya_ask::call::{Call, Reply};
@@ -13,47 +13,47 @@ use std::hash::BuildHasher;
 use std::process::Abort;
 use std::test::Fail;
 
-/// The closures of the calls here answer some things in turn, whatever they are shown.
+/// A core whose calls' closures return listed results, whatever they are called with.
 pub(crate) type Numbers = Core<u64, u64, Times, Listed<u64>>;
 
 pub(crate) type Asked = Call<u64, u64, Listed<u64>>;
 
-/// The ways in which tables are copied.
+/// The modes of copying tables.
 pub(crate) const MODES: [ResizeMode; 3] = [
     ResizeMode::Incremental(1),
     ResizeMode::Incremental(64),
     ResizeMode::Blocking,
 ];
 
-/// No call takes more steps, whatever another caller left undone.
+/// More steps than any call makes, whatever another caller left undone.
 pub(crate) const WHOLE: usize = 1_000_000;
 
-/// The value that a key has where a test says no other.
+/// Returns the value that a key has unless a test states another.
 pub(crate) fn value(key: u64) -> u64 {
     key.wrapping_add(1000)
 }
 
-/// A removal of a key, whose closure answers this in turn, and then that the pair stays.
+/// Returns a removal of a key, whose closure first returns `first`, and then that the pair stays.
 pub(crate) fn removal(alloc: Global, key: u64, first: bool) -> Result<Asked, Fail> {
     let ops = Vec::new(alloc);
     let yes = vec![in alloc; first]?;
     Ok(Call::RemoveIf(key, Listed { ops, yes }))
 }
 
-/// A retain whose closure lets no pair stay.
+/// Returns a retain whose closure lets no pair stay.
 pub(crate) fn retain_of_nothing(alloc: Global) -> Asked {
     let ops = Vec::new(alloc);
     let yes = Vec::new(alloc);
     Call::Retain(Listed { ops, yes })
 }
 
-/// A compute of key 7, whose closure answers these in turn, and then `Abort(0)`.
+/// Returns a compute of key 7, whose closure returns these in turn, and then `Abort(0)`.
 pub(crate) fn compute(alloc: Global, ops: Vec<Operation<u64, u64>>) -> Asked {
     let yes = Vec::new(alloc);
     Call::Compute(7, Listed { ops, yes })
 }
 
-/// A caller begins this call, and makes so many steps of it.
+/// Begins this call of a caller, and makes at most `steps` steps of it.
 pub(crate) fn begin(
     alloc: Global,
     core: &mut Numbers,
@@ -65,13 +65,13 @@ pub(crate) fn begin(
     Ok(core.run(turns)?)
 }
 
-/// A caller makes the rest of its call.
+/// Makes the rest of a caller's call.
 pub(crate) fn go_on(alloc: Global, core: &mut Numbers, caller: usize) -> Result<Trace, Fail> {
     let turns = vec![in alloc; Turn::Finish(caller, WHOLE)]?;
     Ok(core.run(turns)?)
 }
 
-/// The last reply to a caller.
+/// Returns the last reply to a caller.
 pub(crate) fn reply_to(trace: &Trace, caller: usize) -> Option<Reply> {
     let mut last = None;
     for entry in &trace.entries {
@@ -84,7 +84,7 @@ pub(crate) fn reply_to(trace: &Trace, caller: usize) -> Option<Reply> {
     last
 }
 
-/// How many exchanges of this kind there are in a trace.
+/// Returns how many exchanges of this kind there are in a trace.
 pub(crate) fn times(trace: &Trace, kind: StepKind) -> usize {
     let mut times = 0usize;
     for entry in &trace.entries {
@@ -97,7 +97,7 @@ pub(crate) fn times(trace: &Trace, kind: StepKind) -> usize {
     times
 }
 
-/// The closures' answers in a trace: the pairs that were shown, and what was answered.
+/// Returns the calls of closures in a trace: the pairs, and the results.
 pub(crate) fn answers_in(alloc: Global, trace: &Trace) -> Result<Vec<(u64, bool)>, Fail> {
     let mut answers = Vec::new(alloc);
     for entry in &trace.entries {
@@ -108,13 +108,13 @@ pub(crate) fn answers_in(alloc: Global, trace: &Trace) -> Result<Vec<(u64, bool)
     Ok(answers)
 }
 
-/// The value of the pair with this number.
+/// Returns the value of the pair with this number.
 pub(crate) fn value_of<S: BuildHasher, A>(core: &Core<u64, u64, S, A>, number: u64) -> Option<u64> {
     let (_, value) = core.pair(number)?;
     Some(*value)
 }
 
-/// A reply, which tells pairs by their values.
+/// Returns the reply with the pairs' values instead of their numbers.
 pub(crate) fn by_value<S: BuildHasher, A>(
     core: &Core<u64, u64, S, A>,
     reply: Option<Reply>,
@@ -133,7 +133,7 @@ pub(crate) fn by_value<S: BuildHasher, A>(
     })
 }
 
-/// A caller makes this call whole, and it replies so.
+/// Makes this call of a caller whole, and checks its reply.
 pub(crate) fn replies(
     rt: &impl Abort,
     alloc: Global,
@@ -148,7 +148,7 @@ pub(crate) fn replies(
     Ok(())
 }
 
-/// Another caller finds just the keys of a range, of those below 27.
+/// Checks that another caller finds exactly the keys of a range, among those below 27.
 pub(crate) fn holds(
     rt: &impl Abort,
     alloc: Global,
@@ -167,7 +167,7 @@ pub(crate) fn holds(
     Ok(())
 }
 
-/// The keys from one to another are stored.
+/// Stores the keys of a range.
 pub(crate) fn stores(
     rt: &impl Abort,
     alloc: Global,

@@ -1,18 +1,18 @@
-// Calls as values, and what a plain map says that they come to at a key.
+// Calls as values, and their results at a key according to a plain map.
 ghost use Rattle.std.specs.Prelude.{◌≡◌};
 
 use papaya_ask::call::{Call, Reply};
 use papaya_call::answers::{Answers, Operation};
 use papaya_words::probe::Refused;
 
-/// A closure, which answers by what it is shown alone.
+/// A closure whose result depends only on its argument.
 #[derive(Clone, Copy)]
 pub(crate) enum Says {
-    /// It stores the number after the value that it is shown, or this one where there is none.
+    /// Stores the number after the value that it gets, or this one if there is no value.
     Next(u64),
     Remove,
     Leave,
-    /// Pairs with even values stay.
+    /// Lets pairs with even values stay.
     Even,
 }
 
@@ -67,7 +67,7 @@ pub(crate) enum Plan {
     CopyAll,
 }
 
-/// A call of each kind on this key. What is stored is this value.
+/// Returns a call of each kind on this key. Those that store a value store this one.
 pub(crate) fn on_key(key: u64, value: u64) -> [Plan; 8] {
     [
         Plan::Get(key),
@@ -106,7 +106,7 @@ impl Plan {
         }
     }
 
-    /// The key that the call is on, if it is on one.
+    /// Returns the key of the call, if it has one.
     pub(crate) fn key(self) -> Option<u64> {
         match self {
             Plan::Get(key)
@@ -118,16 +118,16 @@ impl Plan {
         }
     }
 
-    /// Does the call take out pairs one by one, so that it may come back to a key?
+    /// Returns whether the call removes pairs one by one, so that it may come back to a key.
     fn scans(self) -> bool {
         matches!(self, Plan::Clear | Plan::Retain(_))
     }
 }
 
-/// What is replied, and the value that the key has then.
+/// The reply, and the value that the key has afterwards.
 type Then = (Reply, Option<u64>);
 
-/// A value is stored, whatever the key had.
+/// Returns the result of storing a value, whatever the key had.
 fn stored(value: u64, held: Option<u64>) -> Then {
     let reply = match held {
         Some(old) => Reply::Replaced { old, new: value },
@@ -136,7 +136,7 @@ fn stored(value: u64, held: Option<u64>) -> Then {
     (reply, Some(value))
 }
 
-/// A closure that was shown what the key has answered this.
+/// Returns the result of this operation of a closure on a key that has this value or none.
 fn computed(operation: Operation<u64, u64>, held: Option<u64>) -> Then {
     match (operation, held) {
         (Operation::Insert(value), _) => stored(value, held),
@@ -146,7 +146,7 @@ fn computed(operation: Operation<u64, u64>, held: Option<u64>) -> Then {
     }
 }
 
-/// A call on a key, where the key has this value or none.
+/// Returns the result of a call on a key that has this value or none.
 fn called(plan: Plan, held: Option<u64>) -> Then {
     match (plan, held) {
         (Plan::Get(_), Some(value)) => (Reply::Found(value), held),
@@ -163,7 +163,7 @@ fn called(plan: Plan, held: Option<u64>) -> Then {
     }
 }
 
-/// What a call tells of a key, and the value that the key has then. A walk tells what it gives.
+/// Returns a call's result for a key (of an iteration the pair), and the key's value afterwards.
 fn at_key(plan: Plan, key: u64, held: Option<u64>) -> (Option<Reply>, Option<u64>) {
     match (plan, held) {
         (Plan::Clear, _) => (None, None),
@@ -178,10 +178,10 @@ fn at_key(plan: Plan, key: u64, held: Option<u64>) -> (Option<Reply>, Option<u64
     }
 }
 
-/// What two calls tell of a key, and the value that it has after them.
+/// The results of two calls for a key, and the value that it has afterwards.
 pub(crate) type Told = (Option<Reply>, Option<Reply>, Option<u64>);
 
-/// The first call is made before the second, or after it.
+/// Returns the results of the first call and then the second.
 fn in_turn(plans: (Plan, Plan), key: u64, held: Option<u64>) -> Told {
     let (first, held) = at_key(plans.0, key, held);
     let (second, held) = at_key(plans.1, key, held);
@@ -193,8 +193,9 @@ fn the_other_way(plans: (Plan, Plan), key: u64, held: Option<u64>) -> Told {
     (first, second, held)
 }
 
-/// What two calls tell of a key may be this, or is else as if the first was made before the second.
-/// A first one that scans may have come to the key before the second, and once more after it.
+/// Returns what was found if two calls may have it, and otherwise the results of the first call
+/// before the second. A first call that scans may meet the key before the second call and again
+/// after.
 pub(crate) fn as_allowed(found: &Told, plans: (Plan, Plan), key: u64, held: Option<u64>) -> Told {
     let after = the_other_way(plans, key, held);
     let (_, scanned) = at_key(plans.0, key, held);

@@ -1,6 +1,6 @@
-// What is done with a full table, and beside a caller that has stopped in an insertion into one;
-// room that is made ahead; chunks that two callers copy at a time; and a table that is given up
-// since the count lags behind stopped callers.
+// Full tables, alone and beside a caller that has stopped in an insertion into one. Room that is
+// made ahead, chunks that two callers copy at the same time, and a table that is given up because
+// the count lags behind stopped callers.
 use crate::expect::{is, is_at};
 use crate::plain::{
     Asked, MODES, Numbers, WHOLE, answers_in, begin, by_value, go_on, holds, removal, replies,
@@ -17,30 +17,30 @@ use std::alloc::Global;
 use std::process::Abort;
 use std::test::Fail;
 
-/// More steps than an insertion into a full table of 8 slots makes, where it meets nobody.
+/// More steps than an insertion into a full table of 8 slots makes, if it meets nobody.
 const STEPS_OF_GROWTH: usize = 150;
 
-/// How many keys there are in a full table, from 0 on, each in a slot of its own.
+/// How many keys there are in a full table, from 0, each in a slot of its own.
 const KEYS: u64 = 8;
 
-/// The insertion of one key more.
+/// Returns the insertion of one more key.
 fn insertion() -> Asked {
     Call::Insert(KEYS, value(KEYS))
 }
 
-/// Caller 1 makes so many steps of an insertion: its reply, if it has one already.
+/// Makes `steps` steps of caller 1's insertion. Returns its reply, if it has one already.
 fn stopped_at(alloc: Global, core: &mut Numbers, steps: usize) -> Result<Option<Reply>, Fail> {
     let trace = begin(alloc, core, 1, insertion(), steps)?;
     Ok(reply_to(&trace, 1))
 }
 
-/// Caller 1 goes on with the insertion: its reply, if it had none yet.
+/// Continues caller 1's insertion. Returns its reply, if it had none yet.
 fn ended(alloc: Global, core: &mut Numbers) -> Result<Option<Reply>, Fail> {
     let trace = go_on(alloc, core, 1)?;
     Ok(reply_to(&trace, 1))
 }
 
-/// A caller removes key 0.
+/// Lets a caller remove key 0.
 fn removes_0(
     rt: &impl Abort,
     alloc: Global,
@@ -51,7 +51,7 @@ fn removes_0(
     replies(rt, alloc, core, case, removal(alloc, 0, true)?, removed)
 }
 
-/// Caller 2 ends the resize and removes key 0, and then caller 1 goes on with an insertion.
+/// Lets caller 2 finish the resize and remove key 0, and then caller 1 continue with an insertion.
 fn removal_beside(
     rt: &impl Abort,
     alloc: Global,
@@ -67,7 +67,7 @@ fn removal_beside(
     holds(rt, alloc, core, steps, (1, KEYS + 1))
 }
 
-/// None of the keys of the full table is there.
+/// Checks that none of the keys of the full table is there.
 fn is_gone(rt: &impl Abort, alloc: Global, core: &mut Numbers, case: usize) -> Result<(), Fail> {
     for key in 0..KEYS {
         replies(rt, alloc, core, (case, 3), Call::Get(key), Reply::Absent)?;
@@ -75,7 +75,7 @@ fn is_gone(rt: &impl Abort, alloc: Global, core: &mut Numbers, case: usize) -> R
     Ok(())
 }
 
-/// Caller 2 retains nothing, and then caller 1 goes on with an insertion.
+/// Lets caller 2 retain nothing, and then caller 1 continue with an insertion.
 fn retain_beside(
     rt: &impl Abort,
     alloc: Global,
@@ -89,7 +89,7 @@ fn retain_beside(
     is_gone(rt, alloc, core, steps)
 }
 
-/// A retain that nobody is beside asks for each pair once, and deletes it where the answer is no.
+/// Checks that a retain alone calls its closure once for each pair, and deletes the refused ones.
 fn asks_once(rt: &impl Abort, alloc: Global, core: &mut Numbers) -> Result<(), Fail> {
     let trace = begin(alloc, core, 2, retain_of_nothing(alloc), WHOLE)?;
     let mut asked = answers_in(alloc, &trace)?;
@@ -102,7 +102,7 @@ fn asks_once(rt: &impl Abort, alloc: Global, core: &mut Numbers) -> Result<(), F
     is_gone(rt, alloc, core, 0)
 }
 
-/// More room than a table may have is refused.
+/// Checks that more room than a table may have is refused.
 fn refuses_room(rt: &impl Abort, alloc: Global, core: &mut Numbers) -> Result<(), Fail> {
     let refused = Reply::Refused(Refused::Capacity);
     for more in [usize::MAX, 1 << 61, 1 << 32] {
@@ -111,7 +111,7 @@ fn refuses_room(rt: &impl Abort, alloc: Global, core: &mut Numbers) -> Result<()
     Ok(())
 }
 
-/// Caller 2 makes room, each step of which has no memory.
+/// Lets caller 2 make room, with no memory in any step.
 fn without_memory(alloc: Global, core: &mut Numbers) -> Result<Trace, Fail> {
     let mut turns = vec![in alloc; Turn::Begin(2, Call::Reserve(8))]?;
     for _ in 0..STEPS_OF_GROWTH {
@@ -120,7 +120,7 @@ fn without_memory(alloc: Global, core: &mut Numbers) -> Result<Trace, Fail> {
     Ok(core.run(turns)?)
 }
 
-/// A table without memory is refused too, and the map stays. Then there is memory.
+/// Checks that a table without memory is refused, and that the map then works with memory.
 fn refuses_table(rt: &impl Abort, alloc: Global, core: &mut Numbers) -> Result<(), Fail> {
     let trace = without_memory(alloc, core)?;
     let refused = Some(Reply::Refused(Refused::Memory));
@@ -131,7 +131,7 @@ fn refuses_table(rt: &impl Abort, alloc: Global, core: &mut Numbers) -> Result<(
     holds(rt, alloc, core, 4, (0, KEYS))
 }
 
-/// Steps a walk of caller 2 to its end.
+/// Steps an iteration of caller 2 to its end.
 fn walked(core: &mut Numbers) -> Result<Option<Outcome>, Fail> {
     if !core.running(2) {
         core.begin(2, Call::Walk)?;
@@ -146,7 +146,7 @@ fn walked(core: &mut Numbers) -> Result<Option<Outcome>, Fail> {
     Ok(None)
 }
 
-/// The numbers of the pairs that a walk gave, by size.
+/// Returns the numbers of the pairs of an iteration, sorted.
 fn sorted(outcome: Option<Outcome>) -> Result<Option<Outcome>, Fail> {
     match outcome {
         Some(Outcome::Walked(mut list)) => {
@@ -157,7 +157,7 @@ fn sorted(outcome: Option<Outcome>) -> Result<Option<Outcome>, Fail> {
     }
 }
 
-/// Without key 0, a walk that is stepped answers its list.
+/// Checks that an iteration that is stepped returns its list, without key 0.
 fn walks_by_hand(rt: &impl Abort, alloc: Global, core: &mut Numbers) -> Result<(), Fail> {
     removes_0(rt, alloc, core, (0, 1))?;
     let outcome = sorted(walked(core)?)?;
@@ -166,7 +166,7 @@ fn walks_by_hand(rt: &impl Abort, alloc: Global, core: &mut Numbers) -> Result<(
     Ok(())
 }
 
-/// What is done with a full table.
+/// The cases of a full table.
 #[derive(Clone, Copy)]
 enum Case {
     RemovalBeside,
@@ -221,7 +221,7 @@ fn full_tables(rt: HostRuntime) -> Result<(), Fail> {
     Ok(())
 }
 
-/// After each number of steps of an insertion.
+/// Runs a case after each number of steps of an insertion.
 fn at_each_step(rt: &impl Abort, alloc: Global, case: Case) -> Result<(), Fail> {
     for mode in MODES {
         for steps in 0..STEPS_OF_GROWTH + 1 {
@@ -241,7 +241,7 @@ fn retain_of_nothing_beside_a_stopped_insertion(rt: HostRuntime) -> Result<(), F
     at_each_step(&rt, rt.alloc(), Case::RetainBeside)
 }
 
-/// The keys from one to another are stored, and no table is made for them.
+/// Stores the keys of a range, and checks that no table is made for them.
 fn stores_in_place(
     rt: &impl Abort,
     alloc: Global,
@@ -256,15 +256,15 @@ fn stores_in_place(
     Ok(())
 }
 
-/// Caller 2 makes room for so many keys more, and moves all pairs.
+/// Lets caller 2 make room for `more` further keys, and move all pairs.
 fn makes_room(rt: &impl Abort, alloc: Global, core: &mut Numbers, more: usize) -> Result<(), Fail> {
     let done = Reply::Done;
     replies(rt, alloc, core, (more, 2), Call::Reserve(more), done)?;
     replies(rt, alloc, core, (more, 2), Call::CopyAll, done)
 }
 
-/// So many keys are stored, and room is made for some more. A caller that inserts these links no
-/// table then.
+/// Stores `keys` keys, and makes room for `more` further ones. A caller that then inserts these
+/// links no table.
 fn reserves_ahead(
     rt: &impl Abort,
     alloc: Global,
@@ -289,14 +289,14 @@ fn room_is_made_ahead(rt: HostRuntime) -> Result<(), Fail> {
     Ok(())
 }
 
-/// In a new map too more room than a table may have is refused, and there is nothing to copy.
+/// Checks that a new map too refuses more room than a table may have, and has nothing to copy.
 fn has_no_table(rt: &impl Abort, alloc: Global, core: &mut Numbers) -> Result<(), Fail> {
     let refused = Reply::Refused(Refused::Capacity);
     replies(rt, alloc, core, (5, 2), Call::Reserve(1 << 61), refused)?;
     replies(rt, alloc, core, (6, 2), Call::CopyAll, Reply::Done)
 }
 
-/// A caller inserts a key, and stops when it has made an exchange of this kind.
+/// Stops the insertion of a key once it has made an exchange of this kind.
 fn stops_at(
     alloc: Global,
     core: &mut Numbers,
@@ -314,7 +314,7 @@ fn stops_at(
     Ok(false)
 }
 
-/// How many pairs were marked in a trace, and how many chunks were told as copied.
+/// Returns how many pairs were marked in a trace, and how many chunks were recorded as copied.
 fn copied(trace: &Trace) -> (usize, usize) {
     (
         times(trace, StepKind::Mark),
@@ -322,22 +322,22 @@ fn copied(trace: &Trace) -> (usize, usize) {
     )
 }
 
-/// The same of a caller that inserts a key.
+/// Returns the same for a caller that inserts a key.
 fn copied_by(alloc: Global, core: &mut Numbers, caller: usize) -> Result<(usize, usize), Fail> {
     let key = KEYS.wrapping_add(1);
     let trace = begin(alloc, core, caller, Call::Insert(key, value(key)), WHOLE)?;
     Ok(copied(&trace))
 }
 
-/// The same of caller 1, which goes on.
+/// Returns the same for caller 1, which continues.
 fn copied_then(alloc: Global, core: &mut Numbers) -> Result<(usize, usize), Fail> {
     let trace = go_on(alloc, core, 1)?;
     Ok(copied(&trace))
 }
 
-/// Caller 1 has marked the pair of its chunk and stops, while another caller copies a chunk. That
-/// one marks so many pairs: none where its number picks the chunk of caller 1, which it ends. Then
-/// caller 1 goes on.
+/// Stops caller 1 when it has marked the pair of its chunk, while another caller copies a chunk.
+/// The other marks `marked` pairs: none if its number selects the chunk of caller 1, which it
+/// finishes. Then continues caller 1.
 fn copies_beside(
     rt: &impl Abort,
     alloc: Global,
@@ -352,7 +352,7 @@ fn copies_beside(
     holds(rt, alloc, core, other, (0, KEYS.wrapping_add(2)))
 }
 
-/// A table of 8 slots is copied slot by slot, from the chunk on that a caller's number picks.
+/// A table of 8 slots is copied slot by slot, from the chunk that a caller's number selects.
 #[test]
 fn callers_with_different_numbers_copy_different_chunks(rt: HostRuntime) -> Result<(), Fail> {
     for (other, marked) in [(0, 1), (2, 1), (7, 1), (8, 1), (9, 0), (17, 0)] {
@@ -363,11 +363,11 @@ fn callers_with_different_numbers_copy_different_chunks(rt: HostRuntime) -> Resu
     Ok(())
 }
 
-/// How many keys fill a table of 32 slots on one path.
+/// How many keys fill a table of 32 slots if they share a probe sequence.
 const CROWD: usize = 26;
 
-/// A caller inserts its number as a key, and stops as soon as caller 30 finds that: before it
-/// counts it.
+/// Stops a caller that inserts its number as a key as soon as caller 30 finds that key: before the
+/// caller counts it.
 fn stops_once_found(alloc: Global, core: &mut Numbers, caller: usize) -> Result<bool, Fail> {
     let key = caller as u64;
     let _ = begin(alloc, core, caller, Call::Insert(key, value(key)), 0)?;
@@ -381,8 +381,8 @@ fn stops_once_found(alloc: Global, core: &mut Numbers, caller: usize) -> Result<
     Ok(false)
 }
 
-/// Caller 26 inserts a key: the table that it makes has 16 slots, which is given up, and one of 32
-/// takes all.
+/// Lets caller 26 insert a key. The table that it makes has 16 slots and is given up, and one of 32
+/// takes everything.
 fn gives_up_a_table(rt: &impl Abort, alloc: Global, core: &mut Numbers) -> Result<(), Fail> {
     let key = CROWD as u64;
     let trace = begin(alloc, core, CROWD, Call::Insert(key, value(key)), WHOLE)?;
@@ -399,7 +399,7 @@ fn gives_up_a_table(rt: &impl Abort, alloc: Global, core: &mut Numbers) -> Resul
     Ok(())
 }
 
-/// Callers 0 to 25 fill a table of 32 slots and stop for good, with the count at 0.
+/// Fills a table of 32 slots by callers 0 to 25, which stop for good, with the count at 0.
 fn crowd(rt: &impl Abort, alloc: Global, core: &mut Numbers) -> Result<(), Fail> {
     has_no_table(rt, alloc, core)?;
     for caller in 0..CROWD {

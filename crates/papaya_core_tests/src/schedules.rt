@@ -1,4 +1,4 @@
-// What two calls on one key come to, where the first is stopped after each of its steps, while the
+// The results of two calls on one key. The first is stopped after each of its steps, while the
 // second is made whole.
 use crate::expect::{is, is_at};
 use crate::plain::{
@@ -16,30 +16,30 @@ use std::alloc::Global;
 use std::process::Abort;
 use std::test::Fail;
 
-/// An insertion into a new map makes so many steps: it loads the root, makes a table and opens it,
-/// learns its size, loads a hint and its slot, makes the key, the value and the pair, claims the
+/// The steps of an insertion into a new map. It loads the root, makes a table and opens it, and
+/// learns its size. It loads a hint and its slot, makes the key, the value and the pair, claims the
 /// slot, counts, and writes the hint.
 const STEPS_OF_INSERT: usize = 12;
 
-/// A removal of a pair that the map has, which agrees at once, makes so many steps: it loads the
-/// root, learns its size, loads the hint and the slot, compares the key, shows the pair, deletes
-/// it, and counts.
+/// The steps of a removal of a pair that the map has, if its closure agrees at once. It loads the
+/// root, learns its size, loads the hint and the slot, compares the key, calls the closure, deletes
+/// the pair, and counts.
 const STEPS_OF_REMOVAL: usize = 8;
 
-/// A compute of a pair that the map has, whose closure answers an insertion, makes so many steps:
-/// it loads the root, learns its size, loads the hint and the slot, compares the key, shows the
-/// pair, makes the value and the new pair of the old one's key, and replaces the old one.
+/// The steps of a compute of a pair that the map has, whose closure returns an insertion. It loads
+/// the root, learns its size, loads the hint and the slot, compares the key, and calls the closure.
+/// It makes the value and the new pair of the old one's key, and replaces the old one.
 const STEPS_OF_UPDATE: usize = 9;
 
-/// A compute in a new map, whose closure answers an insertion, makes so many steps: it loads the
-/// root, shows that there is none, makes the key, the value, the pair and a table, opens that,
-/// learns its size, loads a hint and its slot, claims that, counts, and writes the hint.
+/// The steps of a compute in a new map, whose closure returns an insertion. It loads the root and
+/// calls the closure. It makes the key, the value, the pair and a table, opens that, and learns its
+/// size. It loads a hint and its slot, claims that, counts, and writes the hint.
 const STEPS_OF_FILL: usize = 13;
 
-/// What is replied to callers 0 and 1, and to a lookup of 7 afterwards.
+/// The replies to callers 0 and 1, and to a lookup of 7 afterwards.
 type Replies = (Reply, Reply, Reply);
 
-/// A new map, in which there is this key at most, with 1.
+/// Creates a map that has at most this key, with the value 1.
 fn map_of(alloc: Global, mode: ResizeMode, held: Option<u64>) -> Result<Numbers, Fail> {
     let mut core = Core::new(alloc, mode, 0, 16, APART)?;
     if let Some(key) = held {
@@ -48,7 +48,7 @@ fn map_of(alloc: Global, mode: ResizeMode, held: Option<u64>) -> Result<Numbers,
     Ok(core)
 }
 
-/// How often the closure of caller 0 was shown that there is none.
+/// Returns how often the closure of caller 0 was called without a pair.
 fn nones_shown(trace: &Trace) -> usize {
     let mut nones = 0usize;
     for entry in &trace.entries {
@@ -61,7 +61,7 @@ fn nones_shown(trace: &Trace) -> usize {
     nones
 }
 
-/// The replies of a trace, and of a lookup, tell these values.
+/// Checks the values in the replies of a trace and of a lookup.
 fn comes_to(
     rt: &impl Abort,
     alloc: Global,
@@ -75,8 +75,8 @@ fn comes_to(
     replies(rt, alloc, core, (steps, 2), Call::Get(7), found)
 }
 
-/// Caller 0 is stopped after so many steps of a call, caller 1 makes another whole, and caller 0
-/// goes on.
+/// Stops caller 0 after `steps` steps of a call, makes caller 1's call whole, and continues caller
+/// 0.
 fn stopped(
     alloc: Global,
     core: &mut Numbers,
@@ -94,9 +94,9 @@ fn stopped(
     Ok(core.run(turns)?)
 }
 
-/// What two insertions come to that never replace, where the first is stopped after so many steps.
+/// Returns the replies of two insertions that never replace, the first stopped after `steps` steps.
 fn kept_at(steps: usize) -> Replies {
-    // Caller 0 claims the slot in its tenth step. Its hint comes later: the pair is found without.
+    // Caller 0 claims the slot in its tenth step, and its pair is found before it has a hint.
     if steps < 10 {
         (
             Reply::Occupied(200),
@@ -112,9 +112,9 @@ fn kept_at(steps: usize) -> Replies {
     }
 }
 
-/// The values of the first two pairs then.
+/// Returns the values of the first two pairs in that case.
 fn made_at(steps: usize) -> (Option<u64>, Option<u64>) {
-    // Caller 0 loads the slot in its sixth step, and makes its pair in its ninth. Where the slot is
+    // Caller 0 loads the slot in its sixth step, and makes its pair in its ninth. If the slot is
     // taken, it makes no pair.
     match steps {
         0..6 => (Some(200), None),
@@ -124,7 +124,7 @@ fn made_at(steps: usize) -> (Option<u64>, Option<u64>) {
     }
 }
 
-/// Neither insertion replaces, one pair is stored, and one table opened.
+/// Checks that neither insertion replaces, one pair is stored, and one table is opened.
 fn keeps_one(rt: &impl Abort, alloc: Global, core: &mut Numbers, steps: usize) -> Result<(), Fail> {
     let (call, other) = (Call::TryInsert(7, 100), Call::TryInsert(7, 200));
     let trace = stopped(alloc, core, call, steps, other)?;
@@ -138,11 +138,11 @@ fn keeps_one(rt: &impl Abort, alloc: Global, core: &mut Numbers, steps: usize) -
     comes_to(rt, alloc, core, steps, &trace, kept_at(steps))
 }
 
-/// What a removal comes to that is stopped so, where its pair is replaced meanwhile.
+/// Returns the replies of a removal that is stopped then, while its pair is replaced.
 fn removed_or_kept_at(steps: usize) -> Replies {
     let replaced = Reply::Replaced { old: 1, new: 2 };
-    // The removal loads the slot in its fourth step, and deletes the pair in its seventh. Where
-    // another pair came between, its closure is shown that one too, and keeps it.
+    // The removal loads the slot in its fourth step, and deletes the pair in its seventh. If
+    // another pair comes between, its closure is called with that one too, and keeps it.
     match steps {
         0..4 => (Reply::Removed(2), replaced, Reply::Absent),
         4..7 => (Reply::Kept(2), replaced, Reply::Found(2)),
@@ -150,7 +150,7 @@ fn removed_or_kept_at(steps: usize) -> Replies {
     }
 }
 
-/// A pair is replaced while it is removed.
+/// Checks a removal whose pair is replaced meanwhile.
 fn removes_or_keeps(
     rt: &impl Abort,
     alloc: Global,
@@ -159,7 +159,7 @@ fn removes_or_keeps(
 ) -> Result<(), Fail> {
     let call = removal(alloc, 7, true)?;
     let trace = stopped(alloc, core, call, steps, Call::Insert(7, 2))?;
-    // The closure is shown each pair that stands there.
+    // The closure is called with each pair that is there.
     let asked = answers_in(alloc, &trace)?;
     let wanted = match steps {
         0..4 => vec![in alloc; (1, true)]?,
@@ -171,11 +171,11 @@ fn removes_or_keeps(
     comes_to(rt, alloc, core, steps, &trace, replies)
 }
 
-/// What a compute comes to that is stopped so, where another value is stored meanwhile.
+/// Returns the replies of a compute that is stopped then, while another value is stored.
 fn shown_at(steps: usize) -> Replies {
     let replaced = Reply::Replaced { old: 1, new: 2 };
-    // The compute loads the slot in its fourth step, and replaces the pair in its ninth. Where
-    // 2 came between, its closure is shown first 1 and then 2, which it has removed.
+    // The compute loads the slot in its fourth step, and replaces the pair in its ninth. If 2 comes
+    // between, its closure is called first with 1 and then with 2, which it removes.
     match steps {
         0..4 => (
             Reply::Replaced { old: 2, new: 10 },
@@ -191,7 +191,7 @@ fn shown_at(steps: usize) -> Replies {
     }
 }
 
-/// A compute that stores 10, and then removes what it is shown.
+/// Checks a compute that stores 10, and then removes the pair with which it is called.
 fn is_shown(rt: &impl Abort, alloc: Global, core: &mut Numbers, steps: usize) -> Result<(), Fail> {
     let ops = vec![in alloc; Operation::Insert(10), Operation::Remove]?;
     let call = compute(alloc, ops);
@@ -200,10 +200,10 @@ fn is_shown(rt: &impl Abort, alloc: Global, core: &mut Numbers, steps: usize) ->
     comes_to(rt, alloc, core, steps, &trace, shown_at(steps))
 }
 
-/// What a compute comes to that is stopped so, where a pair comes and goes meanwhile.
+/// Returns the replies of a compute that is stopped then, while a pair comes and goes.
 fn filled_at(steps: usize) -> Replies {
-    // The compute claims a slot in its eleventh step. Where 1 came and went before, its closure
-    // is shown only once that there is none, before or after that.
+    // The compute claims a slot in its eleventh step. If 1 comes and goes before, its closure is
+    // called without a pair only once, before or after that.
     let found = if steps < 11 {
         Reply::Found(10)
     } else {
@@ -212,8 +212,8 @@ fn filled_at(steps: usize) -> Replies {
     (Reply::Inserted(10), Reply::Removed(1), found)
 }
 
-/// Caller 0 is stopped after so many steps of a compute of key 7, which stores 10. Meanwhile caller
-/// 1 stores 1 and removes it.
+/// Stops caller 0 after `steps` steps of a compute of key 7, which stores 10. Meanwhile caller 1
+/// stores 1 and removes it.
 fn stopped_fill(alloc: Global, core: &mut Numbers, steps: usize) -> Result<Trace, Fail> {
     let ops = vec![in alloc; Operation::Insert(10)]?;
     let turns = vec![in alloc;
@@ -234,7 +234,7 @@ fn fills(rt: &impl Abort, alloc: Global, core: &mut Numbers, steps: usize) -> Re
     comes_to(rt, alloc, core, steps, &trace, filled_at(steps))
 }
 
-/// A compute of key 7 changes nothing, beside a lookup of the key that the map has.
+/// Checks a compute of key 7 that changes nothing, beside a lookup of the key that the map has.
 fn changes_nothing(
     rt: &impl Abort,
     alloc: Global,
@@ -255,7 +255,7 @@ fn changes_nothing(
     comes_to(rt, alloc, core, steps, &trace, replies)
 }
 
-/// A removal that its closure refuses, beside another.
+/// Checks a removal that its closure refuses, beside another one.
 fn keeps(rt: &impl Abort, alloc: Global, core: &mut Numbers, steps: usize) -> Result<(), Fail> {
     let other = removal(alloc, 7, false)?;
     let trace = stopped(alloc, core, removal(alloc, 7, false)?, steps, other)?;
@@ -263,7 +263,7 @@ fn keeps(rt: &impl Abort, alloc: Global, core: &mut Numbers, steps: usize) -> Re
     comes_to(rt, alloc, core, steps, &trace, replies)
 }
 
-/// What is done with a map, which has one key or none.
+/// The cases of a map that has one key or none.
 #[derive(Clone, Copy)]
 enum Case {
     KeepsOne,
@@ -276,7 +276,7 @@ enum Case {
     AbortsWhereOne,
 }
 
-/// The key that the map has, and one step more than the call makes that is stopped.
+/// Returns the key that the map has, and one step more than the stopped call makes.
 fn parts_of(case: Case) -> (Option<u64>, usize) {
     match case {
         Case::KeepsOne => (None, STEPS_OF_INSERT + 1),
@@ -343,8 +343,8 @@ fn calls_that_are_stopped_beside_others(rt: HostRuntime) -> Result<(), Fail> {
     Ok(())
 }
 
-/// How many entries an insertion has that stops after three steps, and then goes on. The number of a
-/// caller names it and nothing else.
+/// Returns how many entries an insertion has that stops after three steps, and then continues. A
+/// caller's number only names it.
 fn entries_of_parts(alloc: Global, core: &mut Numbers) -> Result<(usize, usize), Fail> {
     let first = begin(alloc, core, usize::MAX, Call::Insert(7, 100), 3)?
         .entries
@@ -356,8 +356,8 @@ fn entries_of_parts(alloc: Global, core: &mut Numbers) -> Result<(usize, usize),
 #[test]
 fn finish_ends_with_the_reply_or_its_steps(rt: HostRuntime) -> Result<(), Fail> {
     let mut core: Numbers = Core::new(rt.alloc(), ResizeMode::Blocking, 10, 16, APART)?;
-    // A begin and three steps; then the steps that are left and the reply, where no table is made
-    // and none opened.
+    // A begin and three steps; then the steps that are left and the reply, without making and
+    // opening a table.
     let wanted = (1 + 3, STEPS_OF_INSERT - 2 - 3 + 1);
     is(&rt, entries_of_parts(rt.alloc(), &mut core)?, wanted);
     Ok(())

@@ -1,6 +1,6 @@
-// Each two calls: the first is stopped after each number of its steps, the second is made whole,
-// and then the first is ended. What both tell of a key, and what it has then, is as a plain map
-// has it.
+// All combinations of two calls. The first is stopped after each number of its steps, the second is
+// made whole, and then the first is finished. The results of both at a key, and its value
+// afterwards, are as in a plain map.
 use crate::expect::is_at;
 use crate::plain::{MODES, WHOLE, by_value, value};
 use crate::plans::{ON_ALL, Plan, Says, Told, as_allowed, on_key};
@@ -17,11 +17,11 @@ use std::test::Fail;
 
 type Ruled<S> = Core<u64, u64, S, Says>;
 
-/// More steps than any of the calls makes that are stopped.
+/// More steps than any of the stopped calls makes.
 const MOST: usize = 2000;
 
-/// What a map has when the first call begins: it was made for so many pairs, some keys were stored,
-/// and those from another on removed.
+/// The map when the first call begins: the capacity for which it was made, how many keys were
+/// stored, and the key from which on they were removed.
 #[derive(Clone, Copy)]
 struct Start {
     capacity: usize,
@@ -30,7 +30,7 @@ struct Start {
 }
 
 impl Start {
-    /// The value that a key has.
+    /// Returns the value of a key.
     fn held(self, key: u64) -> Option<u64> {
         if key < self.left {
             Some(value(key))
@@ -68,15 +68,15 @@ const TOMBSTONE: Start = Start {
     left: 1,
 };
 
-/// A table of 8 slots is full, and of its chunks of one slot the first is copied to the next table,
-/// where one key more stands.
+/// A table of 8 slots is full. The first of its chunks, each of one slot, is copied to the next
+/// table, which has one more key.
 const COPIED: Start = Start {
     capacity: 6,
     stored: 9,
     left: 9,
 };
 
-/// A caller makes so many steps of its call at most.
+/// Makes at most `most` steps of a caller's call.
 fn goes_on<S: BuildHasher>(core: &mut Ruled<S>, caller: usize, most: usize) -> Option<Outcome> {
     for _ in 0..most {
         if !core.running(caller) {
@@ -89,7 +89,7 @@ fn goes_on<S: BuildHasher>(core: &mut Ruled<S>, caller: usize, most: usize) -> O
     None
 }
 
-/// A caller begins a call, and makes so many steps of it at most.
+/// Begins a call of a caller, unless it is in one, and makes at most `most` steps of it.
 fn makes<S: BuildHasher>(
     core: &mut Ruled<S>,
     caller: usize,
@@ -102,7 +102,7 @@ fn makes<S: BuildHasher>(
     Ok(goes_on(core, caller, most))
 }
 
-/// What a call came to: its reply, by the values of pairs, and the pairs that it gave, by key.
+/// The outcome of a call: its reply, by the values of pairs, and the pairs of an iteration.
 #[derive(Drop)]
 struct Said {
     reply: Option<Reply>,
@@ -131,7 +131,7 @@ fn heard<S: BuildHasher>(
     Ok(Said { reply, given })
 }
 
-/// A caller makes a call whole.
+/// Makes a caller's call whole.
 fn said_by<S: BuildHasher>(
     alloc: Global,
     core: &mut Ruled<S>,
@@ -142,7 +142,7 @@ fn said_by<S: BuildHasher>(
     heard(alloc, core, outcome)
 }
 
-/// The value that a walk gave a key, if it gave it one and no other.
+/// Returns what an iteration found for a key, or `None` if it returned the key more than once.
 fn given_to(key: u64, given: &[(u64, u64)]) -> Option<Reply> {
     let mut told = Some(Reply::Absent);
     for (each, value) in given {
@@ -156,7 +156,7 @@ fn given_to(key: u64, given: &[(u64, u64)]) -> Option<Reply> {
     told
 }
 
-/// What a call told of a key.
+/// Returns the result of a call for a key.
 fn told_of(key: u64, plan: Plan, said: &Said) -> Option<Reply> {
     match plan {
         Plan::Walk => given_to(key, &said.given),
@@ -165,7 +165,7 @@ fn told_of(key: u64, plan: Plan, said: &Said) -> Option<Reply> {
     }
 }
 
-/// The value that a lookup finds.
+/// Returns the value that a lookup finds.
 fn found<S: BuildHasher>(core: &mut Ruled<S>, key: u64) -> Result<Option<u64>, Fail> {
     let outcome = makes(core, 2, Plan::Get(key), WHOLE)?;
     match outcome {
@@ -177,7 +177,7 @@ fn found<S: BuildHasher>(core: &mut Ruled<S>, key: u64) -> Result<Option<u64>, F
     }
 }
 
-/// Both calls are as a plain map has it at each key, and a walk then gives what lookups find.
+/// Checks both calls against a plain map at each key, and an iteration against lookups.
 fn is_plain<S: BuildHasher>(
     rt: &impl Abort,
     alloc: Global,
@@ -202,7 +202,7 @@ fn is_plain<S: BuildHasher>(
     Ok(())
 }
 
-/// A call that is on no key has done what it was to do.
+/// Checks that a call on no key has finished.
 fn is_done(rt: &impl Abort, case: usize, plan: Plan, said: &Said) {
     let wanted = match plan.key() {
         Some(_) => said.reply,
@@ -211,7 +211,7 @@ fn is_done(rt: &impl Abort, case: usize, plan: Plan, said: &Said) {
     is_at(rt, case, said.reply, wanted);
 }
 
-/// A map, in which there is what it has at the start.
+/// Creates a map with the keys of `start`.
 fn begun<S: BuildHasher + Drop>(
     alloc: Global,
     mode: ResizeMode,
@@ -228,7 +228,7 @@ fn begun<S: BuildHasher + Drop>(
     Ok(core)
 }
 
-/// What both calls came to, and whether the first ended before it was stopped.
+/// The outcomes of both calls, and whether the first ended before it was stopped.
 #[derive(Drop)]
 struct Both {
     one: Said,
@@ -236,7 +236,7 @@ struct Both {
     is_over: bool,
 }
 
-/// The first call is stopped after so many steps, and goes on when the second was made.
+/// Stops the first call after `steps` steps, makes the second whole, and continues the first.
 fn both_said<S: BuildHasher>(
     alloc: Global,
     core: &mut Ruled<S>,
@@ -255,7 +255,7 @@ fn both_said<S: BuildHasher>(
     })
 }
 
-/// The first call is stopped after so many steps. Did it end before it was?
+/// Stops the first call after `steps` steps. Returns whether it ended before.
 fn one_stop<S: BuildHasher>(
     rt: &impl Abort,
     alloc: Global,
@@ -272,7 +272,7 @@ fn one_stop<S: BuildHasher>(
     Ok(both.is_over)
 }
 
-/// The first call is stopped after each number of its steps.
+/// Stops the first call after each number of its steps.
 fn each_stop<S: BuildHasher + Copy>(
     rt: &impl Abort,
     alloc: Global,
@@ -293,7 +293,7 @@ fn each_stop<S: BuildHasher + Copy>(
     Ok(())
 }
 
-/// The calls: those on all keys, and those on the first key and on one that the map never had.
+/// Returns the calls: those on all keys, on the first key, and on a key that the map never had.
 fn plans(alloc: Global, start: Start, value: u64) -> Result<Vec<Plan>, Fail> {
     let mut plans = Vec::new(alloc);
     for plan in ON_ALL {
@@ -310,7 +310,7 @@ fn plans(alloc: Global, start: Start, value: u64) -> Result<Vec<Plan>, Fail> {
     Ok(plans)
 }
 
-/// Each two calls.
+/// Checks all combinations of two calls.
 fn each_pair<S: BuildHasher + Copy>(
     rt: &impl Abort,
     alloc: Global,
@@ -327,14 +327,14 @@ fn each_pair<S: BuildHasher + Copy>(
     Ok(())
 }
 
-/// Each two calls, where keys have paths of their own, and where they share one.
+/// Checks them with keys of separate probe sequences, and with keys that share one.
 fn each_path(rt: &impl Abort, alloc: Global, mode: ResizeMode, start: Start) -> Result<(), Fail> {
     each_pair(rt, alloc, (mode, APART), start)?;
     each_pair(rt, alloc, (mode, FIRST), start)?;
     each_pair(rt, alloc, (mode, LAST), start)
 }
 
-/// The same in each mode.
+/// Checks them in each mode.
 fn each_mode(rt: &impl Abort, alloc: Global, start: Start) -> Result<(), Fail> {
     for mode in MODES {
         each_path(rt, alloc, mode, start)?;

@@ -1,5 +1,4 @@
-// Worked values, where clause and code might agree and both be wrong, and that each call
-// can succeed.
+// Worked values, for errors that clause and code might share, and tests that each call can succeed.
 use crate::expect::{is, is_at};
 use papaya_words::counter::Counter;
 use papaya_words::limits::{DEFAULT_CHUNK, FIRST_TABLE_LEN, FIRST_TABLE_LIMIT, MAX_SHARDS};
@@ -213,7 +212,7 @@ fn words_of_a_table(rt: HostRuntime) -> Result<(), Fail> {
     );
     is(&rt, (table.slot(6), table.slot(7)), (3073, 0));
     table.set_hint(6, 7);
-    // A hint that stands there stays.
+    // An existing hint stays.
     table.set_hint(6, SHUT);
     is(&rt, (table.hint(6), table.hint(7)), (7, 0));
     Ok(())

@@ -1,4 +1,4 @@
-//! Numbers that no book tracks, each beside a word that a book tracks or will track.
+//! Hints: numbers that no book tracks, each beside a word that a book tracks or will track.
 ghost use Rattle.std.specs.Prelude.{◌≡◌, ℕ, true, false, List};
 ghost use mathlib.Core.List.{IsPrefix};
 ghost use base.Fml.{fsep, fex};
@@ -12,15 +12,15 @@ use std::marker::{Brand, Move, Owns, PhantomData};
 use std::sync::atomic::Ordering::SeqCst;
 use std::sync::atomic::raw;
 
-/// What a rule says of hints.
+/// The part of a rule that is about hints.
 pub trait Hinting<E> {
-    // What holds of the number of a hint that stands beside the word with this key, at a log that
-    // was reached.
+    // The statement about the number of a hint beside the word with this key, at a log that was
+    // reached.
     ghost hinted_beside: { ℕ → ℕ → List E → Type 0 };
 }
 
 /// A number beside a word of the book, which threads change in single atomic steps. Contracts see
-/// the word that it stands beside. While no book tracks that word, the hint is fresh and holds 0.
+/// the word beside it. While no book tracks that word, the hint is fresh and holds 0.
 pub struct Hint<E, A, P: Rule<E, A> + Hinting<E>> {
     bits: u64,
     marker: PhantomData<(E, A, P)>,
@@ -42,7 +42,7 @@ impl<E, A, P: Rule<E, A> + Hinting<E>> Move for Hint<E, A, P> {
 }
 
 impl<E, A, P: Rule<E, A> + Hinting<E>> Hint<E, A, P> {
-    /// A fresh hint, beside a word that no book tracks yet. It holds 0.
+    /// Creates a fresh hint, beside a word that no book tracks yet. It holds 0.
     #[inline(always)]
     pub fn fresh(word: &Word<E, A, P>, seen: &Seen<E, A, P>) -> Hint<E, A, P>
         requires { (word.now.tracked ≡ false) × (seen.now.book ≡ word.now.book) }
@@ -54,7 +54,7 @@ impl<E, A, P: Rule<E, A> + Hinting<E>> Hint<E, A, P> {
         }
     }
 
-    /// The hint stands beside this word from now on. Until now it was fresh. This runs no code.
+    /// Makes a fresh hint the hint of this word, which a book tracks. This runs no code.
     #[inline(always)]
     pub fn stand_beside(&mut self, word: &Word<E, A, P>, seen: &Seen<E, A, P>)
         requires fresh { self.old.tracked ≡ false }
@@ -63,7 +63,7 @@ impl<E, A, P: Rule<E, A> + Hinting<E>> Hint<E, A, P> {
         ensures { self.new ≡ word.now }
     {}
 
-    /// The number. What the rule says of it holds of the log that the caller has then seen.
+    /// Returns the number. The rule's statement on it holds for the log that the caller then knows.
     #[inline(always)]
     pub fn load(&self, seen: &mut Seen<E, A, P>) -> u64
         requires { (self.now.tracked ≡ true) × (seen.old.book ≡ self.now.book)
@@ -75,7 +75,7 @@ impl<E, A, P: Rule<E, A> + Hinting<E>> Hint<E, A, P> {
         unsafe { raw::load::<Brand>(self as *const Self as *const u64, SeqCst) }
     }
 
-    /// Writes `new` where the number is `old`, and answers the number that it found.
+    /// Writes `new` if the number is `old`, and returns the number that it found.
     #[inline(always)]
     pub fn compare_exchange(&self, old: u64, new: u64, seen: &Seen<E, A, P>) -> u64
         requires { (self.now.tracked ≡ true) × (seen.now.book ≡ self.now.book)

@@ -4,8 +4,8 @@ ghost use Rattle.logbook.specs.Pages.{may_make_home, inked};
 
 use logbook::{Pen, Rule, Word};
 
-/// The book tracks the word from now on, as the one that the pen is the right to make. Until now no
-/// book tracked it, and it held 0. This runs no code.
+/// Makes the book track the word, as the one that the pen permits to make. Until now no book
+/// tracked it, and it held 0. This runs no code.
 #[inline(always)]
 pub fn track<E, A, P: Rule<E, A>>(word: &mut Word<E, A, P>, pen: &mut Pen)
     requires fresh { word.old.tracked ≡ false }

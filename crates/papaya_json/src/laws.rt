@@ -1,5 +1,5 @@
-//! What follows from the contracts of the calls together. The functions do nothing: their contracts
-//! are the laws. They take the caller's functions, so that it is known which are meant.
+//! Consequences of several calls' contracts together. The functions have empty bodies; their
+//! contracts are the laws. They take the caller's functions only to name them.
 ghost use Rattle.std.specs.Prelude.{◌≡◌, Bool};
 ghost use Rattle.std.specs.Fn.{FnReturnsAt};
 ghost use Rattle.serde_json.specs.declared.value.Value.{Value as Json};
@@ -15,11 +15,11 @@ ghost use Rattle.papaya_json.specs.Undoing.{UndoesItems, UndoesTexts, UndoesValu
 use serde_json::Value;
 use std::hash::Hash;
 
-/// A map that is read of the JSON that was written of a map is equal to it, where the reading
-/// functions undo the writing ones: `text` and `member` are those of
-/// [`crate::writing::map_to_value`], `key` and `value` those of [`crate::reading::map_from_value`].
+/// A map that is read from the JSON of a map is equal to it if the reading functions undo the
+/// writing ones. `text` and `member` are those of [`crate::writing::map_to_value`], `key` and
+/// `value` those of [`crate::reading::map_from_value`].
 ///
-/// That no two keys of a map are equal is said by [`papaya_seq::seq::HashMap::len`].
+/// [`papaya_seq::seq::HashMap::len`] states that no two keys of a map are equal.
 pub fn maps_read_back<K: Hash + Eq, V, S, Z, T, W, R, U>(text: &T, member: &W, key: &R, value: &U)
 where
     T: Fn(&K) -> Option<String>,
@@ -36,8 +36,8 @@ where
         → AreEqual K.eq same s.store t.store }
 {}
 
-/// A set that is read of the JSON that was written of a set has the same keys, where the reading
-/// function `key` undoes the writing one.
+/// A set that is read from the JSON of a set has the same keys if the reading function `key` undoes
+/// the writing one.
 pub fn sets_read_back<K: Hash + Eq, S, Z, T, R>(item: &T, key: &R)
 where
     T: Fn(&K) -> Option<Value>,

@@ -1,4 +1,4 @@
-//! Maps of JSON objects, and sets of JSON arrays.
+//! Maps from JSON objects, and sets from JSON arrays.
 ghost use Rattle.std.specs.Prelude.{◌≡◌, IfErr, IfOk};
 ghost use Rattle.std.specs.Fn.{FnReturnsAt};
 ghost use Rattle.papaya_set.specs.Sets.{entry_of_key};
@@ -13,7 +13,7 @@ use serde_json::{Map, Value};
 use std::alloc::Global;
 use std::hash::{BuildHasher, Hash};
 
-/// The map of an object's members.
+/// Returns the map of an object's members.
 fn map_of<K: Hash + Eq + Drop, V: Drop, S: BuildHasher + Drop, T, W>(
     alloc: Global,
     members: &Map<String, Value>,
@@ -50,14 +50,16 @@ where
     Ok(map)
 }
 
-/// The map of a JSON object: of each member a pair, whose key and value the functions answer. It
-/// stands for the implementation of `Deserialize` in 0.2.5. Of two members with equal keys the key
-/// of the earlier one stays, with the later one's value, by the order of their texts. No room is
-/// made ahead, and the map has no limit on pairs.
+/// Returns the map of a JSON object: for each member an entry, whose key and value the functions
+/// return. It replaces the implementation of `Deserialize` in 0.2.5. If two members have equal
+/// keys, the earlier one's key stays, with the later one's value, in the order of their texts. No
+/// room is reserved ahead, and the map has no limit on entries.
 ///
-/// `Refused::Shape` where the value is no object, before all else. `Refused::Item` at the first
-/// member for which a function answered none. `Refused::Memory` where the map was not made; else
-/// refused as [`HashMap::put`].
+/// # Errors
+///
+/// Fails with `Refused::Shape`, before all else, if the value is not an object. Fails with
+/// `Refused::Item` at the first member for which a function returns `None`, and with
+/// `Refused::Memory` if memory for the map runs out. Otherwise fails as [`HashMap::put`] does.
 pub fn map_from_value<K: Hash + Eq + Drop, V: Drop, S: BuildHasher + Drop, T, W>(
     alloc: Global,
     v: &Value,
@@ -82,7 +84,7 @@ where
     map_of(alloc, members, hasher, key, value)
 }
 
-/// The set of an array's items.
+/// Returns the set of an array's items.
 fn set_of<K: Hash + Eq + Drop, S: BuildHasher + Drop, T: Fn(&Value) -> Option<K>>(
     alloc: Global,
     items: &Vec<Value>,
@@ -109,13 +111,15 @@ fn set_of<K: Hash + Eq + Drop, S: BuildHasher + Drop, T: Fn(&Value) -> Option<K>
     Ok(set)
 }
 
-/// The set of a JSON array: of each item a key, which the function answers. It stands for the
-/// implementation of `Deserialize` in 0.2.5. Of two items with equal keys the earlier one stays. No
-/// room is made ahead, and the set has no limit on keys.
+/// Returns the set of a JSON array: for each item a key, which the function returns. It replaces
+/// the implementation of `Deserialize` in 0.2.5. If two items have equal keys, the earlier one
+/// stays. No room is reserved ahead, and the set has no limit on keys.
 ///
-/// `Refused::Shape` where the value is no array, before all else. `Refused::Item` at the first item
-/// for which the function answered none. `Refused::Memory` where the set was not made; else refused
-/// as [`HashSet::insert`].
+/// # Errors
+///
+/// Fails with `Refused::Shape`, before all else, if the value is not an array. Fails with
+/// `Refused::Item` at the first item for which the function returns `None`, and with
+/// `Refused::Memory` if memory for the set runs out. Otherwise fails as [`HashSet::insert`] does.
 pub fn set_from_value<K: Hash + Eq + Drop, S: BuildHasher + Drop, T: Fn(&Value) -> Option<K>>(
     alloc: Global,
     v: &Value,

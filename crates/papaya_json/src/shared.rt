@@ -1,4 +1,4 @@
-//! Maps that threads share as JSON objects, sets that they share as JSON arrays, and back.
+//! Shared maps as JSON objects, shared sets as JSON arrays, and back.
 ghost use Rattle.std.specs.Prelude.{◌≡◌, ◌⊎◌, IfErr, IfOk, List, None};
 ghost use Rattle.std.specs.Fn.{FnReturnsAt};
 ghost use Rattle.papaya_words.specs.declared.limits.TheConstants.{DEFAULT_CHUNK, DEFAULT_SHARDS};
@@ -18,11 +18,13 @@ use std::alloc::Global;
 use std::hash::{BuildHasher, Hash};
 use std::sync::Wait;
 
-/// [`crate::writing::map_to_value`] of a map that threads share: the object of the pairs that a
-/// walk gives. Where others change the map meanwhile, those are as
-/// [`papaya_map::map::HashMapRef::iter`] gives them.
+/// Returns a shared map as a JSON object, as [`crate::writing::map_to_value`] does: the object of
+/// the entries that an iteration returns. If other threads change the map meanwhile, those entries
+/// are as [`papaya_map::map::HashMapRef::iter`] returns them.
 ///
-/// Refused as that is, and as the walk is, so also `Refused::Capacity`.
+/// # Errors
+///
+/// Fails as `map_to_value` does, and as the iteration does: also with `Refused::Capacity`.
 pub fn shared_map_to_value<R: Wait, K: Hash + Eq, V, S: BuildHasher, T, W>(
     rt: &R,
     alloc: Global,
@@ -44,7 +46,7 @@ where
     object_from(alloc, pairs, key, value)
 }
 
-/// Stores the pairs of an object's members in a map without a limit.
+/// Inserts the entries of an object's members into a map without a limit.
 fn fill<R: Wait, K: Hash + Eq + Drop, V: Drop, S: BuildHasher, T, W>(
     rt: &R,
     map: &HashMap<K, V, S>,
@@ -79,7 +81,7 @@ where
     Ok(())
 }
 
-/// The map of an object's members.
+/// Returns the map of an object's members.
 fn shared_map_of<R: Wait, K: Hash + Eq + Drop, V: Drop, S: BuildHasher + Drop, T, W>(
     rt: &R,
     alloc: Global,
@@ -108,12 +110,14 @@ where
     }
 }
 
-/// [`crate::reading::map_from_value`] of a map that threads share: of each member a pair, whose key
-/// and value the functions answer, in the order of their texts.
+/// Returns a shared map of a JSON object, as [`crate::reading::map_from_value`] does: for each
+/// member an entry, whose key and value the functions return, in the order of the members' texts.
 ///
-/// `Refused::Shape` where the value is no object, before the map is made. `Refused::Item` at the
-/// first member for which a function answered none. Else refused as
-/// [`papaya_map::map::HashMap::with_hasher`] and an insertion are; the map has no limit on pairs.
+/// # Errors
+///
+/// Fails with `Refused::Shape` if the value is not an object, before the map is made. Fails with
+/// `Refused::Item` at the first member for which a function returns `None`. Otherwise fails as
+/// [`papaya_map::map::HashMap::with_hasher`] or an insertion does. The map has no limit on entries.
 pub fn shared_map_from_value<R: Wait, K: Hash + Eq + Drop, V: Drop, S: BuildHasher + Drop, T, W>(
     rt: &R,
     alloc: Global,
@@ -141,11 +145,13 @@ where
     shared_map_of(rt, alloc, members, hasher, key, value)
 }
 
-/// [`crate::writing::set_to_value`] of a set that threads share: the array of the keys that a walk
-/// gives. Where others change the set meanwhile, those are as [`papaya_set::set::HashSetRef::iter`]
-/// gives them.
+/// Returns a shared set as a JSON array, as [`crate::writing::set_to_value`] does: the array of the
+/// keys that an iteration returns. If other threads change the set meanwhile, those keys are as
+/// [`papaya_set::set::HashSetRef::iter`] returns them.
 ///
-/// Refused as that is, and as the walk is, so also `Refused::Capacity`.
+/// # Errors
+///
+/// Fails as `set_to_value` does, and as the iteration does: also with `Refused::Capacity`.
 pub fn shared_set_to_value<R: Wait, K: Hash + Eq, S: BuildHasher, T: Fn(&K) -> Option<Value>>(
     rt: &R,
     alloc: Global,
@@ -160,7 +166,7 @@ pub fn shared_set_to_value<R: Wait, K: Hash + Eq, S: BuildHasher, T: Fn(&K) -> O
     array_from(alloc, keys, key)
 }
 
-/// Stores the keys of an array's items in a set without a limit.
+/// Inserts the keys of an array's items into a set without a limit.
 fn fill_set<R: Wait, K: Hash + Eq + Drop, S: BuildHasher, T: Fn(&Value) -> Option<K>>(
     rt: &R,
     set: &HashSet<K, S>,
@@ -185,7 +191,7 @@ fn fill_set<R: Wait, K: Hash + Eq + Drop, S: BuildHasher, T: Fn(&Value) -> Optio
     Ok(())
 }
 
-/// The set of an array's items.
+/// Returns the set of an array's items.
 fn shared_set_of<R: Wait, K: Hash + Eq + Drop, S: BuildHasher + Drop, T>(
     rt: &R,
     alloc: Global,
@@ -210,12 +216,14 @@ where
     }
 }
 
-/// [`crate::reading::set_from_value`] of a set that threads share: of each item a key, which the
-/// function answers, in their order.
+/// Returns a shared set of a JSON array, as [`crate::reading::set_from_value`] does: for each item
+/// a key, which the function returns, in the order of the items.
 ///
-/// `Refused::Shape` where the value is no array, before the set is made. `Refused::Item` at the
-/// first item for which the function answered none. Else refused as
-/// [`papaya_set::set::HashSet::with_hasher`] and an insertion are; the set has no limit on keys.
+/// # Errors
+///
+/// Fails with `Refused::Shape` if the value is not an array, before the set is made. Fails with
+/// `Refused::Item` at the first item for which the function returns `None`. Otherwise fails as
+/// [`papaya_set::set::HashSet::with_hasher`] or an insertion does. The set has no limit on keys.
 pub fn shared_set_from_value<R: Wait, K: Hash + Eq + Drop, S: BuildHasher + Drop, T>(
     rt: &R,
     alloc: Global,

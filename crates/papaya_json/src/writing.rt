@@ -18,7 +18,7 @@ use serde_json::{Map, Value};
 use std::alloc::Global;
 use std::hash::{BuildHasher, Hash};
 
-/// Puts a member in. Is its text new?
+/// Inserts a member, and returns whether its text is new.
 fn put(members: &mut Map<String, Value>, name: String, member: Value) -> Result<bool, Refused>
     ensures entries { OnOk result (members.new.entries
         ≡ insert_entry string_cmp members.old.entries name member) }
@@ -39,10 +39,12 @@ fn put(members: &mut Map<String, Value>, name: String, member: Value) -> Result<
     }
 }
 
-/// The object of these pairs: for each a member, whose text and value the functions answer.
+/// Returns the object of these entries, with the text and the value that the functions return for
+/// each.
 ///
-/// `Refused::Item` where one of them answered none. Else `Refused::KeyClash` where two texts are
-/// equal, so all pairs are asked for once two are. `Refused::Memory` at once.
+/// Fails with `Refused::Item` at the first entry for which one of them returns `None`, with
+/// `Refused::KeyClash` after the last entry if two texts are equal, or with `Refused::Memory` at
+/// once.
 pub(crate) fn object_from<'a, K, V, U, T, W>(
     alloc: Global,
     pairs: U,
@@ -93,11 +95,13 @@ where
     Ok(Value::Object(members))
 }
 
-/// The map as a JSON object: of each pair a member, whose text and value the functions answer. It
-/// stands for the implementation of `Serialize` in 0.2.5.
+/// Returns the map as a JSON object: for each entry a member, whose text and value the functions
+/// return. It replaces the implementation of `Serialize` in 0.2.5.
 ///
-/// `Refused::Item` where a function answered none, else `Refused::KeyClash` where two texts are
-/// equal. `Refused::Memory` where a growth was refused.
+/// # Errors
+///
+/// Fails with `Refused::Item` if a function returns `None`, and otherwise with `Refused::KeyClash`
+/// if two texts are equal. Fails with `Refused::Memory` if memory runs out.
 pub fn map_to_value<K: Hash + Eq, V, S: BuildHasher, T, W>(
     alloc: Global,
     map: &HashMap<K, V, S>,
@@ -117,7 +121,7 @@ where
     object_from(alloc, map, key, value)
 }
 
-/// Puts an item at the end.
+/// Appends an item.
 fn push(items: &mut Vec<Value>, item: Value) -> Result<(), Refused>
     ensures ok { OnOk result (items.new.items ≡ items.old.items ++ item ∷ []) }
     ensures err { IfErr result (λ e. e ≡ Refused.Memory) }
@@ -131,10 +135,10 @@ fn push(items: &mut Vec<Value>, item: Value) -> Result<(), Refused>
     }
 }
 
-/// The array of these keys: for each an item, which the function answers.
+/// Returns the array of these keys: for each an item, which the function returns.
 ///
-/// `Refused::Item` at the first key for which it answered none. `Refused::Memory` where a growth
-/// was refused.
+/// Fails with `Refused::Item` at the first key for which it returns `None`, and with
+/// `Refused::Memory` if memory runs out.
 pub(crate) fn array_from<'a, K, U, T>(alloc: Global, keys: U, key: T) -> Result<Value, Refused>
 where
     K: 'a,
@@ -164,11 +168,13 @@ where
     Ok(Value::Array(items))
 }
 
-/// The set as a JSON array, in the order of a walk: of each key an item, which the function
-/// answers. It stands for the implementation of `Serialize` in 0.2.5.
+/// Returns the set as a JSON array, in the order of an iteration: for each key an item, which the
+/// function returns. It replaces the implementation of `Serialize` in 0.2.5.
 ///
-/// `Refused::Item` at the first key for which it answered none. `Refused::Memory` where a growth
-/// was refused.
+/// # Errors
+///
+/// Fails with `Refused::Item` at the first key for which it returns `None`, and with
+/// `Refused::Memory` if memory runs out.
 pub fn set_to_value<K: Hash + Eq, S: BuildHasher, T: Fn(&K) -> Option<Value>>(
     alloc: Global,
     set: &HashSet<K, S>,

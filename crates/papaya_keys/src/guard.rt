@@ -1,4 +1,4 @@
-//! Collectors and their guards, and what a key is looked up by.
+//! Collectors and their guards, and the types by which a key is looked up.
 ghost use Rattle.std.specs.Prelude.{◌≡◌, ℕ, Bool, IsTrue, bytes_eq, string_bytes};
 ghost use Rattle.std.proofs.Common.{ap};
 ghost use Rattle.std.specs.Cmp.Lexicographic.{bytes_decides, nat_list_eq_equiv};
@@ -9,15 +9,15 @@ use std::hash::Hash;
 use std::marker::{Model, PhantomData};
 use std::sync::atomic::{AtomicU64, Ordering};
 
-/// What a key of type `K` can be looked up by: 0.2.5's trait of that name, which it takes from the
-/// crate `equivalent`.
+/// A type by which keys of type `K` can be looked up: 0.2.5's trait of that name, which it takes
+/// from the crate `equivalent`.
 ///
-/// There its law is the author's word. Here each impl proves that a query hashes as the keys that
-/// it matches, and that it matches just the keys that equal one of them.
+/// There the author of an impl promises the trait's law. Here each impl proves it: a query hashes
+/// as the keys that it matches, and it matches either no key or exactly the keys equal to one key.
 pub trait Equivalent<K: Hash + Eq>: Hash {
     ghost matches: { Self → K → Bool };
 
-    /// Does the query match this key?
+    /// Returns whether the query matches this key.
     fn equivalent(&self, key: &K) -> bool
         ensures { result ≡ matches self.now key.now };
 
@@ -25,7 +25,7 @@ pub trait Equivalent<K: Hash + Eq>: Hash {
     ghost hashes_as_key: { (query : Self) (key : K) → IsTrue (matches query key)
         → Self.hash_input query ≡ K.hash_input key };
 
-    // A query that matches a key matches those that equal the key, and no other.
+    // A query that matches a key matches the keys that equal it, and no other.
     ghost matches_equal_keys: { (query : Self) (key other : K) → IsTrue (matches query key)
         → matches query other ≡ K.eq key other };
 }
@@ -43,8 +43,8 @@ impl<K: Hash + Eq> Equivalent<K> for K {
     }
 }
 
-/// A text that a `String` key is looked up by, in place of 0.2.5's `str`: a `str` that is no
-/// reference is no type here.
+/// A text by which a `String` key is looked up. It replaces `str` of 0.2.5, because a `str` that is
+/// not a reference is no type here.
 #[derive(Clone, Copy, PartialEq, Eq, Hash, Debug)]
 pub struct TextKey<'a>(pub &'a str);
 
@@ -62,11 +62,11 @@ impl<A: Allocator> Equivalent<String<A>> for TextKey<'_> {
     }
 }
 
-/// What guards come from. It stands for the crate `seize`'s type of that name, which 0.2.5 frees
-/// memory by. Contracts see its number.
+/// The source of guards. It replaces the type of that name of the crate `seize`, by which 0.2.5
+/// frees memory. Contracts see its number.
 ///
-/// Here it frees nothing: it is the source of its guards' numbers alone. It is told from others by
-/// the number that its maker gave it, and not by its address.
+/// Here it frees nothing, and only gives its guards their numbers. Collectors are compared by the
+/// number that their maker gave them, and not by address.
 #[derive(Drop)]
 pub struct Collector {
     number: u64,
@@ -82,8 +82,8 @@ impl Model for Collector {
 }
 
 impl Collector {
-    /// A collector of this number. Nothing stops a second one of the same number, and its guards
-    /// count as this one's.
+    /// Creates a collector with this number. A second collector with the same number is not
+    /// prevented: its guards count as this one's.
     pub fn new(number: u64) -> Collector
         ensures { result ≡ number }
     {
@@ -91,14 +91,14 @@ impl Collector {
         Collector { number, guards }
     }
 
-    /// The number that it was given.
+    /// Returns the number with which the collector was created.
     pub fn number(&self) -> u64
         ensures { result ≡ self.now }
     {
         self.number
     }
 
-    /// A guard for a stretch of calls. Any number of them may be alive at a time.
+    /// Returns a guard for a sequence of calls. Any number of guards may be alive at the same time.
     pub fn enter(&self) -> LocalGuard<'_>
         ensures { result.collector ≡ self.now }
     {
@@ -109,7 +109,7 @@ impl Collector {
         }
     }
 
-    /// A guard of the other type.
+    /// Returns a guard of the other type.
     pub fn enter_owned(&self) -> OwnedGuard<'_>
         ensures { result.collector ≡ self.now }
     {
@@ -119,23 +119,23 @@ impl Collector {
     }
 }
 
-/// A stretch of calls, as `seize`'s trait of that name.
+/// A sequence of calls: `seize`'s trait of that name.
 ///
 /// There a guard keeps what was loaded under it from being freed. Here it holds two numbers, on
-/// which no safety depends. In place of `collector` it has `collector_number`, and in place of
-/// `thread_id` its own `number`.
+/// which no safety depends. It has `collector_number` instead of `collector`, and its own `number`
+/// instead of `thread_id`.
 pub trait Guard {
     ghost collector_number: { Self → ℕ };
 
     ghost number: { Self → ℕ };
 
-    /// The number of the collector that the guard came from.
+    /// Returns the number of the collector that the guard came from.
     fn collector_number(&self) -> u64
         ensures { result ≡ collector_number self.now };
 
-    /// The guard's own number, the same at each call. It picks the shard of the count that the
-    /// calls under this guard add to. The guards of a collector mostly differ in it, but nothing
-    /// promises so.
+    /// Returns the guard's own number, the same at each call. It selects the shard of the count to
+    /// which the calls under this guard add. The guards of one collector usually have different
+    /// numbers, but this is not guaranteed.
     fn number(&self) -> u64
         ensures { result ≡ number self.now };
 }
@@ -172,7 +172,7 @@ impl Guard for LocalGuard<'_> {
 
 /// A guard of [`Collector::enter_owned`]: `seize`'s type of that name.
 ///
-/// There it may go to another thread, and a local guard may not. Here the two differ in name alone.
+/// There it may be sent to another thread, and a local guard may not. Here only the names differ.
 #[derive(Drop)]
 pub struct OwnedGuard<'a> {
     guard: LocalGuard<'a>,

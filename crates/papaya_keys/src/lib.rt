@@ -1,5 +1,5 @@
-//! What the calls of all maps take and answer: keys and their lookups, guards, the answer of a
-//! compute, and the sizes that a new map may ask for.
+//! Types that all maps share: keys and their lookups, guards, the results of a compute, and the
+//! sizes of a new map.
 #![tactic(auto)]
 
 pub mod compute;

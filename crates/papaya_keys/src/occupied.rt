@@ -1,21 +1,21 @@
-//! What a call answers that does not replace, where its key is in the map.
+//! The error of a call that does not replace, if its key is in the map.
 
-/// What became of a value that was not inserted.
+/// The value that was not inserted.
 ///
-/// In 0.2.5 this is the value itself: it can be taken back there, as it has not been stored.
+/// In 0.2.5 this is the value itself, which can always be taken back because it was not stored.
 #[derive(Debug, PartialEq, Eq, Drop)]
 pub enum NotInserted<'a, V> {
-    /// The value that was handed in. A map for one caller always gives it back.
+    /// The value that was passed in. A map for one caller always returns it.
     Value(V),
-    /// The value was logged, and the race was lost then: it stays in the log.
+    /// The value, in the arena: it was stored there before another insertion came first.
     Logged(&'a V),
 }
 
-/// The key is in the map: `OccupiedError` of 0.2.5.
+/// The error if the key is in the map: `OccupiedError` of 0.2.5.
 #[derive(Debug, PartialEq, Eq, Drop)]
 pub struct OccupiedError<'a, V> {
-    /// The value that the key has.
+    /// The value of the key's entry.
     pub current: &'a V,
-    /// The value that was handed in.
+    /// The value that was passed in.
     pub not_inserted: NotInserted<'a, V>,
 }

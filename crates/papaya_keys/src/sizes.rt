@@ -1,4 +1,4 @@
-//! What is asked for of a new map, before anything is made.
+//! Checks of the sizes that a new map asks for, before anything is made.
 ghost use Rattle.std.specs.Prelude.{◌≡◌, ◌*◌, ◌^◌, ◌<◌, ◌≤◌, IfErr, IfOk, OnOk};
 ghost use Rattle.papaya_words.specs.Mode.{IsChunked};
 ghost use Rattle.papaya_keys.specs.Sizes.{IsTooMuch};
@@ -8,7 +8,7 @@ ghost use Rattle.papaya_words.specs.declared.limits.TheConstants.{MAX_TABLE_LEN}
 use papaya_words::limits::MAX_TABLE_LEN;
 use papaya_words::probe::{Refused, ResizeMode, entries_for};
 
-/// Refuses a chunk of no slots.
+/// Fails with `Refused::ZeroChunk` if `mode` has chunks of no slots.
 pub fn check_chunk(mode: ResizeMode) -> Result<(), Refused>
     ensures ok { OnOk result (IsChunked mode) }
     ensures err { IfErr result (λ e. (e ≡ Refused.ZeroChunk) × (mode ≡ ResizeMode.Incremental 0)) }
@@ -19,7 +19,8 @@ pub fn check_chunk(mode: ResizeMode) -> Result<(), Refused>
     }
 }
 
-/// The initial capacity, in slots, of a map that is made for so many pairs.
+/// Returns the initial capacity, in slots, of a map that is made for `capacity` entries. Fails with
+/// `Refused::Capacity` if eight times `capacity` exceeds 64 bits, or the result [`MAX_TABLE_LEN`].
 pub fn initial_len(capacity: usize) -> Result<usize, Refused>
     ensures ok { IfOk result (λ initial. (capacity * 8 < 2 ^ 64) × IsEntriesFor capacity initial
         × (initial ≤ MAX_TABLE_LEN)) }

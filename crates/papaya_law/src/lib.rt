@@ -1,6 +1,6 @@
 //! The law of exchanges: any list of allowed exchanges of words keeps one map.
 //!
-//! It knows no machine and no backend. [`exchanges`] has the laws, first [`exchanges::one_map`].
+//! It depends on no machine and no backend. Start with [`exchanges::one_map`] in [`exchanges`].
 #![tactic(auto)]
 
 pub mod exchanges;

@@ -1,4 +1,4 @@
-//! The counters of a log's lanes.
+//! The counters of an arena's lanes.
 ghost use Rattle.std.specs.Prelude.{◌≡◌, ◌<◌, IfOk, length, slice_index_or};
 
 use boxcar::tag::{Names, Tag};
@@ -6,12 +6,12 @@ use papaya_slot::counter::Counter;
 use std::alloc::{AllocError, Global};
 use std::marker::Model;
 
-/// A log has so many lanes, so that threads seldom meet at one, and each row a part for each of
-/// them.
+/// The number of lanes of an arena, so that threads rarely contend for one. Each row has a part for
+/// each lane.
 pub(crate) const LANES: usize = 8;
 
-/// The counter of a lane, 128 bytes from the next one, so that it has cache lines of its own and is
-/// found by a shift.
+/// The counter of a lane. It is 128 bytes from the next one, so that it has cache lines of its own
+/// and is found by a shift.
 #[derive(Drop)]
 struct Lane {
     counter: Counter,
@@ -44,7 +44,7 @@ impl Names<Lanes> for All {
 }
 
 impl Lanes {
-    /// Lanes that have given out no number.
+    /// Creates lanes that have given out no number.
     pub(crate) fn new(alloc: Global) -> Result<Lanes, AllocError> {
         let mut lanes = Vec::with_capacity(alloc, LANES)?;
         for _ in 0..LANES {
@@ -56,7 +56,7 @@ impl Lanes {
         Ok(Lanes { lanes })
     }
 
-    /// The counter of a lane.
+    /// Returns the counter of a lane.
     #[inline(always)]
     pub(crate) fn counter(&self, lane: usize) -> &Counter
         requires { lane < 8 }
@@ -65,7 +65,7 @@ impl Lanes {
         &self.lanes[lane].counter
     }
 
-    /// Returns how many numbers the lanes have given out. It loads the counters one after the other.
+    /// Returns how many numbers the lanes have given out. It loads one counter after another.
     pub(crate) fn given(&self) -> u64 {
         let mut given: u64 = 0;
         for lane in &self.lanes {
@@ -74,7 +74,7 @@ impl Lanes {
         given
     }
 
-    /// The names of the counters.
+    /// Returns the names of the counters.
     pub(crate) fn tag(&self) -> Tag
         ensures { result.numbers ≡ self.now }
     {

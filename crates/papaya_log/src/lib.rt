@@ -1,8 +1,8 @@
-//! A log that threads share: it only grows, and what is pushed stays where it is.
+//! An arena that threads share: it only grows, and values never move.
 //!
-//! Begin with [`log`]. A number says by a shift and a mask where its value lies, so that finding it
-//! takes no search for a highest bit; a row is made when its first slot is needed; and pushes write
-//! counters of several lanes, which lie on cache lines apart from what a lookup reads.
+//! Begin with [`log`]. A value's location follows from its number by a shift and a mask, without a
+//! search for the highest bit. A row is made when its first slot is needed. Pushes write the
+//! counters of several lanes, on other cache lines than the words that lookups read.
 #![tactic(auto)]
 
 pub(crate) mod lanes;

@@ -1,4 +1,4 @@
-//! The log: its rows, and where the next push of each lane goes.
+//! The arena: its rows, and where the next push of each lane is stored.
 ghost use Rattle.std.specs.Prelude.{[], ◌≡◌, ◌≤◌, ◌<◌, ◌^◌, ◌+◌, ◌*◌, ◌/◌, ◌%◌, IfOk, IfErr, IfSome};
 ghost use Rattle.boxcar.specs.Table.{Shows, id_at};
 ghost use Rattle.papaya_log.specs.Rows.{AreRows, part_first, part_len, row_of, slot_of};
@@ -14,31 +14,31 @@ use std::marker::Model;
 use std::mem::{forget, replace};
 use std::sync::{Mutex, Wait};
 
-/// How far apart the numbers of two rows are: no row is longer.
+/// The distance between the numbers of two rows. No row is longer.
 const ROW_SPAN: usize = 0x400_0000_0000;
 
 /// How many numbers a lane's counter gives out.
 const LANE_SPAN: usize = ROW_SPAN / LANES;
 
-/// How many rows a log has at most.
+/// The most rows of an arena.
 const ROWS: usize = 38;
 
-/// The least length of a part of a first row.
+/// The least length of a lane's part of the first row.
 const LEAST_FIRST: usize = 4;
 
-/// No part of a row is longer than a 1 with so many zeros.
+/// The base-2 logarithm of the greatest length of a part.
 const LAST_BITS: u32 = 38;
 
-/// A row is written ahead while the last of so many parts of the row before it is filled.
+/// Slots of a row are written ahead while the last of this many pieces of the row before is filled.
 const AHEAD_PARTS: usize = 32;
 
-/// One push in so many writes slots of it then.
+/// During that time one push in this many writes slots ahead.
 const AHEAD_PUSHES: usize = 8;
 
-/// It writes so many: a row has at most twice the slots of the one before.
+/// It writes this many, because a row has at most twice the slots of the one before.
 const AHEAD_SLOTS: usize = 2 * AHEAD_PARTS * AHEAD_PUSHES;
 
-/// A number of a lane's counter, and where its value goes: a row, and a slot of the lane's part.
+/// A number of a lane's counter, and where its value is: a row, and a slot of the lane's part.
 #[derive(Drop)]
 pub(crate) struct Place {
     push: u64,
@@ -48,12 +48,12 @@ pub(crate) struct Place {
     slot: usize,
 }
 
-/// Values by number, which threads push and read with no lock. Row `r` has the numbers from
-/// `r * 2^42` on. The first row is as long as the capacity that was asked for, and each further one
-/// as long as all before it.
+/// Values by number, which threads push and read without a lock. Row `r` has the numbers from
+/// `r * 2^42`. The first row has the requested capacity, each further one as much as all before it.
 ///
-/// A row has a part for each of eight lanes, whose pushes take numbers of a counter of their own. The
-/// caller picks the lane by any number. The more these differ, the more evenly the parts fill.
+/// A row has a part for each of eight lanes, whose pushes take numbers from a counter of their own.
+/// The caller selects the lane by any number. The more these numbers differ, the more evenly the
+/// parts fill.
 #[derive(Drop)]
 pub struct Log<T> {
     rows: Vec<RowSlot<T>>,
@@ -77,7 +77,7 @@ impl<T> Model for Log<T> {
     ghost invariant = { λ log. AreRows log.first_bits log.lanes log.rows.items };
 }
 
-/// How many bits a place in a part of the first row has, for this capacity.
+/// Returns how many bits an index in a part of the first row has, for this capacity.
 fn first_bits(capacity: usize) -> u32
     ensures { (2 ≤ result) × (result ≤ 38) }
 {
@@ -92,7 +92,7 @@ fn power(bits: u32) -> usize
     1 << bits
 }
 
-/// The length of a part of a row.
+/// Returns the length of a part of a row.
 fn length_of(first_bits: u32, row: usize) -> usize
     requires { (first_bits ≤ 38) × (row < 38) }
     ensures { (result ≡ part_len first_bits row) × (0 < result) × (result ≤ 2 ^ 38) }
@@ -103,7 +103,7 @@ fn length_of(first_bits: u32, row: usize) -> usize
     power((first_bits + row as u32 - 1).min(LAST_BITS))
 }
 
-/// Where the value of a lane's push with this index goes: a row, and a slot of the lane's part.
+/// Returns the row and the slot in the lane's part for the lane's push with this index.
 fn place_of(first_bits: u32, index: usize) -> (usize, usize)
     requires bits { (2 ≤ first_bits) × (first_bits ≤ 38) }
     requires index { index < 2 ^ 39 }
@@ -119,7 +119,7 @@ fn place_of(first_bits: u32, index: usize) -> (usize, usize)
     ((top - first_bits) as usize + 1, index - power(top))
 }
 
-/// The slot of a row that a slot of a lane's part is.
+/// Returns the index in its row of a slot of a lane's part.
 #[inline(always)]
 fn slot_in_row(lane: usize, part: usize, slot: usize) -> usize
     requires { (lane < 8) × (slot < part) × (part ≤ 2 ^ 38) }
@@ -129,7 +129,7 @@ fn slot_in_row(lane: usize, part: usize, slot: usize) -> usize
     lane * part + slot
 }
 
-/// The number of a slot of a row.
+/// Returns the number of a slot of a row.
 fn number_of(row: usize, slot: usize) -> usize
     requires { (row < 38) × (slot < 2 ^ 42) }
     ensures places { (row_of result ≡ row) × (slot_of result ≡ slot) }
@@ -138,7 +138,7 @@ fn number_of(row: usize, slot: usize) -> usize
     row * ROW_SPAN + slot
 }
 
-/// The push of a lane that the first slot of its part of a row is for.
+/// Returns the index of the lane's push for which the first slot of its part of a row is.
 fn first_of(first_bits: u32, row: usize) -> usize
     requires { (first_bits ≤ 38) × (row < 38) }
     ensures { (result ≡ part_first first_bits row) × (result ≤ 2 ^ 38) }
@@ -149,7 +149,7 @@ fn first_of(first_bits: u32, row: usize) -> usize
     length_of(first_bits, row)
 }
 
-/// The slots for rows, none of which is made yet.
+/// Returns the slots for rows, none of which is made yet.
 fn empty_rows<T: Drop>(
     alloc: Global,
     first_bits: u32,
@@ -167,8 +167,8 @@ fn empty_rows<T: Drop>(
 }
 
 impl<T: Drop> Log<T> {
-    /// A log that holds nothing. Its first row will have as many slots as `capacity`, rounded up to
-    /// a power of two; at least 32.
+    /// Creates an empty arena. Its first row will have `capacity` slots, rounded up to a power of
+    /// two and at least 32.
     pub fn new(alloc: Global, capacity: usize) -> Result<Log<T>, AllocError>
         ensures { IfOk result (λ log. log.tag ≡ []) }
     {
@@ -185,7 +185,7 @@ impl<T: Drop> Log<T> {
 }
 
 impl<T: Blank + Drop> Log<T> {
-    /// Makes a row, if it is not there. Where several threads need it, one makes it.
+    /// Makes a row, unless it exists. If several threads need it, one makes it.
     #[cold]
     #[inline(never)]
     fn make_row<R: Wait>(
@@ -212,7 +212,7 @@ impl<T: Blank + Drop> Log<T> {
         made
     }
 
-    /// Has a lane slots left in a row, before the last of the parts in which slots are written ahead?
+    /// Returns whether a lane has slots left in a row before its last piece (see `AHEAD_PARTS`).
     fn has_room(&self, lane: usize, row: usize) -> bool
         requires { (lane < 8) × (row < 38) }
     {
@@ -225,8 +225,8 @@ impl<T: Blank + Drop> Log<T> {
         found == row && slot < part - part / AHEAD_PARTS
     }
 
-    /// Writes some slots of a row that is not made yet, so that whoever makes it pays for few. It
-    /// writes none while most lanes have room in the row before, since few keys may fill one lane.
+    /// Writes some slots of a row that is not made yet, so that making it is cheaper. Does nothing
+    /// while most lanes have room in the row before, since few keys may fill one lane.
     fn write_ahead(&self, row: usize, value: &T) {
         if row == 0 || row >= ROWS {
             return;
@@ -251,7 +251,7 @@ impl<T: Blank + Drop> Log<T> {
         *ahead = write_some(written, &self.lanes, len, AHEAD_SLOTS, value);
     }
 
-    /// What shows that a row is there. It is made where it is not.
+    /// Returns the proof that a row exists. Makes the row if it does not.
     fn row<R: Wait>(&self, rt: &R, row: usize, value: &T) -> Result<Written<Row<T>>, AllocError>
         requires { row < 38 }
         ensures { IfOk result (λ written. written.of ≡ id_at self.now.buckets row) }
@@ -262,7 +262,7 @@ impl<T: Blank + Drop> Log<T> {
         }
     }
 
-    /// The next number of a lane, and where its value goes. None where no number is left.
+    /// Returns the next number of a lane with its location, or `None` if no number is left.
     #[inline(always)]
     fn next_place(&self, lane: u64) -> Option<Place>
         ensures { IfSome result (λ place. IsPlace self.now.buckets place) }
@@ -285,7 +285,7 @@ impl<T: Blank + Drop> Log<T> {
         })
     }
 
-    /// Gives the number back, for the lane's next push. It is lost where another push came between.
+    /// Returns the number to the lane's counter. It is lost if another push came between.
     #[cold]
     fn give_back(&self, place: Place)
         requires { IsPlace self.now.buckets place }
@@ -294,7 +294,7 @@ impl<T: Blank + Drop> Log<T> {
         counter.give_back(place.right, place.push);
     }
 
-    /// The next place of a lane, where its row is made.
+    /// Returns the next place of a lane if its row is made.
     #[inline(always)]
     fn made_place(&self, lane: u64) -> Option<(Place, Written<Row<T>>)>
         ensures { IfSome result (λ made. IsMade self.now.buckets made.0 made.1.of) }
@@ -309,7 +309,7 @@ impl<T: Blank + Drop> Log<T> {
         }
     }
 
-    /// The same of the other lanes: the first that has one.
+    /// Returns the next place of another lane: the first that has one in a row that is made.
     #[cold]
     #[inline(never)]
     fn other_place(&self, lane: u64) -> Option<(Place, Written<Row<T>>)>
@@ -324,8 +324,8 @@ impl<T: Blank + Drop> Log<T> {
         None
     }
 
-    /// Is it this push that writes slots of the next row ahead? None does so in the first row, so that
-    /// a log which holds what it was made for has no other.
+    /// Returns whether this push writes slots of the next row ahead. No push does so in the first
+    /// row, so that an arena within its capacity has no other row.
     #[inline(always)]
     fn is_due(&self, place: &Place, row: &Written<Row<T>>) -> bool
         requires { IsMade self.now.buckets place.now row.now.of }
@@ -337,7 +337,7 @@ impl<T: Blank + Drop> Log<T> {
         place.slot >= part - part / AHEAD_PARTS
     }
 
-    /// Writes a value into its slot, and shows its number.
+    /// Writes a value into its slot, and returns its token.
     #[inline(always)]
     fn write(&self, place: Place, row: Written<Row<T>>, value: T) -> Pushed<T>
         requires { IsMade self.now.buckets place row.of }
@@ -355,8 +355,8 @@ impl<T: Blank + Drop> Log<T> {
         }
     }
 
-    /// The value, pushed at a place whose row is made. Slots of the next row are written ahead where
-    /// that is due.
+    /// Pushes a value at a place whose row is made. Writes slots of the next row ahead if that is
+    /// due.
     fn push_at(&self, place: Place, row: Written<Row<T>>, value: T) -> Pushed<T>
         requires { IsMade self.now.buckets place row.of }
         ensures shows { Shows self.now result × (result.value ≡ value) }
@@ -368,9 +368,9 @@ impl<T: Blank + Drop> Log<T> {
         self.write(place, row, value)
     }
 
-    /// The value, pushed by a lane: what shows its number. It comes back where there is no memory, or
-    /// no number is left. Where the lane has no slot in a row that is made, another lane's is taken,
-    /// and only where no lane has one a row is made.
+    /// Pushes a value by a lane, and returns its token. If the lane has no slot in a row that is
+    /// made, another lane's is used; if no lane has one, a row is made. Fails with the value if
+    /// memory runs out or no number is left.
     pub fn push_shown<R: Wait>(&self, rt: &R, lane: u64, value: T) -> Result<Pushed<T>, T>
         ensures ok { IfOk result (λ p. Shows self.now p × (p.value ≡ value)) }
         ensures number { IfOk result (λ p. p.index < 2 ^ 48) }
@@ -392,7 +392,7 @@ impl<T: Blank + Drop> Log<T> {
         Ok(self.push_at(place, row, value))
     }
 
-    /// The place of a push that makes no row, where no slots are due to be written ahead.
+    /// Returns the place of a push that makes no row and writes no slots ahead.
     #[inline(always)]
     fn place_at_once(&self, lane: u64) -> Option<(Place, Written<Row<T>>)>
         ensures { IfSome result (λ made. IsMade self.now.buckets made.0 made.1.of) }
@@ -407,9 +407,9 @@ impl<T: Blank + Drop> Log<T> {
         Some((place, row))
     }
 
-    /// The value, pushed by a lane where a row is made that has a slot for it, and no slots are due to
-    /// be written ahead. It waits for nobody and takes no memory. Else the value comes back:
-    /// [`Log::push_shown`] does what is due.
+    /// Pushes a value by a lane if a made row has a slot for it and no slots are due to be written
+    /// ahead. It never waits and allocates nothing. Otherwise it fails with the value, and
+    /// [`Log::push_shown`] does the rest.
     #[inline(always)]
     pub fn try_push(&self, lane: u64, value: T) -> Result<Pushed<T>, T>
         ensures ok { IfOk result (λ p. Shows self.now p × (p.value ≡ value)) }
@@ -424,14 +424,14 @@ impl<T: Blank + Drop> Log<T> {
 }
 
 impl<T> Log<T> {
-    /// Returns how many numbers the log has given out: for values that were pushed, for pushes that
-    /// are under way, and for pushes that failed while another one took a number. It loads the
-    /// lanes' counters one after the other, so it may miss pushes that other threads make meanwhile.
+    /// Returns how many numbers the arena has given out: for values that were pushed, for pushes
+    /// under way, and for pushes that failed while another one took a number. It loads the lanes'
+    /// counters one after the other, so it may miss pushes that other threads make meanwhile.
     pub fn stored(&self) -> usize {
         self.lanes.given() as usize
     }
 
-    /// The value that was pushed.
+    /// Returns the value that was pushed.
     #[inline(always)]
     pub fn value<'a>(&'a self, pushed: &Pushed<T>) -> &'a T
         requires { Shows self.now pushed.now }
@@ -441,14 +441,14 @@ impl<T> Log<T> {
         self.rows[row].value(&pushed.row)[slot].value(&pushed.item)
     }
 
-    /// A log has so many rows, and none with a higher number.
+    /// Proves that an arena has no 39th row.
     pub fn has_no_more_rows(&self)
         ensures { id_at self.now.buckets 38 ≡ 0 }
     {
         let _ = &self.rows;
     }
 
-    /// A number has one value.
+    /// Proves that a number has one value.
     pub fn agrees(&self, a: &Pushed<T>, b: &Pushed<T>)
         requires { Shows self.now a.now × Shows self.now b.now × (a.now.index ≡ b.now.index) }
         ensures { a.now.value ≡ b.now.value }

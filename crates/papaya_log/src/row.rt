@@ -10,15 +10,15 @@ use papaya_slot::counter::Counter;
 use papaya_slot::slot::Slot;
 use std::alloc::AllocError;
 
-/// A row of a log.
+/// A row of an arena.
 pub type Row<T> = Vec<Slot<T>>;
 
-/// The slot of a row of a log.
+/// The cell of an arena that holds a row once it is made.
 pub type RowSlot<T> = OnceSlot<Row<T>, Numbered>;
 
-/// What a slot holds until its value is written.
+/// A type whose values can fill a slot until its value is written.
 pub trait Blank {
-    /// A value that nobody reads, made beside this one. It owns nothing.
+    /// Returns a value that nobody reads, made beside this one. It owns nothing.
     fn blank(&self) -> Self;
 }
 
@@ -28,7 +28,7 @@ impl Blank for u64 {
     }
 }
 
-/// A row has the slots that its own slot's tag tells.
+/// The rule of a row's cell: a row has the slots that the cell's tag says.
 pub struct Numbered;
 
 impl<T> SlotRule<Row<T>> for Numbered {
@@ -37,7 +37,7 @@ impl<T> SlotRule<Row<T>> for Numbered {
     ghost holds = { λ tag row. AreSlots tag row.items };
 }
 
-/// How many slots a part of a row has, the number of its first slot, and whose numbers these are.
+/// The length of a part of a row, the number of its first slot, and the counters of these numbers.
 #[derive(Drop)]
 pub(crate) struct Numbers {
     pub(crate) part: usize,
@@ -53,7 +53,7 @@ impl Names<Numbers> for Told {
     ghost numbers = { λ row. row.part ∷ row.first ∷ row.counters.numbers };
 }
 
-/// The slot of a row that is not made yet.
+/// Returns the cell of a row that is not made yet.
 pub(crate) fn no_row<T>(lanes: &Lanes, first: usize, part: usize) -> RowSlot<T>
     ensures { result.tag ≡ part ∷ first ∷ lanes.now }
 {
@@ -64,7 +64,7 @@ pub(crate) fn no_row<T>(lanes: &Lanes, first: usize, part: usize) -> RowSlot<T>
     }))
 }
 
-// The slot, for whoever has this number of the counter.
+// Returns the slot for the caller that has this number of the counter.
 fn with_number<T>(slot: Slot<T>, right: (&Counter, u64)) -> (Slot<T>, ())
     ensures { (result.0.counter ≡ right.entry.0.now) × (result.0.number ≡ right.entry.1) }
 {
@@ -72,8 +72,8 @@ fn with_number<T>(slot: Slot<T>, right: (&Counter, u64)) -> (Slot<T>, ())
     (Slot::new(slot.into_inner(), counter, number), ())
 }
 
-/// Up to so many more slots of a row of so many with blanks, made beside a value. No row has them
-/// yet, so they are nobody's to write. Where there is no memory for them they are as they were.
+/// Writes up to `more` further slots of a row of `len` slots, with blanks made beside a value. No
+/// row has them yet, so nobody may write them. Returns the slots as they were if memory runs out.
 pub(crate) fn write_some<T: Blank + Drop>(
     ahead: Vec<Slot<T>>,
     lanes: &Lanes,
@@ -91,9 +91,9 @@ pub(crate) fn write_some<T: Blank + Drop>(
     slots
 }
 
-/// A row whose parts have so many slots each, of the numbers from `first` on. They hold blanks, made
-/// beside a value. Slots that were written ahead of it become its own in their places: that is no
-/// code.
+/// Makes a row whose parts have `part` slots each, with the numbers from `first`. They hold blanks,
+/// made beside a value. The slots that were written ahead become the row's own in place, which runs
+/// no code.
 pub(crate) fn new_row<T: Blank + Drop>(
     lanes: &Lanes,
     first: usize,

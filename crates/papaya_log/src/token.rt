@@ -1,7 +1,7 @@
-//! What shows which value lies at a number.
+//! Tokens, which prove the value that is stored at a number.
 //!
-//! The book of a map keeps what a token shows, but not a token's bytes: a token is told, and
-//! whoever finds the number in a word has the token again.
+//! A map's book keeps what a token proves, but not the token's bytes. A caller that finds the
+//! number in a word gets the token back from it.
 ghost use Rattle.std.specs.Prelude.{◌≡◌};
 ghost use Rattle.boxcar.specs.Table.{Where, where_coded};
 
@@ -10,7 +10,7 @@ use boxcar::slot::Written as RowWritten;
 use papaya_slot::slot::Written;
 use std::marker::{Model, PhantomData};
 
-/// What shows that a log has a value at a number.
+/// A proof that an arena has a value at a number.
 #[derive(Drop)]
 pub struct Pushed<T> {
     pub(crate) number: usize,
@@ -37,7 +37,7 @@ impl<T> Model for Pushed<T> {
     ghost invariant = { λ p. IsAt p.number p.row.value.items p.item.of };
 }
 
-/// What a token shows, with no bytes.
+/// The content of a token, with no bytes.
 pub struct Known<T> {
     pub marker: PhantomData<T>,
     pub ghost at: { Where T } by { where_coded T.code },
@@ -50,7 +50,7 @@ impl<T> Model for Known<T> {
 }
 
 impl<T> Pushed<T> {
-    /// The number.
+    /// Returns the number.
     #[inline(always)]
     pub fn index(&self) -> usize
         ensures { result ≡ self.now.index }
@@ -58,7 +58,7 @@ impl<T> Pushed<T> {
         self.number
     }
 
-    /// The same token.
+    /// Returns the same token.
     pub fn again(&self) -> Pushed<T>
         ensures { result ≡ self.now }
     {
@@ -70,7 +70,7 @@ impl<T> Pushed<T> {
     }
 }
 
-/// What the token shows.
+/// Returns the content of the token.
 pub fn tell<T>(token: &Pushed<T>) -> Known<T>
     ensures { result.at ≡ token.now }
 {
@@ -80,7 +80,7 @@ pub fn tell<T>(token: &Pushed<T>) -> Known<T>
     }
 }
 
-// It lies in memory as a token of a log does.
+// The same layout in memory as a token of an arena.
 #[derive(Drop)]
 struct Bytes<T> {
     number: usize,
@@ -93,7 +93,7 @@ struct Marker<T> {
     marker: PhantomData<T>,
 }
 
-/// The token again, by its number.
+/// Returns the token again, from its content and its number.
 #[inline(always)]
 pub fn token<T>(known: Known<T>, number: usize) -> Pushed<T>
     requires { number ≡ known.at.index }

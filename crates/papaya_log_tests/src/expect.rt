@@ -1,9 +1,9 @@
-// What the tests compare with. A test is calls of these, since each assertion that stands written
-// out in one makes its proof longer.
+// The tests' only assertion. A test calls it instead of writing assertions out, because each of
+// those makes the test's proof longer.
 use std::fmt::Debug;
 use std::process::Abort;
 
-/// What was found is what is wanted.
+/// Asserts that `found` equals `wanted`.
 pub fn is<T: PartialEq + Debug + Drop>(rt: &impl Abort, found: T, wanted: T) {
     assert_eq!(rt; found, wanted);
 }

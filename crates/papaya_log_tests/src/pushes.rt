@@ -1,4 +1,4 @@
-// Numbers of pushes, and values at them. Where the tests run with a failing allocation, as by
+// The numbers of pushes, and the values at them. If the tests run with a failing allocation, as by
 // `rt try --test --fail-alloc N`, a push here meets it.
 ghost use Rattle.std.specs.Prelude.{◌≡◌, IfSome};
 ghost use Rattle.boxcar.specs.Table.{Shows};
@@ -9,10 +9,10 @@ use papaya_log::token::{Pushed, tell, token};
 use std::sync::Wait;
 use std::test::Fail;
 
-/// The numbers of two rows are so far apart.
+/// The distance between the numbers of two rows.
 const ROW_SPAN: usize = 0x400_0000_0000;
 
-/// A value that is pushed by the first lane, also where memory was refused for it at first.
+/// Pushes a value by the first lane, and tries once more if memory ran out.
 fn push<R: Wait>(rt: &R, log: &Log<u64>, value: u64) -> Option<Pushed<u64>>
     ensures { IfSome result (λ p. Shows log.now p × (p.value ≡ value)) }
 {
@@ -22,8 +22,8 @@ fn push<R: Wait>(rt: &R, log: &Log<u64>, value: u64) -> Option<Pushed<u64>>
     }
 }
 
-/// Pushes a value so many times by the first lane: the numbers are those from `first` on, and what is
-/// read there is the value.
+/// Pushes a value `times` times by the first lane. Returns whether the numbers are those from
+/// `first` and the value is read at each.
 fn pushes_from<R: Wait>(rt: &R, log: &Log<u64>, value: u64, first: usize, times: usize) -> bool {
     for place in 0..times {
         let Some(pushed) = push(rt, log, value) else {
@@ -36,8 +36,8 @@ fn pushes_from<R: Wait>(rt: &R, log: &Log<u64>, value: u64, first: usize, times:
     true
 }
 
-/// Pushes a value by a lane where a row is made for it: the number, and what is read there. Else the
-/// value comes back.
+/// Pushes a value by a lane if a row is made for it. Returns the number and what is read there, or
+/// the value.
 fn tried(log: &Log<u64>, lane: u64, value: u64) -> Result<(usize, u64), u64> {
     match log.try_push(lane, value) {
         Ok(pushed) => Ok((pushed.index(), *log.value(&pushed))),

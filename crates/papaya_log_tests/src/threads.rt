@@ -1,4 +1,4 @@
-// Threads that push onto one log.
+// Threads that push onto one arena.
 use crate::expect::is;
 use papaya_log::log::Log;
 use std::alloc::Global;
@@ -6,7 +6,7 @@ use std::sync::Wait;
 use std::test::Fail;
 use std::thread::{Threads, join};
 
-/// Pushes so many values, and reads each back: the numbers that they were given.
+/// Pushes 1000 values and reads each back. Returns their numbers.
 fn numbers_of<R: Wait>(rt: &R, alloc: Global, log: &Log<u64>, from: u64) -> Option<Vec<usize>> {
     let mut numbers = Vec::new(alloc);
     for place in 0..1000u64 {
@@ -20,7 +20,7 @@ fn numbers_of<R: Wait>(rt: &R, alloc: Global, log: &Log<u64>, from: u64) -> Opti
     Some(numbers)
 }
 
-/// The numbers that two threads were given, sorted.
+/// Returns the numbers that two threads were given, sorted.
 fn numbers_of_both<R: Threads + Wait + Sync>(
     rt: &R,
     alloc: Global,

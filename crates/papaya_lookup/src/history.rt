@@ -1,5 +1,5 @@
-//! Histories: what the changes of a map's exchanges are, as laws. The functions do nothing; their
-//! contracts are the laws.
+//! Histories: the changes that a map's exchanges make, as laws. The functions have empty bodies;
+//! their contracts are the laws.
 ghost use Rattle.std.specs.Prelude.{◌≡◌, ◌++◌, List};
 ghost use mathlib.Core.List.{IsPrefix};
 ghost use Rattle.papaya_law.specs.Allows.{AllAllowed};
@@ -8,7 +8,7 @@ ghost use Rattle.papaya_law.specs.Meaning.{IsLawful, map_left};
 ghost use Rattle.papaya_lookup.specs.History.{IsLegalHistory, changes_of, replay};
 
 /// The changes of allowed exchanges are a legal history, whose replay is the map that the exchanges
-/// leave; and more exchanges only add to it.
+/// leave. More exchanges only extend it.
 pub fn exchanges_have_a_history<K, P>()
     ensures replay { (g : Setting K P) (es : List (Exchange P)) (k : K)
         → replay g.same (changes_of g.key es) k ≡ map_left g es k }

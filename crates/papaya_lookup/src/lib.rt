@@ -1,5 +1,5 @@
-//! Lookups on the shared map, the histories that they answer from, and what every call under
-//! way holds.
+//! Lookups on the shared map, the histories from which their results come, and the data that every
+//! call under way holds.
 #![tactic(auto)]
 
 pub mod history;

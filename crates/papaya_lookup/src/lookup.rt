@@ -1,5 +1,5 @@
-//! Lookups, by atomic loads alone. The machine of a lookup stands in the proof: it is answered by
-//! what is loaded.
+//! Lookups, which only load words atomically. The machine of a lookup exists in the proof alone:
+//! the loaded words answer it.
 ghost use Rattle.std.specs.Prelude.{◌≡◌, ◌<◌, ◌≤◌, MatchOption, Some};
 ghost use mathlib.Core.List.{IsPrefix};
 ghost use Rattle.papaya_ask.specs.Search.{IsWithin};
@@ -28,7 +28,7 @@ use papaya_keys::guard::Equivalent;
 use papaya_words::probe::ResizeMode;
 use std::hash::{BuildHasher, Hash, Hasher};
 
-/// What a search has met: a place and the word that stood there, and the pair that it names.
+/// The place and word that a search has met, and the pair that the word names.
 #[derive(Drop)]
 pub struct Met<K, V> {
     pub place: Place,
@@ -36,32 +36,32 @@ pub struct Met<K, V> {
     pub stored: Stored<K, V>,
 }
 
-/// A pair that was found: its key and its value, and where the search met it. A caller that wants
-/// the pair alone pays nothing for the rest.
+/// An entry that was found: its key and its value, and where the search met it. A caller that wants
+/// only the entry pays nothing for the rest.
 #[derive(Drop)]
 pub struct Hit<'a, K: Hash + Eq, V, S: BuildHasher> {
     pub table: &'a Table<K, V, S>,
     pub met: Met<K, V>,
     pub key: &'a K,
     pub value: &'a V,
-    /// Is that table one behind the root, to which pairs are moved?
+    /// Whether that table is one behind the root, to which pairs are moved.
     pub later: bool,
 }
 
-/// Where a turn of a search leads.
+/// The outcome of one place of a search.
 #[derive(Drop)]
 enum Turn<M, E> {
-    /// This place is looked at next.
+    /// The search looks at this place next.
     Next(Place),
-    /// This pair has a matching key: where it was met, and its key and its value.
+    /// This entry has a matching key: where it was met, and its key and its value.
     Found(M, E),
-    /// No pair has a matching key.
+    /// No entry has a matching key.
     Absent,
     /// The key is not in this table, but may be in the next.
     Over(u64),
 }
 
-/// Where a search goes on that has found no pair.
+/// Continues a search that has found no entry.
 #[inline(always)]
 fn without<M, E>(seen: Probed) -> Turn<M, E>
     ensures { result ≡ turn_of seen }
@@ -73,8 +73,8 @@ fn without<M, E>(seen: Probed) -> Turn<M, E>
     }
 }
 
-/// Loads the word at one place of a table, and compares the key of the pair that it names, if it
-/// names one.
+/// Loads the word at one place of a table, and compares the key of the pair that the word names, if
+/// it names one.
 #[inline(always)]
 fn read_at<'a, K: Hash + Eq, V, S: BuildHasher, Q: Equivalent<K>>(
     window: &mut Window<'a, K, V, S>,
@@ -118,8 +118,7 @@ fn read_at<'a, K: Hash + Eq, V, S: BuildHasher, Q: Equivalent<K>>(
     }
 }
 
-/// Looks at one place of a table: loads its hint, and its word where the hint says nothing or is
-/// the key's.
+/// Looks at one place of a table: loads its hint, and its word if the hint is 0 or the key's.
 #[inline(always)]
 fn look_at<'a, K: Hash + Eq, V, S: BuildHasher, Q: Equivalent<K>>(
     window: &mut Window<'a, K, V, S>,
@@ -173,12 +172,12 @@ fn search<'a, K: Hash + Eq, V, S: BuildHasher, Q: Equivalent<K>>(
     }
 }
 
-/// Looks up the pair whose key `key` matches, and tells where it stood. It goes by atomic loads
-/// alone: it waits for nobody and takes no memory.
+/// Looks up the entry whose key matches `key`, and returns it with the place where it was met. It
+/// only loads words atomically: it never waits and allocates nothing.
 ///
-/// The answer is the pair of one of the histories that the map had between the last one that was
-/// seen before and the one that is seen then: its key as it is stored, and its value. A removal
-/// goes on from there.
+/// The result is right for one of the map's histories between the last one that this window
+/// observed before and the one that it has observed afterwards. It has the stored key and its
+/// value. A removal continues from there.
 #[inline(always)]
 pub fn find<'a, K: Hash + Eq, V, S: BuildHasher, Q: Equivalent<K>>(
     window: &mut Window<'a, K, V, S>,
@@ -193,9 +192,9 @@ pub fn find<'a, K: Hash + Eq, V, S: BuildHasher, Q: Equivalent<K>>(
         window.old window.new hit }
 {
     // The root is searched first, then each table to which pairs are moved from the one before: a
-    // pair that the earlier table has no more is in the next. A search ends at the key's pair, at a
-    // slot where none ever stood, or at the probe limit. With `Blocking` nobody reads a next table
-    // before it is the root. The answer is the map's at one of these loads.
+    // pair that left the earlier table is in the next. A search ends at the key's pair, at a slot
+    // to which nothing was ever written, or at the probe limit. With `Blocking` nobody reads a next
+    // table before it is the root. The result is the map's at one of these loads.
     window.learn();
     let hash = hash(&window.book.parts.hasher, key);
     let (root, first) = window.root();
@@ -227,7 +226,7 @@ pub fn find<'a, K: Hash + Eq, V, S: BuildHasher, Q: Equivalent<K>>(
     None
 }
 
-/// Looks up what `key` matches, as [`find`] does, and answers its key and its value alone.
+/// Looks up an entry whose key matches `key`, as [`find`] does. Returns only its key and value.
 #[inline(always)]
 pub fn look_up_pair<'a, K: Hash + Eq, V, S: BuildHasher, Q: Equivalent<K>>(
     window: &mut Window<'a, K, V, S>,
@@ -245,8 +244,8 @@ pub fn look_up_pair<'a, K: Hash + Eq, V, S: BuildHasher, Q: Equivalent<K>>(
     }
 }
 
-/// The value of what `key` matches, by the whole search from the root that is found now. It takes
-/// no window, so that those who call it keep theirs in registers.
+/// Returns the value of the entry whose key matches `key`, by the whole search from the present
+/// root. It takes no window, so that its callers keep theirs in registers.
 #[cold]
 #[inline(never)]
 fn look_up_anew<'a, K: Hash + Eq, V, S: BuildHasher, Q: Equivalent<K>>(
@@ -272,7 +271,7 @@ fn look_up_anew<'a, K: Hash + Eq, V, S: BuildHasher, Q: Equivalent<K>>(
     }
 }
 
-/// Looks up what `key` matches, as [`find`] does, and answers its value alone.
+/// Looks up the entry whose key matches `key`, as [`find`] does, and returns only its value.
 #[inline(always)]
 pub fn look_up<'a, K: Hash + Eq, V, S: BuildHasher, Q: Equivalent<K>>(
     window: &mut Window<'a, K, V, S>,
@@ -295,7 +294,7 @@ pub fn look_up<'a, K: Hash + Eq, V, S: BuildHasher, Q: Equivalent<K>>(
     }
 }
 
-/// The hash of what a key is looked up by.
+/// Returns the hash of a value by which a key is looked up.
 pub fn hash<S: BuildHasher, Q: Hash>(hasher: &S, key: &Q) -> u64
     ensures { result ≡ ⟦<S as Hashed<Q>>⟧.hash hasher.now key.now }
 {

@@ -1,6 +1,6 @@
-//! The search that most lookups make: a loop over the places of the root alone. Where a copier was
-//! there, a pair's value is another pair's, or the limit is reached, it gives up, and the whole
-//! search is made.
+//! The search that most lookups make: a loop over the places of the root alone. It gives up if it
+//! meets a copier's work, a pair whose value another pair brought, or the probe limit. Then the
+//! whole search is made.
 ghost use Rattle.std.specs.Prelude.{◌≡◌, MatchOption, map};
 ghost use Rattle.papaya_words.specs.Word.{may_hold};
 ghost use Rattle.papaya_ask.specs.Search.{IsWithin};
@@ -26,7 +26,7 @@ use papaya_keys::guard::Equivalent;
 use papaya_words::word::{Kind, Word, hint, may_hold};
 use std::hash::{BuildHasher, Hash};
 
-/// The slots of a table: a loop over them keeps where they lie.
+/// Returns the slots of a table. A loop over them keeps their address.
 #[inline(always)]
 pub fn slots_of<K: Hash + Eq, V, S: BuildHasher>(table: &Table<K, V, S>) -> &[Slot<K, V, S>]
     ensures { result.now ≡ map (word_named table.now.book) table.now.slots }
@@ -34,7 +34,7 @@ pub fn slots_of<K: Hash + Eq, V, S: BuildHasher>(table: &Table<K, V, S>) -> &[Sl
     table.slots.as_slice()
 }
 
-/// One atomic load of the hint of a slot, as [`Window::hint`] does it.
+/// Loads the hint of a slot atomically, as [`Window::hint`] does.
 #[inline(always)]
 fn hint_of<K: Hash + Eq, V, S: BuildHasher>(
     window: &mut Window<'_, K, V, S>,
@@ -53,7 +53,7 @@ fn hint_of<K: Hash + Eq, V, S: BuildHasher>(
     hint
 }
 
-/// One atomic load of the word of a slot, as [`Window::slot_word`] does it.
+/// Loads the word of a slot atomically, as [`Window::slot_word`] does.
 #[inline(always)]
 pub fn word_of<K: Hash + Eq, V, S: BuildHasher>(
     window: &mut Window<'_, K, V, S>,
@@ -73,21 +73,21 @@ pub fn word_of<K: Hash + Eq, V, S: BuildHasher>(
     window.book.read(slot.word(), &sought, &mut window.sight)
 }
 
-/// Where one place leads a search of the root.
+/// The outcome of one place of a search of the root.
 #[derive(Drop)]
 pub(crate) enum Near<M, E> {
-    /// The key is not there.
+    /// The key is not at this place.
     On,
-    /// This pair has a matching key: where it was met, and its key and its value.
+    /// This entry has a matching key: where it was met, and its key and its value.
     Found(M, E),
-    /// No pair has a matching key.
+    /// No entry has a matching key.
     Absent,
-    /// A copier was there, or a pair's value is another pair's, so the whole search is to be made.
+    /// A copier was there, or another pair brought the pair's value, so the whole search is needed.
     Aside,
 }
 
-/// Whether the word beside this hint is to be loaded, as [`may_hold`] says. Most searches that find
-/// their pair end with the first question.
+/// Returns whether the word beside this hint must be loaded, as [`may_hold`] does. Most searches
+/// that find their entry end with the first comparison.
 #[inline(always)]
 fn holds(found: u64, hash: u64) -> bool
     ensures { result ≡ may_hold found hash }
@@ -95,7 +95,7 @@ fn holds(found: u64, hash: u64) -> bool
     found == u64::from(hint(hash)) || may_hold(found, hash)
 }
 
-/// Loads the word of a slot, and compares the key of the pair that it names, if one lives there.
+/// Loads the word of a slot, and compares the key of the pair that the word names, if it is `Live`.
 #[inline(always)]
 fn read_slot<'a, K: Hash + Eq, V, S: BuildHasher, Q: Equivalent<K>>(
     window: &mut Window<'a, K, V, S>,
@@ -137,7 +137,7 @@ fn read_slot<'a, K: Hash + Eq, V, S: BuildHasher, Q: Equivalent<K>>(
     }
 }
 
-/// Looks at one slot: loads its hint, and its word where the hint says nothing or is the key's.
+/// Looks at one slot: loads its hint, and its word if the hint is 0 or the key's.
 #[inline(always)]
 fn look_at_slot<'a, K: Hash + Eq, V, S: BuildHasher, Q: Equivalent<K>>(
     window: &mut Window<'a, K, V, S>,
@@ -162,8 +162,7 @@ fn look_at_slot<'a, K: Hash + Eq, V, S: BuildHasher, Q: Equivalent<K>>(
     read_slot(window, key, slot, at)
 }
 
-/// Searches a table from this place on, as long as no copier was there and the limit is
-/// not reached.
+/// Searches a table from this place on, until it meets a copier's work or the probe limit.
 #[inline(always)]
 fn search_slots<'a, K: Hash + Eq, V, S: BuildHasher, Q: Equivalent<K>>(
     window: &mut Window<'a, K, V, S>,
@@ -199,7 +198,7 @@ fn search_slots<'a, K: Hash + Eq, V, S: BuildHasher, Q: Equivalent<K>>(
     }
 }
 
-/// What a lookup answers by the root alone, or None where the whole search is to be made.
+/// Returns the result of a lookup, or `None` if the root alone does not decide it.
 #[inline(always)]
 pub(crate) fn search_near<'a, K: Hash + Eq, V, S: BuildHasher, Q: Equivalent<K>>(
     window: &mut Window<'a, K, V, S>,

@@ -1,8 +1,8 @@
-//! Calls on the shared map that scan each slot of a table: clear, retain and walks.
+//! Calls on the shared map that scan each slot of a table: clear, retain and iterations.
 //!
-//! Each takes a root first ([`root`]) and then goes over its slots ([`slot`]). Clear and retain
-//! ([`retain`]) delete pairs by exchanges that the book's rule allows; a walk ([`walk`]) only loads
-//! words, and so does what `Debug` prints ([`printing`]).
+//! Each first takes a root ([`root`]) and then visits its slots ([`slot`]). Clear and retain
+//! ([`retain`]) delete pairs by exchanges that the book's rule allows. An iteration ([`walk`]) only
+//! loads words, and so does `Debug` ([`printing`]).
 #![tactic(auto)]
 
 pub mod printing;

@@ -1,4 +1,4 @@
-//! What `Debug` prints of a map and of its walks, as of those of 0.2.5.
+//! The output of `Debug` for a map and its iterators, as in 0.2.5.
 ghost use Rattle.papaya_book.specs.Windows.{IsTable, Sees};
 
 use crate::walk::{Iter, Keys, Values};
@@ -10,7 +10,7 @@ use papaya_words::word::{Kind, Word};
 use std::fmt;
 use std::hash::{BuildHasher, Hash};
 
-/// A list that is printed, to which pairs are added.
+/// A list that is printed, to which entries are added.
 trait Listing<K, V> {
     fn add(&mut self, key: &K, value: &V);
 }
@@ -21,14 +21,14 @@ impl<'f, K: fmt::Debug, V: fmt::Debug, W: fmt::Write> Listing<K, V> for fmt::Deb
     }
 }
 
-/// Keys alone.
+/// Prints only the keys.
 impl<'f, K: fmt::Debug, V, W: fmt::Write> Listing<K, V> for fmt::DebugSet<'f, W> {
     fn add(&mut self, key: &K, _value: &V) {
         self.entry(key);
     }
 }
 
-/// Adds the pairs that stand in a table and in no later one.
+/// Adds the pairs that are in a table and in no later one.
 fn add_table<'a, K: Hash + Eq, V, S: BuildHasher, L: Listing<K, V>>(
     window: &mut Window<'a, K, V, S>,
     table: &Table<K, V, S>,
@@ -50,9 +50,9 @@ fn add_table<'a, K: Hash + Eq, V, S: BuildHasher, L: Listing<K, V>>(
     }
 }
 
-/// Adds the pairs of a map, table by table from the root on. It loads words and nothing else:
-/// it waits for nobody and copies nothing. A pair that stands in two tables is added twice: its
-/// copier is still under way, or was refused.
+/// Adds the pairs of a map, table by table from the root. It only loads words: it never waits and
+/// copies nothing. A pair that is in two tables is added twice: its copier is still under way, or
+/// was refused.
 fn add_all<'a, K: Hash + Eq, V, S: BuildHasher, L: Listing<K, V>>(
     window: &mut Window<'a, K, V, S>,
     out: &mut L,
@@ -92,7 +92,7 @@ pub fn print_keys<'a, 'f, K: Hash + Eq + fmt::Debug, V, S: BuildHasher, W: fmt::
 
 impl<'a, K: Hash + Eq + fmt::Debug, V: fmt::Debug, S: BuildHasher> fmt::Debug
     for Iter<'a, K, V, S> {
-    /// The pairs that are left.
+    /// Prints the entries that are left.
     fn fmt<W: fmt::Write>(&self, f: &mut fmt::Formatter<W>) -> fmt::Result {
         let mut out = f.debug_list();
         for pair in self.again() {

@@ -1,5 +1,5 @@
-//! Clear and retain: the pairs of a table are shown to a closure, and those deleted that are not
-//! to stay.
+//! Clear and retain: a closure is called with each pair of a table, and decides which ones are
+//! deleted.
 ghost use Rattle.std.specs.Prelude.{◌≡◌, ◌<◌, suc, false, Err, IfErr, length};
 ghost use Rattle.std.specs.Int.{IsPowerOfTwo};
 ghost use Rattle.papaya_book.specs.Limits.{HasNoRoom, tables_of};
@@ -27,7 +27,7 @@ use std::alloc::Global;
 use std::hash::{BuildHasher, Hash};
 use std::sync::Wait;
 
-/// Shows the closure a pair: does it stay?
+/// Calls the closure with a pair, and returns whether the pair stays.
 fn show<'a, K: Hash + Eq, V, S: BuildHasher, F: FnMut(&K, &V) -> bool>(
     stored: &Stored<K, V>,
     stays: &mut F,
@@ -42,7 +42,7 @@ fn show<'a, K: Hash + Eq, V, S: BuildHasher, F: FnMut(&K, &V) -> bool>(
     stays(key, value)
 }
 
-/// Scans a slot: its pair is deleted, unless it stays. True where a copier has been there.
+/// Scans a slot, and deletes its pair unless it stays. Returns `true` if a copier has been there.
 fn scan_slot<'a, R: Wait, K: Hash + Eq, V, S: BuildHasher, F: FnMut(&K, &V) -> bool>(
     rt: &R,
     shard: &Shard<'_>,
@@ -83,8 +83,8 @@ fn scan_slot<'a, R: Wait, K: Hash + Eq, V, S: BuildHasher, F: FnMut(&K, &V) -> b
     unreachable!()
 }
 
-/// Scans the slots of a table in turn. True where a copier has been at one: the later ones are not
-/// scanned then.
+/// Scans the slots of a table in turn. Returns `true` at the first slot where a copier has been;
+/// the later ones are not scanned.
 fn scan_table<'a, R: Wait, K: Hash + Eq, V, S: BuildHasher, F: FnMut(&K, &V) -> bool>(
     rt: &R,
     shard: &Shard<'_>,
@@ -110,10 +110,9 @@ fn scan_table<'a, R: Wait, K: Hash + Eq, V, S: BuildHasher, F: FnMut(&K, &V) -> 
     false
 }
 
-/// Takes out the pairs that the closure, which is shown each, says are not to stay. Where it meets
-/// a copier's work it copies what is left to copy, and takes the root anew. Where it is refused a
-/// table while it copies, what was taken out stays out; and `given` tells why, where that is want
-/// of room.
+/// Calls the closure with each pair, and deletes those for which it returns `false`. If it meets a
+/// copier's work, it copies what is left and takes the root again. If a table is refused during the
+/// copy, deleted pairs stay deleted. If the reason is a lack of room, `given` records it.
 pub fn retain<'a, R: Wait, K: Hash + Eq, V, S: BuildHasher, F: FnMut(&K, &V) -> bool>(
     rt: &R,
     alloc: Global,

@@ -17,9 +17,9 @@ use std::alloc::Global;
 use std::hash::{BuildHasher, Hash};
 use std::sync::Wait;
 
-/// Takes the root, and its number, if there is one. Without blocking all is copied before, and the
-/// root is taken by the load that finds no table after it: so each pair of the map is in it then.
-/// Where it is refused for want of room, `given` tells why.
+/// Returns the root and its number, if there is one. Without blocking, it first copies everything,
+/// and takes the root by the load that finds no table after it, so that the root has each pair of
+/// the map. If it is refused for lack of room, `given` records why.
 pub fn take_root<'a, R: Wait, K: Hash + Eq, V, S: BuildHasher>(
     rt: &R,
     alloc: Global,

@@ -32,8 +32,8 @@ pub fn load<'a, K: Hash + Eq, V, S: BuildHasher>(
     window.slot(table, number, place)
 }
 
-/// Tries to delete the pair that this word of a slot names. It is the word that is found there,
-/// which may be another by then, and the pair that it names.
+/// Tries to delete the pair that this word of a slot names. Returns the word that it found there,
+/// which may be another one, and the pair that the word names.
 pub fn bury<'a, K: Hash + Eq, V, S: BuildHasher>(
     shard: &Shard<'_>,
     table: &Table<K, V, S>,

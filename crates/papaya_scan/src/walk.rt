@@ -1,4 +1,4 @@
-//! Walks over the pairs of a map.
+//! Iterators over the entries of a map.
 ghost use Rattle.std.specs.Prelude.{◌≡◌, ◌<◌, ◌≤◌, MatchOption, length};
 ghost use Rattle.std.specs.Iterator.{at_most};
 ghost use Rattle.papaya_words.specs.Word.{kind_of};
@@ -23,9 +23,9 @@ use papaya_words::word::{Kind, Word};
 use std::hash::{BuildHasher, Hash};
 use std::marker::Model;
 
-/// The pairs of a map, slot by slot of the root as it was taken: `Iter` of 0.2.5. It keeps the root's
-/// number, how many slots it has, and those that are left. Contracts see which book it is of, the
-/// history that was seen as the walk began, and the one that is seen by now.
+/// An iterator over the entries of a map, slot by slot of the root that it took: `Iter` of 0.2.5.
+/// It keeps the root's number, its length, and the slots that are left. Contracts see the book, the
+/// history observed when the iteration began, and the history observed by now.
 #[derive(Drop)]
 pub struct Iter<'a, K: Hash + Eq, V, S: BuildHasher> {
     book: &'a Book<K, V, S>,
@@ -53,8 +53,8 @@ impl<'a, K: Hash + Eq, V, S: BuildHasher> Model for Iter<'a, K, V, S> {
 }
 
 impl<'a, K: Hash + Eq, V, S: BuildHasher> Iter<'a, K, V, S> {
-    /// A walk over a root that was taken, from its first slot on. `began` is what was seen
-    /// before that. `iter` of a map makes its walk by this; a caller has no need of it.
+    /// Creates an iterator over a root that was taken, from its first slot. `began` is the history
+    /// observed before. A map's `iter` uses this; other callers do not need it.
     pub fn over(
         book: &'a Book<K, V, S>,
         kept: &KeptRoot<'a, K, V, S>,
@@ -84,7 +84,7 @@ impl<'a, K: Hash + Eq, V, S: BuildHasher> Iter<'a, K, V, S> {
         }
     }
 
-    /// What the walk has seen by now. By this a pass learns what a walk has seen.
+    /// Returns what the iteration has observed, so that a pass can learn it.
     pub fn seen(&self) -> Seen<K, V, S>
         ensures book { result.book ≡ self.now.book }
         ensures history { history_of result.log ≡ self.now.history }
@@ -92,7 +92,7 @@ impl<'a, K: Hash + Eq, V, S: BuildHasher> Iter<'a, K, V, S> {
         self.sight.again()
     }
 
-    /// The same walk, from where this one stands.
+    /// Returns the same iterator, at the same slot.
     pub(crate) fn again(&self) -> Iter<'a, K, V, S>
         ensures { result ≡ self.now }
     {
@@ -108,8 +108,8 @@ impl<'a, K: Hash + Eq, V, S: BuildHasher> Iter<'a, K, V, S> {
     }
 }
 
-/// Does this word name a pair that the map has, or had until it was copied? Most that do not are
-/// those of empty slots, so that is asked first.
+/// Returns whether this word names a pair that the map has, or had until it was copied. Most other
+/// words are those of empty slots, so that is checked first.
 #[inline(always)]
 fn names_pair(word: u64) -> bool
     ensures { result ≡ has_pair (kind_of word) }
@@ -121,7 +121,7 @@ fn names_pair(word: u64) -> bool
         }
 }
 
-/// Loads the word of a slot: the key and the value of its pair, if it names one.
+/// Loads the word of a slot, and returns the key and the value of its pair, if it names one.
 #[inline(always)]
 fn entry_at<'a, K: Hash + Eq, V, S: BuildHasher>(
     window: &mut Window<'a, K, V, S>,
@@ -143,7 +143,7 @@ fn entry_at<'a, K: Hash + Eq, V, S: BuildHasher>(
     Some(book.entry(book.pair(&named_pair(word, offer))))
 }
 
-/// The next pair of the last slots of a table, and the slots after it.
+/// Returns the next entry in the last slots of a table, and the slots after it.
 #[inline(always)]
 fn next_pair<'a, K: Hash + Eq, V, S: BuildHasher>(
     number: u64,
@@ -179,7 +179,7 @@ impl<'a, K: Hash + Eq, V, S: BuildHasher> Iterator for Iter<'a, K, V, S> {
 
     ghost remaining = { λ i. at_most i.left };
 
-    /// It loads words and nothing else: it waits for nobody, and takes no lock and no memory.
+    /// It only loads words: it never waits, takes no lock and allocates nothing.
     #[inline(always)]
     fn next(&mut self) -> Option<(&'a K, &'a V)> {
         let mut window = Window::new(self.book, &self.kept, &self.sight, &OwnSteps::nothing());
@@ -190,21 +190,21 @@ impl<'a, K: Hash + Eq, V, S: BuildHasher> Iterator for Iter<'a, K, V, S> {
     }
 }
 
-/// The keys of a map: `Keys` of 0.2.5.
+/// An iterator over the keys of a map: `Keys` of 0.2.5.
 #[derive(Drop)]
 pub struct Keys<'a, K: Hash + Eq, V, S: BuildHasher> {
     pub(crate) pairs: Iter<'a, K, V, S>,
 }
 
 impl<'a, K: Hash + Eq, V, S: BuildHasher> Keys<'a, K, V, S> {
-    /// The keys of these pairs.
+    /// Creates an iterator over the keys of these entries.
     pub fn of(pairs: Iter<'a, K, V, S>) -> Keys<'a, K, V, S>
         ensures { result.pairs ≡ pairs.entry }
     {
         Keys { pairs }
     }
 
-    /// The same keys, from where this walk stands.
+    /// Returns an iterator over the same keys, at the same slot.
     pub fn again(&self) -> Keys<'a, K, V, S>
         ensures { result ≡ self.now }
     {
@@ -230,14 +230,14 @@ impl<'a, K: Hash + Eq, V, S: BuildHasher> Iterator for Keys<'a, K, V, S> {
     }
 }
 
-/// The values of a map: `Values` of 0.2.5.
+/// An iterator over the values of a map: `Values` of 0.2.5.
 #[derive(Drop)]
 pub struct Values<'a, K: Hash + Eq, V, S: BuildHasher> {
     pub(crate) pairs: Iter<'a, K, V, S>,
 }
 
 impl<'a, K: Hash + Eq, V, S: BuildHasher> Values<'a, K, V, S> {
-    /// The values of these pairs.
+    /// Creates an iterator over the values of these entries.
     pub fn of(pairs: Iter<'a, K, V, S>) -> Values<'a, K, V, S>
         ensures { result.pairs ≡ pairs.entry }
     {

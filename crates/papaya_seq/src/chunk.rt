@@ -1,5 +1,5 @@
-//! The copy of a chunk's slots by a loop. The machine stands in the proof, and goes on by itself at
-//! a slot that is not as most are.
+//! The copy of a chunk's slots by a loop. The machine exists in the proof alone; it takes over at a
+//! slot that needs more than most.
 ghost use Rattle.std.specs.Prelude.{◌≡◌, ℕ};
 ghost use Rattle.papaya_ask.specs.Search.{IsWithin};
 ghost use Rattle.papaya_ask.specs.declared.ask.At.TheVariants as words;
@@ -31,7 +31,7 @@ use papaya_words::probe::ResizeMode;
 use papaya_words::word::{Kind, SHUT, Word, hint};
 use std::hash::{BuildHasher, Hash};
 
-/// Looks for an empty place for a pair whose key has this hash, from one place on.
+/// Looks for an empty place for a pair whose key has this hash, from `place` on.
 #[inline(always)]
 fn find_place<K: Hash + Eq, V, S: BuildHasher>(
     store: &Store<K, V, S>,
@@ -58,7 +58,7 @@ fn find_place<K: Hash + Eq, V, S: BuildHasher>(
     }
 }
 
-/// Looks for an empty place for the pair of a marked word, in the table that the pair goes to.
+/// Looks for an empty place for the pair of a marked word, in the first table that may take it.
 #[inline(always)]
 fn carry<K: Hash + Eq, V, S: BuildHasher>(store: &Store<K, V, S>, table: u64, marked: u64) -> Carry
     requires { IsSized store.now }
@@ -82,8 +82,8 @@ fn carry<K: Hash + Eq, V, S: BuildHasher>(store: &Store<K, V, S>, table: u64, ma
     }
 }
 
-/// Moves the pair of a live word to the next table: where the copy of its slot stands, if the pair
-/// has no place there.
+/// Moves the pair of a live word to the next table. Returns the state of the slot's copy if the
+/// pair has no place there.
 #[inline(always)]
 fn move_pair<K: Hash + Eq, V, S: BuildHasher>(
     store: &mut Store<K, V, S>,
@@ -114,7 +114,7 @@ fn move_pair<K: Hash + Eq, V, S: BuildHasher>(
     None
 }
 
-/// Copies one slot: where its copy stands, if it is not settled.
+/// Copies one slot. Returns the state of its copy if the slot is not settled.
 #[inline(always)]
 fn copy_slot<K: Hash + Eq, V, S: BuildHasher>(
     store: &mut Store<K, V, S>,
@@ -141,7 +141,7 @@ fn copy_slot<K: Hash + Eq, V, S: BuildHasher>(
     }
 }
 
-/// Says that a chunk is copied, and passes by those behind it that are: where the copy stands then.
+/// Writes that a chunk is copied, and passes the copied ones after it. Returns the copy's state.
 #[inline]
 fn advance<K: Hash + Eq, V, S: BuildHasher>(store: &mut Store<K, V, S>, mut cursor: Cursor) -> Step
     requires { IsStandingCursor cursor }
@@ -163,8 +163,8 @@ fn advance<K: Hash + Eq, V, S: BuildHasher>(store: &mut Store<K, V, S>, mut curs
     }
 }
 
-/// Copies the slots of a chunk one after another, to its last, or to one that is not settled so.
-/// Behind its last slot it passes by the chunks that are copied.
+/// Copies the slots of a chunk one after another, until the last or one that needs the machine.
+/// After the last it passes the chunks that are already copied.
 fn copy_slots<K: Hash + Eq, V, S: BuildHasher>(
     store: &mut Store<K, V, S>,
     mode: ResizeMode,

@@ -9,11 +9,12 @@ use papaya_words::probe::Refused;
 use std::hash::{BuildHasher, Hash};
 
 impl<K: Hash + Eq + Drop, V: Drop, S: BuildHasher> HashMap<K, V, S> {
-    /// Removes all pairs: `clear` of 0.2.5. The root keeps its slots, and the log what it has: no
-    /// number of a pair is used again.
+    /// Removes all entries: `clear` of 0.2.5. The root keeps its slots, and the arena what it
+    /// stores: no number is used again. A resize that is under way is finished first.
     ///
-    /// The resize that is under way is ended first. Refused as [`HashMap::copy_all`]; no pair was
-    /// removed then.
+    /// # Errors
+    ///
+    /// Fails as [`HashMap::copy_all`] does, and then has removed no entry.
     pub fn clear(&mut self) -> Result<(), Refused>
         ensures ok { OnOk result (content K.eq self.new.store ≡ []) }
         ensures last { OnOk result (next_of self.new.store ≡ 0) }

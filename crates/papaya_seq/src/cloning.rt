@@ -1,4 +1,4 @@
-//! Maps of clones: a copy of a map, and the map built anew without the pairs that it has no more.
+//! Maps of clones: copies of a map, and a map rebuilt without its removed entries.
 ghost use Rattle.std.specs.Prelude.{◌≡◌, ◌≢◌, ◌⊎◌, ◌≤◌, ℕ, true, Some, None, IfOk, IfErr, OnOk, length, map};
 ghost use Rattle.std.specs.Int.{IsPowerOfTwo};
 ghost use Rattle.papaya_words.specs.Probe.{IsEntriesFor};
@@ -18,8 +18,8 @@ use papaya_words::probe::{Refused, ResizeMode};
 use std::alloc::Global;
 use std::hash::{BuildHasher, Hash};
 
-/// For how many pairs a first table is made that has as many slots as the initial capacity. For
-/// none, where the least table has.
+/// Returns for how many entries a first table must be made so that it has `initial` slots. Returns
+/// 0 if the least table has that many.
 #[tactic(auto, using(crate::proofs::Rebuilt::asks_for))]
 fn pairs_for(initial: usize) -> usize
     requires { IsPowerOfTwo initial }
@@ -32,7 +32,7 @@ fn pairs_for(initial: usize) -> usize
 }
 
 impl<K: Hash + Eq + Clone + Drop, V: Clone + Drop, S: BuildHasher> HashMap<K, V, S> {
-    /// Puts clones of another map's pairs in, in the order of a walk.
+    /// Inserts clones of another map's entries, in the order of an iteration.
     fn copy_from(&mut self, from: &HashMap<K, V, S>) -> Result<(), Refused>
         ensures ok { OnOk result (IsCopied K.eq K.is_clone V.is_clone self.old
             (map entry_of (content K.eq from.now.store)) self.new) }
@@ -56,11 +56,15 @@ impl<K: Hash + Eq + Clone + Drop, V: Clone + Drop, S: BuildHasher> HashMap<K, V,
 }
 
 impl<K: Hash + Eq + Clone + Drop, V: Clone + Drop, S: BuildHasher + Clone + Drop> HashMap<K, V, S> {
-    /// A map of clones: what `Clone` makes in 0.2.5. It is made for as many pairs as this one has,
-    /// with [`ResizeMode::default`], no limit, one shard and a clone of the hasher.
+    /// Returns a map of clones: what `Clone` makes in 0.2.5. It is made for as many entries as this
+    /// map has, with [`ResizeMode::default`], no limit, one shard and a clone of the hasher.
     ///
-    /// A clone of a key has to be equal to it. `Refused::Memory` where a clone was refused; else
-    /// refused as [`HashMap::with_capacity_and_hasher`], or as [`HashMap::insert`] of a clone.
+    /// A clone of a key must be equal to it.
+    ///
+    /// # Errors
+    ///
+    /// Fails with `Refused::Memory` if a clone fails, and otherwise as
+    /// [`HashMap::with_capacity_and_hasher`] does, or [`HashMap::insert`] of a clone.
     pub fn try_clone(&self, alloc: Global) -> Result<HashMap<K, V, S>, Refused>
         requires { (k l : K) → K.is_clone k l → K.eq k l ≡ true }
         ensures clones { IfOk result (λ made. IsRebuilt K.eq K.is_clone V.is_clone S.is_clone
@@ -83,7 +87,7 @@ impl<K: Hash + Eq + Clone + Drop, V: Clone + Drop, S: BuildHasher + Clone + Drop
         }
     }
 
-    /// Gives a map that has no limit this one, if there is one, with so many numbers taken.
+    /// Gives a map without a limit this limit, with `made` numbers taken.
     fn number(&mut self, limit: Option<u64>, made: u64)
         requires free { self.old.mode.limit ≡ None }
         requires most { (n : ℕ) → limit ≡ Some n → made ≤ n }
@@ -99,7 +103,8 @@ impl<K: Hash + Eq + Clone + Drop, V: Clone + Drop, S: BuildHasher + Clone + Drop
         self.mode.limit = limit;
     }
 
-    /// Makes room for so many pairs. A map that was given no capacity gets no table for no pairs.
+    /// Makes room for this many entries, but no table for none if the map was built without a
+    /// capacity.
     #[tactic(auto, using(crate::proofs::Filled::keeps_itself))]
     fn make_room(&mut self, pairs: usize) -> Result<(), Refused>
         ensures err { IfErr result (λ e. IsReserveCause K.eq self.old pairs e self.new) }
@@ -113,8 +118,8 @@ impl<K: Hash + Eq + Clone + Drop, V: Clone + Drop, S: BuildHasher + Clone + Drop
         self.reserve(pairs)
     }
 
-    /// A map of clones with the parts of this one. It gets its limit once it has its pairs: no call
-    /// that fills it takes a number.
+    /// Returns a map of clones with the settings of this one. It gets its limit once it has its
+    /// entries, so no call that fills it takes a number.
     fn rebuilt(&self) -> Result<HashMap<K, V, S>, Refused>
         requires { (k l : K) → K.is_clone k l → K.eq k l ≡ true }
         ensures clones { IfOk result (λ made. IsRebuilt K.eq K.is_clone V.is_clone S.is_clone
@@ -153,14 +158,18 @@ impl<K: Hash + Eq + Clone + Drop, V: Clone + Drop, S: BuildHasher + Clone + Drop
         }
     }
 
-    /// Builds the map anew from clones of its pairs, and gives back the memory of those that
-    /// were replaced or removed. Pairs are numbered anew. Mode, limit, initial capacity and
-    /// number of shards stay, and there is room for the pairs. A map that was given no capacity, and
-    /// has no pairs, has no table then. So many numbers are taken then as there are pairs, and no
-    /// limit refuses it. 0.2.5 frees pairs while the map is used, and has no such call.
+    /// Rebuilds the map from clones of its entries, and frees the memory of those that were
+    /// replaced or removed. Entries are numbered again; afterwards as many numbers are taken as
+    /// there are entries. Mode, limit, initial capacity and number of shards stay, and there is
+    /// room for the entries. A map built without a capacity has no table afterwards if it has no
+    /// entries. 0.2.5 frees entries while the map is in use, and has no such call.
     ///
-    /// A clone of a key has to be equal to it. While the new map is filled both need memory. It is
-    /// refused as [`HashMap::try_clone`] is, and then the map is as it was.
+    /// A clone of a key must be equal to it. Until the new map is filled both need memory.
+    ///
+    /// # Errors
+    ///
+    /// Fails as [`HashMap::try_clone`] does, never for the limit, and then leaves the map as it
+    /// was.
     pub fn reclaim(&mut self) -> Result<(), Refused>
         requires { (k l : K) → K.is_clone k l → K.eq k l ≡ true }
         ensures clones { OnOk result (IsRebuilt K.eq K.is_clone V.is_clone S.is_clone self.old

@@ -1,4 +1,4 @@
-//! Calls that take many pairs, one after the other.
+//! Calls that insert many entries, one after the other.
 ghost use Rattle.std.specs.Prelude.{◌≡◌, ◌⊎◌, IfOk, IfErr};
 ghost use Rattle.std.specs.Iterator.{IsFiniteIterable};
 ghost use Rattle.std.specs.declared.hash.FoldHasher.{FoldHasher};
@@ -14,9 +14,13 @@ use std::alloc::Global;
 use std::hash::{BuildHasher, BuildHasherDefault, FoldHasher, Hash};
 
 impl<K: Hash + Eq + Drop, V: Drop, S: BuildHasher> HashMap<K, V, S> {
-    /// Stores a pair, and answers whether its key was absent. It is [`HashMap::insert`] without the
-    /// value that goes, so it borrows nothing, and its clause says what the map is after it, and
-    /// how long the tables are that it made. Refused as that is.
+    /// Inserts an entry, and returns whether its key was absent. Unlike `insert` it does not return
+    /// the replaced value, so it borrows nothing. Its contract states what the map is afterwards,
+    /// and how long the tables are that it makes.
+    ///
+    /// # Errors
+    ///
+    /// Fails as [`HashMap::insert`] does.
     pub fn put(&mut self, key: K, value: V) -> Result<bool, Refused>
         ensures puts { IsPut K.eq key value self.old result self.new }
         ensures logs { LogsOne self.old.store self.new.store }
@@ -29,12 +33,14 @@ impl<K: Hash + Eq + Drop, V: Drop, S: BuildHasher> HashMap<K, V, S> {
         }
     }
 
-    /// Stores pairs in the order in which they come: what the trait `Extend` does in 0.2.5. Of two
-    /// pairs with equal keys the first one's key stays, and the later one's value. No room is made
-    /// ahead, so for no pairs nothing is done at all.
+    /// Inserts entries in the order in which they come: what the trait `Extend` does in 0.2.5. If
+    /// two entries have equal keys, the first one's key stays, with the later one's value. No room
+    /// is reserved ahead, so an empty iterator has no effect.
     ///
-    /// Refused as [`HashMap::insert`] is for a pair. The pairs before it are in the map then, and
-    /// those after it were not asked for.
+    /// # Errors
+    ///
+    /// Fails as [`HashMap::insert`] does for an entry. The entries before it are then in the map,
+    /// and the iterator is not asked for those after it.
     pub fn extend<U: IntoIterator<Item = (K, V)>>(&mut self, iter: U) -> Result<(), Refused>
     where
         U::IntoIter: Drop,
@@ -54,8 +60,12 @@ impl<K: Hash + Eq + Drop, V: Drop, S: BuildHasher> HashMap<K, V, S> {
 }
 
 impl<K: Hash + Eq + Copy + Drop, V: Copy + Drop, S: BuildHasher> HashMap<K, V, S> {
-    /// [`HashMap::extend`] by pairs that are lent and copied: what the trait `Extend` of such pairs
-    /// does in 0.2.5.
+    /// Inserts entries that it copies from references, as [`HashMap::extend`] does: what the trait
+    /// `Extend` of such entries does in 0.2.5.
+    ///
+    /// # Errors
+    ///
+    /// Fails as [`HashMap::extend`] does.
     pub fn extend_ref<'a, U: IntoIterator<Item = (&'a K, &'a V)>>(
         &mut self,
         iter: U,
@@ -80,10 +90,14 @@ impl<K: Hash + Eq + Copy + Drop, V: Copy + Drop, S: BuildHasher> HashMap<K, V, S
 }
 
 impl<K: Hash + Eq + Drop, V: Drop, S: BuildHasher + Default + Drop> HashMap<K, V, S> {
-    /// A map of these pairs: what the trait `FromIterator` makes in 0.2.5. Of two pairs with equal
-    /// keys it has the first one's key and the later one's value, and of no pairs it has no table.
+    /// Returns a map of these entries: what the trait `FromIterator` makes in 0.2.5. If two entries
+    /// have equal keys, it has the first one's key and the later one's value. For no entries it has
+    /// no table.
     ///
-    /// `Refused::Memory` where the map was not made; else refused as [`HashMap::extend`].
+    /// # Errors
+    ///
+    /// Fails with `Refused::Memory` if memory for the map runs out, and otherwise as
+    /// [`HashMap::extend`].
     pub fn from_iter<U: IntoIterator<Item = (K, V)>>(
         alloc: Global,
         iter: U,
@@ -109,11 +123,13 @@ impl<K: Hash + Eq + Drop, V: Drop, S: BuildHasher + Default + Drop> HashMap<K, V
 }
 
 impl<K: Hash + Eq + Drop, V: Drop> HashMap<K, V, BuildHasherDefault<FoldHasher>> {
-    /// A map of the pairs of an array: what `From<[(K, V); N]>` makes in 0.2.5. Of two pairs with
-    /// equal keys it has the first one's key and the later one's value.
+    /// Returns a map of the entries of an array: what `From<[(K, V); N]>` makes in 0.2.5. If two
+    /// entries have equal keys, it has the first one's key and the later one's value.
     ///
-    /// `Refused::Memory` where the map was not made, or the array had no room in memory; else
-    /// refused as [`HashMap::extend`].
+    /// # Errors
+    ///
+    /// Fails with `Refused::Memory` if memory for the map or the array runs out, and otherwise as
+    /// [`HashMap::extend`].
     pub fn from_array<const N: usize>(
         alloc: Global,
         pairs: [(K, V); N],

@@ -1,4 +1,4 @@
-//! Are two maps equal?
+//! Equality of maps.
 ghost use Rattle.std.specs.Prelude.{◌↔◌, IsTrue};
 ghost use Rattle.papaya_seq.specs.Clones.{AreEqual, HasEqual};
 
@@ -6,7 +6,7 @@ use crate::seq::HashMap;
 use std::hash::{BuildHasher, Hash};
 
 impl<K: Hash + Eq, V: PartialEq, S: BuildHasher> HashMap<K, V, S> {
-    /// Has the map an equal value at this key?
+    /// Returns whether the map has an equal value for this key.
     fn has_equal(&self, key: &K, value: &V) -> bool
         ensures { IsTrue result ↔ (HasEqual K.eq V.eq self.now.store (key.now, value.now)) }
     {
@@ -16,8 +16,8 @@ impl<K: Hash + Eq, V: PartialEq, S: BuildHasher> HashMap<K, V, S> {
         }
     }
 
-    /// Have both maps the same keys, with equal values? It is what `PartialEq` answers in 0.2.5. It
-    /// takes no memory and is never refused.
+    /// Returns whether both maps have the same keys, with equal values: what `PartialEq` does in
+    /// 0.2.5. It allocates nothing and never fails.
     pub fn eq(&self, other: &HashMap<K, V, S>) -> bool
         ensures { IsTrue result ↔ (AreEqual K.eq V.eq self.now.store other.now.store) }
     {

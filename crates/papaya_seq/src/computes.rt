@@ -1,4 +1,4 @@
-//! The calls that are computes: what their closures say is done.
+//! Computes, and the calls that are made of them.
 ghost use Rattle.std.specs.Prelude.{◌≡◌, Some, None, IfOk, IfErr, MatchOption};
 ghost use Rattle.std.specs.Borrow.{sem};
 ghost use Rattle.std.specs.Fn.{FnReturnsAt};
@@ -20,11 +20,15 @@ use std::hash::{BuildHasher, Hash};
 impl<K: Hash + Eq + Drop, V: Drop, S: BuildHasher> HashMap<K, V, S> {
     ghost use Rattle.papaya_seq.specs.Ends.{ends_so};
 
-    /// [`HashMap::compute`] with the numbers of pairs in place of references to them, and what the
-    /// map is after it.
+    /// Computes the key's entry as [`HashMap::compute`] does, and returns numbers instead of
+    /// references. Its contract states what the map is afterwards.
     ///
-    /// The closure is called once, at what the map holds: no more is asked of it, so it is called
-    /// nowhere else.
+    /// The contract needs the closure to be callable only with what the map holds, since it is
+    /// called once.
+    ///
+    /// # Errors
+    ///
+    /// Fails as [`HashMap::compute`] does.
     pub fn compute_numbered<T: Drop, F: FnMut(Option<(&K, &V)>) -> Operation<V, T>>(
         &mut self,
         key: K,
@@ -40,17 +44,19 @@ impl<K: Hash + Eq + Drop, V: Drop, S: BuildHasher> HashMap<K, V, S> {
         self.compute_by(key, f).1
     }
 
-    /// What the closure makes of the key's pair, or of its absence: `compute` of 0.2.5. It is shown
-    /// the pair, if there is one, and says what is stored, that the pair is removed, or that
-    /// nothing is changed. Its references last for that one call of it.
+    /// Inserts, replaces, removes or keeps the key's entry as the closure decides: `compute` of
+    /// 0.2.5. The closure is called once, with the entry or with `None` if the key is absent. The
+    /// references that it gets are valid for that call only.
     ///
-    /// Refused as [`HashMap::insert`], and with `Refused::RemoveNothing` where the closure would
-    /// remove and there is no pair. While pairs are being moved it may be refused before the
-    /// closure is called.
+    /// The contract does not describe the map itself afterwards, because the result may own a `T`.
+    /// It describes a map that a run of the call leaves. If a proof needs the map itself, use
+    /// [`HashMap::compute_into`].
     ///
-    /// It is [`HashMap::compute_into`], which says what the map is after it: take that where a
-    /// proof needs it. No clause says it here, since the answer may own a `T`: the map that the
-    /// clause names is what a run of the call leaves.
+    /// # Errors
+    ///
+    /// Fails as [`HashMap::insert`] does, and with `Refused::RemoveNothing` if the closure returns
+    /// [`Operation::Remove`] without an entry. During a resize it may fail before the closure is
+    /// called.
     pub fn compute<T: Drop, F: FnMut(Option<(&K, &V)>) -> Operation<V, T>>(
         &mut self,
         key: K,
@@ -75,8 +81,13 @@ impl<K: Hash + Eq + Drop, V: Drop, S: BuildHasher> HashMap<K, V, S> {
         }
     }
 
-    /// [`HashMap::compute`] which leaves what its closure aborts with in `aborted`. So its answer
-    /// owns nothing, and its clause says what the map is after it.
+    /// Computes the key's entry as [`HashMap::compute`] does, and writes the closure's abort value
+    /// to `aborted`. So the result owns nothing, and the contract states what the map is
+    /// afterwards.
+    ///
+    /// # Errors
+    ///
+    /// Fails as [`HashMap::compute`] does.
     pub fn compute_into<T: Drop, F: FnMut(Option<(&K, &V)>) -> Operation<V, T>>(
         &mut self,
         key: K,
@@ -119,11 +130,13 @@ impl<K: Hash + Eq + Drop, V: Drop, S: BuildHasher> HashMap<K, V, S> {
         }
     }
 
-    /// Puts what the closure computes of the key's value in its place, and answers the new value:
-    /// `update` of 0.2.5. `Ok(None)` where the key is absent.
+    /// Replaces the key's value by the one that the closure computes from it, and returns the new
+    /// value: `update` of 0.2.5. Returns `Ok(None)` if the key is absent.
     ///
-    /// Refused as [`HashMap::insert`], and only where the key is in the map, or while pairs are
-    /// being moved.
+    /// # Errors
+    ///
+    /// Fails as [`HashMap::insert`] does, but only if the key is in the map or a resize is under
+    /// way.
     pub fn update<F: Fn(&V) -> V>(&mut self, key: K, f: F) -> Result<Option<&V>, Refused>
         requires { F.IsAlwaysCallable f }
         ensures* updates { sem 𝓛 (ends_so K.row V.row S.row S.Hasher.row K.Hash S.BuildHasher
@@ -154,10 +167,12 @@ impl<K: Hash + Eq + Drop, V: Drop, S: BuildHasher> HashMap<K, V, S> {
         }
     }
 
-    /// Puts what the closure computes of the key's value in its place, or stores this value where
-    /// the key is absent, and answers the value that the key has then: `update_or_insert` of 0.2.5.
+    /// Replaces the key's value by the one that the closure computes from it, or inserts `value` if
+    /// the key is absent, and returns the key's new value: `update_or_insert` of 0.2.5.
     ///
-    /// Refused as [`HashMap::insert`].
+    /// # Errors
+    ///
+    /// Fails as [`HashMap::insert`] does.
     pub fn update_or_insert<U: Fn(&V) -> V>(
         &mut self,
         key: K,
@@ -175,10 +190,12 @@ impl<K: Hash + Eq + Drop, V: Drop, S: BuildHasher> HashMap<K, V, S> {
         self.update_or_insert_with(key, update, || value)
     }
 
-    /// The same where a closure makes the value: `update_or_insert_with` of 0.2.5. It is called
-    /// only where the key is absent.
+    /// Updates as [`HashMap::update_or_insert`] does, with a closure that makes the value:
+    /// `update_or_insert_with` of 0.2.5. `f` is called only if the key is absent.
     ///
-    /// Refused as [`HashMap::insert`].
+    /// # Errors
+    ///
+    /// Fails as [`HashMap::insert`] does.
     pub fn update_or_insert_with<U: Fn(&V) -> V, F: FnOnce() -> V>(
         &mut self,
         key: K,
@@ -217,12 +234,13 @@ impl<K: Hash + Eq + Drop, V: Drop, S: BuildHasher> HashMap<K, V, S> {
         }
     }
 
-    /// Stores the value that the closure makes where the key is absent: `try_insert_with` of 0.2.5.
-    /// `Ok` has the new value, and `Err` the one that the key has. The closure is called only where
-    /// the key is absent.
+    /// Inserts the value that the closure makes if the key is absent: `try_insert_with` of 0.2.5.
+    /// Returns `Ok` with the new value, or `Err` with the key's present value. The closure is
+    /// called only if the key is absent.
     ///
-    /// Refused as [`HashMap::insert`], and only where the key is absent, or while pairs are
-    /// being moved.
+    /// # Errors
+    ///
+    /// Fails as [`HashMap::insert`] does, but only if the key is absent or a resize is under way.
     pub fn try_insert_with<F: FnOnce() -> V>(
         &mut self,
         key: K,
@@ -259,11 +277,12 @@ impl<K: Hash + Eq + Drop, V: Drop, S: BuildHasher> HashMap<K, V, S> {
         }
     }
 
-    /// The value of a key, which the closure makes where the key is absent: `get_or_insert_with` of
-    /// 0.2.5. The closure is called only there.
+    /// Returns the value of a key, and first inserts the one that the closure makes if the key is
+    /// absent: `get_or_insert_with` of 0.2.5. The closure is called only in that case.
     ///
-    /// Refused as [`HashMap::insert`], and only where the key is absent, or while pairs are
-    /// being moved.
+    /// # Errors
+    ///
+    /// Fails as [`HashMap::insert`] does, but only if the key is absent or a resize is under way.
     pub fn get_or_insert_with<F: FnOnce() -> V>(&mut self, key: K, f: F) -> Result<&V, Refused>
         requires { map_in K.eq self.old.store key ≡ None → F.pre f }
         ensures* stores { sem 𝓛 (ends_so K.row V.row S.row S.Hasher.row K.Hash S.BuildHasher

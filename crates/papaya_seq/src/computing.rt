@@ -1,5 +1,5 @@
-//! Computes: at once where that will do, and else by their machine, answered by the store and by
-//! one call of a closure.
+//! Computes: at once if possible, and otherwise by their machine, answered by the store and by one
+//! call of a closure.
 ghost use Rattle.std.specs.Prelude.{◌≡◌, ◌≢◌, ℕ, IfOk, IfErr, IsSome, Some, None, length, option_map};
 ghost use Rattle.papaya_words.specs.Word.{kind_of, pair_of as number_of};
 ghost use Rattle.papaya_words.specs.declared.word.Kind.TheVariants.{Live};
@@ -38,7 +38,7 @@ use papaya_words::word::{Kind, Word};
 use std::alloc::Global;
 use std::hash::{BuildHasher, Hash};
 
-/// What a closure is shown where there is no pair: like a pair it borrows the store.
+/// Returns `None`, which borrows the store like an entry, to call a closure without an entry.
 #[inline(always)]
 fn no_pair<K: Hash + Eq, V, S: BuildHasher>(_store: &Store<K, V, S>) -> Option<(&K, &V)>
     ensures { result ≡ None }
@@ -46,7 +46,7 @@ fn no_pair<K: Hash + Eq, V, S: BuildHasher>(_store: &Store<K, V, S>) -> Option<(
     None
 }
 
-/// What the closure answers that is shown this.
+/// Returns the result of the closure, called with this.
 #[inline(always)]
 fn decide<K, V, T, F: FnOnce(Option<(&K, &V)>) -> Operation<V, T>>(
     shown: Option<(&K, &V)>,
@@ -58,7 +58,7 @@ fn decide<K, V, T, F: FnOnce(Option<(&K, &V)>) -> Operation<V, T>>(
     f(shown)
 }
 
-/// Shows what is there to the closure, which was not called yet, and keeps what it answered.
+/// Calls the closure, which was not called yet, with the entry or without one. Keeps its result.
 fn show<K, V: Drop, T: Drop, F: FnOnce(Option<(&K, &V)>) -> Operation<V, T>>(
     shown: Option<(&K, &V)>,
     closure: &mut Option<F>,
@@ -86,7 +86,7 @@ fn show<K, V: Drop, T: Drop, F: FnOnce(Option<(&K, &V)>) -> Operation<V, T>>(
     })
 }
 
-/// What the machine replied, with what its closure ended the call with.
+/// Returns the result of a compute: the machine's reply, with the closure's abort value.
 #[inline(always)]
 fn computed<T: Drop>(reply: Reply, aborted: Option<T>) -> Result<Computed<u64, T>, Refused>
     requires { Replies reply aborted }
@@ -102,8 +102,7 @@ fn computed<T: Drop>(reply: Reply, aborted: Option<T>) -> Result<Computed<u64, T
     }
 }
 
-/// Does what the closure of a compute answered, at the place where it was shown the pair of this
-/// word, or that there is none.
+/// Performs the closure's result at the place of this word's pair, or of no pair.
 #[inline(always)]
 fn operate<K: Hash + Eq + Drop, V: Drop, S: BuildHasher, T: Drop>(
     store: &mut Store<K, V, S>,
@@ -133,8 +132,8 @@ fn operate<K: Hash + Eq + Drop, V: Drop, S: BuildHasher, T: Drop>(
     }
 }
 
-/// Makes a compute at once, or gives key and closure back: where there is no root, where the root
-/// has no place for the key, and where the key's pair is being moved.
+/// Runs a compute at once. Returns key and closure if there is no root, if the root has no place
+/// for the key, or if the key's pair is being moved.
 #[inline(always)]
 fn compute_fast<
     K: Hash + Eq + Drop,
@@ -176,8 +175,8 @@ fn compute_fast<
 }
 
 impl<K: Hash + Eq + Drop, V: Drop, S: BuildHasher> HashMap<K, V, S> {
-    /// Makes a compute: the number of the pair that its closure was shown, if any, and what it did.
-    /// Most computes end where the root's search does, and run no machine.
+    /// Runs a compute. Returns the number of the pair with which its closure was called, if any,
+    /// and its result. Most computes end with the root's search, and run no machine.
     #[inline]
     pub(crate) fn compute_by<T: Drop, F: FnOnce(Option<(&K, &V)>) -> Operation<V, T>>(
         &mut self,
@@ -193,7 +192,7 @@ impl<K: Hash + Eq + Drop, V: Drop, S: BuildHasher> HashMap<K, V, S> {
             (hash_of K.hash_input S.build_hasher S.Hasher.write S.Hasher.finish) self.old key
             result.1 self.new }
     {
-        // A call that takes a number for its pair goes by the machine.
+        // A call that takes a number for its pair runs the machine.
         if self.mode.limit.is_some() {
             return self.compute_slow(key, f);
         }
@@ -204,7 +203,7 @@ impl<K: Hash + Eq + Drop, V: Drop, S: BuildHasher> HashMap<K, V, S> {
         }
     }
 
-    /// The same by the machine, step by step.
+    /// Runs a compute by the machine, step by step.
     #[inline(never)]
     fn compute_slow<T: Drop, F: FnOnce(Option<(&K, &V)>) -> Operation<V, T>>(
         &mut self,

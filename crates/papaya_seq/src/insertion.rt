@@ -1,4 +1,4 @@
-//! Insertions: at once where that will do, and else by their machine, answered by the store.
+//! Insertions: at once if possible, and otherwise by their machine, answered by the store.
 ghost use Rattle.std.specs.Prelude.{◌≡◌, ℕ, false, Some, None};
 ghost use Rattle.papaya_words.specs.declared.probe.Refused.{Refused};
 ghost use Rattle.papaya_keys.specs.Hashes.{hash_of};
@@ -22,7 +22,7 @@ use papaya_chain::machine::Machine;
 use papaya_store::pairs::{Part, Running};
 use std::hash::{BuildHasher, Hash};
 
-/// The value that a call was handed and has not logged.
+/// Returns the value that was passed to a call and that the call has not stored.
 #[inline(always)]
 pub(crate) fn value_left<K: Drop, V, A: Drop>(running: Running<K, V, A>) -> Option<V>
     ensures { result ≡ value_left running.value }
@@ -34,8 +34,8 @@ pub(crate) fn value_left<K: Drop, V, A: Drop>(running: Running<K, V, A>) -> Opti
     }
 }
 
-/// Where an insertion goes on: where it makes room for the table of this number, or at the root,
-/// where no table has it.
+/// Returns the state in which an insertion continues: it needs room after the table of this number,
+/// or begins at the root if the number is 0.
 fn led(full: u64) -> State
     ensures { result ≡ led_state full }
 {
@@ -46,8 +46,8 @@ fn led(full: u64) -> State
 }
 
 impl<K: Hash + Eq + Drop, V: Drop, S: BuildHasher> HashMap<K, V, S> {
-    /// Inserts a pair: what the machine replies, and the value where it was not logged. Most
-    /// insertions end where the root's search does, and run no machine.
+    /// Inserts a pair. Returns the machine's reply, and the value if it was not stored. Most
+    /// insertions end with the root's search, and run no machine.
     #[inline]
     pub(crate) fn insert_by(&mut self, key: K, value: V, replace: bool) -> (Reply, Option<V>)
         ensures answers { IsAnswered K.eq (insertion replace key value) (map_in K.eq self.old.store)
@@ -64,7 +64,7 @@ impl<K: Hash + Eq + Drop, V: Drop, S: BuildHasher> HashMap<K, V, S> {
         ensures keeps { KeepsAndGrows self.old self.new }
         ensures logs { LogsOne self.old.store self.new.store }
     {
-        // A call that takes a number for its pair goes by the machine.
+        // A call that takes a number for its pair runs the machine.
         if self.mode.limit.is_some() {
             return self.insert_slow(key, value, replace, 0);
         }
@@ -75,7 +75,8 @@ impl<K: Hash + Eq + Drop, V: Drop, S: BuildHasher> HashMap<K, V, S> {
         }
     }
 
-    /// The same by the machine, step by step, from where the search of a full root has led it.
+    /// Inserts a pair by the machine, step by step, after the search of a full root if there was
+    /// one.
     #[inline(never)]
     fn insert_slow(&mut self, key: K, value: V, replace: bool, full: u64) -> (Reply, Option<V>)
         requires { IsLedTo (K.eq key) self.old.store

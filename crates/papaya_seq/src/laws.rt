@@ -1,5 +1,5 @@
-//! What follows from the contracts of the calls together. The functions do nothing: their contracts
-//! are the laws.
+//! Consequences of several calls' contracts together. The functions have empty bodies; their
+//! contracts are the laws.
 ghost use Rattle.std.specs.Prelude.{◌≡◌, ℕ, Bool, Option, Some, None, false, true};
 ghost use Rattle.papaya_timeline.specs.Content.{map_in};
 ghost use Rattle.papaya_store.specs.Store.{StoreState, Stored};
@@ -8,11 +8,11 @@ ghost use Rattle.papaya_seq.specs.Map.{Inserts, Removes, value_of};
 
 use std::hash::Hash;
 
-/// A key that was inserted has its value, and a key whose pair was removed has none. Keys that are
+/// A key that was inserted has its value, and a key whose entry was removed has none. Keys that are
 /// not equal to it have what they had.
 ///
-/// [`crate::seq::HashMap::get`] answers what the finite map has, so an insertion and then a lookup
-/// of its key finds its value.
+/// [`crate::seq::HashMap::get`] returns what the finite map has. So a lookup after an insertion of
+/// its key finds the inserted value.
 pub fn changes_are_found<K: Hash + Eq, V, S>()
     ensures inserted { (k : K) (v : V) (went : Option V) (s s' : StoreState K V S)
         → Inserts K.eq k v s went s' → value_of (map_in K.eq s' k) ≡ Some v }
@@ -26,10 +26,10 @@ pub fn changes_are_found<K: Hash + Eq, V, S>()
         → map_in K.eq s' j ≡ map_in K.eq s j }
 {}
 
-/// A map of clones is equal to its original, where clones of values are equal to them.
+/// A map of clones is equal to its original if clones of values are equal to them.
 ///
-/// So after [`crate::seq::HashMap::reclaim`] the map is what [`crate::seq::HashMap::eq`] calls
-/// equal to what it was, and so is what [`crate::seq::HashMap::try_clone`] makes.
+/// So [`crate::seq::HashMap::eq`] finds a map equal to what it was before
+/// [`crate::seq::HashMap::reclaim`], and to what [`crate::seq::HashMap::try_clone`] makes of it.
 pub fn clones_are_equal<K: Hash + Eq + Clone, V: Clone + PartialEq, S>()
     ensures { (s s' : StoreState K V S) → ((v w : V) → V.is_clone v w → V.eq v w ≡ true)
         → IsCloned K.eq K.is_clone V.is_clone s s' → AreEqual K.eq V.eq s s' }

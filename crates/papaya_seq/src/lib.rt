@@ -1,5 +1,5 @@
-//! The map for one caller. Guards, what computes answer, and what a call that was handed in as a
-//! value comes to, are those of all maps.
+//! The map for one caller. Guards, results of computes and outcomes of calls are the types that all
+//! maps share.
 #![tactic(auto)]
 
 pub use papaya_keys::{compute, guard, occupied};

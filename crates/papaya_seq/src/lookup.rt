@@ -1,4 +1,4 @@
-//! Lookups, by the words that stand in the tables. The machine of a lookup stands in the proof.
+//! Lookups, which read the words of the tables. The machine of a lookup exists in the proof alone.
 ghost use Rattle.std.specs.Prelude.{◌≡◌, option_map};
 ghost use Rattle.papaya_call.specs.Machine.{started};
 ghost use Rattle.papaya_ask.specs.declared.call.Task.TheVariants.{Get};
@@ -16,7 +16,7 @@ use papaya_words::probe::ResizeMode;
 use papaya_words::word::Word;
 use std::hash::{BuildHasher, Hash};
 
-/// Does the key of this pair match?
+/// Returns whether the key of this pair matches.
 #[inline(always)]
 pub(crate) fn matches<K: Hash + Eq, V, S: BuildHasher, Q: Equivalent<K>>(
     store: &Store<K, V, S>,
@@ -32,7 +32,7 @@ pub(crate) fn matches<K: Hash + Eq, V, S: BuildHasher, Q: Equivalent<K>>(
 }
 
 impl<K: Hash + Eq, V, S: BuildHasher> HashMap<K, V, S> {
-    /// The number of a key's pair. Most lookups end in the root.
+    /// Returns the number of a key's pair. Most lookups end in the root.
     #[inline(always)]
     pub(crate) fn look_up<Q: Equivalent<K>>(&self, key: &Q) -> Option<u64>
         ensures { (found : _) × LooksUp K.eq (Q.matches key.now) self.now.store
@@ -49,8 +49,8 @@ impl<K: Hash + Eq, V, S: BuildHasher> HashMap<K, V, S> {
         }
     }
 
-    /// The number of a key's pair, in whichever table that stands. As a call of its own it leaves
-    /// the registers to the search of the root.
+    /// Returns the number of a key's pair, whichever table has it. It is a call of its own, so that
+    /// the search of the root keeps its registers.
     #[cold]
     #[inline(never)]
     fn look_up_far<Q: Equivalent<K>>(&self, key: &Q) -> Option<u64>

@@ -1,4 +1,4 @@
-//! What `Debug` prints of a map and of its walks, as of those of 0.2.5.
+//! The output of `Debug` for a map and its iterators, as in 0.2.5.
 use crate::seq::HashMap;
 use crate::walks::{Iter, Keys, Values};
 use std::fmt;
@@ -16,7 +16,7 @@ impl<K: Hash + Eq + fmt::Debug, V: fmt::Debug, S: BuildHasher> fmt::Debug for Ha
 
 impl<'a, K: Hash + Eq + fmt::Debug, V: fmt::Debug, S: BuildHasher> fmt::Debug
     for Iter<'a, K, V, S> {
-    /// The pairs that are left.
+    /// Prints the entries that are left.
     fn fmt<W: fmt::Write>(&self, f: &mut fmt::Formatter<W>) -> fmt::Result {
         let mut out = f.debug_list();
         for pair in self.again() {

@@ -1,4 +1,4 @@
-//! Removals: their machine, answered by the words that stand in the tables and by a closure.
+//! Removals: their machine, answered by the words of the tables and by a closure.
 ghost use Rattle.std.specs.Prelude.{◌≡◌, ℕ, Bool, IsSome, MatchOption, Some, length};
 ghost use Rattle.papaya_words.specs.Word.{pair_of as number_of};
 ghost use Rattle.papaya_ask.specs.Search.{IsSize};
@@ -27,7 +27,7 @@ use papaya_store::store::Store;
 use papaya_words::word::{Kind, Word};
 use std::hash::{BuildHasher, Hash};
 
-/// Shows a pair to the closure of a removal.
+/// Calls the closure of a removal with a pair.
 #[inline]
 pub(crate) fn show<K: Hash + Eq, V, S: BuildHasher, F: FnMut(&K, &V) -> bool>(
     store: &Store<K, V, S>,
@@ -44,7 +44,7 @@ pub(crate) fn show<K: Hash + Eq, V, S: BuildHasher, F: FnMut(&K, &V) -> bool>(
     }
 }
 
-/// Answers what a removal asks: by the words that stand in the tables, and by its closure.
+/// Performs an ask of a removal: by the words of the tables, and by its closure.
 #[inline]
 fn answer_removal<K: Hash + Eq, V, S: BuildHasher, Q: Equivalent<K>, F: FnMut(&K, &V) -> bool>(
     store: &mut Store<K, V, S>,
@@ -69,7 +69,7 @@ fn answer_removal<K: Hash + Eq, V, S: BuildHasher, Q: Equivalent<K>, F: FnMut(&K
             store.add_to_shard(0, by);
             CallAnswer::Ok
         }
-        // A removal shows only a pair, makes nothing and writes no hint.
+        // A removal calls its closure only with a pair, makes nothing and writes no hint.
         CallAsk::WriteHint(..)
         | CallAsk::ShowNone
         | CallAsk::MakeKey
@@ -95,7 +95,7 @@ pub(crate) fn take_out<K: Hash + Eq, V, S: BuildHasher>(
     store.add_to_shard(0, -1);
 }
 
-/// Shows the pair to the closure of a removal, and deletes it where the closure agrees.
+/// Calls the closure of a removal with the pair, and deletes the pair if the closure agrees.
 #[inline(always)]
 fn bury<K: Hash + Eq, V, S: BuildHasher, F: FnMut(&K, &V) -> bool>(
     store: &mut Store<K, V, S>,
@@ -120,8 +120,8 @@ fn bury<K: Hash + Eq, V, S: BuildHasher, F: FnMut(&K, &V) -> bool>(
     Reply::Removed(pair)
 }
 
-/// Removes a key's pair at once. Nothing is done where there is no root, where the root has all its
-/// places filled, and where the pair is being moved.
+/// Removes a key's pair at once. Does nothing if there is no root, if all places of the root are
+/// filled, or if the pair is being moved.
 #[inline(always)]
 fn remove_fast<K: Hash + Eq, V, S: BuildHasher, Q: Equivalent<K>, F: FnMut(&K, &V) -> bool>(
     store: &mut Store<K, V, S>,
@@ -147,8 +147,8 @@ fn remove_fast<K: Hash + Eq, V, S: BuildHasher, Q: Equivalent<K>, F: FnMut(&K, &
 }
 
 impl<K: Hash + Eq + Drop, V: Drop, S: BuildHasher> HashMap<K, V, S> {
-    /// Removes a key's pair if the closure agrees: what the machine replies. Most removals end
-    /// where the root's search does, and run no machine.
+    /// Removes a key's pair if the closure agrees. Returns the machine's reply. Most removals end
+    /// with the root's search, and run no machine.
     #[inline]
     pub(crate) fn remove_by<Q: Equivalent<K>, F: FnMut(&K, &V) -> bool>(
         &mut self,
@@ -169,7 +169,7 @@ impl<K: Hash + Eq + Drop, V: Drop, S: BuildHasher> HashMap<K, V, S> {
         }
     }
 
-    /// The same by the machine, step by step.
+    /// Removes a key's pair by the machine, step by step.
     #[inline(never)]
     fn remove_slow<Q: Equivalent<K>, F: FnMut(&K, &V) -> bool>(
         &mut self,

@@ -1,4 +1,4 @@
-//! Calls that resize the map: their machine, answered by the words that stand in the tables.
+//! Calls that resize the map: their machine, answered by the words of the tables.
 ghost use Rattle.std.specs.Prelude.{◌≡◌, ◌≢◌, Err, IfErr, OnOk};
 ghost use Rattle.papaya_keys.specs.Sizes.{IsTooMuch};
 ghost use Rattle.papaya_seq.specs.Map.{Keeps, Unchanged, next_of};
@@ -13,7 +13,7 @@ use papaya_words::probe::Refused;
 use std::hash::{BuildHasher, Hash};
 
 impl<K: Hash + Eq + Drop, V: Drop, S: BuildHasher> HashMap<K, V, S> {
-    /// Resizes the map as is wanted. No pair of it changes. A chunk is copied beside a call alone.
+    /// Resizes the map as requested. No entry of it changes. No call requests a single chunk.
     fn resize_by(&mut self, resize: Resize) -> Result<(), Refused>
         requires { resize ≢ Resize.Chunk }
         ensures done { OnOk result (IsResizedTo K.eq resize self.old.store self.new.store) }
@@ -24,7 +24,7 @@ impl<K: Hash + Eq + Drop, V: Drop, S: BuildHasher> HashMap<K, V, S> {
         ensures words { self.new.store ≡ record self.old.store { words = self.new.store.words } }
         ensures keeps { Keeps self.old self.new }
     {
-        // By this read the count is known to have 64 bits.
+        // This read gives the proof that the count fits in 64 bits.
         let _count = self.store.count();
         let number = copies_from(&self.store);
         let mut resizer = Resizer::new(resize, self.mode.resize, self.initial, number);
@@ -39,14 +39,17 @@ impl<K: Hash + Eq + Drop, V: Drop, S: BuildHasher> HashMap<K, V, S> {
         }
     }
 
-    /// Makes room ahead for so many more pairs: `reserve` of 0.2.5. No pair of the map changes.
+    /// Makes room for this many more entries: `reserve` of 0.2.5. No entry of the map changes.
     ///
-    /// Where the root has too few slots, the resize that is under way is ended, and then pairs are
-    /// moved to a next table, in either mode. Where it has enough nothing is done.
+    /// If the root has too few slots, the resize that is under way is finished, and then all
+    /// entries are moved to a next table, in either mode. If it has enough slots nothing is done.
     ///
-    /// `Refused::Capacity` for more pairs than a table of [`papaya_words::limits::MAX_TABLE_LEN`]
-    /// slots is made for; the map is as it was then. Else refused as
-    /// [`HashMap::insert`] is that needs a next table, and what was moved stays moved.
+    /// # Errors
+    ///
+    /// Fails with `Refused::Capacity` if no table of at most
+    /// [`papaya_words::limits::MAX_TABLE_LEN`] slots has room for the entries; the map is then as
+    /// it was. Otherwise fails as an [`HashMap::insert`] that needs a next table does; moved
+    /// entries then stay moved.
     pub fn reserve(&mut self, additional: usize) -> Result<(), Refused>
         ensures ok { OnOk result (HasRoomFor K.eq self.old.store additional self.new.store) }
         ensures err { IfErr result (λ e. IsReserveCause K.eq self.old additional e self.new) }
@@ -59,10 +62,12 @@ impl<K: Hash + Eq + Drop, V: Drop, S: BuildHasher> HashMap<K, V, S> {
         self.resize_by(Resize::Reserve(additional))
     }
 
-    /// Ends the resize that is under way: all pairs are moved to the next table. Where none are
-    /// being moved it does nothing, and is not refused. No pair of the map changes.
+    /// Finishes the resize that is under way: all entries are moved to the next table. Without a
+    /// resize it does nothing and never fails. No entry of the map changes.
     ///
-    /// Refused as [`HashMap::insert`] is that needs a next table, and what was moved stays moved.
+    /// # Errors
+    ///
+    /// Fails as an [`HashMap::insert`] that needs a next table does. Moved entries then stay moved.
     pub fn copy_all(&mut self) -> Result<(), Refused>
         ensures ok { OnOk result (next_of self.new.store ≡ 0) }
         ensures err { IfErr result (λ e. IsCopyCause self.old e self.new) }

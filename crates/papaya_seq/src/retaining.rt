@@ -1,4 +1,4 @@
-//! The call that keeps the pairs which its closure agrees to.
+//! The call that keeps the entries that its closure accepts.
 ghost use Rattle.std.specs.Prelude.{◌≡◌, ◌+◌, ◌<◌, IfErr, IsOk, OnOk};
 ghost use Rattle.papaya_seq.specs.Map.{Keeps, KeepsSlots, Unchanged, next_of, slots_of};
 ghost use Rattle.papaya_seq.specs.Resizes.{IsCopyCause};
@@ -12,8 +12,8 @@ use papaya_words::word::{Kind, Word};
 use std::hash::{BuildHasher, Hash};
 
 impl<K: Hash + Eq + Drop, V: Drop, S: BuildHasher> HashMap<K, V, S> {
-    /// Shows the pair in a slot of the root to the closure, and deletes it if the closure does
-    /// not agree.
+    /// Calls the closure with the pair in a slot of the root, and deletes the pair if the closure
+    /// returns `false`.
     fn retain_at<F: FnMut(&K, &V) -> bool>(&mut self, table: u64, slot: usize, agrees: &mut F)
         requires callable { F.IsAlwaysCallable agrees.old }
         requires root { table ≡ self.old.store.words.root }
@@ -23,7 +23,7 @@ impl<K: Hash + Eq + Drop, V: Drop, S: BuildHasher> HashMap<K, V, S> {
         ensures scanned { (s : _) (f : _) → IsRetaining F.FnMut s f slot self.old agrees.old
             → IsRetaining F.FnMut s f (slot + 1) self.new agrees.new }
     {
-        // By this read the count is known to have 64 bits.
+        // This read gives the proof that the count fits in 64 bits.
         let _count = self.store.count();
         let at = At::Slot(table, slot);
         let word = Word(self.store.word(at));
@@ -39,11 +39,14 @@ impl<K: Hash + Eq + Drop, V: Drop, S: BuildHasher> HashMap<K, V, S> {
         self.store.add_to_shard(0, -1);
     }
 
-    /// Keeps the pairs which the closure, when it is shown each of them once, answers true for, and
-    /// removes the others: `retain` of 0.2.5.
+    /// Calls the closure once with each entry, keeps those for which it returns `true`, and removes
+    /// the others: `retain` of 0.2.5. A resize that is under way is finished first; then the root
+    /// keeps its slots.
     ///
-    /// The resize that is under way is ended first; then the root keeps its slots. Refused as
-    /// [`HashMap::copy_all`]; no pair was shown or removed then.
+    /// # Errors
+    ///
+    /// Fails as [`HashMap::copy_all`] does, and then has not called the closure and has removed no
+    /// entry.
     pub fn retain<F: FnMut(&K, &V) -> bool>(&mut self, mut agrees: F) -> Result<(), Refused>
         requires { F.IsAlwaysCallable agrees }
         ensures ok { OnOk result (IsRetained F.FnMut K.eq agrees self.old.store self.new.store) }

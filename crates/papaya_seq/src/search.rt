@@ -1,4 +1,4 @@
-//! The search of one table for a key, by the words that stand there: one loop for every call.
+//! The search of one table for a key, by the table's words: one loop for every call.
 ghost use Rattle.std.specs.Prelude.{◌≡◌, ◌+◌, ◌<◌, ℕ, Some, length};
 ghost use Rattle.papaya_ask.specs.Search.{IsSize, IsWithin};
 ghost use Rattle.papaya_store.specs.Tables.{table_of};
@@ -14,12 +14,12 @@ use papaya_store::store::Store;
 use papaya_words::word::Word;
 use std::hash::{BuildHasher, Hash};
 
-/// Where a turn of a search leads.
+/// The outcome of one place of a search.
 #[derive(Clone, Copy)]
 pub(crate) enum Turn {
-    /// This place is looked at next.
+    /// The search looks at this place next.
     Next(Place),
-    /// Nothing was ever at this place, so the key is not here.
+    /// Nothing was ever written at this place, so the key is not here.
     Empty(Place),
     /// The word at this place names a pair with a matching key.
     Here(Place, u64),
@@ -27,7 +27,7 @@ pub(crate) enum Turn {
     Over(u64),
 }
 
-/// What a search has seen that loads no word and compares no key next, as a turn.
+/// Returns the outcome of a step that leaves no word to load and no key to compare.
 #[inline(always)]
 fn turn_of(seen: Probed) -> Turn
     requires { IsTurned seen }
@@ -42,7 +42,7 @@ fn turn_of(seen: Probed) -> Turn
     }
 }
 
-/// Loads the word at one place of a table, and compares the key of the pair that it names.
+/// Loads the word at one place of a table, and compares the key of the pair that the word names.
 #[inline(always)]
 fn read_at<K: Hash + Eq, V, S: BuildHasher, Q: Equivalent<K>>(
     store: &Store<K, V, S>,
@@ -68,8 +68,8 @@ fn read_at<K: Hash + Eq, V, S: BuildHasher, Q: Equivalent<K>>(
     }
 }
 
-/// Passes by the places that hold other keys, as their hints say, from this one on. This loop
-/// calls nothing, so where the hints lie stays in a register.
+/// Passes the places that hold other keys, as their hints say, from this one on. This loop calls
+/// nothing, so the address of the hints stays in a register.
 #[inline(always)]
 pub(crate) fn pass_by<K: Hash + Eq, V, S: BuildHasher>(
     store: &Store<K, V, S>,
@@ -92,7 +92,7 @@ pub(crate) fn pass_by<K: Hash + Eq, V, S: BuildHasher>(
     }
 }
 
-/// Passes by places, up to one whose hint says nothing or is the key's, and looks at its word.
+/// Passes places, up to one whose hint is 0 or the key's, and looks at its word.
 #[inline(always)]
 fn look_at<K: Hash + Eq, V, S: BuildHasher, Q: Equivalent<K>>(
     store: &Store<K, V, S>,
@@ -134,7 +134,7 @@ pub(crate) fn search<K: Hash + Eq, V, S: BuildHasher, Q: Equivalent<K>>(
     }
 }
 
-/// Searches the root, where there is one.
+/// Searches the root, if there is one.
 #[inline(always)]
 pub(crate) fn search_root<K: Hash + Eq, V, S: BuildHasher, Q: Equivalent<K>>(
     store: &Store<K, V, S>,

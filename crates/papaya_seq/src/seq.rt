@@ -40,7 +40,7 @@ use std::alloc::Global;
 use std::hash::{BuildHasher, BuildHasherDefault, FoldHasher, Hash};
 use std::marker::Model;
 
-/// What a compute did, as a reply.
+/// Returns the result of a compute as a reply.
 fn replied(computed: Result<Computed<u64, u64>, Refused>) -> Reply
     ensures { result ≡ reply_of computed }
 {
@@ -53,7 +53,7 @@ fn replied(computed: Result<Computed<u64, u64>, Refused>) -> Reply
     }
 }
 
-/// What a call did that resizes the map, as a reply.
+/// Returns the result of a call that resizes the map as a reply.
 fn resized(done: Result<(), Refused>) -> Reply
     ensures { MatchResult done (λ _. result ≡ Reply.Done) (λ e. result ≡ Reply.Refused e) }
 {
@@ -65,12 +65,12 @@ fn resized(done: Result<(), Refused>) -> Reply
 
 /// A hash map for one caller: the machines of the shared map, on plain words.
 ///
-/// It ports `papaya::HashMap` for where a `&mut` will do: no guard, no atomic, and what is
-/// answered borrows the map. Contracts see its words and logs, and by `map_in` the finite map that
-/// they mean.
+/// It ports `papaya::HashMap` to code that has a `&mut` map. It needs no guard and no atomics, and
+/// results borrow the map. Contracts see its words and its arena, which represent the finite map
+/// that `map_in` computes.
 ///
-/// Pairs that were replaced or removed stay in the log until [`HashMap::reclaim`], or until the map
-/// is dropped.
+/// Entries that were replaced or removed stay in the arena until [`HashMap::reclaim`], or until the
+/// map is dropped.
 #[derive(Drop)]
 pub struct HashMap<K: Hash + Eq, V, S: BuildHasher = BuildHasherDefault<FoldHasher>> {
     pub(crate) alloc: Global,
@@ -93,15 +93,16 @@ impl<K: Hash + Eq, V, S: BuildHasher> Model for HashMap<K, V, S> {
 }
 
 impl<K: Hash + Eq + Drop, V: Drop, S: BuildHasher + Drop> HashMap<K, V, S> {
-    /// A map of all its parts. `capacity` is for how many pairs its first table is made at once;
-    /// with 0 the first change makes one. `shards` is rounded up to a power of two. With a `limit`
-    /// the map logs so many pairs at most: a call that needs one more is refused `Refused::Limit`.
-    /// One that took a number for its pair, and was then refused the memory for it, has used the
-    /// number up.
+    /// Creates a map from all its settings. The first table has room for `capacity` entries; with 0
+    /// the first change makes it. `shards` is rounded up to a power of two. With a `limit` the map
+    /// stores at most that many entries: a call that needs one more fails with `Refused::Limit`. A
+    /// call that took a number for its entry, and then ran out of memory, has used the number up.
     ///
-    /// `Refused::ZeroChunk` for chunks of no slots. `Refused::Capacity` for more shards than
-    /// [`papaya_words::limits::MAX_SHARDS`], and for a table past
-    /// [`papaya_words::limits::MAX_TABLE_LEN`]. `Refused::Memory` where a growth was refused.
+    /// # Errors
+    ///
+    /// Fails with `Refused::ZeroChunk` for chunks of no slots, and with `Refused::Memory` if memory
+    /// runs out. Fails with `Refused::Capacity` for more than [`papaya_words::limits::MAX_SHARDS`]
+    /// shards, or a table longer than [`papaya_words::limits::MAX_TABLE_LEN`] slots.
     pub fn with_parts(
         alloc: Global,
         mode: ResizeMode,
@@ -125,7 +126,13 @@ impl<K: Hash + Eq + Drop, V: Drop, S: BuildHasher + Drop> HashMap<K, V, S> {
         })
     }
 
-    /// A map for so many pairs, with this hasher: `with_capacity_and_hasher` of 0.2.5.
+    /// Creates a map for this many entries, with this hasher: `with_capacity_and_hasher` of 0.2.5.
+    ///
+    /// # Errors
+    ///
+    /// Fails with `Refused::Capacity` for a table longer than
+    /// [`papaya_words::limits::MAX_TABLE_LEN`] slots, and with `Refused::Memory` if memory runs
+    /// out.
     pub fn with_capacity_and_hasher(
         alloc: Global,
         capacity: usize,
@@ -141,7 +148,12 @@ impl<K: Hash + Eq + Drop, V: Drop, S: BuildHasher + Drop> HashMap<K, V, S> {
         HashMap::with_parts(alloc, ResizeMode::default(), capacity, 1, hasher, None)
     }
 
-    /// A map with this hasher: `with_hasher` of 0.2.5. The first change makes its first table.
+    /// Creates a map with this hasher: `with_hasher` of 0.2.5. The first change makes its first
+    /// table.
+    ///
+    /// # Errors
+    ///
+    /// Fails with `Refused::Memory` if memory runs out.
     pub fn with_hasher(alloc: Global, hasher: S) -> Result<HashMap<K, V, S>, Refused>
         ensures ok { IfOk result (λ map. IsNew {A = Unit {0}}
             (ResizeMode.Incremental DEFAULT_CHUNK) 0 1 hasher (core_of map)) }
@@ -153,8 +165,12 @@ impl<K: Hash + Eq + Drop, V: Drop, S: BuildHasher + Drop> HashMap<K, V, S> {
 }
 
 impl<K: Hash + Eq + Drop, V: Drop> HashMap<K, V, BuildHasherDefault<FoldHasher>> {
-    /// A map that makes its first table at its first change: `new` of 0.2.5, but for the hasher,
-    /// which is the same in each run.
+    /// Creates a map that makes its first table at its first change: `new` of 0.2.5. Only the
+    /// hasher differs, which is the same in each run.
+    ///
+    /// # Errors
+    ///
+    /// Fails with `Refused::Memory` if memory runs out.
     pub fn new(alloc: Global) -> Result<HashMap<K, V, BuildHasherDefault<FoldHasher>>, Refused>
         ensures new { IfOk result (λ map. IsNew {A = Unit {0}}
             (ResizeMode.Incremental DEFAULT_CHUNK) 0 1 map.store.hasher (core_of map)) }
@@ -165,7 +181,11 @@ impl<K: Hash + Eq + Drop, V: Drop> HashMap<K, V, BuildHasherDefault<FoldHasher>>
         HashMap::with_hasher(alloc, BuildHasherDefault::new())
     }
 
-    /// A map for so many pairs: `with_capacity` of 0.2.5.
+    /// Creates a map for this many entries: `with_capacity` of 0.2.5.
+    ///
+    /// # Errors
+    ///
+    /// Fails as [`HashMap::with_capacity_and_hasher`] does.
     pub fn with_capacity(
         alloc: Global,
         capacity: usize,
@@ -180,7 +200,11 @@ impl<K: Hash + Eq + Drop, V: Drop> HashMap<K, V, BuildHasherDefault<FoldHasher>>
         HashMap::with_capacity_and_hasher(alloc, capacity, BuildHasherDefault::new())
     }
 
-    /// The same as [`HashMap::new`]: what the trait `Default` gives in 0.2.5.
+    /// Creates a map as [`HashMap::new`] does: what the trait `Default` gives in 0.2.5.
+    ///
+    /// # Errors
+    ///
+    /// Fails as [`HashMap::new`] does.
     pub fn default(alloc: Global) -> Result<HashMap<K, V, BuildHasherDefault<FoldHasher>>, Refused>
         ensures new { IfOk result (λ map. IsNew {A = Unit {0}}
             (ResizeMode.Incremental DEFAULT_CHUNK) 0 1 map.store.hasher (core_of map)) }
@@ -193,10 +217,10 @@ impl<K: Hash + Eq + Drop, V: Drop> HashMap<K, V, BuildHasherDefault<FoldHasher>>
 }
 
 impl<K: Hash + Eq, V, S: BuildHasher> HashMap<K, V, S> {
-    /// How many pairs the map has.
+    /// Returns the number of entries.
     ///
-    /// The contract also says of any map that it has logged no more pairs than its limit says,
-    /// where it has one.
+    /// The contract also states that the arena of a map with a limit has no more entries than the
+    /// limit.
     pub fn len(&self) -> usize
         ensures count { result ≡ length (content K.eq self.now.store) }
         ensures apart { AreApart K.eq (λ p. p.key) (content K.eq self.now.store) }
@@ -206,7 +230,7 @@ impl<K: Hash + Eq, V, S: BuildHasher> HashMap<K, V, S> {
         self.store.count()
     }
 
-    /// Has the map no pair?
+    /// Returns whether the map has no entries.
     pub fn is_empty(&self) -> bool
         ensures { MatchBool result (content K.eq self.now.store ≡ [])
             (content K.eq self.now.store ≢ []) }
@@ -214,36 +238,36 @@ impl<K: Hash + Eq, V, S: BuildHasher> HashMap<K, V, S> {
         self.len() == 0
     }
 
-    /// Returns how many pairs the log holds: those of the map, and those that were replaced or
-    /// removed since the map was made or reclaimed. A pair of two numbers takes 24 bytes.
+    /// Returns how many entries the arena holds: those of the map, and those that were replaced or
+    /// removed since the map was made or reclaimed. An entry of two `u64`s takes 24 bytes.
     pub fn stored(&self) -> usize
         ensures { result ≡ length self.now.store.pairs }
     {
         self.store.stored()
     }
 
-    /// How many slots the root table has; 0 where there is none yet. It has as many as the initial
-    /// capacity, or more.
+    /// Returns the number of slots of the root table, or 0 if there is no table yet. It is at least
+    /// the initial capacity.
     pub fn slots(&self) -> usize
         ensures slots { result ≡ slots_of self.now.store }
         ensures long { (slots_of self.now.store ≡ 0)
             ⊎ (self.now.initial ≤ slots_of self.now.store) }
     {
-        // By this read the map is known to be in order.
+        // This read gives the proof the map's invariant.
         let _mode = self.mode;
         self.store.root().map_or(0, |table| table.len())
     }
 
-    /// Are pairs being moved to a next table? While they are not, a removal takes no memory and
-    /// is never refused.
+    /// Returns whether entries are being moved to a next table. While they are not, a removal
+    /// allocates nothing and never fails.
     pub fn resizing(&self) -> bool
         ensures { MatchBool result (next_of self.now.store ≢ 0) (next_of self.now.store ≡ 0) }
     {
         self.store.root().map_or(0, |table| table.next()) != 0
     }
 
-    /// The key and the value of a pair, by its number in the log, also of one that was replaced
-    /// or removed.
+    /// Returns the key and the value of an entry by its number in the arena, also if the entry was
+    /// replaced or removed.
     pub fn pair(&self, n: u64) -> Option<(&K, &V)>
         ensures { MatchOption result (pair_of self.now.store n ≡ None)
             (λ p. pair_of self.now.store n ≡ Some (record
@@ -252,10 +276,10 @@ impl<K: Hash + Eq, V, S: BuildHasher> HashMap<K, V, S> {
         self.store.pair(n)
     }
 
-    /// The value of a key: `get` of 0.2.5. It takes no memory and is never refused.
+    /// Returns the value of a key: `get` of 0.2.5. It allocates nothing and never fails.
     ///
-    /// The answer is what the machine of a lookup replies where each of its loads is answered by
-    /// the word that stands in the tables.
+    /// The result is what the machine of a lookup replies if each of its loads is answered with the
+    /// word that is in the tables.
     #[inline(always)]
     pub fn get<Q: Equivalent<K>>(&self, key: &Q) -> Option<&V>
         ensures map { (k : _) → Q.matches key.now k ≡ true
@@ -274,7 +298,7 @@ impl<K: Hash + Eq, V, S: BuildHasher> HashMap<K, V, S> {
         }
     }
 
-    /// The stored key and the value of a key: `get_key_value` of 0.2.5.
+    /// Returns the stored key and the value of a key: `get_key_value` of 0.2.5.
     #[inline(always)]
     pub fn get_key_value<Q: Equivalent<K>>(&self, key: &Q) -> Option<(&K, &V)>
         ensures map { (k : _) → Q.matches key.now k ≡ true
@@ -294,7 +318,7 @@ impl<K: Hash + Eq, V, S: BuildHasher> HashMap<K, V, S> {
         }
     }
 
-    /// Is the key in the map? `contains_key` of 0.2.5.
+    /// Returns whether the key is in the map: `contains_key` of 0.2.5.
     #[inline(always)]
     pub fn contains_key<Q: Equivalent<K>>(&self, key: &Q) -> bool
         ensures map { (k : _) → Q.matches key.now k ≡ true
@@ -308,14 +332,14 @@ impl<K: Hash + Eq, V, S: BuildHasher> HashMap<K, V, S> {
             self.now.mode.limit) found
             × (result ≡ is_some found) }
     {
-        // By this read the map is known to be in order.
+        // This read gives the proof the map's invariant.
         let _mode = self.mode;
         self.look_up(key).is_some()
     }
 }
 
 impl<K: Hash + Eq, V, S: BuildHasher> HashMap<K, V, S> {
-    /// The key and the value of a pair that is in the log.
+    /// Returns the key and the value of a pair that is in the arena.
     #[inline(always)]
     pub(crate) fn entry(&self, n: u64) -> (&K, &V)
         requires { IsSome (pair_of self.now.store n) }
@@ -325,7 +349,7 @@ impl<K: Hash + Eq, V, S: BuildHasher> HashMap<K, V, S> {
         self.store.logged(n)
     }
 
-    /// The value of a pair that is in the log.
+    /// Returns the value of a pair that is in the arena.
     #[inline(always)]
     pub(crate) fn logged(&self, n: u64) -> &V
         requires { IsSome (pair_of self.now.store n) }
@@ -338,18 +362,20 @@ impl<K: Hash + Eq, V, S: BuildHasher> HashMap<K, V, S> {
 impl<K: Hash + Eq + Drop, V: Drop, S: BuildHasher> HashMap<K, V, S> {
     ghost use Rattle.papaya_seq.specs.Ends.{ends_so};
 
-    /// Stores a pair, and answers the value that its key had: `insert` of 0.2.5. Where the key was
-    /// in the map, the key that is stored stays, and the new one is dropped.
+    /// Inserts an entry, and returns the value that its key had: `insert` of 0.2.5. If the key was
+    /// in the map, the stored key stays, and the new one is dropped.
     ///
-    /// A table whose places are filled is followed by a further one, and while pairs are being
-    /// moved to it, each call that may change the map moves a chunk of them, or with
-    /// `Blocking` all.
+    /// When the places of a table are filled, a next table follows. While entries are being moved
+    /// to it, each call that may change the map moves a chunk of them, or with `Blocking` all.
     ///
-    /// `Refused::Memory` where a growth was refused. `Refused::Capacity` where the arena of pairs
-    /// is full, and where a next table is needed, and there are as many as there may be or it would
-    /// have more than [`papaya_words::limits::MAX_TABLE_LEN`] slots. `Refused::Limit` where the map
-    /// has a limit, and as many numbers were taken for pairs. The map is as it was then, and what
-    /// was handed in is dropped, at once or with the map.
+    /// # Errors
+    ///
+    /// The map is then as it was, and the arguments are dropped, at once or with the map.
+    ///
+    /// - `Refused::Memory` if memory runs out.
+    /// - `Refused::Capacity` if the arena is full, or if a next table is needed and would be one
+    ///   too many or longer than [`papaya_words::limits::MAX_TABLE_LEN`] slots.
+    /// - `Refused::Limit` if the map has a limit and that many numbers were taken for entries.
     pub fn insert(&mut self, key: K, value: V) -> Result<Option<&V>, Refused>
         ensures* inserts { sem 𝓛 (ends_so K.row V.row S.row S.Hasher.row K.Hash S.BuildHasher
             S.Hasher.Hasher self.entry (IsInserted K.eq key value self.old (old_answered result))) }
@@ -365,11 +391,14 @@ impl<K: Hash + Eq + Drop, V: Drop, S: BuildHasher> HashMap<K, V, S> {
         }
     }
 
-    /// Stores a pair where the key is absent: the number of the pair that the key has then, and the
-    /// value that was handed in, where the key was in the map and it was not stored.
+    /// Inserts an entry if the key is absent. Returns the number of the key's entry, and the
+    /// passed-in value if the key was in the map, so that it was not stored.
     ///
-    /// It is [`HashMap::try_insert`] with a number in place of a reference. Refused as
-    /// [`HashMap::insert`], and only where the key is absent, or while pairs are being moved.
+    /// Works as [`HashMap::try_insert`], with a number instead of a reference.
+    ///
+    /// # Errors
+    ///
+    /// Fails as [`HashMap::insert`] does, but only if the key is absent or a resize is under way.
     pub fn insert_absent(&mut self, key: K, value: V) -> Result<(u64, Option<V>), Refused>
         ensures tried { IsTried K.eq key value self.old result self.new }
         ensures alone { IfErr result (λ refused. IsMadeAlone K.eq
@@ -385,9 +414,13 @@ impl<K: Hash + Eq + Drop, V: Drop, S: BuildHasher> HashMap<K, V, S> {
         }
     }
 
-    /// [`HashMap::try_insert`] which leaves the value that was handed in in `left`, where the key
-    /// is in the map. So its answer owns nothing, and its clause says what the map is after it.
-    /// Refused as it is.
+    /// Inserts an entry as `try_insert` does, and writes the passed-in value to `left` if the key
+    /// is in the map. So the result owns nothing, and the contract states what the map is
+    /// afterwards.
+    ///
+    /// # Errors
+    ///
+    /// Fails as [`HashMap::try_insert`] does.
     pub fn try_insert_into(
         &mut self,
         key: K,
@@ -417,13 +450,16 @@ impl<K: Hash + Eq + Drop, V: Drop, S: BuildHasher> HashMap<K, V, S> {
         }
     }
 
-    /// Stores a pair where the key is absent, and answers its value: `try_insert` of 0.2.5. Where
-    /// the key is in the map, what is there stays, and the value that was handed in is given back.
+    /// Inserts an entry if the key is absent, and returns its value: `try_insert` of 0.2.5. If the
+    /// key is in the map, its entry stays, and the passed-in value is returned in the error.
     ///
-    /// It is [`HashMap::try_insert_into`], which says what the map is after it, and how long the
-    /// tables are that it makes. No clause says it here, since the answer may own a value. Refused
-    /// as [`HashMap::insert`], and only where the key is absent, or while pairs are being moved:
-    /// `err` shows it by a run of the call on the map before.
+    /// The contract does not describe the map afterwards, because the result may own a value:
+    /// [`HashMap::try_insert_into`] describes it and its tables.
+    ///
+    /// # Errors
+    ///
+    /// Fails as [`HashMap::insert`] does, but only if the key is absent or a resize is under way.
+    /// `err` states this by a run of the call on the map before.
     pub fn try_insert(
         &mut self,
         key: K,
@@ -452,10 +488,12 @@ impl<K: Hash + Eq + Drop, V: Drop, S: BuildHasher> HashMap<K, V, S> {
         }
     }
 
-    /// The value of a key, which is stored where the key is absent: `get_or_insert` of 0.2.5.
+    /// Returns the value of a key, and first inserts `value` if the key is absent: `get_or_insert`
+    /// of 0.2.5.
     ///
-    /// Refused as [`HashMap::insert`], and only where the key is absent, or while pairs are
-    /// being moved.
+    /// # Errors
+    ///
+    /// Fails as [`HashMap::insert`] does, but only if the key is absent or a resize is under way.
     pub fn get_or_insert(&mut self, key: K, value: V) -> Result<&V, Refused>
         ensures* inserts { sem 𝓛 (ends_so K.row V.row S.row S.Hasher.row K.Hash S.BuildHasher
             S.Hasher.Hasher self.entry (HasValue K.eq key value self.old
@@ -469,9 +507,12 @@ impl<K: Hash + Eq + Drop, V: Drop, S: BuildHasher> HashMap<K, V, S> {
         Ok(self.logged(pair))
     }
 
-    /// Removes a key's pair, and answers its value: `remove` of 0.2.5. While no pairs are being
-    /// moved to a next table ([`HashMap::resizing`]), it takes no memory and is not refused. Else
-    /// it may be, as [`HashMap::insert`] is for want of a next table.
+    /// Removes a key's entry, and returns its value: `remove` of 0.2.5. Without a resize under way
+    /// ([`HashMap::resizing`]) it allocates nothing and never fails.
+    ///
+    /// # Errors
+    ///
+    /// Fails only during a resize, as an [`HashMap::insert`] that needs a next table does.
     pub fn remove<Q: Equivalent<K>>(&mut self, key: &Q) -> Result<Option<&V>, Refused>
         ensures* removes { sem 𝓛 (ends_so K.row V.row S.row S.Hasher.row K.Hash S.BuildHasher
             S.Hasher.Hasher self.entry (IsRemoved K.eq (Q.matches key.now) (λ p. p.value) self.old
@@ -488,8 +529,11 @@ impl<K: Hash + Eq + Drop, V: Drop, S: BuildHasher> HashMap<K, V, S> {
         }
     }
 
-    /// Removes a key's pair, and answers the stored key and the value: `remove_entry` of 0.2.5.
-    /// Refused as [`HashMap::remove`].
+    /// Removes a key's entry, and returns the stored key and the value: `remove_entry` of 0.2.5.
+    ///
+    /// # Errors
+    ///
+    /// Fails as [`HashMap::remove`] does.
     pub fn remove_entry<Q: Equivalent<K>>(&mut self, key: &Q) -> Result<Option<(&K, &V)>, Refused>
         ensures* removes { sem 𝓛 (ends_so K.row V.row S.row S.Hasher.row K.Hash S.BuildHasher
             S.Hasher.Hasher self.entry (IsRemoved K.eq (Q.matches key.now) entry_of self.old
@@ -508,10 +552,14 @@ impl<K: Hash + Eq + Drop, V: Drop, S: BuildHasher> HashMap<K, V, S> {
         }
     }
 
-    /// Removes a key's pair if the closure, which is shown it, answers true: `remove_if` of 0.2.5.
+    /// Removes a key's entry if the closure returns `true` for it: `remove_if` of 0.2.5.
     ///
-    /// `Ok(None)` where the key is absent, `Ok(Some(pair))` where that very pair was removed, and
-    /// `Err(pair)` where the closure answered false for it. Refused as [`HashMap::remove`].
+    /// Returns `Ok(None)` if the key is absent, `Ok(Some(entry))` if that very entry was removed,
+    /// and `Err(entry)` if the closure returned `false` for it.
+    ///
+    /// # Errors
+    ///
+    /// Fails as [`HashMap::remove`] does.
     pub fn remove_if<Q: Equivalent<K>, F: FnMut(&K, &V) -> bool>(
         &mut self,
         key: &Q,
@@ -542,7 +590,7 @@ impl<K: Hash + Eq + Drop, V: Drop, S: BuildHasher> HashMap<K, V, S> {
         }
     }
 
-    /// Makes one call that was handed in as a value.
+    /// Runs one call that is given as a value.
     fn call<A: Answers<K, V> + Drop>(&mut self, call: Call<K, V, A>) -> Outcome
         ensures called { IsCalled K.eq (record { op = A.op_gives; yes = A.yes_gives }) self.old call
             (reply_told result) self.new }
@@ -576,11 +624,13 @@ impl<K: Hash + Eq + Drop, V: Drop, S: BuildHasher> HashMap<K, V, S> {
         }
     }
 
-    /// Makes calls, one after the other, and answers what they come to, one outcome a call: its
-    /// reply, or of a walk the numbers of the map's pairs, as [`HashMap::iter`] gives these. A call
-    /// that is refused has its refusal for a reply, and the next one is made.
+    /// Runs calls, one after the other, and returns the outcome of each: its reply, or for an
+    /// iteration the numbers of the map's entries in the order of [`HashMap::iter`]. A call that
+    /// fails has its refusal as its reply, and the next one is made.
     ///
-    /// `Refused::Memory` where there is no room for the outcomes: no call is made then.
+    /// # Errors
+    ///
+    /// Fails with `Refused::Memory` if memory for the outcomes runs out, and then has made no call.
     pub fn run<A: Answers<K, V> + Drop>(
         &mut self,
         calls: Vec<Call<K, V, A>>,

@@ -1,6 +1,6 @@
-//! Where a walk of the map stands.
+//! The position of an iteration over the map.
 
-/// Before this slot of this table. So many tables were passed before it, from the root on.
+/// A position before this slot of this table. `passed` tables come before it, from the root.
 #[derive(Clone, Copy)]
 pub(crate) struct Stand {
     pub(crate) table: u64,

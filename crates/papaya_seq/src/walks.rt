@@ -1,4 +1,4 @@
-//! Walks of the map: each pair once, by tables from the root on, and by slots in each.
+//! Iterations over the map: each entry once, by tables from the root, and by slots in each.
 ghost use Rattle.std.specs.Prelude.{◌≡◌, ◌<◌, IfErr, IfOk, MatchBool, Some, length, map};
 ghost use Rattle.std.specs.Iterator.{YieldsFirstBy, YieldsFirstRef, item_count};
 ghost use Rattle.papaya_ask.specs.Search.{IsSize};
@@ -19,8 +19,7 @@ use papaya_words::word::{Kind, Word, h1};
 use std::hash::{BuildHasher, Hash};
 use std::marker::Model;
 
-/// Does a word of the table say that the pair is being copied? It would stand at a place of
-/// this hash.
+/// Returns whether a word of the table marks the pair, whose key has this hash, as being copied.
 fn marks<K: Hash + Eq, V, S: BuildHasher>(
     store: &Store<K, V, S>,
     table: u64,
@@ -48,8 +47,8 @@ fn marks<K: Hash + Eq, V, S: BuildHasher>(
 }
 
 impl<K: Hash + Eq, V, S: BuildHasher> HashMap<K, V, S> {
-    /// Has one of so many tables, from the root on, the pair of this word, which stands in the
-    /// table after them? Then the pair was being copied when a call was refused.
+    /// Returns whether one of the tables before has this pair too. Then the pair was being copied
+    /// when a call was refused.
     #[cold]
     #[inline(never)]
     fn is_copy(&self, pair: u64, at: Stand) -> bool
@@ -74,7 +73,7 @@ impl<K: Hash + Eq, V, S: BuildHasher> HashMap<K, V, S> {
         false
     }
 
-    /// The pair of the word at this stand, if it has one that is given here.
+    /// Returns the pair of the word at this position, if it has one that was not returned before.
     #[inline(always)]
     fn given(&self, table: &Table, at: Stand) -> Option<u64>
         requires stands { IsStand self.now at }
@@ -82,10 +81,10 @@ impl<K: Hash + Eq, V, S: BuildHasher> HashMap<K, V, S> {
         requires within { at.slot < length table.now.slots }
         ensures { IsStepped K.eq self.now.store at result }
     {
-        // By this read the map is known to be in order.
+        // This read gives the proof the map's invariant.
         let _mode = self.mode;
         let word = Word(table.slot(at.slot));
-        // Most slots that hold no pair are empty, and one comparison tells those.
+        // Most slots without a pair are empty, and one comparison finds those.
         if word == Word::EMPTY {
             return None;
         }
@@ -97,7 +96,7 @@ impl<K: Hash + Eq, V, S: BuildHasher> HashMap<K, V, S> {
         }
     }
 
-    /// The next pair of this table of so many slots, where the walk stands.
+    /// Returns the next pair of this table of `end` slots, from the iteration's position on.
     #[inline(always)]
     fn next_in(&self, table: &Table, end: usize, at: &mut Stand) -> Option<u64>
         requires stands { IsStand self.now at.old }
@@ -116,7 +115,7 @@ impl<K: Hash + Eq, V, S: BuildHasher> HashMap<K, V, S> {
         None
     }
 
-    /// The next pair of the table where the walk stands, if there is such a table.
+    /// Returns the next pair of the table at the iteration's position, if there is such a table.
     fn next_here(&self, at: &mut Stand) -> Option<u64>
         requires { IsStand self.now at.old }
         ensures same { (at.new.table ≡ at.old.table) × (at.new.passed ≡ at.old.passed) }
@@ -128,7 +127,7 @@ impl<K: Hash + Eq, V, S: BuildHasher> HashMap<K, V, S> {
         }
     }
 
-    /// The next pair of the map. With blocking the root has all of them.
+    /// Returns the next pair of the map. With blocking the root has all of them.
     #[inline(never)]
     fn next_pair(&self, at: &mut Stand) -> Option<u64>
         requires { IsStand self.now at.old }
@@ -155,7 +154,7 @@ impl<K: Hash + Eq, V, S: BuildHasher> HashMap<K, V, S> {
         }
     }
 
-    /// The next pair of the map. The walk holds the root, of so many slots, until that has no more.
+    /// Returns the next pair of the map. The iterator holds the root, of `end` slots, to its end.
     #[inline(always)]
     fn next_held(&self, root: Option<&Table>, end: &mut usize, at: &mut Stand) -> Option<u64>
         requires stands { IsStand self.now at.old }
@@ -166,7 +165,7 @@ impl<K: Hash + Eq, V, S: BuildHasher> HashMap<K, V, S> {
     {
         if at.slot < *end {
             let Some(table) = root else { unreachable!() };
-            // It is so, and said here, so that no pair is asked whether it is a copy.
+            // It is 0 already. This write lets the compiler drop the test for copies.
             at.passed = 0;
             let pair = self.next_in(table, *end, at);
             if pair.is_some() {
@@ -174,14 +173,14 @@ impl<K: Hash + Eq, V, S: BuildHasher> HashMap<K, V, S> {
             }
         }
         *end = 0;
-        // The place handed on is a copy, so that the walk's own may be kept in registers.
+        // A copy is passed on, so that the iteration's own position may stay in registers.
         let mut place = *at;
         let pair = self.next_pair(&mut place);
         *at = place;
         pair
     }
 
-    /// Where a walk begins.
+    /// Returns the position at which an iteration begins.
     #[inline]
     fn first(&self) -> Stand
         ensures stands { IsStand self.now result }
@@ -195,9 +194,9 @@ impl<K: Hash + Eq, V, S: BuildHasher> HashMap<K, V, S> {
         }
     }
 
-    /// The numbers of the map's pairs, in the order in which [`HashMap::iter`] gives these.
+    /// Returns the numbers of the map's pairs, in the order of [`HashMap::iter`].
     ///
-    /// `Refused::Memory` where the list could not grow.
+    /// Fails with `Refused::Memory` if memory for the list runs out.
     pub(crate) fn numbers(&self) -> Result<Vec<u64>, Refused>
         ensures ok { IfOk result (λ list. list.items
             ≡ map (λ p. p.number) (content K.eq self.now.store)) }
@@ -214,7 +213,7 @@ impl<K: Hash + Eq, V, S: BuildHasher> HashMap<K, V, S> {
         Ok(list)
     }
 
-    /// The pairs of the map, each once. It takes no memory, copies nothing and is never refused.
+    /// Returns an iterator over the entries, each once. It allocates nothing and never fails.
     pub fn iter(&self) -> Iter<'_, K, V, S>
         ensures { result ≡ map entry_of (content K.eq self.now.store) }
     {
@@ -227,14 +226,14 @@ impl<K: Hash + Eq, V, S: BuildHasher> HashMap<K, V, S> {
         }
     }
 
-    /// The keys of the map, as [`HashMap::iter`] gives them.
+    /// Returns an iterator over the keys, in the order of [`HashMap::iter`].
     pub fn keys(&self) -> Keys<'_, K, V, S>
         ensures { result ≡ map (λ p. p.key) (content K.eq self.now.store) }
     {
         Keys { pairs: self.iter() }
     }
 
-    /// The values of the map, as [`HashMap::iter`] gives them.
+    /// Returns an iterator over the values, in the order of [`HashMap::iter`].
     pub fn values(&self) -> Values<'_, K, V, S>
         ensures { result ≡ map (λ p. p.value) (content K.eq self.now.store) }
     {
@@ -254,13 +253,13 @@ impl<'a, K: Hash + Eq, V, S: BuildHasher> IntoIterator for &'a HashMap<K, V, S> 
     }
 }
 
-/// The keys and values of a map, seen as the list of those that are left.
+/// An iterator over the entries of a map. Contracts see the list of those that are left.
 #[derive(Drop)]
 pub struct Iter<'a, K: Hash + Eq, V, S: BuildHasher> {
     map: &'a HashMap<K, V, S>,
-    /// The root, where there is one.
+    /// The root, if there is one.
     root: Option<&'a Table>,
-    /// How many slots the root has, while the walk is in it, and 0 behind it.
+    /// The number of slots of the root while the iteration is in it, and 0 afterwards.
     end: usize,
     at: Stand,
 }
@@ -278,7 +277,7 @@ impl<'a, K: Hash + Eq, V, S: BuildHasher> Model for Iter<'a, K, V, S> {
 }
 
 impl<'a, K: Hash + Eq, V, S: BuildHasher> Iter<'a, K, V, S> {
-    /// The same walk, from where this one stands.
+    /// Returns the same iterator, at the same position.
     pub(crate) fn again(&self) -> Iter<'a, K, V, S>
         ensures { result ≡ self.now }
     {
@@ -307,7 +306,7 @@ impl<'a, K: Hash + Eq, V, S: BuildHasher> Iterator for Iter<'a, K, V, S> {
     }
 }
 
-/// The keys of a map, seen as the list of those that are left.
+/// An iterator over the keys of a map. Contracts see the list of those that are left.
 #[derive(Drop)]
 pub struct Keys<'a, K: Hash + Eq, V, S: BuildHasher> {
     pub(crate) pairs: Iter<'a, K, V, S>,
@@ -337,7 +336,7 @@ impl<'a, K: Hash + Eq, V, S: BuildHasher> Iterator for Keys<'a, K, V, S> {
     }
 }
 
-/// The values of a map, seen as the list of those that are left.
+/// An iterator over the values of a map. Contracts see the list of those that are left.
 #[derive(Drop)]
 pub struct Values<'a, K: Hash + Eq, V, S: BuildHasher> {
     pub(crate) pairs: Iter<'a, K, V, S>,

@@ -1,5 +1,5 @@
-//! A pair that is logged and written at one place, and an insertion whose search ends where most
-//! do: its pair is written at once. The machine stands in the proof.
+//! The write of a pair at one place, and insertions that end with the root's search, as most do:
+//! their pair is written at once. The machine exists in the proof alone.
 ghost use Rattle.std.specs.Prelude.{◌≡◌, ◌≢◌, ℕ, IfOk, IfErr, IsSome, length, Some};
 ghost use Rattle.papaya_words.specs.Word.{pair_of as number_of};
 ghost use Rattle.papaya_ask.specs.Search.{IsSize};
@@ -24,8 +24,8 @@ use papaya_words::word::{Kind, Word, hint};
 use std::alloc::Global;
 use std::hash::{BuildHasher, Hash};
 
-/// Logs a pair, and writes it where its search ended, in place of the word that stands there. It
-/// has the key of the pair that this word names, or else the key that was handed in.
+/// Stores a pair, and writes it where its search ended, over the word there. Its key is that of the
+/// pair that this word names, or otherwise the key that was passed in.
 #[inline(always)]
 pub(crate) fn write<K: Hash + Eq + Drop, V: Drop, S: BuildHasher>(
     store: &mut Store<K, V, S>,
@@ -40,7 +40,7 @@ pub(crate) fn write<K: Hash + Eq + Drop, V: Drop, S: BuildHasher>(
     ensures { IsWritten store.old hash write key value result.0 result.1 store.new }
 {
     let mut running: Running<K, V, Listed<V>> = Running {
-        // The store asks the key and the value alone.
+        // The store reads only the key and the value.
         machine: Machine::new(Task::Get, hash, ResizeMode::Blocking, 1, 0, None),
         key: Part::Own(key),
         value: Some(Part::Own(value)),
@@ -70,9 +70,9 @@ pub(crate) fn write<K: Hash + Eq + Drop, V: Drop, S: BuildHasher>(
     (Reply::Replaced { old, new: pair }, None)
 }
 
-/// Inserts a pair at once, or gives it back: where there is no root, where the root has no place
-/// for its key, and where its key's pair is being moved. With it comes the number of a full root,
-/// or else 0.
+/// Inserts a pair at once. Returns it if there is no root, if the root has no place for its key, or
+/// if its key's pair is being moved. A number is returned with it: the root's if that is full, and
+/// otherwise 0.
 #[inline(always)]
 pub(crate) fn insert_fast<K: Hash + Eq + Drop, V: Drop, S: BuildHasher>(
     store: &mut Store<K, V, S>,

@@ -15,8 +15,8 @@ use std::hash::{BuildHasher, Hash};
 use std::process::Abort;
 use std::test::Fail;
 
-/// Stores a pair, and says whether it took the place of one. What the map is after it follows from
-/// the clause of `insert`.
+/// Stores a pair, and returns whether it replaced one. The contract of `insert` states what the map
+/// is afterwards.
 fn stores<K: Hash + Eq + Drop, V: Drop, S: BuildHasher>(
     map: &mut HashMap<K, V, S>,
     key: K,
@@ -30,7 +30,7 @@ fn stores<K: Hash + Eq + Drop, V: Drop, S: BuildHasher>(
     Ok(old.is_some())
 }
 
-/// Removes a key's pair, and says whether there was one.
+/// Removes a key's pair, and returns whether there was one.
 fn removes<K: Hash + Eq + Drop, V: Drop, S: BuildHasher, Q: Equivalent<K>>(
     map: &mut HashMap<K, V, S>,
     key: &Q,
@@ -45,7 +45,7 @@ fn removes<K: Hash + Eq + Drop, V: Drop, S: BuildHasher, Q: Equivalent<K>>(
     }
 }
 
-/// Key 5 is stored twice and removed twice.
+/// Stores key 5 twice, and removes it twice.
 fn stores_and_removes(rt: &impl Abort, map: &mut Usual) {
     is(rt, stores(map, 5, 1), Ok(false));
     has(rt, map, 1);
@@ -56,7 +56,7 @@ fn stores_and_removes(rt: &impl Abort, map: &mut Usual) {
     has(rt, map, 0);
 }
 
-/// What a closure answers, in turn.
+/// Returns the results of a closure, in turn.
 fn answers(alloc: Global, yes: bool) -> Result<Listed<u64>, Fail> {
     Ok(Listed {
         ops: Vec::new(alloc),
@@ -64,7 +64,7 @@ fn answers(alloc: Global, yes: bool) -> Result<Listed<u64>, Fail> {
     })
 }
 
-/// Ten calls, all but one of them on key 7, and a walk.
+/// Returns ten calls, all but one of them on key 7, and an iteration.
 fn ten_calls(alloc: Global) -> Result<Vec<Call<u64, u64, Listed<u64>>>, Fail> {
     let keeps = answers(alloc, false)?;
     let absent = answers(alloc, true)?;
@@ -84,7 +84,7 @@ fn ten_calls(alloc: Global) -> Result<Vec<Call<u64, u64, Listed<u64>>>, Fail> {
     ]?)
 }
 
-/// What they come to.
+/// Returns their outcomes.
 fn ten_outcomes(alloc: Global) -> Result<Vec<Outcome>, Fail> {
     Ok(vec![in alloc;
         Outcome::Replied(Reply::Absent),
@@ -101,7 +101,7 @@ fn ten_outcomes(alloc: Global) -> Result<Vec<Outcome>, Fail> {
     ]?)
 }
 
-/// They come to that, and have logged these pairs.
+/// Checks the outcomes, and the pairs that the calls have stored.
 fn runs_in_turn(rt: &impl Abort, alloc: Global, map: &mut Usual) -> Result<(), Fail> {
     let outcomes = map.run(ten_calls(alloc)?)?;
     is(rt, outcomes, ten_outcomes(alloc)?);
@@ -112,7 +112,7 @@ fn runs_in_turn(rt: &impl Abort, alloc: Global, map: &mut Usual) -> Result<(), F
     Ok(())
 }
 
-/// What is done with a new map.
+/// The cases of a new map.
 #[derive(Clone, Copy)]
 enum Case {
     StoresAndRemoves,

@@ -1,4 +1,4 @@
-// Maps of clones, and maps that are built anew.
+// Maps of clones, and maps that are rebuilt.
 use crate::expect::is;
 use crate::numbers::{Numbers, Parts, Work, on_made};
 use papaya_testing::times::{TOGETHER, Times};
@@ -7,7 +7,7 @@ use std::alloc::Global;
 use std::process::Abort;
 use std::test::Fail;
 
-/// The keys below this one are stored twice, and each is its own value then.
+/// Stores the keys below this one twice, each finally with itself as its value.
 fn stores_twice(map: &mut Numbers, end: u64) -> Result<(), Refused> {
     for key in 0..end {
         let _ = map.put(key, 1000)?;
@@ -16,7 +16,7 @@ fn stores_twice(map: &mut Numbers, end: u64) -> Result<(), Refused> {
     Ok(())
 }
 
-/// Both have twenty keys, and then one of them is changed.
+/// Checks that both have twenty keys, and that a change of one does not affect the other.
 fn is_apart(rt: &impl Abort, map: &Numbers, clone: &mut Numbers) -> Result<(), Fail> {
     is(rt, (clone.len(), map.eq(clone)), (20, true));
     let _ = clone.put(7, 70)?;
@@ -24,7 +24,7 @@ fn is_apart(rt: &impl Abort, map: &Numbers, clone: &mut Numbers) -> Result<(), F
     Ok(())
 }
 
-/// The pairs are numbered anew, and those that were replaced are gone.
+/// Checks that the pairs are numbered again, and that replaced ones are gone.
 fn is_reclaimed(rt: &impl Abort, map: &mut Numbers, clone: &Numbers) -> Result<(), Fail> {
     is(rt, map.pair(199).is_some(), true);
     map.reclaim()?;
@@ -34,19 +34,19 @@ fn is_reclaimed(rt: &impl Abort, map: &mut Numbers, clone: &Numbers) -> Result<(
     Ok(())
 }
 
-/// What is done with a map of some keys and its clone.
+/// The cases of a map of some keys and its clone.
 #[derive(Clone, Copy)]
 enum Case {
     /// One of them is changed.
     IsApart,
     /// There is no key.
     IsEmpty,
-    /// The map is built anew.
+    /// The map is rebuilt.
     IsReclaimed,
 }
 
 impl Case {
-    /// How many keys there are.
+    /// Returns how many keys there are.
     fn keys(self) -> u64 {
         match self {
             Case::IsApart => 20,

@@ -1,4 +1,4 @@
-// Computes that change nothing, that tell numbers, and that leave what they abort with.
+// Computes that change nothing, that return numbers, and that write their abort value.
 use crate::expect::is;
 use crate::numbers::{Fold, Making, Usual, Work, finds, on_usual};
 use papaya_call::answers::Operation;
@@ -8,7 +8,7 @@ use std::alloc::Global;
 use std::process::Abort;
 use std::test::Fail;
 
-/// A compute of an absent key removes nothing, and aborts.
+/// Checks that a compute of an absent key removes nothing, and aborts.
 fn changes_nothing(rt: &impl Abort, map: &mut Usual) {
     let removed: Result<Compute<'_, u64, u64, ()>, Refused> = map.compute(1, |_| Operation::Remove);
     is(rt, removed, Err(Refused::RemoveNothing));
@@ -17,13 +17,13 @@ fn changes_nothing(rt: &impl Abort, map: &mut Usual) {
     is(rt, map.slots(), 0);
 }
 
-/// A compute that inserts for key 1 answers so, by numbers.
+/// Checks the result, by numbers, of a compute that inserts for key 1.
 fn computes(rt: &impl Abort, map: &mut Usual, value: u64, wanted: Computed<u64, ()>) {
     let computed = map.compute_numbered(1, |_| Operation::Insert(value));
     is(rt, computed, Ok(wanted));
 }
 
-/// Numbers of pairs are told.
+/// Checks the numbers of pairs in results.
 fn tells_numbers(rt: &impl Abort, map: &mut Usual) {
     computes(rt, map, 5, Computed::Inserted(0));
     computes(rt, map, 6, Computed::Updated { old: 0, new: 1 });
@@ -31,7 +31,7 @@ fn tells_numbers(rt: &impl Abort, map: &mut Usual) {
     is(rt, map.pair(1), Some((&1, &6)));
 }
 
-/// An insertion leaves nothing, and an abort what it aborts with.
+/// Checks that an insertion writes nothing, and an abort its value.
 fn leaves_its_abort(rt: &impl Abort, map: &mut Usual) {
     let mut left = None;
     let inserted = map.compute_into(1, |_| Operation::Insert(5), &mut left);
@@ -43,7 +43,7 @@ fn leaves_its_abort(rt: &impl Abort, map: &mut Usual) {
     finds(rt, map, 1, Some(&5));
 }
 
-/// What is done with a new map.
+/// The cases of a new map.
 #[derive(Clone, Copy)]
 enum Case {
     ChangesNothing,

@@ -8,14 +8,14 @@ use std::alloc::Global;
 use std::process::Abort;
 use std::test::Fail;
 
-/// The keys from one to another are new, and each is its own value.
+/// Stores the keys of a range, which are new, each with itself as its value.
 pub fn stores(rt: &impl Abort, map: &mut Numbers, from: u64, to: u64) {
     for key in from..to {
         inserts(rt, map, key, key, Ok(None));
     }
 }
 
-/// Each key below this one is there, and the two after it are not.
+/// Checks that each key below this one is there, and that the two after it are not.
 pub fn has_below(rt: &impl Abort, map: &Numbers, end: u64) {
     for key in 0..end {
         is_at(rt, key as usize, map.get(&key), Some(&key));
@@ -25,7 +25,7 @@ pub fn has_below(rt: &impl Abort, map: &Numbers, end: u64) {
     has(rt, map, end as usize);
 }
 
-/// The root table has so many slots, and pairs are being moved or not.
+/// Checks the number of slots of the root table, and whether pairs are being moved.
 pub fn looks_so(rt: &impl Abort, map: &Numbers, keys: u64, slots: usize, resizing: bool) {
     is_at(
         rt,
@@ -35,7 +35,7 @@ pub fn looks_so(rt: &impl Abort, map: &Numbers, keys: u64, slots: usize, resizin
     );
 }
 
-/// Keys are stored until there are so many, and then the map looks so; and so on.
+/// Stores keys up to each count in turn, and checks how the map then looks.
 pub fn fills(rt: &impl Abort, map: &mut Numbers, looks: &[(u64, usize, bool)]) {
     let mut stored = 0;
     for &(keys, slots, resizing) in looks {
@@ -46,7 +46,7 @@ pub fn fills(rt: &impl Abort, map: &mut Numbers, looks: &[(u64, usize, bool)]) {
     }
 }
 
-/// A new map of this mode is filled.
+/// Fills a new map of this mode.
 fn fills_new(
     rt: &impl Abort,
     alloc: Global,
@@ -60,7 +60,7 @@ fn fills_new(
     Ok(())
 }
 
-/// A hundred keys on one path: a table of 128 slots has too few places for them.
+/// A hundred keys with one probe sequence: a table of 128 slots has too few places for them.
 #[test]
 fn blocking_gives_up_a_table(rt: HostRuntime) -> Result<(), Fail> {
     let looks = [
@@ -75,7 +75,7 @@ fn blocking_gives_up_a_table(rt: HostRuntime) -> Result<(), Fail> {
     fills_new(&rt, rt.alloc(), ResizeMode::Blocking, 0, TOGETHER, &looks)
 }
 
-/// The same keys, of which each call moves some at most.
+/// The same keys, of which each call moves at most some.
 #[test]
 fn chunks_fill_two_tables_in_turn(rt: HostRuntime) -> Result<(), Fail> {
     let looks = [
@@ -91,7 +91,7 @@ fn chunks_fill_two_tables_in_turn(rt: HostRuntime) -> Result<(), Fail> {
     fills_new(&rt, rt.alloc(), chunk, 0, TOGETHER, &looks)
 }
 
-/// Eight slots that are moved one at a time: the eighth call ends that.
+/// Eight slots that are moved one at a time: the eighth call finishes the move.
 #[test]
 fn one_slot_a_call(rt: HostRuntime) -> Result<(), Fail> {
     let looks = [
@@ -115,14 +115,14 @@ fn one_slot_a_call(rt: HostRuntime) -> Result<(), Fail> {
     )
 }
 
-/// With blocking the one call that needs it moves them all.
+/// With blocking the one call that needs it moves all of them.
 #[test]
 fn one_call_moves_all(rt: HostRuntime) -> Result<(), Fail> {
     let looks = [(8, 8, false), (9, 16, false)];
     fills_new(&rt, rt.alloc(), ResizeMode::Blocking, 6, APART, &looks)
 }
 
-/// A table in which pairs were removed everywhere makes room for a smaller one.
+/// Checks that a table in which most pairs were removed is followed by a smaller one.
 fn gets_smaller(rt: &impl Abort, map: &mut Numbers) {
     for key in 0..26u64 {
         stores(rt, map, key, key + 1);
@@ -135,7 +135,7 @@ fn gets_smaller(rt: &impl Abort, map: &mut Numbers) {
     has(rt, map, 1);
 }
 
-/// While pairs are being moved insertions do as they do at other times.
+/// Checks that insertions work as usual while pairs are being moved.
 fn insertions_while_moving(rt: &impl Abort, map: &mut Numbers) {
     let occupied = OccupiedError {
         current: &7,
@@ -147,7 +147,7 @@ fn insertions_while_moving(rt: &impl Abort, map: &mut Numbers) {
     finds(rt, map, 4, Some(&40));
 }
 
-/// And so do updates and removals.
+/// Checks the same of updates and removals.
 fn changes_while_moving(rt: &impl Abort, map: &mut Numbers) {
     let new = map.update(2, |value| value.wrapping_add(20));
     is(rt, new, Ok(Some(&22)));
@@ -156,7 +156,7 @@ fn changes_while_moving(rt: &impl Abort, map: &mut Numbers) {
     removes(rt, map, 12, Ok(None));
 }
 
-/// What is done with a map.
+/// The cases of a map.
 #[derive(Clone, Copy)]
 enum Case {
     GetsSmaller,

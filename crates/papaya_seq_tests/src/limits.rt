@@ -1,4 +1,4 @@
-// Maps with a limit on the pairs that they log.
+// Maps with a limit on the pairs that they store.
 use crate::expect::is;
 use crate::numbers::{Fold, Making, Usual, Work, has, inserts, on_usual, removes, tries};
 use papaya_words::probe::Refused;
@@ -6,8 +6,8 @@ use std::alloc::Global;
 use std::process::Abort;
 use std::test::Fail;
 
-/// Three pairs are logged, of which one replaces another. No further one is, and what is
-/// there stays.
+/// Stores three pairs, one of which replaces another. Checks that no further one is stored, and
+/// that the map keeps its entries.
 fn logs_three(rt: &impl Abort, map: &mut Usual) {
     inserts(rt, map, 1, 10, Ok(None));
     inserts(rt, map, 2, 20, Ok(None));
@@ -19,7 +19,7 @@ fn logs_three(rt: &impl Abort, map: &mut Usual) {
     inserts(rt, map, 3, 30, Err(Refused::Limit));
 }
 
-/// One pair was kept, so two more are logged.
+/// Stores two more pairs, since one pair was kept.
 fn logs_two_more(rt: &impl Abort, map: &mut Usual) {
     inserts(rt, map, 3, 30, Ok(None));
     inserts(rt, map, 4, 40, Ok(None));
@@ -27,12 +27,12 @@ fn logs_two_more(rt: &impl Abort, map: &mut Usual) {
     has(rt, map, 3);
 }
 
-/// No value was stored, since the limit is met.
+/// Checks that no value was stored, since the limit is reached.
 fn refuses(rt: &impl Abort, stored: Result<&u64, Refused>) {
     is(rt, stored, Err(Refused::Limit));
 }
 
-/// A clone has no limit.
+/// Checks that a clone has no limit.
 fn has_no_limit(rt: &impl Abort, clone: &mut Usual) {
     for key in 10..14 {
         is(rt, clone.put(key, key), Ok(true));
@@ -45,7 +45,7 @@ fn clones(rt: &impl Abort, alloc: Global, map: &Usual) -> Result<(), Fail> {
     Ok(())
 }
 
-/// With a limit of none nothing is stored, by whichever call.
+/// Checks that with a limit of 0 no call stores anything.
 fn stores_none(rt: &impl Abort, map: &mut Usual) {
     inserts(rt, map, 1, 10, Err(Refused::Limit));
     is(rt, map.slots(), 32);
@@ -57,7 +57,7 @@ fn stores_none(rt: &impl Abort, map: &mut Usual) {
     has(rt, map, 0);
 }
 
-/// How many pairs a map may log.
+/// The limit on a map's pairs.
 #[derive(Clone, Copy)]
 enum Limit {
     Three,

@@ -1,4 +1,4 @@
-// How maps are made, and what they are refused for.
+// Constructors of maps, and their refusals.
 use crate::expect::is;
 use crate::numbers::{Making, Numbers, Usual, usual};
 use papaya_seq::seq::HashMap;
@@ -8,7 +8,7 @@ use std::alloc::Global;
 use std::hash::{BuildHasherDefault, FoldHasher};
 use std::test::Fail;
 
-/// The slots of a map that is made so, or why there is none.
+/// Returns the slots of a map that is made in this way, or why it was refused.
 fn slots_of(alloc: Global, making: Making) -> Result<usize, Refused> {
     let map = usual(alloc, making)?;
     Ok(map.slots())
@@ -36,7 +36,7 @@ fn slots_of_new_maps(rt: HostRuntime) -> Result<(), Fail> {
     Ok(())
 }
 
-/// Why there is no map of these parts.
+/// Returns why a map with these settings is refused.
 fn refusal(alloc: Global, mode: ResizeMode, shards: usize) -> Option<Refused> {
     let made: Result<Numbers, Refused> = HashMap::with_parts(
         alloc, mode, 0, shards, TOGETHER, None,

@@ -1,5 +1,5 @@
-// Maps of numbers, and their calls with what they are to answer. A function that owns a map makes it
-// and hands it on, since its proof looks at all that may become of the map.
+// Maps of numbers, and their calls with the results that are wanted. A function that owns a map
+// makes it and passes it on, since its proof covers everything that may become of the map.
 use crate::expect::is;
 use papaya_keys::occupied::OccupiedError;
 use papaya_seq::seq::HashMap;
@@ -10,13 +10,13 @@ use std::hash::{BuildHasher, BuildHasherDefault, FoldHasher};
 use std::process::Abort;
 use std::test::Fail;
 
-/// A hasher that is as good as another.
+/// A hasher for the tests in which any will do.
 pub type Fold = BuildHasherDefault<FoldHasher>;
 
-/// The maps of the tests for which it is.
+/// A map with that hasher.
 pub type Usual = HashMap<u64, u64, Fold>;
 
-/// The maps of the tests that say which keys share a path.
+/// A map with a hasher that decides which keys share a probe sequence.
 pub type Numbers = HashMap<u64, u64, Times>;
 
 /// How a map with the usual hasher is made.
@@ -24,9 +24,9 @@ pub type Numbers = HashMap<u64, u64, Times>;
 pub enum Making {
     New,
     Default,
-    /// For so many pairs.
+    /// For this many pairs.
     Capacity(usize),
-    /// It logs so many pairs at most.
+    /// With this limit on its pairs.
     Limit(u64),
 }
 
@@ -42,12 +42,12 @@ pub fn usual(alloc: Global, making: Making) -> Result<Usual, Refused> {
     }
 }
 
-/// How a map is made that says which keys share a path.
+/// How a map is made whose hasher decides which keys share a probe sequence.
 #[derive(Clone, Copy)]
 pub enum Parts {
-    /// With this hasher alone.
+    /// With only this hasher.
     Hasher(Times),
-    /// With this mode, and for so many pairs.
+    /// With this mode, for this many pairs, and with this hasher.
     All(ResizeMode, usize, Times),
 }
 
@@ -60,7 +60,7 @@ pub fn made(alloc: Global, parts: Parts) -> Result<Numbers, Refused> {
     }
 }
 
-/// What is done with a map.
+/// A test's work with a map.
 pub trait Work<S: BuildHasher> {
     fn is_done<R: Abort>(
         self,
@@ -70,7 +70,7 @@ pub trait Work<S: BuildHasher> {
     ) -> Result<(), Fail>;
 }
 
-/// It is done with a map that is made so.
+/// Makes a map in this way, and does the work with it.
 pub fn on_usual<R: Abort, W: Work<Fold> + Copy>(
     rt: &R,
     alloc: Global,
@@ -81,7 +81,7 @@ pub fn on_usual<R: Abort, W: Work<Fold> + Copy>(
     work.is_done(rt, alloc, &mut map)
 }
 
-/// The same, also where memory was refused for the map at first.
+/// Does the same, and makes the map again if memory ran out at first.
 pub fn on_made<R: Abort, W: Work<Times> + Copy>(
     rt: &R,
     alloc: Global,
@@ -95,7 +95,7 @@ pub fn on_made<R: Abort, W: Work<Times> + Copy>(
     work.is_done(rt, alloc, &mut map)
 }
 
-/// An insertion answers so.
+/// Checks the result of an insertion.
 pub fn inserts<S: BuildHasher>(
     rt: &impl Abort,
     map: &mut HashMap<u64, u64, S>,
@@ -106,7 +106,7 @@ pub fn inserts<S: BuildHasher>(
     is(rt, map.insert(key, value), wanted);
 }
 
-/// An insertion that never replaces answers so.
+/// Checks the result of an insertion that never replaces.
 pub fn tries<S: BuildHasher>(
     rt: &impl Abort,
     map: &mut HashMap<u64, u64, S>,
@@ -117,7 +117,7 @@ pub fn tries<S: BuildHasher>(
     is(rt, map.try_insert(key, value), wanted);
 }
 
-/// A lookup answers so.
+/// Checks the result of a lookup.
 pub fn finds<S: BuildHasher>(
     rt: &impl Abort,
     map: &HashMap<u64, u64, S>,
@@ -127,7 +127,7 @@ pub fn finds<S: BuildHasher>(
     is(rt, map.get(&key), wanted);
 }
 
-/// A removal answers so.
+/// Checks the result of a removal.
 pub fn removes<S: BuildHasher>(
     rt: &impl Abort,
     map: &mut HashMap<u64, u64, S>,
@@ -137,7 +137,7 @@ pub fn removes<S: BuildHasher>(
     is(rt, map.remove(&key), wanted);
 }
 
-/// The map has so many pairs.
+/// Checks the number of pairs of the map.
 pub fn has<S: BuildHasher>(rt: &impl Abort, map: &HashMap<u64, u64, S>, pairs: usize) {
     is(rt, map.len(), pairs);
     assert!(rt; map.is_empty() == (pairs == 0));

@@ -1,5 +1,5 @@
-// A growth that is refused leaves the map as it was. Where the tests run with a failing allocation,
-// as by `rt try --test --fail-alloc N`, a call here meets it.
+// A refused allocation leaves the map as it was. If the tests run with a failing allocation, as by
+// `rt try --test --fail-alloc N`, a call here meets it.
 use crate::expect::{is, is_at};
 use crate::numbers::{Numbers, Parts, Work, on_made, removes};
 use papaya_call::answers::Operation;
@@ -9,7 +9,7 @@ use std::alloc::Global;
 use std::process::Abort;
 use std::test::Fail;
 
-/// Has the map the keys below this one, each with ten times itself, and no other?
+/// Returns whether the map has exactly the keys below this one, each with ten times itself.
 fn has_below(map: &Numbers, end: u64) -> bool {
     for key in 0..end {
         if map.get(&key) != Some(&(key.wrapping_mul(10))) {
@@ -32,8 +32,8 @@ enum Insertion {
     Compute,
 }
 
-/// Inserts a key by this call, and again where it was refused for want of memory. What is told is
-/// whether the map was as it was after a refusal.
+/// Inserts a key by this call, and again if memory ran out. Returns whether the map was as before
+/// after a refusal.
 fn insert_again(map: &mut Numbers, key: u64, by: Insertion) -> Result<bool, Refused> {
     let value = key.wrapping_mul(10);
     let first = match by {
@@ -61,7 +61,7 @@ fn insert_again(map: &mut Numbers, key: u64, by: Insertion) -> Result<bool, Refu
     }
 }
 
-/// Three calls fill a map in turn.
+/// Fills a map by three calls in turn.
 fn grows(rt: &impl Abort, map: &mut Numbers) -> Result<(), Fail> {
     for key in 0..20u64 {
         let by = match key % 3 {
@@ -77,13 +77,13 @@ fn grows(rt: &impl Abort, map: &mut Numbers) -> Result<(), Fail> {
             (true, true),
         );
     }
-    // A removal takes no memory.
+    // A removal allocates nothing.
     removes(rt, map, 19, Ok(Some(&190)));
     is(rt, has_below(map, 19), true);
     Ok(())
 }
 
-/// One call fills a map.
+/// Fills a map by one call.
 fn fills(rt: &impl Abort, map: &mut Numbers, by: Insertion) -> Result<(), Fail> {
     for key in 0..20u64 {
         let kept = insert_again(map, key, by)?;
@@ -97,7 +97,7 @@ fn fills(rt: &impl Abort, map: &mut Numbers, by: Insertion) -> Result<(), Fail> 
     Ok(())
 }
 
-/// Updates a key's value to itself: was the map as it should be, also where that was refused?
+/// Updates a key's value to itself. Returns whether the map is right, also after a refusal.
 fn updates(map: &mut Numbers, key: u64) -> Result<bool, Refused> {
     match map.update(key, |v| *v) {
         Ok(None) => Ok(false),
@@ -106,7 +106,7 @@ fn updates(map: &mut Numbers, key: u64) -> Result<bool, Refused> {
     }
 }
 
-/// Clones the map: were both as they should be, or this one where that was refused?
+/// Clones the map. Returns whether both are right, or this one after a refusal.
 fn clones(alloc: Global, map: &Numbers, end: u64) -> Result<bool, Refused> {
     match map.try_clone(alloc) {
         Ok(clone) => Ok(has_below(&clone, end) && has_below(map, end)),
@@ -115,7 +115,7 @@ fn clones(alloc: Global, map: &Numbers, end: u64) -> Result<bool, Refused> {
     }
 }
 
-/// Builds the map anew: was it as it should be, also where that was refused?
+/// Rebuilds the map. Returns whether it is right, also after a refusal.
 fn reclaims(map: &mut Numbers, end: u64) -> Result<bool, Refused> {
     match map.reclaim() {
         Ok(()) | Err(Refused::Memory) => Ok(has_below(map, end)),
@@ -123,7 +123,7 @@ fn reclaims(map: &mut Numbers, end: u64) -> Result<bool, Refused> {
     }
 }
 
-/// What is done with a new map.
+/// The cases of a new map.
 #[derive(Clone, Copy)]
 enum Case {
     Grows,

@@ -1,4 +1,4 @@
-// Removals: what they answer, and what is there after them.
+// Removals: their results, and the map afterwards.
 use crate::expect::is;
 use crate::numbers::{Numbers, Parts, finds, has, inserts, made, removes};
 use papaya_testing::times::TOGETHER;
@@ -6,7 +6,7 @@ use papaya_words::probe::Refused;
 use std::process::Abort;
 use std::test::Fail;
 
-/// A removal answers this pair.
+/// Checks the pair that a removal returns.
 fn removes_entry(
     rt: &impl Abort,
     map: &mut Numbers,
@@ -16,7 +16,7 @@ fn removes_entry(
     is(rt, map.remove_entry(&key), wanted);
 }
 
-/// Of four keys two are removed, each once.
+/// Removes two of four keys, each once.
 fn removes_two(rt: &impl Abort, map: &mut Numbers) {
     for key in 0..4u64 {
         inserts(rt, map, key, key + 10, Ok(None));

@@ -1,4 +1,4 @@
-// Room that is made ahead, and resizes that are ended. Where the tests run with a failing
+// Room that is made ahead, and resizes that are finished. If the tests run with a failing
 // allocation, as by `rt try --test --fail-alloc N`, a call here meets it.
 use crate::expect::{is, is_at};
 use crate::growth::{fills, has_below, looks_so};
@@ -16,10 +16,10 @@ use std::hash::BuildHasher;
 use std::process::Abort;
 use std::test::Fail;
 
-/// Either mode, with chunks of one slot.
+/// Both modes, with chunks of one slot.
 const MODES: [ResizeMode; 2] = [ResizeMode::Incremental(1), ResizeMode::Blocking];
 
-/// Room for so many more pairs leaves a root of so many slots, and no pairs are being moved.
+/// Reserves room for `more` pairs. Checks the slots of the root, and that no pairs are being moved.
 fn reserves<S: BuildHasher>(
     rt: &impl Abort,
     map: &mut HashMap<u64, u64, S>,
@@ -30,7 +30,7 @@ fn reserves<S: BuildHasher>(
     is_at(rt, more, (map.slots(), map.resizing()), (slots, false));
 }
 
-/// A new map gets its first table.
+/// Checks the first table of a new map.
 fn makes_room(rt: &impl Abort, map: &mut Usual) {
     reserves(rt, map, 0, 8);
     reserves(rt, map, 6, 8);
@@ -38,7 +38,7 @@ fn makes_room(rt: &impl Abort, map: &mut Usual) {
     has(rt, map, 0);
 }
 
-/// Five pairs in sixteen slots, and room for twenty and then for five thousand more.
+/// Makes room for twenty and then for five thousand pairs beside five in sixteen slots.
 fn makes_room_beside_five(rt: &impl Abort, map: &mut Usual) {
     for key in 0..5u64 {
         inserts(rt, map, key, key, Ok(None));
@@ -52,14 +52,14 @@ fn makes_room_beside_five(rt: &impl Abort, map: &mut Usual) {
     has(rt, map, 5);
 }
 
-/// A new map is emptied.
+/// Empties a new map.
 fn empties_none(rt: &impl Abort, map: &mut Usual) {
     is(rt, map.clear(), Ok(()));
     is(rt, map.slots(), 0);
     reserves(rt, map, 0, 8);
 }
 
-/// What is done with a new map.
+/// The cases of a new map.
 #[derive(Clone, Copy)]
 enum New {
     MakesRoom,
@@ -98,7 +98,7 @@ fn a_new_map_is_emptied(rt: HostRuntime) -> Result<(), Fail> {
     on_usual(&rt, rt.alloc(), Making::New, New::EmptiesNone)
 }
 
-/// For so many pairs there is no table, and the map is as it was.
+/// Checks that no table has room for this many pairs, and that the map is as it was.
 fn too_much(rt: &impl Abort, map: &mut Numbers) {
     for more in [1usize << 61, usize::MAX, 3_221_225_473] {
         is_at(rt, more, map.reserve(more), Err(Refused::Capacity));
@@ -107,7 +107,7 @@ fn too_much(rt: &impl Abort, map: &mut Numbers) {
     }
 }
 
-/// Eight full slots, and room for so many more.
+/// Fills eight slots, and makes room for `more` pairs.
 fn grows_ahead(rt: &impl Abort, map: &mut Numbers, more: usize, slots: usize) {
     fills(rt, map, &[(8, 8, false)]);
     // Nothing is being moved, so nothing is copied.
@@ -117,7 +117,7 @@ fn grows_ahead(rt: &impl Abort, map: &mut Numbers, more: usize, slots: usize) {
     has_below(rt, map, 8);
 }
 
-/// A resize that is under way is ended.
+/// Finishes a resize that is under way.
 fn ends(rt: &impl Abort, map: &mut Numbers) {
     is(rt, map.copy_all(), Ok(()));
     looks_so(rt, map, 9, 16, false);
@@ -126,7 +126,7 @@ fn ends(rt: &impl Abort, map: &mut Numbers) {
     looks_so(rt, map, 9, 16, false);
 }
 
-/// A map of sixteen slots is emptied. Its table stays, and so does its log.
+/// Empties a map of sixteen slots. Its table stays, and so does its arena.
 fn empties(rt: &impl Abort, map: &mut Numbers) {
     is(rt, map.clear(), Ok(()));
     looks_so(rt, map, 0, 16, false);
@@ -134,8 +134,8 @@ fn empties(rt: &impl Abort, map: &mut Numbers) {
     is(rt, map.pair(0), Some((&0, &0)));
 }
 
-/// Nine slots of a map have had pairs, and nothing else: seven are left, and then none, so that the
-/// next pair asks for a next table, which is as long as the map was made for.
+/// Fills the seven slots of a map of sixteen that never had a pair, and empties it. Then no slot is
+/// left, and the next insertion makes a next table, which is as long as the map was made for.
 fn fills_again(rt: &impl Abort, map: &mut Numbers) {
     fills(rt, map, &[(7, 16, false)]);
     empties(rt, map);
@@ -145,7 +145,7 @@ fn fills_again(rt: &impl Abort, map: &mut Numbers) {
     has_below(rt, map, 1);
 }
 
-/// A map whose next table has nine pairs is emptied.
+/// Empties a map whose next table has nine pairs.
 fn empties_nine(rt: &impl Abort, map: &mut Numbers) {
     fills(rt, map, &[(8, 8, false)]);
     inserts(rt, map, 8, 8, Ok(None));
@@ -153,7 +153,7 @@ fn empties_nine(rt: &impl Abort, map: &mut Numbers) {
     fills_again(rt, map);
 }
 
-/// Calls of which three resize the map.
+/// Returns calls of which three resize the map.
 fn six_calls(alloc: Global) -> Result<Vec<Call<u64, u64, Listed<u64>>>, Fail> {
     Ok(vec![in alloc;
         Call::Reserve(9),
@@ -165,7 +165,7 @@ fn six_calls(alloc: Global) -> Result<Vec<Call<u64, u64, Listed<u64>>>, Fail> {
     ]?)
 }
 
-/// What they come to where nine pairs were logged before.
+/// Returns their outcomes if nine pairs were stored before.
 fn six_outcomes(alloc: Global) -> Result<Vec<Outcome>, Fail> {
     Ok(vec![in alloc;
         Outcome::Replied(Reply::Done),
@@ -177,7 +177,7 @@ fn six_outcomes(alloc: Global) -> Result<Vec<Outcome>, Fail> {
     ]?)
 }
 
-/// While nine pairs are being moved there is room made for nine more: eighteen want 24 slots.
+/// Makes room for nine more pairs while nine are being moved: eighteen need 24 slots.
 fn runs_in_turn(rt: &impl Abort, alloc: Global, map: &mut Numbers) -> Result<(), Fail> {
     let outcomes = map.run(six_calls(alloc)?)?;
     is(rt, outcomes, six_outcomes(alloc)?);
@@ -186,7 +186,7 @@ fn runs_in_turn(rt: &impl Abort, alloc: Global, map: &mut Numbers) -> Result<(),
     Ok(())
 }
 
-/// Has the map the keys below this one, each with itself, and no other?
+/// Returns whether the map has exactly the keys below this one, each with itself.
 fn keeps_below(map: &Numbers, end: u64) -> bool {
     for key in 0..end {
         if map.get(&key) != Some(&key) {
@@ -196,7 +196,7 @@ fn keeps_below(map: &Numbers, end: u64) -> bool {
     map.get(&end).is_none() && map.len() as u64 == end
 }
 
-/// What was done, or whether the map was as it was where memory was refused.
+/// Returns whether the map is right after this result, which may be that memory ran out.
 fn kept(map: &Numbers, done: Result<(), Refused>, end: u64) -> Result<bool, Refused> {
     match done {
         Ok(()) | Err(Refused::Memory) => Ok(keeps_below(map, end)),
@@ -204,7 +204,7 @@ fn kept(map: &Numbers, done: Result<(), Refused>, end: u64) -> Result<bool, Refu
     }
 }
 
-/// Stores a key, and again where memory was refused for it.
+/// Stores a key, again if memory ran out. Returns whether a refusal left the map as it was.
 fn stores_again(map: &mut Numbers, key: u64) -> Result<bool, Refused> {
     match map.insert(key, key).map(|_| ()) {
         Err(Refused::Memory) => {
@@ -216,8 +216,8 @@ fn stores_again(map: &mut Numbers, key: u64) -> Result<bool, Refused> {
     }
 }
 
-/// Nine keys, of which the last asks for a next table; then the end of the resize, and room: is
-/// each key there after each call?
+/// Stores nine keys, the last of which needs a next table, finishes the resize, and makes room.
+/// Returns whether each key is there after each call.
 fn refusals_keep(map: &mut Numbers) -> Result<bool, Refused> {
     for key in 0..9u64 {
         if !stores_again(map, key)? {
@@ -232,10 +232,10 @@ fn refusals_keep(map: &mut Numbers) -> Result<bool, Refused> {
     kept(map, reserved, 9)
 }
 
-/// What is done with a map that is made for six pairs.
+/// The cases of a map that is made for six pairs.
 #[derive(Clone, Copy)]
 enum Case {
-    /// Room is made for so many more pairs, and then there are so many slots.
+    /// Room is made for this many more pairs, and then there are this many slots.
     GrowsAhead(usize, usize),
     EmptiesNine,
     RefusalsKeep,
@@ -245,7 +245,7 @@ enum Case {
     RunsInTurn,
 }
 
-/// Nine pairs are being moved to sixteen slots.
+/// Runs a case while nine pairs are being moved to sixteen slots.
 fn in_the_midst(rt: &impl Abort, alloc: Global, map: &mut Numbers, case: Case) -> Result<(), Fail> {
     fills(rt, map, &[(9, 8, true)]);
     match case {
@@ -268,7 +268,7 @@ impl Work<Times> for Case {
     }
 }
 
-/// It is done in either mode.
+/// Runs a case in both modes.
 fn in_modes(rt: &impl Abort, alloc: Global, case: Case) -> Result<(), Fail> {
     for mode in MODES {
         on_made(rt, alloc, Parts::All(mode, 6, APART), case)?;

@@ -1,4 +1,4 @@
-// How many pairs a map says that it holds, and how many slots, before it is reclaimed and after.
+// The numbers of stored pairs and of slots, before a map is reclaimed and after.
 use crate::expect::is;
 use papaya_seq::seq::HashMap;
 use std::process::Abort;
@@ -6,7 +6,7 @@ use std::test::Fail;
 
 type Numbers = HashMap<u64, u64>;
 
-/// The map holds so many pairs, in a table of so many slots.
+/// Checks how many pairs the map stores, and how many slots its table has.
 fn holds(rt: &impl Abort, map: &Numbers, stored: usize, slots: usize) {
     is(rt, (map.stored(), map.slots()), (stored, slots));
 }

@@ -1,5 +1,5 @@
-// The key that is stored stays where its value is replaced. The keys here are equal where their
-// numbers are, so that a label tells which of them is stored.
+// The stored key stays if its value is replaced. The keys here are equal if their numbers are, so
+// that a label shows which of them is stored.
 ghost use Rattle.std.specs.Prelude.{◌≡◌, ◌==◌};
 ghost use Rattle.std.proofs.Common.{ap};
 ghost use Rattle.std.specs.Cmp.{nat_eq_equiv, on_equiv, partial_equiv_from_equiv, unsigned_Decides};
@@ -15,7 +15,7 @@ use std::hash::{Hash, Hasher};
 use std::process::Abort;
 use std::test::Fail;
 
-/// A number with a label that no comparison looks at.
+/// A number with a label that comparisons ignore.
 #[derive(Clone, Copy)]
 struct Labelled {
     number: u64,
@@ -48,12 +48,12 @@ impl Hash for Labelled {
 
 type Keys = HashMap<Labelled, u64>;
 
-/// Key 7 with this label.
+/// Returns key 7 with this label.
 fn seven(label: char) -> Labelled {
     Labelled { number: 7, label }
 }
 
-/// Which key is stored, by its label, and its value.
+/// Returns the label of the stored key, and its value.
 fn stored(map: &Keys) -> Option<(char, u64)> {
     match map.get_key_value(&seven('?')) {
         Some((key, value)) => Some((key.label, *value)),
@@ -61,13 +61,13 @@ fn stored(map: &Keys) -> Option<(char, u64)> {
     }
 }
 
-/// Key 7 with this label is stored, and this is there then.
+/// Stores key 7 with this label, and checks which key and value are then there.
 fn stores(rt: &impl Abort, map: &mut Keys, label: char, value: u64, wanted: (char, u64)) {
     is(rt, map.put(seven(label), value).is_ok(), true);
     is(rt, stored(map), Some(wanted));
 }
 
-/// The labels and values of what a compute has updated.
+/// Returns the labels and values of a compute that has updated.
 fn updated(
     computed: Result<Compute<'_, Labelled, u64, ()>, Refused>,
 ) -> Option<((char, u64), (char, u64))> {
@@ -79,7 +79,7 @@ fn updated(
     }
 }
 
-/// It is replaced, removed and stored.
+/// Replaces, removes and stores the key.
 fn stays(rt: &impl Abort, map: &mut Keys) {
     stores(rt, map, 'x', 1, ('x', 1));
     stores(rt, map, 'y', 2, ('x', 2));
@@ -87,7 +87,7 @@ fn stays(rt: &impl Abort, map: &mut Keys) {
     stores(rt, map, 'y', 3, ('y', 3));
 }
 
-/// A compute replaces it.
+/// Replaces it by a compute.
 fn stays_in_a_compute(rt: &impl Abort, map: &mut Keys) {
     stores(rt, map, 'x', 1, ('x', 1));
     let computed = map.compute(seven('y'), |shown| match shown {
@@ -97,7 +97,7 @@ fn stays_in_a_compute(rt: &impl Abort, map: &mut Keys) {
     is(rt, updated(computed), Some((('x', 1), ('x', 2))));
 }
 
-/// Either is done with a new map.
+/// Does either with a new map.
 fn on_new(rt: &impl Abort, alloc: Global, computes: bool) -> Result<(), Fail> {
     let mut map: Keys = HashMap::new(alloc)?;
     if computes {

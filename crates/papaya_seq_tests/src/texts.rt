@@ -1,4 +1,4 @@
-// A map of texts, looked up by texts that nobody owns.
+// A map of texts, looked up by borrowed texts.
 use crate::expect::is;
 use papaya_keys::guard::TextKey;
 use papaya_seq::seq::HashMap;
@@ -9,7 +9,7 @@ use std::test::Fail;
 
 type Texts = HashMap<String, u64>;
 
-/// An insertion of this text answers so.
+/// Checks the result of an insertion of this text.
 fn inserts(
     rt: &impl Abort,
     alloc: Global,
@@ -23,13 +23,13 @@ fn inserts(
     Ok(())
 }
 
-/// A lookup by this text answers so, and so does the question whether there is one.
+/// Checks the results of a lookup by this text and of `contains_key`.
 fn finds(rt: &impl Abort, map: &Texts, key: &str, wanted: Option<&u64>) {
     is(rt, map.get(&TextKey(key)), wanted);
     is(rt, map.contains_key(&TextKey(key)), wanted.is_some());
 }
 
-/// Two texts are stored and looked up.
+/// Stores two texts and looks them up.
 fn finds_two(rt: &impl Abort, alloc: Global, map: &mut Texts) -> Result<(), Fail> {
     inserts(rt, alloc, map, "red", 1, Ok(None))?;
     inserts(rt, alloc, map, "blue", 2, Ok(None))?;
@@ -40,7 +40,7 @@ fn finds_two(rt: &impl Abort, alloc: Global, map: &mut Texts) -> Result<(), Fail
     Ok(())
 }
 
-/// Of the two texts one is replaced and removed.
+/// Replaces one of the two texts and removes it.
 fn removes_red(rt: &impl Abort, alloc: Global, map: &mut Texts) -> Result<(), Fail> {
     inserts(rt, alloc, map, "red", 3, Ok(Some(&1)))?;
     is(rt, map.remove(&TextKey("red")), Ok(Some(&3)));

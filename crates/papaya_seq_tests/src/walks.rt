@@ -1,4 +1,4 @@
-// Walks of the map, and the call that keeps some of its pairs.
+// Iterations over the map, and the call that keeps some of its pairs.
 use crate::expect::{is, is_at};
 use crate::growth::{looks_so, stores};
 use crate::numbers::{Fold, Making, Numbers, Parts, Usual, Work, has, inserts, on_made, on_usual};
@@ -11,7 +11,7 @@ use std::hash::BuildHasher;
 use std::process::Abort;
 use std::test::Fail;
 
-/// The keys that a walk gives, by size.
+/// Returns the keys of an iteration, sorted.
 fn keys_of<S: BuildHasher>(
     alloc: Global,
     map: &HashMap<u64, u64, S>,
@@ -21,7 +21,7 @@ fn keys_of<S: BuildHasher>(
     Ok(keys)
 }
 
-/// A walk gives each key below this one once, each with itself for a value.
+/// Checks that an iteration returns each key below this one once, each with itself as its value.
 fn walks_below(rt: &impl Abort, alloc: Global, map: &Numbers, end: u64) -> Result<(), Fail> {
     let keys = keys_of(alloc, map)?;
     is(rt, keys.len() as u64, end);
@@ -34,8 +34,8 @@ fn walks_below(rt: &impl Abort, alloc: Global, map: &Numbers, end: u64) -> Resul
     Ok(())
 }
 
-/// A hundred keys on one path, of which each call moves some, or one call all: they are walked at
-/// each count.
+/// Checks an iteration at each count of up to a hundred keys with one probe sequence. Each call
+/// moves some of them, or one call all.
 fn gives_once(rt: &impl Abort, alloc: Global, map: &mut Numbers) -> Result<(), Fail> {
     walks_below(rt, alloc, map, 0)?;
     for key in 0..100u64 {
@@ -45,7 +45,7 @@ fn gives_once(rt: &impl Abort, alloc: Global, map: &mut Numbers) -> Result<(), F
     Ok(())
 }
 
-/// Of a hundred pairs five are left, and of the walk these.
+/// Keeps five of a hundred pairs.
 fn keeps_five(rt: &impl Abort, map: &mut Usual) {
     for key in 0..100u64 {
         inserts(rt, map, key, key, Ok(None));
@@ -54,7 +54,7 @@ fn keeps_five(rt: &impl Abort, map: &mut Usual) {
     has(rt, map, 5);
 }
 
-/// The map has just these keys.
+/// Checks that the map has exactly these keys.
 fn gives<S: BuildHasher>(
     rt: &impl Abort,
     alloc: Global,
@@ -76,7 +76,7 @@ fn keeps_small_values(rt: &impl Abort, alloc: Global, map: &mut Usual) -> Result
     Ok(())
 }
 
-/// Nine keys are being moved when the even ones are kept, and none are afterwards.
+/// Keeps the even ones of nine keys that are being moved, and checks that none are afterwards.
 fn ends_a_resize(rt: &impl Abort, alloc: Global, map: &mut Numbers) -> Result<(), Fail> {
     stores(rt, map, 0, 9);
     looks_so(rt, map, 9, 8, true);
@@ -86,12 +86,12 @@ fn ends_a_resize(rt: &impl Abort, alloc: Global, map: &mut Numbers) -> Result<()
     gives(rt, alloc, map, &[0, 2, 4, 6, 8])
 }
 
-/// This text is one of the two.
+/// Checks that this text is one of the two.
 fn is_either(rt: &impl Abort, text: &str, one: &str, other: &str) {
     is(rt, text == one || text == other, true);
 }
 
-/// This is printed, or that.
+/// Checks that the value is printed in one of two ways.
 fn prints<T: Debug>(
     rt: &impl Abort,
     alloc: Global,
@@ -104,7 +104,7 @@ fn prints<T: Debug>(
     Ok(())
 }
 
-/// A map prints its pairs, and a walk what is left of it.
+/// Checks that a map prints its pairs, and an iterator those that are left.
 fn prints_two(rt: &impl Abort, alloc: Global, map: &Usual) -> Result<(), Fail> {
     prints(rt, alloc, map, "{42: 0, 16: 8}", "{16: 8, 42: 0}")?;
     prints(
@@ -127,7 +127,7 @@ fn prints_two(rt: &impl Abort, alloc: Global, map: &Usual) -> Result<(), Fail> {
     prints(rt, alloc, &values, "Values([(42, 0)])", "Values([(16, 8)])")
 }
 
-/// What is done with a new map.
+/// The cases of a new map.
 #[derive(Clone, Copy)]
 enum New {
     KeepsSmallValues,
@@ -148,7 +148,7 @@ impl Work<Fold> for New {
     }
 }
 
-/// What is done with a map whose keys are moved.
+/// The cases of a map whose keys are moved.
 #[derive(Clone, Copy)]
 enum Moved {
     GivesOnce,

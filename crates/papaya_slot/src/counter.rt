@@ -12,7 +12,7 @@ use std::sync::atomic::raw;
 /// How many numbers a counter has.
 const NUMBERS: u64 = 0x7fff_ffff_ffff_ffff;
 
-/// Gives out the numbers from 0 on, each to one caller. Contracts see the name of the counter.
+/// A counter that gives out the numbers from 0, each to one caller. Contracts see its name.
 pub struct Counter {
     next: u64,
 }
@@ -32,12 +32,12 @@ impl Move for Counter {
 }
 
 impl Counter {
-    /// A counter that has given out no number.
+    /// Creates a counter that has given out no number.
     pub fn new() -> Counter {
         Counter { next: 0 }
     }
 
-    /// The next number, and the right to write a slot with it. `None` where no number is left.
+    /// Returns the next number and the right to write a slot with it. `None` if no number is left.
     #[inline(always)]
     pub fn take(&self) -> Option<(u64, Right)>
         ensures right { IfSome result (λ taken. (taken.1.counter ≡ self.now)
@@ -45,7 +45,7 @@ impl Counter {
         ensures small { IfSome result (λ taken. taken.0 < 2 ^ 63) }
     {
         let word = self as *const Self as *const u64;
-        // A step that only adds would give out a number again after 2^64 of them.
+        // An unbounded increment would give out a number twice after 2^64 of them.
         let number = unsafe { raw::saturating_increment::<Brand>(word, SeqCst) };
         if number < NUMBERS {
             let right = Right {
@@ -64,8 +64,8 @@ impl Counter {
         unsafe { raw::load::<Brand>(word, SeqCst) }
     }
 
-    /// Takes the number back that was given out last, for the next caller. Where another was given
-    /// out since, the number is lost.
+    /// Takes back the number that was given out last, for the next caller. If another number was
+    /// given out since, this one is lost.
     #[cold]
     pub fn give_back(&self, right: Right, number: u64)
         requires right { (right.counter ≡ self.now) × (right.number ≡ number) }

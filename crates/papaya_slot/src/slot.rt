@@ -43,7 +43,7 @@ impl<T> Move for Slot<T> {
         (resting T.row l s)) };
 }
 
-/// What shows that the slot `of` holds `value`. It has no bytes.
+/// A proof that the slot `of` holds `value`. It has no bytes.
 pub struct Written<T> {
     marker: PhantomData<T>,
     pub ghost of: { ℕ },
@@ -57,7 +57,7 @@ impl<T> Model for Written<T> {
 }
 
 impl Right {
-    // Lets the counter give the number out again, if it is the last that was given out.
+    // Lets the counter give the number out again, if it was the last that was given out.
     pub(crate) fn back(self, counter: &Counter, number: u64)
         requires right { (self.counter ≡ counter.now) × (self.number ≡ number) }
         requires small { number < 2 ^ 63 }
@@ -67,7 +67,7 @@ impl Right {
         unsafe { exchange::<Brand>(word, number + 1, number) };
     }
 
-    // Writes the value into the slot, and gives the blank back.
+    // Writes the value into the slot, and returns the blank.
     #[inline(always)]
     fn fill<T>(self, slot: &Slot<T>, value: T) -> (Written<T>, T)
         requires { (self.counter ≡ slot.now.counter) × (self.number ≡ slot.now.number) }
@@ -82,7 +82,7 @@ impl Right {
             let place = &raw const (*slot).value as *mut T;
             let blank = std::ptr::read(place);
             std::ptr::write(place, value);
-            // And at this one it shares the value.
+            // At this step the proof shares the value.
             raw::load::<Brand>(&raw const step, SeqCst);
             (
                 Written {
@@ -95,7 +95,7 @@ impl Right {
 }
 
 impl<T> Slot<T> {
-    /// A slot that holds a blank, for whoever has this number of the counter.
+    /// Creates a slot that holds a blank, for the caller that has this number of the counter.
     #[inline(always)]
     pub fn new(blank: T, counter: &Counter, number: u64) -> Slot<T>
         ensures { (result.counter ≡ counter.now) × (result.number ≡ number) }
@@ -104,7 +104,7 @@ impl<T> Slot<T> {
         Slot { value: blank }
     }
 
-    /// Writes the value, and gives the blank back.
+    /// Writes the value, and returns the blank.
     #[inline(always)]
     pub fn write(&self, right: Right, value: T) -> (Written<T>, T)
         requires { (right.counter ≡ self.now.counter) × (right.number ≡ self.now.number) }
@@ -113,7 +113,7 @@ impl<T> Slot<T> {
         right.fill(self, value)
     }
 
-    /// The value, for whoever shows that it is written.
+    /// Returns the value, which the token proves to be written.
     #[inline(always)]
     pub fn value<'a>(&'a self, written: &Written<T>) -> &'a T
         requires { written.now.of ≡ self.now.id }
@@ -122,13 +122,13 @@ impl<T> Slot<T> {
         let slot = self as *const Slot<T>;
         let step = 0;
         unsafe {
-            // The step at which the proof finds the shared value.
+            // At this step the proof finds the shared value.
             raw::load::<Brand>(&raw const step, SeqCst);
             &(*slot).value
         }
     }
 
-    /// The value, or the blank.
+    /// Returns the value, or the blank if none is written.
     pub fn into_inner(self) -> T {
         let Self { value } = self;
         value
@@ -136,7 +136,7 @@ impl<T> Slot<T> {
 }
 
 impl<T> Written<T> {
-    /// The same token.
+    /// Returns the same token.
     #[inline(always)]
     pub fn again(&self) -> Written<T>
         ensures { (result.of ≡ self.now.of) × (result.value ≡ self.now.value) }
@@ -146,7 +146,7 @@ impl<T> Written<T> {
         }
     }
 
-    /// A slot holds one value.
+    /// Proves that two tokens of one slot have the same value.
     pub fn agrees(&self, other: &Written<T>)
         requires { self.now.of ≡ other.now.of }
         ensures { self.now.value ≡ other.now.value }

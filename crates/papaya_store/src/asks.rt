@@ -1,4 +1,4 @@
-//! What a machine over a chain of tables asks.
+//! Performs the asks of a machine over a chain of tables.
 ghost use Rattle.std.specs.Prelude.{◌≡◌, ℤ};
 ghost use Rattle.papaya_words.specs.Counter.{added};
 ghost use Rattle.papaya_keys.specs.Hashes.{hash_of};
@@ -13,8 +13,8 @@ use std::alloc::Global;
 use std::hash::{BuildHasher, Hash};
 
 impl<K: Hash + Eq + Drop, V: Drop, S: BuildHasher> Store<K, V, S> {
-    /// Answers one ask of this caller's machine, of the call itself or of the copy that it is set
-    /// aside for.
+    /// Performs one ask of this caller's machine: of the call itself, or of the copy for which the
+    /// call is set aside.
     #[inline]
     pub fn perform_ask<A: Answers<K, V>>(
         &mut self,

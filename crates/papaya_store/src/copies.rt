@@ -1,4 +1,4 @@
-//! What the machines of a resize ask about.
+//! Performs the asks of a machine that resizes.
 ghost use Rattle.std.specs.Prelude.{◌≡◌};
 ghost use Rattle.papaya_keys.specs.Hashes.{hash_of};
 ghost use Rattle.papaya_store.specs.Copies.{IsHash, PerformsCopy, hash_in, same_keys};
@@ -13,7 +13,7 @@ use std::alloc::Global;
 use std::hash::{BuildHasher, Hash, Hasher};
 
 impl<K: Hash + Eq + Drop, V: Drop, S: BuildHasher> Store<K, V, S> {
-    /// Have the pairs of these numbers equal keys?
+    /// Returns whether the pairs of these numbers have equal keys.
     fn same_pair(&self, first: u64, second: u64) -> bool
         ensures { result ≡ same_keys K.eq (pair_of self.now first) (pair_of self.now second) }
     {
@@ -23,7 +23,7 @@ impl<K: Hash + Eq + Drop, V: Drop, S: BuildHasher> Store<K, V, S> {
         }
     }
 
-    /// The hash of the key of the pair of this number.
+    /// Returns the hash of the key of the pair with this number.
     fn hash_of_pair(&self, n: u64) -> Answer
         ensures value { result ≡ hash_in (hash_of K.hash_input S.build_hasher S.Hasher.write
             S.Hasher.finish self.now.hasher) (pair_of self.now n) }
@@ -35,7 +35,7 @@ impl<K: Hash + Eq + Drop, V: Drop, S: BuildHasher> Store<K, V, S> {
         }
     }
 
-    /// Answers one ask of a copier.
+    /// Performs one ask of a copier.
     pub fn perform_copy(&mut self, alloc: Global, ask: CopyAsk, refuse: bool) -> Answer
         ensures { PerformsCopy K.eq (hash_of K.hash_input S.build_hasher S.Hasher.write
             S.Hasher.finish) refuse ask self.old result self.new }

@@ -1,5 +1,5 @@
-//! The map on plain words: its tables, the arena of pairs, and the count, which answer what
-//! machines ask. Calls that scan a table are under way beside it (`scans`).
+//! The map on plain words: its tables, the arena of pairs, and the count. It performs what machines
+//! ask. Calls that scan a table are kept beside it (`scans`).
 #![tactic(auto)]
 
 pub mod asks;

@@ -1,4 +1,4 @@
-//! Pairs as they are logged, and calls under way.
+//! Pairs as they are stored, and calls under way.
 ghost use Rattle.std.specs.Prelude.{◌≡◌, ℕ, List, ◌++◌, length, Some};
 ghost use Rattle.papaya_ask.specs.declared.ask.Answer.{Answer};
 ghost use Rattle.papaya_store.specs.Pairs.{brought_by, key_part, pair_with};
@@ -7,23 +7,23 @@ ghost use Rattle.papaya_store.specs.Store.{StoreState, Stored, pair_of};
 
 use papaya_chain::machine::Machine;
 
-/// A pair as it is logged. What an earlier pair brought is not logged again: the pair names that
-/// one, which has it of its own.
+/// A pair as it is stored. A key or a value that an earlier pair brought is not stored again: the
+/// pair names that earlier one, which has it itself.
 ///
-/// It is one enum of the four kinds, not two parts, since it takes one tag so.
+/// It is one enum of the four cases instead of two parts, so that it takes one tag.
 #[derive(Drop)]
 pub enum Pair<K, V> {
-    /// It brought its key and its value.
+    /// The pair brought its key and its value.
     Own(K, V),
-    /// It brought its value. The pair of this number brought its key.
+    /// The pair brought its value. The pair of this number brought its key.
     Keyed(usize, V),
-    /// It brought its key. The pair of this number brought its value.
+    /// The pair brought its key. The pair of this number brought its value.
     Lent(K, usize),
     /// The pair of the first number brought its key, and that of the second its value.
     Both(usize, usize),
 }
 
-/// The key or the value of a call: as it was handed in or answered, or, once it is logged, the
+/// The key or the value of a call: as it was passed in or returned, or, once it is stored, the
 /// number of the pair that brought it.
 #[derive(Drop)]
 pub enum Part<T> {
@@ -31,18 +31,18 @@ pub enum Part<T> {
     Logged(usize),
 }
 
-/// A call under way: its machine, and the key and the value that it makes pairs of.
+/// A call under way: its machine, and the key and the value of which it makes pairs.
 #[derive(Drop)]
 pub struct Running<K, V, A> {
     pub machine: Machine,
     pub key: Part<K>,
     pub value: Option<Part<V>>,
-    /// The answers that its closure has yet to give.
+    /// The closure's results that are yet to come.
     pub answers: Option<A>,
 }
 
 impl<T> Part<T> {
-    /// What pair `n` is to be logged with, and what the call has of it from then on.
+    /// Returns the part that pair `n` is stored with, and the part that the call then has.
     #[inline(always)]
     pub(crate) fn lend(self, n: usize) -> (Part<T>, Part<T>)
         ensures { result ≡ (self, Part.Logged (brought_by n self)) }
@@ -55,7 +55,7 @@ impl<T> Part<T> {
 }
 
 impl<K, V> Pair<K, V> {
-    /// A pair of this key and this value.
+    /// Returns a pair of this key and this value.
     #[inline(always)]
     pub(crate) fn of(key: Part<K>, value: Part<V>) -> Pair<K, V>
         ensures { result ≡ pair_with key value }
@@ -68,7 +68,7 @@ impl<K, V> Pair<K, V> {
         }
     }
 
-    /// The number of the pair that brought the key, where this is pair `n`.
+    /// Returns the number of the pair that brought the key, if this is pair `n`.
     #[inline(always)]
     pub(crate) fn key_from(&self, n: usize) -> usize
         ensures { result ≡ brought_by n (key_part self.now) }
@@ -80,9 +80,9 @@ impl<K, V> Pair<K, V> {
     }
 }
 
-/// What the numbers of pairs mean. A pair that is logged for a call has the call's key, or that of
-/// the pair that was named, and the call's value; the call has both from then on too. And a number
-/// means the same in each longer log. The function does nothing: its contract is the law.
+/// A law, with an empty body: what the numbers of pairs mean. A pair that is stored for a call has
+/// the call's key, or that of the pair named, and the call's value. The call has both from then on.
+/// A number means the same after more pairs are stored.
 pub fn numbers_mean<K, V, S, A>()
     ensures stays { (s : StoreState K V S) (more : List (Pair K V)) (n : ℕ) (p : Stored K V)
         → pair_of s n ≡ Some p → pair_of (record s { pairs = s.pairs ++ more }) n ≡ Some p }

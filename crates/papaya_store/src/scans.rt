@@ -1,4 +1,4 @@
-//! What a machine that scans a table asks.
+//! Performs the asks of a machine that scans a table.
 ghost use Rattle.std.specs.Prelude.{◌≡◌, ℤ, ◌⊎◌, ◌++◌, ◌∷◌, [], None, IfErr, OnOk};
 ghost use Rattle.papaya_words.specs.Counter.{added};
 ghost use Rattle.papaya_keys.specs.Hashes.{hash_of};
@@ -19,9 +19,9 @@ use std::marker::Model;
 #[derive(Drop)]
 pub struct Scanning<A> {
     pub scanner: Scanner,
-    /// The answers that its closure has yet to give.
+    /// The closure's results that are yet to come.
     pub answers: Option<A>,
-    /// The numbers of the pairs that it gave, in order.
+    /// The numbers of the pairs that it passed to the caller, in order.
     pub given: Numbers,
 }
 
@@ -40,7 +40,7 @@ impl Model for Numbers {
 }
 
 impl Numbers {
-    /// None yet.
+    /// Creates an empty list.
     pub fn new(alloc: Global) -> Numbers
         ensures { result ≡ [] }
     {
@@ -49,7 +49,7 @@ impl Numbers {
         }
     }
 
-    /// One more, where there is memory for it.
+    /// Adds a number. Fails with `Refused::Memory` if memory runs out.
     fn push(&mut self, n: u64) -> Result<(), Refused>
         ensures ok { OnOk result (self.new ≡ self.old ++ n ∷ []) }
         ensures err { IfErr result (λ e. (e ≡ Refused.Memory) × (self.new ≡ self.old)) }
@@ -60,7 +60,7 @@ impl Numbers {
         }
     }
 
-    /// The numbers.
+    /// Returns the numbers.
     pub fn into_vec(self) -> Vec<u64>
         ensures { result.items ≡ self }
     {
@@ -69,7 +69,7 @@ impl Numbers {
 }
 
 impl<A> Scanning<A> {
-    /// Shows pair `n` to the closure, which answers whether it stays.
+    /// Calls the closure with pair `n`, and returns whether the pair stays.
     fn show<K: Hash + Eq, V, S: BuildHasher>(
         &mut self,
         store: &Store<K, V, S>,
@@ -89,7 +89,7 @@ impl<A> Scanning<A> {
         }
     }
 
-    /// Gives pair `n`, where there is memory for one more.
+    /// Passes pair `n` to the caller, or refuses if memory for one more number runs out.
     fn give(&mut self, n: u64) -> CallAnswer
         ensures { Gives n self.old result self.new }
     {
@@ -100,8 +100,8 @@ impl<A> Scanning<A> {
     }
 }
 
-/// Answers one ask of this caller's machine. What it asks for the copy of all is answered as a
-/// copier's asks are.
+/// Performs one ask of this caller's machine. Asks for the copy of everything are performed as
+/// those of a copier are.
 pub fn perform_scan<K: Hash + Eq + Drop, V: Drop, S: BuildHasher, A: Answers<K, V>>(
     store: &mut Store<K, V, S>,
     alloc: Global,

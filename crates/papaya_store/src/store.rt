@@ -1,5 +1,4 @@
-//! What the machines of all callers ask about: the words of the tables, the arena of pairs, how
-//! many numbers were taken for them, and the count.
+//! The words of the tables, the arena of pairs, how many numbers were taken, and the count.
 ghost use Rattle.std.specs.Prelude.{◌≡◌, ℤ, ◌+◌, ◌-◌, ◌<◌, ◌^◌, ◌⊎◌, [], ◌∷◌, ◌++◌, ◌+ℤ◌, length};
 ghost use Rattle.std.specs.Prelude.{vec_len, vec_capacity, Some, None, FitsSigned, MatchOption};
 ghost use Rattle.std.specs.Prelude.{OnOk, IfOk, IfErr, IsSome, ◌*◌, ◌≤◌, slice_get};
@@ -38,7 +37,7 @@ use std::hash::{BuildHasher, Hash, Hasher};
 use std::marker::Model;
 use std::mem;
 
-/// Writes a word of the table at place `k`, where there is such a one.
+/// Writes a word of the table at index `k`, if there is one.
 #[inline(always)]
 fn put_in(tables: &mut Vec<Table>, k: usize, at: At, word: u64)
     ensures { tables.new.items ≡ put_in at (slice_get tables.old.items k) tables.old.items k word }
@@ -70,7 +69,7 @@ fn write_in(table: &mut Table, at: At, word: u64)
     }
 }
 
-/// Writes the hint of a slot of the table at place `k`, where there is such a one.
+/// Writes the hint of a slot of the table at index `k`, if there is one.
 #[inline(always)]
 fn note_in(tables: &mut Vec<Table>, k: usize, i: usize, hint: u8)
     ensures { tables.new.items ≡ hint_in (slice_get tables.old.items k) tables.old.items k i hint }
@@ -80,7 +79,7 @@ fn note_in(tables: &mut Vec<Table>, k: usize, i: usize, hint: u8)
     }
 }
 
-/// Writes the hint of a slot of a table, where there is such a slot.
+/// Writes the hint of a slot of a table, if there is such a slot.
 #[inline(always)]
 fn note_slot(table: &mut Table, i: usize, hint: u8)
     ensures { table.new ≡ hinted table.old i hint }
@@ -90,8 +89,7 @@ fn note_slot(table: &mut Table, i: usize, hint: u8)
     }
 }
 
-/// Makes room for one more item of a log that has none. It stands apart, so that a push is straight
-/// code.
+/// Makes room for one more item of a full list. Apart from the push, which is then straight code.
 #[cold]
 #[inline(never)]
 fn reserve_one<T>(items: &mut Vec<T>) -> Result<(), Refused>
@@ -105,7 +103,7 @@ fn reserve_one<T>(items: &mut Vec<T>) -> Result<(), Refused>
     }
 }
 
-/// The number of the next item of a log, for which there is room then.
+/// Returns the number of the next item of a list, and makes room for it.
 #[inline(always)]
 fn next_in<T>(items: &mut Vec<T>) -> Result<usize, Refused>
     ensures same { items.new.items ≡ items.old.items }
@@ -124,8 +122,7 @@ fn next_in<T>(items: &mut Vec<T>) -> Result<usize, Refused>
     Ok(n)
 }
 
-/// Logs a pair of this key and this value, for which there is room, at its number: what the call
-/// has of the value from then on.
+/// Stores a pair at its number, for which there is room. Returns what the call has of the value.
 #[inline(always)]
 fn log_pair<K: Drop, V: Drop>(
     pairs: &mut Vec<Pair<K, V>>,
@@ -142,7 +139,7 @@ fn log_pair<K: Drop, V: Drop>(
     left
 }
 
-/// Keeps the value of an insertion that a closure answered, until a pair is made of it.
+/// Keeps the value of an insertion that a closure returned, until a pair is made of it.
 fn keep_value<V: Drop>(operation: Operation<V, u64>, value: &mut Option<Part<V>>) -> Answer
     ensures answer { result ≡ Answer.Op (op_kind operation) }
     ensures value { value.new ≡ value_answered operation value.old }
@@ -157,7 +154,7 @@ fn keep_value<V: Drop>(operation: Operation<V, u64>, value: &mut Option<Part<V>>
     }
 }
 
-/// The words, the logs and the count, and what is written ahead of the next table.
+/// The words, the arena, the count, and the words written ahead of the next table.
 #[derive(Drop)]
 pub struct Store<K: Hash + Eq, V, S: BuildHasher> {
     root: u64,
@@ -183,7 +180,7 @@ impl<K: Hash + Eq, V, S: BuildHasher> Model for Store<K, V, S> {
 }
 
 impl<K: Hash + Eq, V, S: BuildHasher> Store<K, V, S> {
-    /// No words and no pairs.
+    /// Creates a store without words and pairs.
     fn new(alloc: Global, counter: Counter, hasher: S) -> Store<K, V, S>
         ensures { result ≡ record {
           words = record { root = 0; tables = []; made = 0 };
@@ -203,7 +200,7 @@ impl<K: Hash + Eq, V, S: BuildHasher> Store<K, V, S> {
         }
     }
 
-    /// The hash of a key, or of what a key is looked up by.
+    /// Returns the hash of a key, or of a value by which a key is looked up.
     #[inline(always)]
     pub fn hash<Q: Hash>(&self, key: &Q) -> u64
         ensures value { result ≡ hash_of Q.hash_input S.build_hasher S.Hasher.write S.Hasher.finish
@@ -215,7 +212,7 @@ impl<K: Hash + Eq, V, S: BuildHasher> Store<K, V, S> {
         state.finish()
     }
 
-    /// A pair by its number.
+    /// Returns a pair by its number.
     #[inline(always)]
     pub fn pair(&self, n: u64) -> Option<(&K, &V)>
         ensures { MatchOption result (pair_of self.now n ≡ None)
@@ -232,7 +229,7 @@ impl<K: Hash + Eq, V, S: BuildHasher> Store<K, V, S> {
         }
     }
 
-    /// The key and the value of a pair that is in the log.
+    /// Returns the key and the value of a pair that is stored.
     #[inline(always)]
     pub fn logged(&self, n: u64) -> (&K, &V)
         requires { IsSome (pair_of self.now n) }
@@ -249,7 +246,7 @@ impl<K: Hash + Eq, V, S: BuildHasher> Store<K, V, S> {
         }
     }
 
-    /// The value alone of a pair that is in the log. Nothing is read of a key that another brought.
+    /// Returns the value of a pair that is stored, and reads nothing of a key of another pair.
     #[inline(always)]
     pub fn logged_value(&self, n: u64) -> &V
         requires { IsSome (pair_of self.now n) }
@@ -261,7 +258,7 @@ impl<K: Hash + Eq, V, S: BuildHasher> Store<K, V, S> {
         }
     }
 
-    /// The key that pair `n` brought, which did bring one.
+    /// Returns the key of pair `n`, which brought one.
     #[inline(always)]
     fn logged_key(&self, n: usize) -> &K
         requires { IsSome (key_brought (slice_get self.now.pairs n)) }
@@ -273,7 +270,7 @@ impl<K: Hash + Eq, V, S: BuildHasher> Store<K, V, S> {
         }
     }
 
-    /// The key and the value of pair `n`, of which another brought the value.
+    /// Returns the key and the value of pair `n`, whose value another pair brought.
     #[cold]
     #[inline(never)]
     fn logged_apart<'a>(&'a self, n: usize, pair: &'a Pair<K, V>) -> (&'a K, &'a V)
@@ -290,7 +287,7 @@ impl<K: Hash + Eq, V, S: BuildHasher> Store<K, V, S> {
         }
     }
 
-    /// The key and the value of pair `n`, which does not have both of its own.
+    /// Returns the key and the value of pair `n`, which does not have both itself.
     #[cold]
     #[inline(never)]
     fn named<'a>(&'a self, n: usize, pair: &'a Pair<K, V>) -> Option<(&'a K, &'a V)>
@@ -312,7 +309,7 @@ impl<K: Hash + Eq, V, S: BuildHasher> Store<K, V, S> {
         }
     }
 
-    /// The key that pair `n` brought, where it brought one.
+    /// Returns the key of pair `n`, if it brought one.
     #[inline(always)]
     fn key_brought(&self, n: usize) -> Option<&K>
         ensures { MatchOption result (key_brought (slice_get self.now.pairs n) ≡ None)
@@ -324,7 +321,7 @@ impl<K: Hash + Eq, V, S: BuildHasher> Store<K, V, S> {
         }
     }
 
-    /// The value that pair `n` brought, where it brought one.
+    /// Returns the value of pair `n`, if it brought one.
     fn value_brought(&self, n: usize) -> Option<&V>
         ensures { MatchOption result (value_brought (slice_get self.now.pairs n) ≡ None)
             (λ value. value_brought (slice_get self.now.pairs n) ≡ Some value.now) }
@@ -335,7 +332,7 @@ impl<K: Hash + Eq, V, S: BuildHasher> Store<K, V, S> {
         }
     }
 
-    /// A table by its number.
+    /// Returns a table by its number.
     #[inline(always)]
     pub fn table(&self, n: u64) -> Option<&Table>
         ensures { MatchOption result (table_of self.now.words.tables n ≡ None)
@@ -348,7 +345,7 @@ impl<K: Hash + Eq, V, S: BuildHasher> Store<K, V, S> {
         }
     }
 
-    /// The size of a table, or nothing where there is none.
+    /// Returns the size of a table, if there is one.
     #[inline(always)]
     pub fn size_of(&self, n: u64) -> Answer
         ensures { result ≡ size_of (table_of self.now.words.tables n) }
@@ -362,14 +359,14 @@ impl<K: Hash + Eq, V, S: BuildHasher> Store<K, V, S> {
         }
     }
 
-    /// Returns how many pairs are in the log.
+    /// Returns how many pairs are stored.
     pub fn stored(&self) -> usize
         ensures { result ≡ length self.now.pairs }
     {
         self.pairs.len()
     }
 
-    /// How many pairs were counted.
+    /// Returns the count of pairs.
     pub fn count(&self) -> usize
         ensures value { result ≡ count_of self.now.count.sum }
         ensures fits { FitsSigned w64 self.now.count.sum }
@@ -377,7 +374,7 @@ impl<K: Hash + Eq, V, S: BuildHasher> Store<K, V, S> {
         self.counter.sum()
     }
 
-    /// In how many shards they are counted: a power of two.
+    /// Returns the number of shards of the count, a power of two.
     pub fn shards(&self) -> usize
         ensures count { result ≡ self.now.count.shards }
         ensures power { IsPowerOfTwo result }
@@ -385,14 +382,14 @@ impl<K: Hash + Eq, V, S: BuildHasher> Store<K, V, S> {
         self.counter.shards()
     }
 
-    /// The hasher.
+    /// Returns the hasher.
     pub fn hasher(&self) -> &S
         ensures { result.now ≡ self.now.hasher }
     {
         &self.hasher
     }
 
-    /// The root table.
+    /// Returns the root table.
     pub fn root(&self) -> Option<&Table>
         ensures { MatchOption result (table_of self.now.words.tables self.now.words.root ≡ None)
             (λ t. table_of self.now.words.tables self.now.words.root ≡ Some t.now) }
@@ -400,7 +397,7 @@ impl<K: Hash + Eq, V, S: BuildHasher> Store<K, V, S> {
         self.table(self.root)
     }
 
-    /// The word that stands at a place, 0 where there is no such place.
+    /// Returns the word at this address, or 0 if there is no such word.
     #[inline(always)]
     pub fn word(&self, at: At) -> u64
         ensures { result ≡ word_at self.now.words at }
@@ -421,7 +418,7 @@ impl<K: Hash + Eq, V, S: BuildHasher> Store<K, V, S> {
         }
     }
 
-    /// Where the next copy of a chunk to table `n` may begin; 0 where there is no such table.
+    /// Returns the chunk at which the next copy to table `n` may begin, or 0 without such a table.
     pub fn begin(&self, n: u64) -> usize {
         match self.table(n) {
             Some(table) => table.begin(),
@@ -429,7 +426,7 @@ impl<K: Hash + Eq, V, S: BuildHasher> Store<K, V, S> {
         }
     }
 
-    /// Writes the word at a place, where there is such a place.
+    /// Writes the word at this address, if there is such a word.
     #[inline(always)]
     fn put(&mut self, at: At, word: u64)
         ensures { self.new ≡ record self.old { words = put self.old.words at word } }
@@ -450,7 +447,7 @@ impl<K: Hash + Eq, V, S: BuildHasher> Store<K, V, S> {
         }
     }
 
-    /// The hint that stands at a slot, 0 where there is no such slot.
+    /// Returns the hint of a slot, or 0 if there is no such slot.
     #[inline(always)]
     pub fn hint(&self, n: u64, i: usize) -> u64
         ensures { result ≡ hint_at self.now.words n i }
@@ -461,7 +458,7 @@ impl<K: Hash + Eq, V, S: BuildHasher> Store<K, V, S> {
         }
     }
 
-    /// Writes the hint of a slot that has none, where there is such a slot.
+    /// Writes the hint of a slot that has none, if there is such a slot.
     #[inline(always)]
     pub fn note(&mut self, n: u64, i: usize, hint: u8)
         ensures { self.new ≡ record self.old { words = note self.old.words n i hint } }
@@ -471,7 +468,7 @@ impl<K: Hash + Eq, V, S: BuildHasher> Store<K, V, S> {
         }
     }
 
-    /// An exchange, which is made if the word that stands there is the old one.
+    /// Exchanges the word for `new` if it is `old`.
     #[inline(always)]
     pub fn exchange(&mut self, at: At, old: u64, new: u64) -> Answer
         ensures { Exchanges (word_at self.old.words at) old (put self.old.words at new) result
@@ -486,7 +483,7 @@ impl<K: Hash + Eq, V, S: BuildHasher> Store<K, V, S> {
         }
     }
 
-    /// Has pair `n` a key that equals the call's?
+    /// Returns whether pair `n` has a key that equals the call's.
     #[inline(always)]
     fn same_key(&self, n: u64, key: &Part<K>) -> bool
         ensures { result ≡ same K.eq (key_in self.now.pairs key.now) (pair_of self.now n) }
@@ -504,7 +501,7 @@ impl<K: Hash + Eq, V, S: BuildHasher> Store<K, V, S> {
         }
     }
 
-    /// Adds to the shard that the caller's number picks.
+    /// Adds to the shard that the caller's number selects.
     #[inline(always)]
     pub fn add_to_shard(&mut self, caller: usize, by: i64)
         ensures { self.new ≡ record self.old { count = added self.old.count caller by } }
@@ -515,11 +512,14 @@ impl<K: Hash + Eq, V, S: BuildHasher> Store<K, V, S> {
 }
 
 impl<K: Hash + Eq + Drop, V: Drop, S: BuildHasher + Drop> Store<K, V, S> {
-    /// No pairs, and a table for the capacity, with the initial capacity that it makes.
+    /// Creates a store without pairs, with a first table unless `capacity` is 0. Returns it with
+    /// its initial capacity in slots.
     ///
-    /// `Refused::ZeroChunk` for chunks of no slots. `Refused::Capacity` for more shards than
-    /// [`papaya_words::limits::MAX_SHARDS`], and for a table past [`MAX_TABLE_LEN`].
-    /// `Refused::Memory` where a growth was refused.
+    /// # Errors
+    ///
+    /// Fails with `Refused::ZeroChunk` for chunks of no slots. Fails with `Refused::Capacity` for
+    /// more shards than [`papaya_words::limits::MAX_SHARDS`], or for a table longer than
+    /// [`MAX_TABLE_LEN`]. Fails with `Refused::Memory` if memory runs out.
     pub fn with_parts(
         alloc: Global,
         mode: ResizeMode,
@@ -539,7 +539,7 @@ impl<K: Hash + Eq + Drop, V: Drop, S: BuildHasher + Drop> Store<K, V, S> {
         Ok((store, initial))
     }
 
-    /// Makes the first table where there is a capacity, for this length, and opens it.
+    /// Makes the first table, for this length, and opens it, unless `capacity` is 0.
     fn open(&mut self, alloc: Global, capacity: usize, initial: usize) -> Result<(), Refused>
         requires { self.old.words ≡ record { root = 0; tables = []; made = 0 } }
         ensures ok { OnOk result (HasCapacity capacity initial self.new.words
@@ -560,7 +560,7 @@ impl<K: Hash + Eq + Drop, V: Drop, S: BuildHasher + Drop> Store<K, V, S> {
 }
 
 impl<K: Hash + Eq + Drop, V: Drop, S: BuildHasher> Store<K, V, S> {
-    /// Lets all tables go, and all that is logged. The count stays as it is.
+    /// Drops all tables and all pairs. The count stays as it is.
     pub fn clear(&mut self, alloc: Global)
         ensures words { self.new.words ≡ record { root = 0; tables = []; made = 0 } }
         ensures pairs { self.new.pairs ≡ [] }
@@ -574,8 +574,8 @@ impl<K: Hash + Eq + Drop, V: Drop, S: BuildHasher> Store<K, V, S> {
         self.ahead = Room::new(alloc);
     }
 
-    /// Writes some words of the next table ahead, which is as long as the count asks for by now, so
-    /// that the call that makes it does not pay for all of it. No contract relies on them.
+    /// Writes some words of the next table ahead, for the length that the count now asks for. So
+    /// the call that makes it does not pay for all of it. No contract relies on them.
     #[cold]
     #[inline(never)]
     pub fn write_ahead(&mut self, alloc: Global)
@@ -584,7 +584,7 @@ impl<K: Hash + Eq + Drop, V: Drop, S: BuildHasher> Store<K, V, S> {
         let Some(root) = self.root() else {
             return;
         };
-        // Maps seldom shrink, so none is written for a shorter table.
+        // Maps seldom shrink, so nothing is written for a shorter table.
         let len = root.len();
         let Ok(next) = next_len(len, self.count(), len, false) else {
             return;
@@ -593,7 +593,7 @@ impl<K: Hash + Eq + Drop, V: Drop, S: BuildHasher> Store<K, V, S> {
         self.ahead = room.with_more(next);
     }
 
-    /// Logs a pair of the call's key and its value, of which each goes into the log once.
+    /// Stores a pair of the call's key and its value. Each of them is stored once.
     #[inline(always)]
     fn make_pair<A>(&mut self, running: &mut Running<K, V, A>) -> Answer
         ensures machine { running.new.machine ≡ running.old.machine }
@@ -615,8 +615,8 @@ impl<K: Hash + Eq + Drop, V: Drop, S: BuildHasher> Store<K, V, S> {
         Answer::Made(n as u64)
     }
 
-    /// Logs a pair of the key of pair `of` and the call's value. It names the pair that brought
-    /// that key, so that a lookup goes one step for it, however often it was replaced.
+    /// Stores a pair of the key of pair `of` and the call's value. The pair names the one that
+    /// brought that key, so that a lookup follows one number however often the entry was replaced.
     #[inline(always)]
     fn make_pair_of<A>(&mut self, of: u64, running: &mut Running<K, V, A>) -> Answer
         ensures machine { running.new.machine ≡ running.old.machine }
@@ -641,7 +641,7 @@ impl<K: Hash + Eq + Drop, V: Drop, S: BuildHasher> Store<K, V, S> {
         Answer::Made(n as u64)
     }
 
-    /// Makes a table of empty slots, to which a table of so many chunks is copied.
+    /// Makes a table of empty slots, to which a table of `chunks` chunks is copied.
     pub(crate) fn make_table(
         &mut self,
         alloc: Global,
@@ -666,7 +666,7 @@ impl<K: Hash + Eq + Drop, V: Drop, S: BuildHasher> Store<K, V, S> {
         }
     }
 
-    /// Asks the closure of a removal whether it agrees to the removal of pair `n`.
+    /// Calls the closure of a removal with pair `n`.
     fn judge<A: Answers<K, V>>(&self, n: u64, running: &mut Running<K, V, A>) -> Answer
         ensures machine { running.new.machine ≡ running.old.machine }
         ensures judges { Judges (record { op = A.op_gives; yes = A.yes_gives }) n self.now
@@ -681,7 +681,7 @@ impl<K: Hash + Eq + Drop, V: Drop, S: BuildHasher> Store<K, V, S> {
         }
     }
 
-    /// Shows pair `n` to the closure of a compute.
+    /// Calls the closure of a compute with pair `n`.
     fn decide<A: Answers<K, V>>(&self, n: u64, running: &mut Running<K, V, A>) -> Answer
         ensures machine { running.new.machine ≡ running.old.machine }
         ensures decides { DecidesPair (record { op = A.op_gives; yes = A.yes_gives }) n self.now
@@ -699,14 +699,14 @@ impl<K: Hash + Eq + Drop, V: Drop, S: BuildHasher> Store<K, V, S> {
         }
     }
 
-    /// What a closure is shown where there is no pair: like a pair it borrows the store.
+    /// Returns `None`, which borrows the store like a pair, to call a closure without a pair.
     fn no_pair(&self) -> Option<(&K, &V)>
         ensures { result ≡ None }
     {
         None
     }
 
-    /// Shows the closure of a compute that its key is absent.
+    /// Calls the closure of a compute without a pair, because its key is absent.
     fn decide_none<A: Answers<K, V>>(&self, running: &mut Running<K, V, A>) -> Answer
         ensures machine { running.new.machine ≡ running.old.machine }
         ensures decides { DecidesNone (record { op = A.op_gives; yes = A.yes_gives }) self.now
@@ -721,7 +721,7 @@ impl<K: Hash + Eq + Drop, V: Drop, S: BuildHasher> Store<K, V, S> {
         }
     }
 
-    /// Shows pair `n` to the closure of a call.
+    /// Calls the closure of a call with pair `n`.
     fn show<A: Answers<K, V>>(&self, n: u64, running: &mut Running<K, V, A>) -> Answer
         ensures machine { running.new.machine ≡ running.old.machine }
         ensures shows { ShowsPair running.old.machine.call.task
@@ -735,7 +735,7 @@ impl<K: Hash + Eq + Drop, V: Drop, S: BuildHasher> Store<K, V, S> {
         }
     }
 
-    /// What is made without memory.
+    /// Performs the asks that make something, or refuses them with `Refused::Memory` if `refuse`.
     #[inline(always)]
     fn make<A: Answers<K, V>>(
         &mut self,
@@ -753,7 +753,7 @@ impl<K: Hash + Eq + Drop, V: Drop, S: BuildHasher> Store<K, V, S> {
             return Answer::Refused(Refused::Memory);
         }
         match ask {
-            // What a call has goes into the log with its first pair.
+            // The call's key and value are stored with its first pair.
             Ask::MakeKey | Ask::MakeValue => Answer::Made(0),
             Ask::MakePair => self.make_pair(running),
             Ask::MakePairOf(n) => self.make_pair_of(n, running),
@@ -762,7 +762,7 @@ impl<K: Hash + Eq + Drop, V: Drop, S: BuildHasher> Store<K, V, S> {
         }
     }
 
-    /// Answers one ask of this caller's machine.
+    /// Performs one ask of this caller's machine.
     #[inline(always)]
     pub fn perform<A: Answers<K, V>>(
         &mut self,

@@ -1,27 +1,27 @@
-//! Where a closure of a call waits for other threads.
+//! A gate at which a closure of a call waits for other threads.
 use std::sync::atomic::{AtomicBool, Ordering};
 use std::thread::yield_now;
 
-/// How often a thread looks whether another one has come, at most. No test waits by a clock.
+/// How often a thread checks at most whether another one has come. No test waits by a clock.
 pub const TURNS: u64 = 100_000_000;
 
-/// How often it does where the other one is not to come.
+/// How often it checks if the other one will not come.
 pub const FEW_TURNS: u64 = 100;
 
-/// Where a closure waits for other threads.
+/// A gate at which a closure waits for other threads.
 #[derive(Drop)]
 pub struct Gate {
-    /// A closure is here, or was.
+    /// Whether a closure has come to the gate.
     pub reached: AtomicBool,
-    /// It goes on.
+    /// Whether the closure may continue.
     pub open: AtomicBool,
-    /// It went on before the gate was open.
+    /// Whether a closure continued before the gate was open.
     late: AtomicBool,
     turns: u64,
 }
 
 impl Gate {
-    /// One at which a closure waits, for so many turns at the most.
+    /// Creates a gate at which a closure waits, for at most `turns` turns.
     pub fn closed(turns: u64) -> Gate {
         Gate {
             reached: AtomicBool::new(false),
@@ -31,14 +31,14 @@ impl Gate {
         }
     }
 
-    /// One at which no closure waits.
+    /// Creates a gate at which no closure waits.
     pub fn open() -> Gate {
         let gate = Gate::closed(0);
         gate.open.store(true, Ordering::SeqCst);
         gate
     }
 
-    /// Waits until the flag is set, if it ever is.
+    /// Waits until the flag is set, for at most `turns` turns, and returns whether it is.
     pub fn turn_until(&self, flag: &AtomicBool) -> bool {
         for _ in 0..self.turns {
             if flag.load(Ordering::SeqCst) {
@@ -49,7 +49,7 @@ impl Gate {
         flag.load(Ordering::SeqCst)
     }
 
-    /// A closure comes here and waits. It does not where one has waited in vain before.
+    /// Lets a closure wait here, unless one has waited in vain before.
     pub fn wait(&self) {
         self.reached.store(true, Ordering::SeqCst);
         if !self.late.load(Ordering::SeqCst) && !self.turn_until(&self.open) {
@@ -57,12 +57,12 @@ impl Gate {
         }
     }
 
-    /// Was a closure here, and was the gate open before it went on?
+    /// Returns whether a closure was here, and none continued before the gate was open.
     pub fn was_passed(&self) -> bool {
         self.reached.load(Ordering::SeqCst) && !self.late.load(Ordering::SeqCst)
     }
 
-    /// Does what is looked at stay the same until the gate is open, and then?
+    /// Returns whether the state observed stays the same until the gate is open, and once after.
     pub fn stays<L: Look>(&self, look: &mut L) -> bool {
         self.reached.store(true, Ordering::SeqCst);
         for _ in 0..self.turns {
@@ -79,8 +79,8 @@ impl Gate {
     }
 }
 
-/// What a thread looks at while others change a map or set.
+/// A state that a thread observes while others change a map or set.
 pub trait Look {
-    /// Is it as it was?
+    /// Returns whether the state is as it was.
     fn is_same(&mut self) -> bool;
 }

@@ -3,17 +3,17 @@ ghost use Rattle.std.specs.Prelude.{◌≡◌};
 
 use std::hash::{BuildHasher, Hasher};
 
-/// Hashes each key to this number, so that all keys share one path.
+/// Hashes each key to this number, so that all keys share one probe sequence.
 #[derive(Clone, Copy)]
 pub struct Same(pub u64);
 
-/// The path begins at a table's first slot.
+/// The probe sequence begins at a table's first slot.
 pub const FIRST: Same = Same(0);
 
-/// The path begins at a table's last slot.
+/// The probe sequence begins at a table's last slot.
 pub const LAST: Same = Same(u64::MAX);
 
-/// The hash of whatever is written.
+/// A hasher whose result is the same whatever is written.
 #[derive(Clone, Copy)]
 pub struct SameHasher {
     hash: u64,

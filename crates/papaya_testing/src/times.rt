@@ -1,26 +1,26 @@
-//! Hashers that show which keys share a path.
+//! Hashers with which a test chooses the keys that share a probe sequence.
 ghost use Rattle.std.specs.Prelude.{◌≡◌, ◌*◌, slice_index};
 
 use std::hash::{BuildHasher, Hasher};
 
-/// Hashes a key below 256 to so many times itself.
+/// Hashes a key below 256 to this multiple of itself.
 #[derive(Clone, Copy)]
 pub struct Times(pub u8);
 
 /// Each key has a slot of its own.
 pub const APART: Times = Times(1);
 
-/// All keys share one path.
+/// All keys share one probe sequence.
 pub const TOGETHER: Times = Times(0);
 
-/// The first byte that was written last, and what its hash is a multiple by.
+/// The first byte of the last write, and the factor of its hash.
 #[derive(Drop)]
 pub struct FirstByte {
     factor: u8,
     byte: u8,
 }
 
-/// The first of the bytes, or 0.
+/// Returns the first of the bytes, or 0.
 fn first_of(bytes: &[u8]) -> u8
     ensures { result ≡ slice_index bytes.now 0 }
 {

@@ -1,36 +1,36 @@
-// A call is made with one request after another refused to it, each time on a new map.
+// Makes a call with one request after another refused, each time on a new map.
 use crate::heap::{refuse, relent};
 use papaya_words::probe::Refused;
 use std::alloc::Global;
 
-/// A call, and the map or set that is ready for it.
+/// A call, with a map or set that is ready for it.
 pub trait Ready {
-    /// Makes the call: did it answer what is wanted, and leave all as it should be?
+    /// Makes the call. Returns whether its result and the state that it leaves are right.
     fn is_made(&mut self) -> Result<bool, Refused>;
 
-    /// Is all as it may be where the call was refused?
+    /// Returns whether the state is one that a refused call may leave.
     fn is_kept(&mut self) -> bool;
 }
 
-/// What a call does of which one request is to be refused.
+/// The outcome of a call with one refused request.
 #[derive(Clone, Copy, PartialEq)]
 pub enum Outcome {
-    /// It makes fewer requests than that, and answers.
+    /// The call made fewer requests than that, and succeeded.
     Answers,
-    /// It is refused memory, all is kept, and with memory it answers.
+    /// The call ran out of memory and left a right state; with memory it succeeds.
     IsRefused,
-    /// It answers without that: the request was for what is written ahead.
+    /// The call succeeded without the request, which was for what is written ahead.
     Spares,
     /// Anything else.
     Fails,
 }
 
-/// Is all kept, and does the call answer now?
+/// Returns whether the state is right and the call succeeds now.
 fn goes_on<T: Ready>(ready: &mut T) -> bool {
     ready.is_kept() && ready.is_made() == Ok(true)
 }
 
-/// Makes a call with the request of this number refused. It answers just where none was refused.
+/// Makes a call with this request refused. Returns `Answers` if no request was refused.
 pub fn tries<T: Ready>(alloc: Global, ready: &mut T, number: usize) -> Outcome {
     refuse(alloc, number);
     let first = ready.is_made();
@@ -49,11 +49,11 @@ pub trait Trial {
     fn with_refused(&self, number: usize) -> Result<Outcome, Refused>;
 }
 
-/// No call makes so many requests.
+/// More requests than any call makes.
 const MOST: usize = 10_000;
 
-/// Refuses each request of a call in turn, until it makes no more of them. Is there one that the
-/// call fails without?
+/// Refuses each request of a call in turn, until the call makes no further one. Returns the number
+/// of the first request without which the call fails, if there is one.
 pub fn fails_at<T: Trial>(trial: &T) -> Result<Option<usize>, Refused> {
     for number in 1..MOST {
         match trial.with_refused(number)? {

@@ -1,5 +1,5 @@
-//! What happens in a run of many callers' steps: schedules, traces, and the law that each run has a
-//! timeline of maps. The crate has no code that acts on a map.
+//! Runs of many callers' steps: schedules, traces, and the law that each run has a timeline of
+//! maps. The crate has no code that changes a map.
 #![tactic(auto)]
 
 pub mod once;

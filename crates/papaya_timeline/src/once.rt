@@ -1,4 +1,4 @@
-//! A pair enters the map once. The function does nothing: its contract is the law.
+//! A pair enters the map once. The function has an empty body; its contract is the law.
 ghost use Rattle.std.specs.Prelude.{◌≡◌, List, Some, ◌∷◌, ◌++◌};
 ghost use Rattle.papaya_store.specs.Store.{Stored};
 ghost use Rattle.papaya_timeline.specs.declared.trace.Turn.{Turn};
@@ -7,8 +7,8 @@ ghost use Rattle.papaya_timeline.specs.Runs.{History};
 ghost use Rattle.papaya_timeline.specs.Timeline.{Answered, IsUnused, Timeline};
 ghost use Rattle.papaya_timeline.specs.Once.{HaveNot, IsSteady};
 
-/// Along a timeline each map has of a key the pair that the map before it has, or one that no map
-/// before it had. So a pair that was in the map and has left it does not come back.
+/// Along a timeline, each map has for a key the pair that the map before has, or one that no map
+/// before had. So a pair that has left the map does not come back.
 pub fn pairs_enter_once<K: Eq, V, A>()
     ensures steady { (schedule : List (Turn K V A)) (start : Map K V) (h : History)
         (maps : List (Map K V)) (said : Answered V)

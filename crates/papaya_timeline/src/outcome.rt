@@ -1,20 +1,20 @@
-//! What a call comes to.
+//! Outcomes of calls.
 ghost use Rattle.std.specs.Prelude.{◌≡◌};
 ghost use Rattle.papaya_timeline.specs.Outcomes.{reply_told};
 
 use papaya_ask::call::Reply;
 
-/// What a call has come to, by its last step.
+/// The outcome of a call, at its last step.
 #[derive(Debug, PartialEq, Eq, Drop)]
 pub enum Outcome {
-    /// It replied this.
+    /// The call replied with this.
     Replied(Reply),
-    /// It was a walk, and is done. The numbers of the pairs that it gave, in order.
+    /// The call was an iteration and is finished: the numbers of its pairs, in order.
     Walked(Vec<u64>),
 }
 
 impl Outcome {
-    /// The reply, as a trace tells it: of a walk that is done, [`Reply::Done`].
+    /// Returns the reply as a trace records it: for a finished iteration, [`Reply::Done`].
     pub fn reply(&self) -> Reply
         ensures { result ≡ reply_told self.now }
     {

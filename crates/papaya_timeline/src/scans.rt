@@ -1,5 +1,5 @@
-//! What a call that scans a table does to the words and to what all calls rely on. The functions
-//! do nothing: their contracts are the laws.
+//! How a call that scans a table affects the words and the facts on which all calls rely. The
+//! functions have empty bodies; their contracts are the laws.
 ghost use Rattle.std.specs.Prelude.{◌≡◌, ◌⊎◌, ℕ, ◌<◌, IsSome, List, [], None, Some, Option, Bool};
 ghost use Rattle.papaya_ask.specs.declared.call.Reply.{Reply};
 ghost use Rattle.papaya_ask.specs.declared.call.Reply.TheVariants.{Done as Reply_done};
@@ -27,8 +27,8 @@ use papaya_chain::scanner::Scan;
 use papaya_store::scans::Scanning;
 use std::hash::{BuildHasher, Hash};
 
-/// A scanner stands beside any number of callers. It relies on what is told of it, from its begin
-/// on, whatever the others do; and they rely on what is told of them, whatever it does.
+/// A scanner runs beside any number of callers. The facts on which it relies stay true from its
+/// begin on, whatever the others do; and so do the facts on which they rely, whatever it does.
 pub fn scans_keep<K: Hash + Eq, V, S: BuildHasher, A: Answers<K, V>>()
     ensures begins { (s : CoreState K V S A) → IsCore s.store s.callers s.mode
         → (es : List (Exchange (Stored K V))) (scan : Scan) (initial number : ℕ)
@@ -84,9 +84,9 @@ pub fn scans_keep<K: Hash + Eq, V, S: BuildHasher, A: Answers<K, V>>()
         call_trace }
 {}
 
-/// A scanner's step leaves the map, or takes one pair out of it, and a walk takes none. A retain
-/// takes out only pairs that it has shown, of which the last answer was that they do not stay. The
-/// count, with what the scanner and all callers have yet to add, stays the number of pairs.
+/// A scanner's step leaves the map as it is, or takes one pair out, and an iteration takes none. A
+/// retain takes out only pairs for which its closure last returned `false`. The count, with what
+/// the scanner and all callers have yet to add, is always the number of pairs.
 pub fn scans_move<K: Hash + Eq, V, S: BuildHasher, A>()
     ensures moves { (s : CoreState K V S A) → IsCore s.store s.callers s.mode
         → (es : List (Exchange (Stored K V))) (call_traces : ℕ → CallTrace K V) → IsKept K.eq
@@ -113,8 +113,8 @@ pub fn scans_move<K: Hash + Eq, V, S: BuildHasher, A>()
         → IsCountedBeside K.eq store' s.callers (after v.scanner a).state }
 {}
 
-/// Where nobody else changes the words each step of a scanner brings it nearer its end, by a
-/// measure that the words give, and what it has read stands there still. So a caller alone may step
+/// If nobody else changes the words, each step of a scanner brings it nearer to its end, by a
+/// measure of the words. The words that it has read have not changed. So a single caller may step
 /// it until it replies.
 pub fn scans_end<K: Hash + Eq, V, S: BuildHasher, A: Answers<K, V>>()
     ensures { (refuse : Bool) (s : CoreState K V S A) → IsCore s.store s.callers s.mode

@@ -1,4 +1,4 @@
-//! One caller, with no other beside it. The functions do nothing: their contracts are laws.
+//! One caller without any other. The functions have empty bodies; their contracts are laws.
 ghost use Rattle.std.specs.Prelude.{◌≡◌, Bool, [], None, Some};
 ghost use Rattle.papaya_timeline.specs.Advances.{Advances};
 ghost use Rattle.papaya_timeline.specs.Begins.{Begins, begun_work};
@@ -23,8 +23,8 @@ use papaya_store::pairs::Running;
 use papaya_store::scans::Scanning;
 use std::hash::{BuildHasher, Hash};
 
-/// A call that is made alone does what the finite map does, and leaves the words and the count in
-/// order: what a map for one caller relies on.
+/// A call that runs alone does what the finite map does, and leaves the words and the count in
+/// order. A map for one caller relies on this.
 pub fn one_call<K: Hash + Eq, V, S: BuildHasher, A, B>()
     ensures answers { (s s' : CoreState K V S A) (call : Call K V A) (reply : Reply)
         → IsLawfulCore K.eq (hash_of K.hash_input S.build_hasher S.Hasher.write S.Hasher.finish
@@ -49,10 +49,10 @@ pub fn one_call<K: Hash + Eq, V, S: BuildHasher, A, B>()
         S.Hasher.finish s.store.hasher) s.store [] s.mode }
 {}
 
-/// A call that is made alone comes to its end: until it replies, each of its steps lowers a
-/// measure, which the words and what is under way give, whatever its closure answers. So a map for
-/// one caller may step it until it replies. When a call that resizes the map is done, what was
-/// wanted is so: nothing is left to copy, or there is room.
+/// A call that runs alone ends. Until it replies, each of its steps lowers a measure of the words
+/// and of what is under way, whatever its closure returns. So a map for one caller may step it
+/// until it replies. When a call that resizes the map ends, the resize that was wanted is finished:
+/// nothing is left to copy, or there is room.
 pub fn one_call_ends<K: Hash + Eq, V, S: BuildHasher, A>()
     ensures begins { (s s' : CoreState K V S A) (call : Call K V A) → s.callers ≡ []
         → IsLawfulCore K.eq (hash_of K.hash_input S.build_hasher S.Hasher.write S.Hasher.finish

@@ -1,4 +1,4 @@
-//! Schedules, and what happened in them.
+//! Schedules, and the events of their runs.
 use papaya_ask::ask::{OpKind, StepKind};
 use papaya_ask::call::{Call, Reply};
 
@@ -7,50 +7,50 @@ use papaya_ask::call::{Call, Reply};
 pub enum Turn<K, V, A> {
     /// This caller begins a call.
     Begin(usize, Call<K, V, A>),
-    /// This caller makes a step, with memory or, where the second is true, without.
+    /// This caller makes a step. If the second field is true, memory runs out in that step.
     Step(usize, bool),
-    /// This caller makes as many steps with memory as its call needs, and at most so many.
+    /// This caller makes all steps that its call needs, with memory, and at most the second number.
     Finish(usize, usize),
 }
 
-/// What happened at one moment. Pairs are named by number.
+/// An event of a run. Pairs are named by number.
 #[derive(Clone, Copy, Debug, PartialEq)]
 pub enum Event {
     /// A call began.
     Begun,
-    /// An exchange changed the map: the pair that went, and the one that came.
+    /// An exchange changed the map: the pair taken out, and the pair put in.
     Changed(StepKind, Option<u64>, Option<u64>),
     /// An exchange left the map as it was.
     Moved(StepKind),
-    /// The closure of a removal was shown a pair, and answered this: whether it is removed. Of a
-    /// retain, whether it stays.
+    /// The closure was called with a pair and returned this: of a removal whether it is removed, of
+    /// a retain whether it stays.
     Asked(u64, bool),
-    /// The closure of a call that may insert, remove or abort was shown a pair, or that there is
-    /// none, and answered this.
+    /// The closure of a call that may insert, remove or abort was called with a pair, or without
+    /// one, and returned this.
     Shown(Option<u64>, OpKind),
-    /// A walk gave this pair.
+    /// An iteration returned this pair.
     Gave(u64),
-    /// A step changed no word, and showed nothing.
+    /// A step changed no word, and called no closure.
     Other,
     /// The call replied.
     Replied(Reply),
 }
 
-/// What happened at one moment to one caller.
+/// An event of one caller.
 #[derive(Clone, Copy, Debug, PartialEq)]
 pub struct Entry {
-    /// The turn's place in the schedule.
+    /// The index of the turn in the schedule.
     pub turn: usize,
-    /// Whose turn it was.
+    /// The caller whose turn it was.
     pub caller: usize,
-    /// What happened.
+    /// The event.
     pub event: Event,
 }
 
-/// What happened in a run, in order. A begin has one entry. A step has one for its ask, and a
-/// second where it gave the reply.
+/// The events of a run, in order. A begin has one entry. A step has one for its ask, and a second
+/// if the call replied.
 #[derive(Debug, Drop)]
 pub struct Trace {
-    /// One for each moment, the first one first.
+    /// The entries, the first one first.
     pub entries: Vec<Entry>,
 }

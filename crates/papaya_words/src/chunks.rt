@@ -1,12 +1,12 @@
-//! The chunks that a table is copied in: so many slots one after another, the last one's as many as
-//! are left.
+//! The chunks in which a table is copied. A chunk is a run of neighbouring slots; the last one may
+//! be shorter.
 ghost use Rattle.std.specs.Prelude.{◌≡◌, ◌≤◌};
 ghost use Rattle.papaya_words.specs.Chunks as chunks;
 
 use crate::limits::BLOCKING_CHUNK;
 use crate::probe::ResizeMode;
 
-/// How many slots a chunk has. No map is made with chunks of no slots.
+/// Returns the length of a chunk in slots: at least 1, whatever the mode says.
 #[inline]
 pub fn chunk_len(mode: ResizeMode) -> usize
     ensures value { result ≡ chunks.chunk_len mode }
@@ -18,7 +18,7 @@ pub fn chunk_len(mode: ResizeMode) -> usize
     }
 }
 
-/// In how many chunks a table of so many slots is copied.
+/// Returns the number of chunks in which a table of `len` slots is copied.
 #[inline]
 pub fn chunk_count(len: usize, mode: ResizeMode) -> usize
     ensures { result ≡ chunks.chunk_count len (chunks.chunk_len mode) }

@@ -1,4 +1,4 @@
-//! The count of a map, in shards, so that callers seldom meet at one word.
+//! The count of a map's entries, split into shards so that threads rarely contend for one word.
 ghost use Rattle.std.specs.Prelude.{◌≡◌, ℕ, ◌-◌, ◌<◌, ◌≤◌, length, slice_set, slice_index_or};
 ghost use Rattle.std.specs.Prelude.{pos, ◌+ℤ◌, bit_and, Err, FitsSigned, IfErr, IfOk};
 ghost use Rattle.std.specs.Int.{w64, int_wrap, IsPowerOfTwo, IsNextPowerOfTwo};
@@ -9,11 +9,11 @@ use crate::probe::Refused;
 use std::alloc::Global;
 use std::marker::Model;
 
-/// A signed number in shards. Contracts see how many shards there are, what each of them has, and
-/// their sum, wrapped to 64 bits: the true sum of what was added wherever that fits.
+/// A signed number that is the sum of its shards. Contracts see the number of shards, the value of
+/// each, and their sum, wrapped to 64 bits. The sum is exact whenever it fits.
 ///
-/// Its words are plain. 0.2.5 gives each shard a cache line of its own, and takes
-/// their number from the machine's processors.
+/// The shards are plain words. In 0.2.5 each shard has a cache line of its own, and their number
+/// depends on the machine's processors.
 #[derive(Drop)]
 pub struct Counter {
     shards: Vec<i64>,
@@ -36,10 +36,12 @@ impl Model for Counter {
 }
 
 impl Counter {
-    /// A count of 0 over at least so many shards: rounded up to a power of two.
+    /// Creates a counter of 0 with at least `shards` shards, rounded up to a power of two.
     ///
-    /// `Refused::Capacity` for more than [`MAX_SHARDS`], `Refused::Memory` where
-    /// the growth was refused.
+    /// # Errors
+    ///
+    /// Fails with `Refused::Capacity` above [`MAX_SHARDS`], and with `Refused::Memory` if memory
+    /// runs out.
     pub fn new(alloc: Global, shards: usize) -> Result<Counter, Refused>
         ensures many { 65536 < shards → result ≡ Err Refused.Capacity }
         ensures few { shards ≤ 65536 → IfErr result (λ refused. refused ≡ Refused.Memory) }
@@ -55,7 +57,7 @@ impl Counter {
         }
     }
 
-    /// How many shards there are: a power of two.
+    /// Returns the number of shards, a power of two.
     pub fn shards(&self) -> usize
         ensures count { result ≡ self.now.shards }
         ensures power { IsPowerOfTwo result }
@@ -63,7 +65,7 @@ impl Counter {
         self.shards.len()
     }
 
-    /// The shard that a guard of this number adds to.
+    /// Returns the shard to which a guard with this number adds.
     #[inline(always)]
     pub fn get(&self, guard_number: u64) -> usize
         ensures place { result ≡ shard_of self.now guard_number }
@@ -72,7 +74,7 @@ impl Counter {
         (guard_number & (self.shards.len() as u64 - 1)) as usize
     }
 
-    /// Adds to one shard, wrapping.
+    /// Adds `by` to one shard, wrapping around on overflow.
     #[inline(always)]
     pub fn add(&mut self, place: usize, by: i64)
         requires { place < self.old.shards }
@@ -81,7 +83,7 @@ impl Counter {
         add_at(&mut self.shards, place, by);
     }
 
-    /// The sum of all shards; a negative one counts as 0.
+    /// Returns the sum of all shards, or 0 if it is negative.
     pub fn sum(&self) -> usize
         ensures value { result ≡ count_of self.now.sum }
         ensures fits { FitsSigned w64 self.now.sum }
@@ -94,7 +96,7 @@ impl Counter {
     }
 }
 
-// Apart from `Counter`, so that it is proved over the bare list.
+// A function of its own, so that it is proved over the bare list.
 fn add_at(shards: &mut Vec<i64>, place: usize, by: i64)
     requires { place < length shards.old.items }
     ensures { shards.new.items ≡ slice_set shards.old.items place

@@ -1,4 +1,4 @@
-//! Words that are written ahead of the table that will have them.
+//! Words that are written before the table that will own them is made.
 ghost use Rattle.std.specs.Prelude.{◌≡◌, ◌+◌, ◌≤◌, IfOk, length, replicate};
 ghost use Rattle.std.specs.Vec.{vec_capacity};
 ghost use Rattle.papaya_words.specs.Room.{AreAll};
@@ -8,7 +8,7 @@ use std::alloc::{AllocError, Global};
 /// How many slots are written ahead at a time: a few pages.
 const AHEAD_SLOTS: usize = 1024;
 
-/// Empty slots without hints, which are written a few at a time, so that no call pays for a whole
+/// Empty slots with hints of 0, written a few at a time, so that no single call pays for a whole
 /// table.
 #[derive(Drop)]
 pub struct Room {
@@ -19,7 +19,7 @@ pub struct Room {
 }
 
 impl Room {
-    /// No slots yet. It takes no memory.
+    /// Creates a room without slots. It allocates nothing.
     pub fn new(alloc: Global) -> Room {
         Room {
             slots: Vec::new(alloc),
@@ -27,7 +27,7 @@ impl Room {
         }
     }
 
-    /// Some more slots, until there are `len`. Where there is no memory for so many, it is as it was.
+    /// Returns the room with up to 1024 more slots, at most `len`; as it was if memory runs out.
     pub fn with_more(self, len: usize) -> Room {
         let Self {
             mut slots,
@@ -44,7 +44,7 @@ impl Room {
         }
     }
 
-    /// So many slots and their hints: those of the room, where it is for so many, and others.
+    /// Returns `len` slots and their hints: those of the room if it was reserved for exactly `len`.
     pub(crate) fn into_slots(
         self,
         alloc: Global,
@@ -58,7 +58,7 @@ impl Room {
     }
 }
 
-/// So many more times this item, for which there is room.
+/// Pushes `item` another `more` times, within the capacity.
 fn with_more<T: Copy>(ahead: Vec<T>, more: usize, item: T) -> Vec<T>
     requires all { AreAll item ahead.items }
     requires room { length ahead.items + more ≤ vec_capacity ahead }
@@ -72,8 +72,7 @@ fn with_more<T: Copy>(ahead: Vec<T>, more: usize, item: T) -> Vec<T>
     items
 }
 
-/// So many times this item: those that were written ahead, where there is room for just so many, and
-/// others.
+/// Returns `len` copies of `item`. Uses `ahead` if its capacity is exactly `len`.
 fn filled<T: Copy>(ahead: Vec<T>, alloc: Global, len: usize, item: T) -> Result<Vec<T>, AllocError>
     requires { AreAll item ahead.items }
     ensures { IfOk result (λ items. items.items ≡ replicate len item) }

@@ -1,4 +1,4 @@
-//! One table of slots, and how long tables are.
+//! One table of slots, and the lengths of tables.
 ghost use Rattle.std.specs.Prelude.{◌≡◌, ℕ, Bool, ◌-◌, ◌^◌, ◌<◌, ◌≤◌, ◌⊎◌, true, false, max};
 ghost use Rattle.std.specs.Prelude.{MatchResult, IfOk, IfErr, length, slice_get, Some, slice_set};
 ghost use Rattle.papaya_words.specs.Probe.{IsLimit};
@@ -11,10 +11,10 @@ use crate::room::Room;
 use std::alloc::Global;
 use std::marker::Model;
 
-/// A table: its slots with their hints, how far a search of it goes, and how far its resize has
-/// come. Its words are plain; the shared map keeps the like in atomic words.
+/// A table: its slots with their hints, how far a search looks, and how far its resize is. Its
+/// words are plain; the shared map keeps the same in atomic words.
 ///
-/// It stands in place of 0.2.5's `RawTable` and the `State` beside it.
+/// It replaces `RawTable` of 0.2.5 and the `State` beside it.
 #[derive(Drop)]
 pub struct Table {
     number: u64,
@@ -49,10 +49,12 @@ impl Model for Table {
 impl Table {
     ghost use Rattle.papaya_words.specs.Table.{new_table, noted};
 
-    /// A table of this number, with `len` Empty slots, no hints and no next, to which a table of so
-    /// many chunks is copied. What the room has for a table of so many slots becomes its own.
+    /// Creates a table with `len` `Empty` slots, no hints and no next table, to which a table of
+    /// `chunks` chunks is copied. It takes over the words of `room` if those are for `len` slots.
     ///
-    /// `Refused::Memory` where the growth was refused.
+    /// # Errors
+    ///
+    /// Fails with `Refused::Memory` if memory runs out.
     pub fn new(
         alloc: Global,
         room: Room,
@@ -79,14 +81,14 @@ impl Table {
         }
     }
 
-    /// The table's number in its map, from 1 on.
+    /// Returns the table's number in its map, from 1.
     pub fn number(&self) -> u64
         ensures { result ≡ self.now.number }
     {
         self.number
     }
 
-    /// How many slots the table has.
+    /// Returns the number of slots.
     #[inline(always)]
     pub fn len(&self) -> usize
         ensures { result ≡ length self.now.slots }
@@ -94,7 +96,7 @@ impl Table {
         self.slots.len()
     }
 
-    /// How many places a search looks at after the first.
+    /// Returns the probe limit: how many places after the first a search looks at.
     #[inline(always)]
     pub fn limit(&self) -> usize
         ensures { result ≡ self.now.limit }
@@ -102,7 +104,7 @@ impl Table {
         self.limit
     }
 
-    /// The number of the next table, or 0 where there is none yet.
+    /// Returns the number of the next table, or 0 if there is none yet.
     #[inline(always)]
     pub fn next(&self) -> u64
         ensures { result ≡ self.now.next }
@@ -110,22 +112,22 @@ impl Table {
         self.next
     }
 
-    /// 1 where a pair of the table before found no place here, so that the copy
-    /// goes on with the next table; else 0.
+    /// Returns 1 if the copy to this table was given up because a pair of the table before found no
+    /// place here, and 0 otherwise. The copy then continues with the next table.
     pub fn aborted(&self) -> u64
         ensures { result ≡ self.now.aborted }
     {
         self.aborted
     }
 
-    /// In how many chunks the table before is copied to this one.
+    /// Returns the number of chunks in which the table before is copied to this one.
     pub fn chunks(&self) -> usize
         ensures { result ≡ length self.now.done }
     {
         self.done.len()
     }
 
-    /// 1 where this chunk of the table before is copied, else 0.
+    /// Returns 1 if this chunk of the table before is copied, and 0 otherwise.
     pub fn done(&self, chunk: usize) -> u64
         requires { chunk < length self.now.done }
         ensures { slice_get self.now.done chunk ≡ Some result }
@@ -133,8 +135,8 @@ impl Table {
         self.done[chunk]
     }
 
-    /// A chunk after the one whose word was written last: where a copy by one caller finds the next
-    /// word at 0.
+    /// Returns a chunk after the one whose word was written last. A copy by one caller finds the
+    /// next word that is 0 there.
     pub fn begin(&self) -> usize {
         self.begin
     }
@@ -162,7 +164,7 @@ impl Table {
         self.begin = chunk + 1;
     }
 
-    /// The word of a slot.
+    /// Returns the word of a slot.
     #[inline(always)]
     pub fn slot(&self, i: usize) -> u64
         requires { i < length self.now.slots }
@@ -180,7 +182,7 @@ impl Table {
         self.slots[i] = word;
     }
 
-    /// The hint of a slot: 0 where nobody has written one.
+    /// Returns the hint of a slot, or 0 if it has none.
     #[inline(always)]
     pub fn hint(&self, i: usize) -> u8
         requires { i < length self.now.slots }
@@ -189,7 +191,7 @@ impl Table {
         self.hints[i]
     }
 
-    /// Writes the hint of a slot that has none. One that stands there stays.
+    /// Writes the hint of a slot that has none. An existing hint stays.
     #[inline(always)]
     pub fn set_hint(&mut self, i: usize, hint: u8)
         requires { i < length self.old.slots }
@@ -201,22 +203,23 @@ impl Table {
     }
 }
 
-/// How many slots a table has that is asked for at this length.
+/// Returns the length of a table for which `asked` slots are requested: at least 8.
 pub fn table_len(asked: usize) -> usize
     ensures { result ≡ max asked 8 }
 {
     asked.max(LEAST_TABLE_LEN)
 }
 
-/// The length at which the table after one of `len` slots is asked for, where the
-/// map counts `count` pairs and `initial` is its initial capacity. It doubles from
-/// half full on, and halves up to an eighth, but not below `initial`.
+/// Returns the length to request for the table after one of `len` slots. `count` is the map's count
+/// and `initial` its initial capacity. The length doubles if the table is at least half full. It
+/// halves if at most an eighth is full, but not below `initial`.
 ///
-/// `did_not_fit` says that a pair found no place, or that the table before was
-/// aborted: then it doubles whatever the count, which may lag behind any number of
-/// stopped callers.
+/// With `did_not_fit`, a pair found no place or the table before was aborted. Then the length
+/// doubles whatever the count, because the count may lag behind any number of stopped callers.
 ///
-/// `Refused::Capacity` where it would pass [`MAX_TABLE_LEN`].
+/// # Errors
+///
+/// Fails with `Refused::Capacity` if the length would exceed [`MAX_TABLE_LEN`].
 pub fn next_len(
     len: usize,
     count: usize,
@@ -240,11 +243,11 @@ pub fn next_len(
     Ok(next)
 }
 
-/// The limit of a table of `len` slots that is made as the next of one of
-/// `before` slots. A first table has [`limit`].
+/// Returns the probe limit of a table of `len` slots that follows one of `before` slots. The first
+/// table has [`limit`].
 ///
-/// Where pairs have just found no place, or the table grows no longer, every slot
-/// is probed.
+/// If pairs have just found no place, or the table is no longer than the one before, a search
+/// probes every slot.
 pub fn next_limit(len: usize, before: usize, did_not_fit: bool) -> usize
     requires { 1 ≤ len }
     ensures value { result ≡ limit_after len before did_not_fit }
@@ -259,7 +262,7 @@ pub fn next_limit(len: usize, before: usize, did_not_fit: bool) -> usize
     }
 }
 
-/// A law, with nothing to run: the lengths of tables that follow one another are powers of two.
+/// A law, with an empty body: each table's length is a power of two if the length before is.
 pub fn lengths_are_powers()
     ensures { (len count initial : ℕ) (did_not_fit : Bool) → IsPowerOfTwo len → IsPowerOfTwo initial
         → IsPowerOfTwo (max (length_after len count initial did_not_fit) 8) }

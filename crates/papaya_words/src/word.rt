@@ -1,41 +1,41 @@
-//! The words of slots: what stands in a slot of a table, and how it may change.
+//! The words of slots: what a word says, and how it may change.
 ghost use Rattle.std.specs.Prelude.{◌≡◌, ℕ, ◌+◌, ◌*◌, ◌%◌, ◌^◌, ◌<◌, ◌≤◌, ◌↔◌, ◌≢◌, IsTrue};
 ghost use Rattle.papaya_words.specs.Word.{kind_of, kind_of_code, pair_of, filled_word};
 ghost use Rattle.papaya_words.specs.Word.{live_word, marked_word, copied_word, buried_word};
 ghost use Rattle.papaya_words.specs.Word.{top_byte, hint_of, may_hold, IsSlotStep};
 ghost use Rattle.papaya_words.specs.declared.word.Kind.TheVariants.{Empty, Live, Marked, Copied, Buried, Closed};
 
-/// What a slot word says. Its code in the word is its place in this list, from 0.
+/// The kind of a slot's word. Its code in the word is its index in this list, from 0.
 #[derive(Clone, Copy, Debug, PartialEq, Eq)]
 pub enum Kind {
-    /// Nothing was ever here.
+    /// Nothing was ever written here.
     Empty,
     /// The pair is in this table.
     Live,
-    /// The pair is being copied to the next table; it can't be changed here.
+    /// The pair is being copied to the next table, and can't be changed here.
     Marked,
-    /// The pair was copied; it is looked for in the next table.
+    /// The pair was copied, and is found in a later table.
     Copied,
-    /// The pair was removed, and its number stays: the field's tombstone.
+    /// The pair was removed, and the word keeps its number. This is a tombstone.
     Buried,
-    /// Was Empty, and was shut by a copier.
+    /// The slot was `Empty` when a copier sealed it.
     Closed,
 }
 
 /// The word of a slot: `kind + 1024 * pair`.
 ///
-/// It stands in place of 0.2.5's tagged pointer to an entry.
+/// It replaces the tagged pointer to an entry of 0.2.5.
 #[derive(Clone, Copy, Debug, PartialEq, Eq)]
 pub struct Word(pub u64);
 
 impl Word {
-    /// The word of a slot that nothing was ever written to.
+    /// The word of a slot to which nothing was ever written.
     pub const EMPTY: Word = Word(0);
 
-    /// The word of a slot that a copier found Empty.
+    /// The word of a slot that a copier found `Empty` and sealed.
     pub const CLOSED: Word = Word(5);
 
-    /// The word of a slot that holds this pair.
+    /// Returns the word of a slot that holds this pair.
     #[inline(always)]
     pub fn live(pair: u64) -> Word
         requires { pair < 2 ^ 54 }
@@ -44,7 +44,7 @@ impl Word {
         Word(1 + 1024 * pair)
     }
 
-    /// The word of a slot whose pair is being copied.
+    /// Returns the word of a slot whose pair is being copied.
     pub fn marked(pair: u64) -> Word
         requires { pair < 2 ^ 54 }
         ensures { result.0 ≡ marked_word pair }
@@ -52,7 +52,7 @@ impl Word {
         Word(2 + 1024 * pair)
     }
 
-    /// The word of a slot whose pair was copied.
+    /// Returns the word of a slot whose pair was copied.
     pub fn copied(pair: u64) -> Word
         requires { pair < 2 ^ 54 }
         ensures { result.0 ≡ copied_word pair }
@@ -60,7 +60,7 @@ impl Word {
         Word(3 + 1024 * pair)
     }
 
-    /// The word of a slot whose pair was removed.
+    /// Returns the word of a slot whose pair was removed.
     #[inline(always)]
     pub fn buried(pair: u64) -> Word
         requires { pair < 2 ^ 54 }
@@ -69,8 +69,8 @@ impl Word {
         Word(4 + 1024 * pair)
     }
 
-    /// What the word says. Bits 3 to 9 are zero in each word that stands in a table; any
-    /// other code reads as Closed.
+    /// Returns the word's kind. Bits 3 to 9 are zero in each word of a table; any other code reads
+    /// as `Closed`.
     #[inline(always)]
     pub fn kind(self) -> Kind
         ensures { result ≡ kind_of self.0 }
@@ -85,7 +85,7 @@ impl Word {
         }
     }
 
-    /// The number of the pair. It says nothing in an Empty or a Closed word.
+    /// Returns the number of the pair. It is meaningless in an `Empty` or a `Closed` word.
     #[inline(always)]
     pub fn pair(self) -> u64
         ensures { result ≡ pair_of self.0 }
@@ -94,11 +94,11 @@ impl Word {
     }
 }
 
-/// Whether one step may put `new` where `old` stands in a slot. Nothing makes a
-/// slot Empty again.
+/// Returns whether one step may change a slot from `old` to `new`. No step makes a slot `Empty`
+/// again.
 ///
-/// The words show neither whose keys are equal nor which of two steps an Empty
-/// slot was filled by: those are conditions of the steps, not of the words.
+/// Words do not show which keys are equal, nor which of two steps filled an `Empty` slot. Those are
+/// conditions of the steps, not of the words.
 pub fn legal(old: Word, new: Word) -> bool
     ensures steps { IsTrue result ↔ IsSlotStep old.0 new.0 }
     ensures not_empty { IsTrue result → kind_of new.0 ≢ Empty }
@@ -115,8 +115,8 @@ pub fn legal(old: Word, new: Word) -> bool
     }
 }
 
-/// A law, with nothing to run: a word says what it was made of, and a filled
-/// word is made of what it says.
+/// A law, with an empty body: a word gives back the kind and the pair that it was made of, and a
+/// filled word is made of the kind and the pair that it gives.
 pub fn words_read_back()
     ensures kind { (code pair : ℕ) → code < 8
         → kind_of (filled_word code pair) ≡ kind_of_code code }
@@ -128,7 +128,7 @@ pub fn words_read_back()
     ensures buried { (w : ℕ) → kind_of w ≡ Buried → w ≡ buried_word (pair_of w) }
 {}
 
-/// The hash from which the places of a search are counted.
+/// Returns the hash from which the probe sequence starts.
 #[inline(always)]
 pub fn h1(hash: u64) -> usize
     ensures { result ≡ hash }
@@ -136,7 +136,7 @@ pub fn h1(hash: u64) -> usize
     hash as usize
 }
 
-/// The hash byte: the top seven bits of the hash.
+/// Returns the hash byte: the top seven bits of the hash.
 #[inline(always)]
 pub fn h2(hash: u64) -> u8
     ensures value { result ≡ top_byte hash }
@@ -145,9 +145,9 @@ pub fn h2(hash: u64) -> u8
     (hash / 0x200_0000_0000_0000) as u8
 }
 
-/// The hint of a slot that a key with this hash has filled. A hint of 0 says nothing.
+/// Returns the hint of a slot that was filled by a key with this hash. A hint of 0 says nothing.
 ///
-/// It stands in place of 0.2.5's byte of metadata.
+/// It replaces the metadata byte of 0.2.5.
 #[inline(always)]
 pub fn hint(hash: u64) -> u8
     ensures { result ≡ hint_of hash }
@@ -155,8 +155,8 @@ pub fn hint(hash: u64) -> u8
     1 + h2(hash)
 }
 
-/// Whether a slot with this hint may hold a pair of a key with this hash: only
-/// then a search loads its word.
+/// Returns whether a slot with this hint may hold a pair whose key has this hash. A search loads
+/// the word of such slots only.
 #[inline(always)]
 pub fn may_hold(found: u64, hash: u64) -> bool
     ensures { result ≡ may_hold found hash }
@@ -164,5 +164,5 @@ pub fn may_hold(found: u64, hash: u64) -> bool
     found == 0 || found == hint(hash) as u64
 }
 
-/// The hint of a Closed slot.
+/// The hint of a `Closed` slot.
 pub const SHUT: u8 = 129;
