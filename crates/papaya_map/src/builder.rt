@@ -199,7 +199,10 @@ impl<K, V, S> HashMapBuilder<K, V, S> {
 }
 
 impl<K: Hash + Eq + Drop, V: Drop, S: BuildHasher + Drop> HashMapBuilder<K, V, S> {
-    /// Builds the map: `build` of 0.2.5. Fails as [`HashMap::with_parts`] does.
+    /// Builds the map: `build` of 0.2.5.
+    ///
+    /// # Errors
+    /// As [`HashMap::with_parts`].
     pub fn build<R: Wait>(self, rt: &R, alloc: Global) -> Result<HashMap<K, V, S>, Refused>
         ensures ok { IfOk result (λ map. IsAllowed self.mode self.capacity self.shards) }
         ensures made { IfOk result (IsFor self.mode self.capacity self.shards self.limit) }
@@ -220,7 +223,10 @@ impl<K: Hash + Eq + Drop, V: Drop, S: BuildHasher + Drop> HashMapBuilder<K, V, S
     }
 
     /// Builds a map of the same settings for one caller; it needs no collector. 0.2.5 has no such
-    /// map. Fails as [`seq::HashMap::with_parts`] does.
+    /// map.
+    ///
+    /// # Errors
+    /// As [`seq::HashMap::with_parts`].
     pub fn build_seq(self, alloc: Global) -> Result<seq::HashMap<K, V, S>, Refused>
         ensures ok { IfOk result (λ map. IsAllowed self.mode self.capacity self.shards
             × IsNewLimited {A = Unit {0}} self.mode self.capacity self.shards self.hasher self.limit

@@ -46,8 +46,10 @@ impl<K: Hash + Eq + Drop, V: Drop, S: BuildHasher> HashMap<K, V, S> {
 
 impl<K: Hash + Eq + Copy + Drop, V: Copy + Drop, S: BuildHasher> HashMap<K, V, S> {
     /// Inserts entries that are passed by reference and copied: `Extend<(&K, &V)>` of 0.2.5. The
-    /// entries of another map can be passed: `map.extend_ref(rt, other.pin().iter(rt)?)`. It works
-    /// and fails as [`HashMap::extend`].
+    /// entries of another map can be passed: `map.extend_ref(rt, other.pin().iter(rt)?)`.
+    ///
+    /// # Errors
+    /// As [`HashMap::extend`].
     pub fn extend_ref<'a, R: Wait, U: IntoIterator<Item = (&'a K, &'a V)>>(
         &self,
         rt: &R,

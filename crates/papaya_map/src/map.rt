@@ -179,7 +179,7 @@ impl<K: Hash + Eq, V, S: BuildHasher> HashMap<K, V, S> {
     }
 
     /// Pins the map as [`HashMap::pin`] does: `pin_owned` of 0.2.5, whose reference may be sent to
-    /// another thread. Here each may, as it holds no guard.
+    /// another thread. Here every pinned map may, as it holds no guard.
     pub fn pin_owned(&self) -> HashMapRef<'_, K, V, S>
         ensures { result.map ≡ self.now }
     {

@@ -219,7 +219,10 @@ fn limited<K, S>(builder: HashMapBuilder<K, (), S>, limit: Option<u64>) -> HashM
 }
 
 impl<K: Hash + Eq + Drop, S: BuildHasher + Drop> HashSetBuilder<K, S> {
-    /// Builds the set: `build` of 0.2.5. Fails as [`HashSet::with_parts`] does.
+    /// Builds the set: `build` of 0.2.5.
+    ///
+    /// # Errors
+    /// As [`HashSet::with_parts`].
     pub fn build<R: Wait>(self, rt: &R, alloc: Global) -> Result<HashSet<K, S>, Refused>
         ensures ok { IfOk result (λ set. IsAllowed self.mode self.capacity self.shards) }
         ensures made { IfOk result (IsFor self.mode self.capacity self.shards self.limit) }
@@ -247,7 +250,10 @@ impl<K: Hash + Eq + Drop, S: BuildHasher + Drop> HashSetBuilder<K, S> {
     }
 
     /// Builds a set of the same settings for one caller; it needs no collector. 0.2.5 has no such
-    /// set. Fails as [`seq::HashSet::with_parts`] does.
+    /// set.
+    ///
+    /// # Errors
+    /// As [`seq::HashSet::with_parts`].
     pub fn build_seq(self, alloc: Global) -> Result<seq::HashSet<K, S>, Refused>
         ensures ok { IfOk result (λ set. IsAllowed self.mode self.capacity self.shards
             × IsNewLimited {A = Unit {0}} self.mode self.capacity self.shards self.hasher self.limit

@@ -17,8 +17,9 @@ impl<K: Hash + Eq + Drop, S: BuildHasher> HashSet<K, S> {
     /// the earlier one stays. No room is reserved ahead, so an empty iterator changes nothing at
     /// all.
     ///
-    /// Fails as [`HashSet::insert`] does for a key. The keys before it are in the set then, and
-    /// those after it are not taken from the iterator.
+    /// # Errors
+    /// As [`HashSet::insert`] for a key. The keys before it are in the set then, and those after it
+    /// are not taken from the iterator.
     pub fn extend<U: IntoIterator<Item = K>>(&mut self, iter: U) -> Result<(), Refused>
     where
         U::IntoIter: Drop,
@@ -38,8 +39,10 @@ impl<K: Hash + Eq + Drop, S: BuildHasher> HashSet<K, S> {
 }
 
 impl<K: Hash + Eq + Copy + Drop, S: BuildHasher> HashSet<K, S> {
-    /// Inserts keys that are passed by reference and copied: `Extend<&K>` of 0.2.5. It works and
-    /// fails as [`HashSet::extend`].
+    /// Inserts keys that are passed by reference and copied: `Extend<&K>` of 0.2.5.
+    ///
+    /// # Errors
+    /// As [`HashSet::extend`].
     pub fn extend_ref<'a, U: IntoIterator<Item = &'a K>>(&mut self, iter: U) -> Result<(), Refused>
     where
         K: 'a,
@@ -63,7 +66,8 @@ impl<K: Hash + Eq + Drop, S: BuildHasher + Default + Drop> HashSet<K, S> {
     /// Creates a set of an iterator's keys: the trait `FromIterator` of 0.2.5. Of two equal keys it
     /// has the earlier one, and it has no table if there are no keys.
     ///
-    /// Fails with `Refused::Memory` if the set is not made; otherwise as [`HashSet::extend`].
+    /// # Errors
+    /// `Refused::Memory` if the set is not made; otherwise as [`HashSet::extend`].
     pub fn from_iter<U: IntoIterator<Item = K>>(
         alloc: Global,
         iter: U,
@@ -92,8 +96,9 @@ impl<K: Hash + Eq + Drop> HashSet<K, BuildHasherDefault<FoldHasher>> {
     /// Creates a set of an array's keys: `From<[K; N]>` of 0.2.5. Of two equal keys it has the
     /// earlier one.
     ///
-    /// Fails with `Refused::Memory` if there is no memory for the set or for the array; otherwise
-    /// as [`HashSet::extend`].
+    /// # Errors
+    /// `Refused::Memory` if there is no memory for the set or for the array; otherwise as
+    /// [`HashSet::extend`].
     pub fn from_array<const N: usize>(
         alloc: Global,
         keys: [K; N],

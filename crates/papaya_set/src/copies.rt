@@ -17,8 +17,11 @@ use std::hash::{BuildHasher, Hash};
 use std::sync::Wait;
 
 impl<K: Hash + Eq + Clone + Drop, S: BuildHasher + Clone + Drop> seq::HashSet<K, S> {
-    /// Returns a set of clones: the trait `Clone` of 0.2.5. A key's clone must be equal to it.
-    /// Works and fails as [`papaya_seq::seq::HashMap::try_clone`] does for a map.
+    /// Returns a set of clones: the trait `Clone` of 0.2.5. A key's clone must be equal to it. It
+    /// works as [`papaya_seq::seq::HashMap::try_clone`] does for a map.
+    ///
+    /// # Errors
+    /// As [`papaya_seq::seq::HashMap::try_clone`].
     pub fn try_clone(&self, alloc: Global) -> Result<seq::HashSet<K, S>, Refused>
         requires { (k l : K) → K.is_clone k l → K.eq k l ≡ true }
         ensures clones { IfOk result (λ made. IsRebuilt K.eq K.is_clone (λ v w. w ≡ v) S.is_clone
@@ -39,8 +42,10 @@ impl<K: Hash + Eq + Clone + Drop, S: BuildHasher + Clone + Drop> seq::HashSet<K,
 
     /// Rebuilds the set from clones of its keys, and frees everything else that it stored, as
     /// [`papaya_seq::seq::HashMap::reclaim`] does for a map. A key's clone must be equal to it.
-    /// Only the set's keys count against a limit then, so the call does not reach it. If it fails,
-    /// the set is as it was.
+    /// Only the set's keys count against a limit then, so the call does not reach it.
+    ///
+    /// # Errors
+    /// As that `reclaim`; the set is as it was then.
     pub fn reclaim(&mut self) -> Result<(), Refused>
         requires { (k l : K) → K.is_clone k l → K.eq k l ≡ true }
         ensures clones { OnOk result (IsRebuilt K.eq K.is_clone (λ v w. w ≡ v) S.is_clone self.old
@@ -58,8 +63,10 @@ impl<K: Hash + Eq + Clone + Drop, S: BuildHasher + Clone + Drop> seq::HashSet<K,
 
 impl<K: Hash + Eq, S: BuildHasher> HashSet<K, S> {
     /// Returns whether both sets have the same keys: `PartialEq` of 0.2.5. If another thread
-    /// changes one of the sets meanwhile, the result may be either. Fails as
-    /// [`HashSetRef::iter`](crate::set::HashSetRef::iter).
+    /// changes one of the sets meanwhile, the result may be either.
+    ///
+    /// # Errors
+    /// As [`HashSetRef::iter`](crate::set::HashSetRef::iter).
     pub fn eq<R: Wait>(&self, rt: &R, other: &HashSet<K, S>) -> Result<bool, Refused>
         ensures { IfErr result IsMemoryOrCapacity }
     {
@@ -69,8 +76,11 @@ impl<K: Hash + Eq, S: BuildHasher> HashSet<K, S> {
 
 impl<K: Hash + Eq + Clone + Drop, S: BuildHasher + Clone + Drop> HashSet<K, S> {
     /// Returns a set of clones of this one's keys: the trait `Clone` of 0.2.5. A key that is stored
-    /// or removed meanwhile may be copied or not. Works and fails as
+    /// or removed meanwhile may be copied or not. It works as
     /// [`papaya_map::map::HashMap::try_clone`] does for a map.
+    ///
+    /// # Errors
+    /// As [`papaya_map::map::HashMap::try_clone`].
     pub fn try_clone<R: Wait>(&self, rt: &R, alloc: Global) -> Result<HashSet<K, S>, Refused>
         ensures made { IfOk result (λ set. (keys : ℕ)
             × IsFor (ResizeMode.Incremental DEFAULT_CHUNK) keys DEFAULT_SHARDS None set) }
@@ -85,7 +95,10 @@ impl<K: Hash + Eq + Clone + Drop, S: BuildHasher + Clone + Drop> HashSet<K, S> {
 
     /// Rebuilds the set from clones of its keys, and frees all that it had before, as
     /// [`papaya_map::map::HashMap::reclaim`] does for a map. Earlier passes and sessions are of no
-    /// use afterwards. If the call fails, the set is as it was, and they continue.
+    /// use afterwards.
+    ///
+    /// # Errors
+    /// As that `reclaim`; the set is as it was then, and passes and sessions continue.
     pub fn reclaim<R: Wait>(&mut self, rt: &R) -> Result<(), Refused>
         ensures ok { IfOk result (λ _. HasSettingsOf self.old self.new) }
         ensures hasher { IfOk result (λ _. S.is_clone self.old.begun.hasher

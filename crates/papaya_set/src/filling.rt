@@ -17,8 +17,9 @@ impl<K: Hash + Eq + Drop, S: BuildHasher> HashSet<K, S> {
     /// the earlier one stays. No room is reserved ahead, so an empty iterator changes nothing at
     /// all.
     ///
-    /// Fails as [`HashSetRef::insert`](crate::set::HashSetRef::insert) does for a key. The keys
-    /// before it are in the set then, and those after it are not taken from the iterator.
+    /// # Errors
+    /// As [`HashSetRef::insert`](crate::set::HashSetRef::insert) for a key. The keys before it are
+    /// in the set then, and those after it are not taken from the iterator.
     pub fn extend<R: Wait, U: IntoIterator<Item = K>>(&self, rt: &R, iter: U) -> Result<(), Refused>
     where
         U::IntoIter: Drop,
@@ -37,8 +38,10 @@ impl<K: Hash + Eq + Drop, S: BuildHasher> HashSet<K, S> {
 }
 
 impl<K: Hash + Eq + Copy + Drop, S: BuildHasher> HashSet<K, S> {
-    /// Inserts keys that are passed by reference and copied: `Extend<&K>` of 0.2.5. It works and
-    /// fails as [`HashSet::extend`].
+    /// Inserts keys that are passed by reference and copied: `Extend<&K>` of 0.2.5.
+    ///
+    /// # Errors
+    /// As [`HashSet::extend`].
     pub fn extend_ref<'a, R: Wait, U: IntoIterator<Item = &'a K>>(
         &self,
         rt: &R,
@@ -63,7 +66,10 @@ impl<K: Hash + Eq + Copy + Drop, S: BuildHasher> HashSet<K, S> {
 
 impl<K: Hash + Eq + Drop, S: BuildHasher + Default + Drop> HashSet<K, S> {
     /// Creates a set of an iterator's keys: the trait `FromIterator` of 0.2.5. Of two equal keys it
-    /// has the earlier one. It has no table if there are no keys. Fails as [`HashSet::extend`].
+    /// has the earlier one. It has no table if there are no keys.
+    ///
+    /// # Errors
+    /// As [`HashSet::extend`].
     pub fn from_iter<R: Wait, U: IntoIterator<Item = K>>(
         rt: &R,
         alloc: Global,
@@ -88,8 +94,10 @@ impl<K: Hash + Eq + Drop, S: BuildHasher + Default + Drop> HashSet<K, S> {
 
 impl<K: Hash + Eq + Drop> HashSet<K, BuildHasherDefault<FoldHasher>> {
     /// Creates a set of an array's keys: `From<[K; N]>` of 0.2.5. Of two equal keys it has the
-    /// earlier one. Fails with `Refused::Memory` if there is no memory for the array, and as
-    /// [`HashSet::extend`].
+    /// earlier one.
+    ///
+    /// # Errors
+    /// `Refused::Memory` if there is no memory for the array, and as [`HashSet::extend`].
     pub fn from_array<R: Wait, const N: usize>(
         rt: &R,
         alloc: Global,

@@ -42,8 +42,10 @@ impl<K: Hash + Eq, S: BuildHasher> HashSet<K, S> {
         self.map.owned_guard()
     }
 
-    /// Fails with `Refused::WrongGuard` if the guard is not of the set's collector. In 0.2.5 a call
-    /// with such a guard panics.
+    /// Checks that the guard is of the set's collector. In 0.2.5 a call with another guard panics.
+    ///
+    /// # Errors
+    /// `Refused::WrongGuard` if it is not.
     #[inline]
     pub fn verify<G: Guard>(&self, guard: &G) -> Result<(), Refused>
         ensures right { G.collector_number guard.now ≡ self.now.collector → result ≡ Ok tt }
@@ -91,7 +93,10 @@ impl<K: Hash + Eq, S: BuildHasher> HashSet<K, S> {
     }
 
     /// Returns whether the key is in the set: `contains` of 0.2.5. It never waits, locks or
-    /// allocates. Fails only with `Refused::WrongGuard`.
+    /// allocates.
+    ///
+    /// # Errors
+    /// Only `Refused::WrongGuard`.
     #[inline]
     pub fn contains<Q: Equivalent<K>, G: Guard>(&self, key: &Q, guard: &G) -> Result<bool, Refused>
         ensures* own { sem 𝓛 (of_its_history (EventOf K.row unit-field.row S.row).coded.code
@@ -135,7 +140,10 @@ impl<K: Hash + Eq, S: BuildHasher> HashSet<K, S> {
     }
 
     /// Returns the stored key that is equal to this one: `get` of 0.2.5. As [`HashSet::contains`],
-    /// it never waits. Fails only with `Refused::WrongGuard`.
+    /// it never waits.
+    ///
+    /// # Errors
+    /// Only `Refused::WrongGuard`.
     #[inline]
     pub fn get<'g, Q: Equivalent<K>, G: Guard>(
         &'g self,
@@ -183,8 +191,10 @@ impl<K: Hash + Eq, S: BuildHasher> HashSet<K, S> {
         }
     }
 
-    /// Removes a key, and returns whether it was present: `remove` of 0.2.5. Fails with
-    /// `WrongGuard`, and as [`HashSetRef::remove`](crate::set::HashSetRef::remove).
+    /// Removes a key, and returns whether it was present: `remove` of 0.2.5.
+    ///
+    /// # Errors
+    /// `Refused::WrongGuard`, and as [`HashSetRef::remove`](crate::set::HashSetRef::remove).
     pub fn remove<R: Wait, Q: Equivalent<K>, G: Guard>(
         &self,
         rt: &R,
@@ -206,8 +216,10 @@ impl<K: Hash + Eq, S: BuildHasher> HashSet<K, S> {
         answer
     }
 
-    /// Reserves room for `additional` more keys than the set counts: `reserve` of 0.2.5. Fails with
-    /// `WrongGuard`, and as [`HashSetRef::reserve`](crate::set::HashSetRef::reserve).
+    /// Reserves room for `additional` more keys than the set counts: `reserve` of 0.2.5.
+    ///
+    /// # Errors
+    /// `Refused::WrongGuard`, and as [`HashSetRef::reserve`](crate::set::HashSetRef::reserve).
     pub fn reserve<R: Wait, G: Guard>(
         &self,
         rt: &R,
@@ -247,8 +259,10 @@ impl<K: Hash + Eq, S: BuildHasher> HashSet<K, S> {
         session.tell(answer)
     }
 
-    /// Removes all keys that the set has: `clear` of 0.2.5. Fails with `WrongGuard`, and as
-    /// [`HashSetRef::clear`](crate::set::HashSetRef::clear).
+    /// Removes all keys that the set has: `clear` of 0.2.5.
+    ///
+    /// # Errors
+    /// `Refused::WrongGuard`, and as [`HashSetRef::clear`](crate::set::HashSetRef::clear).
     pub fn clear<R: Wait, G: Guard>(&self, rt: &R, guard: &G) -> Result<(), Refused>
         ensures* own { sem 𝓛 (of_its_history (EventOf K.row unit-field.row S.row).coded.code
             (rule_of ⟦<Law<K, (), S> as Rule<Event<K, (), S>, Named<K, ()>>>⟧) (unpinned self.now)
@@ -290,8 +304,10 @@ impl<K: Hash + Eq, S: BuildHasher> HashSet<K, S> {
         session.tell(answer)
     }
 
-    /// Removes the keys for which the closure returns `false`: `retain` of 0.2.5. Fails with
-    /// `WrongGuard`, and as [`HashSetRef::retain`](crate::set::HashSetRef::retain).
+    /// Removes the keys for which the closure returns `false`: `retain` of 0.2.5.
+    ///
+    /// # Errors
+    /// `Refused::WrongGuard`, and as [`HashSetRef::retain`](crate::set::HashSetRef::retain).
     pub fn retain<R: Wait, F: FnMut(&K) -> bool, G: Guard>(
         &self,
         rt: &R,
@@ -315,8 +331,10 @@ impl<K: Hash + Eq, S: BuildHasher> HashSet<K, S> {
         answer
     }
 
-    /// Returns an iterator over the keys: `iter` of 0.2.5. Fails with `WrongGuard`, and as
-    /// [`HashSetRef::iter`](crate::set::HashSetRef::iter).
+    /// Returns an iterator over the keys: `iter` of 0.2.5.
+    ///
+    /// # Errors
+    /// `Refused::WrongGuard`, and as [`HashSetRef::iter`](crate::set::HashSetRef::iter).
     pub fn iter<'g, R: Wait, G: Guard>(
         &'g self,
         rt: &R,
@@ -362,8 +380,10 @@ impl<K: Hash + Eq + Drop, S: BuildHasher> HashSet<K, S> {
     }
 
     /// Inserts a key, and returns whether it was absent: `insert` of 0.2.5. As there, an equal key
-    /// that is stored stays. Fails with `WrongGuard`, and as
-    /// [`HashSetRef::insert`](crate::set::HashSetRef::insert).
+    /// that is stored stays.
+    ///
+    /// # Errors
+    /// `Refused::WrongGuard`, and as [`HashSetRef::insert`](crate::set::HashSetRef::insert).
     pub fn insert<R: Wait, G: Guard>(&self, rt: &R, key: K, guard: &G) -> Result<bool, Refused>
         ensures* own { sem 𝓛 (of_its_history (EventOf K.row unit-field.row S.row).coded.code
             (rule_of ⟦<Law<K, (), S> as Rule<Event<K, (), S>, Named<K, ()>>>⟧) (unpinned self.now)

@@ -138,8 +138,9 @@ impl<'a, K: Hash + Eq, S: BuildHasher> HashSetRef<'a, K, S> {
 
     /// Removes a key, and returns whether it was present: `remove` of 0.2.5.
     ///
-    /// A removal allocates nothing for itself. If it helps to copy the table, it may fail as
-    /// [`HashSetRef::insert`] does, and then changes nothing.
+    /// # Errors
+    /// A removal allocates nothing for itself. If it helps to copy the table, it may fail with
+    /// `Refused::Memory` or `Capacity`, and then changes nothing.
     pub fn remove<R: Wait, Q: Equivalent<K>>(&self, rt: &R, key: &Q) -> Result<bool, Refused>
         ensures* own { sem 𝓛 (of_its_history (EventOf K.row unit-field.row S.row).coded.code
             (rule_of ⟦<Law<K, (), S> as Rule<Event<K, (), S>, Named<K, ()>>>⟧) self.now K.eq
@@ -154,8 +155,9 @@ impl<'a, K: Hash + Eq, S: BuildHasher> HashSetRef<'a, K, S> {
     /// Reserves room for `additional` more keys than the set counts: `reserve` of 0.2.5. No key of
     /// the set changes.
     ///
-    /// Fails with `Refused::Memory` if an allocation fails, and with `Refused::Capacity` if there
-    /// is no room for such a table. 0.2.5 panics or aborts there.
+    /// # Errors
+    /// `Refused::Memory` if an allocation fails, and `Refused::Capacity` if there is no room for
+    /// such a table. 0.2.5 panics or aborts there.
     pub fn reserve<R: Wait>(&self, rt: &R, additional: usize) -> Result<(), Refused>
         ensures { IfErr result IsMemoryOrCapacity }
     {
@@ -178,7 +180,10 @@ impl<'a, K: Hash + Eq, S: BuildHasher> HashSetRef<'a, K, S> {
     }
 
     /// Removes all keys that the set has: `clear` of 0.2.5. A key that is stored meanwhile may
-    /// stay. Fails as [`HashSetRef::retain`] does.
+    /// stay.
+    ///
+    /// # Errors
+    /// As [`HashSetRef::retain`].
     pub fn clear<R: Wait>(&self, rt: &R) -> Result<(), Refused>
         ensures* own { sem 𝓛 (of_its_history (EventOf K.row unit-field.row S.row).coded.code
             (rule_of ⟦<Law<K, (), S> as Rule<Event<K, (), S>, Named<K, ()>>>⟧) self.now K.eq
@@ -213,6 +218,7 @@ impl<'a, K: Hash + Eq, S: BuildHasher> HashSetRef<'a, K, S> {
     /// called for each key. It is called for a key again if another call replaced it meanwhile, or
     /// if everything is copied.
     ///
+    /// # Errors
     /// If the call meets a copy under way, it copies what is left to copy, and may need a table.
     /// Then it fails with `Refused::Memory` if an allocation fails, and with `Refused::Capacity` if
     /// there is no room. Removed keys stay removed.
@@ -234,7 +240,10 @@ impl<'a, K: Hash + Eq, S: BuildHasher> HashSetRef<'a, K, S> {
     /// meanwhile may be returned or not.
     ///
     /// With `Blocking` the iterator takes the root as it is. Otherwise the call first copies what
-    /// is left to copy, and may fail as [`HashSetRef::retain`] does.
+    /// is left to copy.
+    ///
+    /// # Errors
+    /// `Refused::Memory` or `Capacity`, as [`HashSetRef::retain`], if that copy needs a table.
     pub fn iter<R: Wait>(&self, rt: &R) -> Result<Iter<'a, K, S>, Refused>
         ensures began { IfOk result (λ keys. keys.began ≡ []) }
         ensures refused { IfErr result IsMemoryOrCapacity }

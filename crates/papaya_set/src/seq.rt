@@ -39,7 +39,10 @@ impl<K: Hash + Eq, S: BuildHasher> Model for HashSet<K, S> {
 }
 
 impl<K: Hash + Eq + Drop, S: BuildHasher + Drop> HashSet<K, S> {
-    /// Creates a set from all its settings, and fails as [`HashMap::with_parts`] does for a map.
+    /// Creates a set from all its settings.
+    ///
+    /// # Errors
+    /// As [`HashMap::with_parts`].
     pub fn with_parts(
         alloc: Global,
         mode: ResizeMode,
@@ -59,6 +62,9 @@ impl<K: Hash + Eq + Drop, S: BuildHasher + Drop> HashSet<K, S> {
     }
 
     /// Creates a set for `capacity` keys with this hasher: `with_capacity_and_hasher` of 0.2.5.
+    ///
+    /// # Errors
+    /// As [`HashSet::with_parts`].
     pub fn with_capacity_and_hasher(
         alloc: Global,
         capacity: usize,
@@ -77,6 +83,9 @@ impl<K: Hash + Eq + Drop, S: BuildHasher + Drop> HashSet<K, S> {
     }
 
     /// Creates a set with this hasher: `with_hasher` of 0.2.5. The first change makes a table.
+    ///
+    /// # Errors
+    /// `Refused::Memory` if an allocation fails.
     pub fn with_hasher(alloc: Global, hasher: S) -> Result<HashSet<K, S>, Refused>
         ensures ok { IfOk result (λ set. IsNew {A = Unit {0}}
             (ResizeMode.Incremental DEFAULT_CHUNK) 0 1 hasher (core_of set)) }
@@ -92,6 +101,9 @@ impl<K: Hash + Eq + Drop, S: BuildHasher + Drop> HashSet<K, S> {
 impl<K: Hash + Eq + Drop> HashSet<K, BuildHasherDefault<FoldHasher>> {
     /// Creates a set that makes its first table at its first change: `new` of 0.2.5, but with a
     /// hasher that is the same in each run.
+    ///
+    /// # Errors
+    /// `Refused::Memory` if an allocation fails.
     pub fn new(alloc: Global) -> Result<HashSet<K, BuildHasherDefault<FoldHasher>>, Refused>
         ensures new { IfOk result (λ set. IsNew {A = Unit {0}}
             (ResizeMode.Incremental DEFAULT_CHUNK) 0 1 set.store.hasher (core_of set)) }
@@ -105,6 +117,9 @@ impl<K: Hash + Eq + Drop> HashSet<K, BuildHasherDefault<FoldHasher>> {
     }
 
     /// Creates a set for `capacity` keys: `with_capacity` of 0.2.5.
+    ///
+    /// # Errors
+    /// As [`HashSet::with_parts`].
     pub fn with_capacity(
         alloc: Global,
         capacity: usize,
@@ -122,6 +137,9 @@ impl<K: Hash + Eq + Drop> HashSet<K, BuildHasherDefault<FoldHasher>> {
     }
 
     /// Creates a set as [`HashSet::new`] does: the trait `Default` of 0.2.5.
+    ///
+    /// # Errors
+    /// `Refused::Memory` if an allocation fails.
     pub fn default(alloc: Global) -> Result<HashSet<K, BuildHasherDefault<FoldHasher>>, Refused>
         ensures new { IfOk result (λ set. IsNew {A = Unit {0}}
             (ResizeMode.Incremental DEFAULT_CHUNK) 0 1 set.store.hasher (core_of set)) }
@@ -197,16 +215,20 @@ impl<K: Hash + Eq + Drop, S: BuildHasher> HashSet<K, S> {
     /// Inserts a key, and returns whether it was absent: `insert` of 0.2.5. As there, an equal key
     /// that is stored stays.
     ///
-    /// Fails as [`HashMap::insert`] does. The set is as it was then, and the key is dropped, at
-    /// once or with the set.
+    /// The set is as it was then, and the key is dropped, at once or with the set.
+    ///
+    /// # Errors
+    /// As [`HashMap::insert`].
     pub fn insert(&mut self, key: K) -> Result<bool, Refused>
         ensures { IsPut K.eq key tt self.old result self.new }
     {
         self.map.put(key, ())
     }
 
-    /// Removes a key, and returns whether it was present: `remove` of 0.2.5. Fails as
-    /// [`HashMap::remove`], so only while keys are being moved to a next table.
+    /// Removes a key, and returns whether it was present: `remove` of 0.2.5.
+    ///
+    /// # Errors
+    /// As [`HashMap::remove`], so only while keys are being moved to a next table.
     pub fn remove<Q: Equivalent<K>>(&mut self, key: &Q) -> Result<bool, Refused>
         ensures taken { IsTaken K.eq (Q.matches key.now) self.old result self.new }
         ensures never { next_of self.old.store ≡ 0 → IsOk result }
@@ -219,7 +241,9 @@ impl<K: Hash + Eq + Drop, S: BuildHasher> HashSet<K, S> {
     }
 
     /// Reserves room for `additional` more keys: `reserve` of 0.2.5. No key of the set changes.
-    /// Fails as [`HashMap::reserve`].
+    ///
+    /// # Errors
+    /// As [`HashMap::reserve`].
     pub fn reserve(&mut self, additional: usize) -> Result<(), Refused>
         ensures ok { OnOk result (HasRoomFor K.eq self.old.store additional self.new.store) }
         ensures err { IfErr result (λ e. IsReserveCause K.eq self.old additional e self.new) }
@@ -231,8 +255,10 @@ impl<K: Hash + Eq + Drop, S: BuildHasher> HashSet<K, S> {
         self.map.reserve(additional)
     }
 
-    /// Removes all keys: `clear` of 0.2.5. The root keeps its slots. Fails as [`HashMap::clear`];
-    /// no key was removed then.
+    /// Removes all keys: `clear` of 0.2.5. The root keeps its slots.
+    ///
+    /// # Errors
+    /// As [`HashMap::clear`]; no key was removed then.
     pub fn clear(&mut self) -> Result<(), Refused>
         ensures ok { OnOk result (content K.eq self.new.store ≡ []) }
         ensures last { OnOk result (next_of self.new.store ≡ 0) }
@@ -246,8 +272,10 @@ impl<K: Hash + Eq + Drop, S: BuildHasher> HashSet<K, S> {
     }
 
     /// Removes the keys for which the closure returns `false`: `retain` of 0.2.5. The closure is
-    /// called once for each key. Fails as [`HashMap::retain`]; the closure was not called and no
-    /// key was removed then.
+    /// called once for each key.
+    ///
+    /// # Errors
+    /// As [`HashMap::retain`]; the closure was not called and no key was removed then.
     pub fn retain<F: FnMut(&K) -> bool>(&mut self, mut agrees: F) -> Result<(), Refused>
         requires { F.IsAlwaysCallable agrees }
         ensures ok { OnOk result (AreKept F.FnMut K.eq agrees self.old.store self.new.store) }

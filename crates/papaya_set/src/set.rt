@@ -48,8 +48,11 @@ impl<'a, K: Hash + Eq, S: BuildHasher> Model for HashSetRef<'a, K, S> {
 }
 
 impl<K: Hash + Eq + Drop, S: BuildHasher + Drop> HashSet<K, S> {
-    /// Creates a set from all its settings. Its collector has number 0. Works and fails as
+    /// Creates a set from all its settings. Its collector has number 0. It works as
     /// [`HashMap::with_parts`] does for a map.
+    ///
+    /// # Errors
+    /// As [`HashMap::with_parts`].
     pub fn with_parts<R: Wait>(
         rt: &R,
         alloc: Global,
@@ -72,7 +75,10 @@ impl<K: Hash + Eq + Drop, S: BuildHasher + Drop> HashSet<K, S> {
 
     /// Creates a set for `capacity` keys with this hasher: `with_capacity_and_hasher` of 0.2.5. It
     /// resizes by [`ResizeMode::default`], and counts over [`papaya_words::limits::DEFAULT_SHARDS`]
-    /// shards. Fails as [`HashSet::with_parts`] does.
+    /// shards.
+    ///
+    /// # Errors
+    /// As [`HashSet::with_parts`].
     pub fn with_capacity_and_hasher<R: Wait>(
         rt: &R,
         alloc: Global,
@@ -94,6 +100,9 @@ impl<K: Hash + Eq + Drop, S: BuildHasher + Drop> HashSet<K, S> {
     }
 
     /// Creates a set with this hasher: `with_hasher` of 0.2.5. The first change makes a table.
+    ///
+    /// # Errors
+    /// `Refused::Memory` if an allocation fails.
     pub fn with_hasher<R: Wait>(rt: &R, alloc: Global, hasher: S) -> Result<HashSet<K, S>, Refused>
         ensures made { IfOk result (IsFor (ResizeMode.Incremental DEFAULT_CHUNK) 0
             DEFAULT_SHARDS None) }
@@ -109,6 +118,9 @@ impl<K: Hash + Eq + Drop, S: BuildHasher + Drop> HashSet<K, S> {
 impl<K: Hash + Eq + Drop> HashSet<K, BuildHasherDefault<FoldHasher>> {
     /// Creates a set that makes its first table at its first change: `new` of 0.2.5, but with a
     /// hasher that is the same in each run.
+    ///
+    /// # Errors
+    /// `Refused::Memory` if an allocation fails.
     pub fn new<R: Wait>(
         rt: &R,
         alloc: Global,
@@ -122,8 +134,10 @@ impl<K: Hash + Eq + Drop> HashSet<K, BuildHasherDefault<FoldHasher>> {
         })
     }
 
-    /// Creates a set for `capacity` keys: `with_capacity` of 0.2.5. Fails as
-    /// [`HashSet::with_parts`] does.
+    /// Creates a set for `capacity` keys: `with_capacity` of 0.2.5.
+    ///
+    /// # Errors
+    /// As [`HashSet::with_parts`].
     pub fn with_capacity<R: Wait>(
         rt: &R,
         alloc: Global,
@@ -143,6 +157,9 @@ impl<K: Hash + Eq + Drop> HashSet<K, BuildHasherDefault<FoldHasher>> {
     }
 
     /// Creates a set as [`HashSet::new`] does: the trait `Default` of 0.2.5.
+    ///
+    /// # Errors
+    /// `Refused::Memory` if an allocation fails.
     pub fn default<R: Wait>(
         rt: &R,
         alloc: Global,
@@ -180,7 +197,7 @@ impl<K: Hash + Eq, S: BuildHasher> HashSet<K, S> {
     }
 
     /// Pins the set as [`HashSet::pin`] does: `pin_owned` of 0.2.5, whose reference may be sent to
-    /// another thread. Here each may, as it holds no guard.
+    /// another thread. Here every pinned set may, as it holds no guard.
     pub fn pin_owned(&self) -> HashSetRef<'_, K, S>
         ensures { result.map ≡ self.now }
     {

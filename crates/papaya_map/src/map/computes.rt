@@ -76,7 +76,10 @@ impl<'a, K: Hash + Eq + Drop, V: Drop, S: BuildHasher> HashMapRef<'a, K, V, S> {
     /// Calls a closure with the key's entry, or `None`, and does what it returns: `compute` of
     /// 0.2.5.
     ///
-    /// Returns and fails as [`HashMapRef::compute_as`] does.
+    /// Returns as [`HashMapRef::compute_as`] does.
+    ///
+    /// # Errors
+    /// As [`HashMapRef::compute_as`].
     pub fn compute<R: Wait, T: Drop, F: FnMut(Option<(&'a K, &'a V)>) -> Operation<V, T>>(
         &self,
         rt: &R,
@@ -98,8 +101,10 @@ impl<'a, K: Hash + Eq + Drop, V: Drop, S: BuildHasher> HashMapRef<'a, K, V, S> {
 
 impl<K: Hash + Eq + Drop, V: Drop, S: BuildHasher> HashMap<K, V, S> {
     /// Calls a closure with the key's entry, or `None`, and does what it returns: `compute` of
-    /// 0.2.5. Returns and fails as [`HashMapRef::compute_as`], and fails with
-    /// `Refused::WrongGuard`.
+    /// 0.2.5. Returns as [`HashMapRef::compute_as`].
+    ///
+    /// # Errors
+    /// `Refused::WrongGuard`, and as [`HashMapRef::compute_as`].
     pub fn compute<
         'g,
         R: Wait,

@@ -25,8 +25,10 @@ impl<K: Hash + Eq, V, S: BuildHasher> HashMap<K, V, S> {
         self.collector.enter_owned()
     }
 
-    /// Fails with `Refused::WrongGuard` if the guard is not of the map's collector. In 0.2.5 a call
-    /// with such a guard panics.
+    /// Checks that the guard is of the map's collector. In 0.2.5 a call with another guard panics.
+    ///
+    /// # Errors
+    /// `Refused::WrongGuard` if it is not.
     #[inline]
     pub fn verify<G: Guard>(&self, guard: &G) -> Result<(), Refused>
         ensures right { G.collector_number guard.now ≡ self.now.collector → result ≡ Ok tt }

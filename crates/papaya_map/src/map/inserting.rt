@@ -33,8 +33,8 @@ impl<'a, K: Hash + Eq + Drop, V: Drop, S: BuildHasher> HashMapRef<'a, K, V, S> {
     /// # Errors
     /// - `Refused::Memory` if an allocation fails.
     /// - `Refused::Capacity` if the arena of entries or that of tables is full: it gave a number
-    ///   past its limit, which the pass then shows. Also if the next table would be too long, by a
-    ///   table that the pass has observed and the sum of the count that it then shows.
+    ///   past its limit. Also if the next table would be too long, by the length of a table that
+    ///   the pass has observed and the sum of the count. The pass then has that number or that sum.
     /// - `Refused::Limit` if the map has a limit on entries, and as many are stored or about to be.
     pub fn insert_as<R: Wait>(
         &self,
@@ -74,7 +74,8 @@ impl<'a, K: Hash + Eq + Drop, V: Drop, S: BuildHasher> HashMapRef<'a, K, V, S> {
     /// Inserts an entry, and returns the key's old value: `insert` of 0.2.5. As there, a stored key
     /// stays, and the key that was passed in is dropped.
     ///
-    /// Fails as [`HashMapRef::insert_as`] does, and then changes nothing.
+    /// # Errors
+    /// `Refused::Memory`, `Capacity` or `Limit`, as [`HashMapRef::insert_as`]; no entry changes.
     pub fn insert<R: Wait>(&self, rt: &R, key: K, value: V) -> Result<Option<&'a V>, Refused>
         ensures* own { sem 𝓛 (of_its_history (EventOf K.row V.row S.row).coded.code
             (rule_of ⟦<Law<K, V, S> as Rule<Event<K, V, S>, Named<K, V>>>⟧) self.now K.eq
@@ -91,7 +92,8 @@ impl<'a, K: Hash + Eq + Drop, V: Drop, S: BuildHasher> HashMapRef<'a, K, V, S> {
     /// key is present, its value stays. The error then returns the value that was passed in, or a
     /// reference to it in the arena.
     ///
-    /// Fails as [`HashMapRef::insert_as`] does, and then changes nothing.
+    /// # Errors
+    /// `Refused::Memory`, `Capacity` or `Limit`, as [`HashMapRef::insert_as`]; no entry changes.
     pub fn try_insert<R: Wait>(
         &self,
         rt: &R,
@@ -112,7 +114,8 @@ impl<'a, K: Hash + Eq + Drop, V: Drop, S: BuildHasher> HashMapRef<'a, K, V, S> {
     /// Inserts a value made by a closure if the key is absent: `try_insert_with` of 0.2.5. The
     /// error is the value that is there. The closure is called once at most.
     ///
-    /// Fails as [`HashMapRef::insert_as`] does, and then changes nothing.
+    /// # Errors
+    /// `Refused::Memory`, `Capacity` or `Limit`, as [`HashMapRef::insert_as`]; no entry changes.
     pub fn try_insert_with<R: Wait, F: FnOnce() -> V + Drop>(
         &self,
         rt: &R,
@@ -134,7 +137,8 @@ impl<'a, K: Hash + Eq + Drop, V: Drop, S: BuildHasher> HashMapRef<'a, K, V, S> {
     /// Returns the key's value, and first inserts this one if there is none: `get_or_insert` of
     /// 0.2.5.
     ///
-    /// Fails as [`HashMapRef::insert_as`] does, and then changes nothing.
+    /// # Errors
+    /// `Refused::Memory`, `Capacity` or `Limit`, as [`HashMapRef::insert_as`]; no entry changes.
     pub fn get_or_insert<R: Wait>(&self, rt: &R, key: K, value: V) -> Result<&'a V, Refused>
         ensures* own { sem 𝓛 (of_its_history (EventOf K.row V.row S.row).coded.code
             (rule_of ⟦<Law<K, V, S> as Rule<Event<K, V, S>, Named<K, V>>>⟧) self.now K.eq
@@ -150,7 +154,8 @@ impl<'a, K: Hash + Eq + Drop, V: Drop, S: BuildHasher> HashMapRef<'a, K, V, S> {
     /// Returns the key's value, and first inserts one that a closure makes if there is none:
     /// `get_or_insert_with` of 0.2.5. The closure is called once at most.
     ///
-    /// Fails as [`HashMapRef::insert_as`] does, and then changes nothing.
+    /// # Errors
+    /// `Refused::Memory`, `Capacity` or `Limit`, as [`HashMapRef::insert_as`]; no entry changes.
     pub fn get_or_insert_with<R: Wait, F: FnOnce() -> V + Drop>(
         &self,
         rt: &R,
@@ -172,7 +177,9 @@ impl<'a, K: Hash + Eq + Drop, V: Drop, S: BuildHasher> HashMapRef<'a, K, V, S> {
 
 impl<K: Hash + Eq + Drop, V: Drop, S: BuildHasher> HashMap<K, V, S> {
     /// Inserts an entry, and returns the key's old value: `insert` of 0.2.5. A stored key stays.
-    /// Fails with `Refused::WrongGuard`, and as [`HashMapRef::insert_as`].
+    ///
+    /// # Errors
+    /// `Refused::WrongGuard`, and as [`HashMapRef::insert_as`].
     pub fn insert<'g, R: Wait, G: Guard>(
         &'g self,
         rt: &R,
@@ -194,8 +201,11 @@ impl<K: Hash + Eq + Drop, V: Drop, S: BuildHasher> HashMap<K, V, S> {
         answer
     }
 
-    /// Inserts an entry if the key is absent: `try_insert` of 0.2.5. Returns and fails as
-    /// [`HashMapRef::try_insert`], and fails with `Refused::WrongGuard`.
+    /// Inserts an entry if the key is absent: `try_insert` of 0.2.5. Returns as
+    /// [`HashMapRef::try_insert`].
+    ///
+    /// # Errors
+    /// `Refused::WrongGuard`, and as [`HashMapRef::try_insert`].
     pub fn try_insert<'g, R: Wait, G: Guard>(
         &'g self,
         rt: &R,
@@ -218,7 +228,10 @@ impl<K: Hash + Eq + Drop, V: Drop, S: BuildHasher> HashMap<K, V, S> {
     }
 
     /// Inserts a value made by a closure if the key is absent: `try_insert_with` of 0.2.5. Returns
-    /// as [`HashMapRef::try_insert_with`], and fails as [`HashMap::try_insert`].
+    /// as [`HashMapRef::try_insert_with`].
+    ///
+    /// # Errors
+    /// As [`HashMap::try_insert`].
     pub fn try_insert_with<'g, R: Wait, F: FnOnce() -> V + Drop, G: Guard>(
         &'g self,
         rt: &R,
@@ -242,7 +255,10 @@ impl<K: Hash + Eq + Drop, V: Drop, S: BuildHasher> HashMap<K, V, S> {
     }
 
     /// Returns the key's value, and first inserts this one if there is none: `get_or_insert` of
-    /// 0.2.5. Fails as [`HashMap::try_insert`].
+    /// 0.2.5.
+    ///
+    /// # Errors
+    /// As [`HashMap::try_insert`].
     pub fn get_or_insert<'g, R: Wait, G: Guard>(
         &'g self,
         rt: &R,
@@ -265,7 +281,10 @@ impl<K: Hash + Eq + Drop, V: Drop, S: BuildHasher> HashMap<K, V, S> {
     }
 
     /// Returns the key's value, and first inserts one that a closure makes if there is none:
-    /// `get_or_insert_with` of 0.2.5. Fails as [`HashMap::try_insert`].
+    /// `get_or_insert_with` of 0.2.5.
+    ///
+    /// # Errors
+    /// As [`HashMap::try_insert`].
     pub fn get_or_insert_with<'g, R: Wait, F: FnOnce() -> V + Drop, G: Guard>(
         &'g self,
         rt: &R,

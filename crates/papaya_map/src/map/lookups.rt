@@ -77,8 +77,10 @@ impl<'a, K: Hash + Eq, V, S: BuildHasher> HashMapRef<'a, K, V, S> {
 }
 
 impl<K: Hash + Eq, V, S: BuildHasher> HashMap<K, V, S> {
-    /// Returns the key's value: `get` of 0.2.5. It never waits, locks or allocates. Fails only with
-    /// `Refused::WrongGuard`.
+    /// Returns the key's value: `get` of 0.2.5. It never waits, locks or allocates.
+    ///
+    /// # Errors
+    /// Only `Refused::WrongGuard`.
     #[inline]
     pub fn get<'g, Q: Equivalent<K>, G: Guard>(
         &'g self,
@@ -99,7 +101,10 @@ impl<K: Hash + Eq, V, S: BuildHasher> HashMap<K, V, S> {
     }
 
     /// Returns the stored key and its value: `get_key_value` of 0.2.5. As [`HashMap::get`], it
-    /// never waits, locks or allocates. Fails only with `Refused::WrongGuard`.
+    /// never waits, locks or allocates.
+    ///
+    /// # Errors
+    /// Only `Refused::WrongGuard`.
     #[inline]
     pub fn get_key_value<'g, Q: Equivalent<K>, G: Guard>(
         &'g self,
@@ -119,7 +124,10 @@ impl<K: Hash + Eq, V, S: BuildHasher> HashMap<K, V, S> {
         answer
     }
 
-    /// Returns whether the key has a value: `contains_key` of 0.2.5. Fails only with `WrongGuard`.
+    /// Returns whether the key has a value: `contains_key` of 0.2.5.
+    ///
+    /// # Errors
+    /// Only `Refused::WrongGuard`.
     #[inline]
     pub fn contains_key<Q: Equivalent<K>, G: Guard>(
         &self,

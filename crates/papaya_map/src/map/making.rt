@@ -129,8 +129,10 @@ impl<K: Hash + Eq + Drop, V: Drop, S: BuildHasher + Drop> HashMap<K, V, S> {
     }
 
     /// Creates a map for `capacity` entries with this hasher: `with_capacity_and_hasher` of 0.2.5.
-    /// It resizes by [`ResizeMode::default`], and counts over [`DEFAULT_SHARDS`] shards. Fails as
-    /// [`HashMap::with_parts`] does.
+    /// It resizes by [`ResizeMode::default`], and counts over [`DEFAULT_SHARDS`] shards.
+    ///
+    /// # Errors
+    /// As [`HashMap::with_parts`].
     pub fn with_capacity_and_hasher<R: Wait>(
         rt: &R,
         alloc: Global,
@@ -158,6 +160,9 @@ impl<K: Hash + Eq + Drop, V: Drop, S: BuildHasher + Drop> HashMap<K, V, S> {
     }
 
     /// Creates a map with this hasher: `with_hasher` of 0.2.5. The first change makes a table.
+    ///
+    /// # Errors
+    /// `Refused::Memory` if an allocation fails.
     pub fn with_hasher<R: Wait>(
         rt: &R,
         alloc: Global,
@@ -215,6 +220,9 @@ impl<K: Hash + Eq + Drop, V: Drop, S: BuildHasher + Clone + Drop> HashMap<K, V, 
 impl<K: Hash + Eq + Drop, V: Drop> HashMap<K, V, BuildHasherDefault<FoldHasher>> {
     /// Creates a map that makes its first table at its first change: `new` of 0.2.5, but with a
     /// hasher that is the same in each run.
+    ///
+    /// # Errors
+    /// `Refused::Memory` if an allocation fails.
     pub fn new<R: Wait>(
         rt: &R,
         alloc: Global,
@@ -227,8 +235,10 @@ impl<K: Hash + Eq + Drop, V: Drop> HashMap<K, V, BuildHasherDefault<FoldHasher>>
     }
 
     /// Creates a map for `capacity` entries: `with_capacity` of 0.2.5. It resizes by
-    /// [`ResizeMode::default`], and counts over [`DEFAULT_SHARDS`] shards. Fails as
-    /// [`HashMap::with_parts`] does.
+    /// [`ResizeMode::default`], and counts over [`DEFAULT_SHARDS`] shards.
+    ///
+    /// # Errors
+    /// As [`HashMap::with_parts`].
     pub fn with_capacity<R: Wait>(
         rt: &R,
         alloc: Global,
@@ -254,6 +264,9 @@ impl<K: Hash + Eq + Drop, V: Drop> HashMap<K, V, BuildHasherDefault<FoldHasher>>
     }
 
     /// Creates a map as [`HashMap::new`] does: the trait `Default` of 0.2.5.
+    ///
+    /// # Errors
+    /// `Refused::Memory` if an allocation fails.
     pub fn default<R: Wait>(
         rt: &R,
         alloc: Global,

@@ -70,7 +70,10 @@ impl<'a, K: Hash + Eq, V, S: BuildHasher> HashMapRef<'a, K, V, S> {
 
     /// Removes a key's entry if the closure returns `true` for it: `remove_if` of 0.2.5.
     ///
-    /// Returns and fails as [`HashMapRef::remove_if_as`] does.
+    /// Returns as [`HashMapRef::remove_if_as`] does.
+    ///
+    /// # Errors
+    /// As [`HashMapRef::remove_if_as`].
     pub fn remove_if<R: Wait, Q: Equivalent<K>, F: FnMut(&K, &V) -> bool>(
         &self,
         rt: &R,
@@ -89,8 +92,10 @@ impl<'a, K: Hash + Eq, V, S: BuildHasher> HashMapRef<'a, K, V, S> {
         answer
     }
 
-    /// Removes a key's entry, and returns its value: `remove` of 0.2.5. Fails as
-    /// [`HashMapRef::remove_if_as`] does.
+    /// Removes a key's entry, and returns its value: `remove` of 0.2.5.
+    ///
+    /// # Errors
+    /// `Refused::Memory` or `Capacity`, as [`HashMapRef::remove_if_as`].
     pub fn remove_as<R: Wait, Q: Equivalent<K>>(
         &self,
         rt: &R,
@@ -125,7 +130,8 @@ impl<'a, K: Hash + Eq, V, S: BuildHasher> HashMapRef<'a, K, V, S> {
 
     /// Removes a key's entry, and returns its value: `remove` of 0.2.5.
     ///
-    /// Fails as [`HashMapRef::remove_if_as`] does, and then changes nothing.
+    /// # Errors
+    /// `Refused::Memory` or `Capacity`, as [`HashMapRef::remove_if_as`]; no entry changes.
     pub fn remove<R: Wait, Q: Equivalent<K>>(
         &self,
         rt: &R,
@@ -142,7 +148,8 @@ impl<'a, K: Hash + Eq, V, S: BuildHasher> HashMapRef<'a, K, V, S> {
 
     /// Removes a key's entry, and returns it: `remove_entry` of 0.2.5.
     ///
-    /// Fails as [`HashMapRef::remove_if_as`] does, and then changes nothing.
+    /// # Errors
+    /// `Refused::Memory` or `Capacity`, as [`HashMapRef::remove_if_as`]; no entry changes.
     pub fn remove_entry<R: Wait, Q: Equivalent<K>>(
         &self,
         rt: &R,
@@ -161,7 +168,10 @@ impl<'a, K: Hash + Eq, V, S: BuildHasher> HashMapRef<'a, K, V, S> {
 
 impl<K: Hash + Eq, V, S: BuildHasher> HashMap<K, V, S> {
     /// Removes a key's entry if the closure returns `true` for it: `remove_if` of 0.2.5. Returns as
-    /// [`HashMapRef::remove_if_as`], and fails as [`HashMap::remove`].
+    /// [`HashMapRef::remove_if_as`].
+    ///
+    /// # Errors
+    /// As [`HashMap::remove`].
     pub fn remove_if<'g, R: Wait, Q: Equivalent<K>, F: FnMut(&K, &V) -> bool, G: Guard>(
         &'g self,
         rt: &R,
@@ -185,7 +195,9 @@ impl<K: Hash + Eq, V, S: BuildHasher> HashMap<K, V, S> {
         answer
     }
 
-    /// Removes a key's entry, and returns its value: `remove` of 0.2.5. Fails with
+    /// Removes a key's entry, and returns its value: `remove` of 0.2.5.
+    ///
+    /// # Errors
     /// `Refused::WrongGuard`, and as [`HashMapRef::remove_if_as`].
     pub fn remove<'g, R: Wait, Q: Equivalent<K>, G: Guard>(
         &'g self,
@@ -207,8 +219,10 @@ impl<K: Hash + Eq, V, S: BuildHasher> HashMap<K, V, S> {
         answer
     }
 
-    /// Removes a key's entry, and returns it: `remove_entry` of 0.2.5. Fails as
-    /// [`HashMap::remove`].
+    /// Removes a key's entry, and returns it: `remove_entry` of 0.2.5.
+    ///
+    /// # Errors
+    /// As [`HashMap::remove`].
     pub fn remove_entry<'g, R: Wait, Q: Equivalent<K>, G: Guard>(
         &'g self,
         rt: &R,

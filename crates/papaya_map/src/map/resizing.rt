@@ -9,8 +9,10 @@ use std::hash::{BuildHasher, Hash};
 use std::sync::Wait;
 
 impl<'a, K: Hash + Eq, V, S: BuildHasher> HashMapRef<'a, K, V, S> {
-    /// Reserves room for `additional` more entries than the map counts: `reserve` of 0.2.5. Fails
-    /// as [`Session::reserve`](crate::session::Session::reserve) does.
+    /// Reserves room for `additional` more entries than the map counts: `reserve` of 0.2.5.
+    ///
+    /// # Errors
+    /// As [`Session::reserve`](crate::session::Session::reserve).
     pub fn reserve<R: Wait>(&self, rt: &R, additional: usize) -> Result<(), Refused>
         ensures { IfErr result (λ refused. IsMemoryOrCapacity refused) }
     {
@@ -20,8 +22,10 @@ impl<'a, K: Hash + Eq, V, S: BuildHasher> HashMapRef<'a, K, V, S> {
 }
 
 impl<K: Hash + Eq, V, S: BuildHasher> HashMap<K, V, S> {
-    /// Reserves room for `additional` more entries than the map counts: `reserve` of 0.2.5. Fails
-    /// with `Refused::WrongGuard`, and as [`HashMapRef::reserve`].
+    /// Reserves room for `additional` more entries than the map counts: `reserve` of 0.2.5.
+    ///
+    /// # Errors
+    /// `Refused::WrongGuard`, and as [`HashMapRef::reserve`].
     pub fn reserve<R: Wait, G: Guard>(
         &self,
         rt: &R,

@@ -48,7 +48,8 @@ impl<'a, K: Hash + Eq, V, S: BuildHasher> HashMapRef<'a, K, V, S> {
     /// Removes all entries that the map has: `clear` of 0.2.5. An entry that is stored meanwhile
     /// may stay.
     ///
-    /// Fails as [`HashMapRef::retain`] does.
+    /// # Errors
+    /// `Refused::Memory` or `Capacity`, as [`HashMapRef::retain`].
     pub fn clear<R: Wait>(&self, rt: &R) -> Result<(), Refused>
         ensures* own { sem 𝓛 (of_its_history (EventOf K.row V.row S.row).coded.code
             (rule_of ⟦<Law<K, V, S> as Rule<Event<K, V, S>, Named<K, V>>>⟧) self.now K.eq
@@ -59,9 +60,9 @@ impl<'a, K: Hash + Eq, V, S: BuildHasher> HashMapRef<'a, K, V, S> {
         answer
     }
 
-    /// Returns an iterator over the map's entries: `iter` of 0.2.5. The map had each of them in a
-    /// history that begins with what the pass had observed. The pass does not learn what the
-    /// iterator observes later; a session does by
+    /// Returns an iterator over the map's entries: `iter` of 0.2.5. Each entry returned was in the
+    /// map, in a history that begins with what the pass had observed. The pass does not learn what
+    /// the iterator observes later; a session does by
     /// [`Session::learn_walk`](crate::session::Session::learn_walk). An entry that is stored or
     /// removed meanwhile may be returned or not.
     ///
@@ -108,7 +109,10 @@ impl<'a, K: Hash + Eq, V, S: BuildHasher> HashMapRef<'a, K, V, S> {
         }
     }
 
-    /// Returns an iterator over the entries: `iter` of 0.2.5. Fails as [`HashMapRef::iter_as`].
+    /// Returns an iterator over the entries: `iter` of 0.2.5.
+    ///
+    /// # Errors
+    /// `Refused::Memory` or `Capacity`, as [`HashMapRef::iter_as`].
     pub fn iter<R: Wait>(&self, rt: &R) -> Result<Iter<'a, K, V, S>, Refused>
         ensures walk { IfOk result (λ pairs. pairs.book ≡ self.now.map.book) }
         ensures began { IfOk result (λ pairs. pairs.began ≡ []) }
@@ -118,7 +122,10 @@ impl<'a, K: Hash + Eq, V, S: BuildHasher> HashMapRef<'a, K, V, S> {
         self.iter_as(rt, &mut pass)
     }
 
-    /// Returns an iterator over the keys: `keys` of 0.2.5. Fails as [`HashMapRef::iter_as`].
+    /// Returns an iterator over the keys: `keys` of 0.2.5.
+    ///
+    /// # Errors
+    /// `Refused::Memory` or `Capacity`, as [`HashMapRef::iter_as`].
     pub fn keys<R: Wait>(&self, rt: &R) -> Result<Keys<'a, K, V, S>, Refused>
         ensures walk { IfOk result (λ keys. keys.pairs.book ≡ self.now.map.book) }
         ensures began { IfOk result (λ keys. keys.pairs.began ≡ []) }
@@ -127,7 +134,10 @@ impl<'a, K: Hash + Eq, V, S: BuildHasher> HashMapRef<'a, K, V, S> {
         Ok(Keys::of(self.iter(rt)?))
     }
 
-    /// Returns an iterator over the values: `values` of 0.2.5. Fails as [`HashMapRef::iter_as`].
+    /// Returns an iterator over the values: `values` of 0.2.5.
+    ///
+    /// # Errors
+    /// `Refused::Memory` or `Capacity`, as [`HashMapRef::iter_as`].
     pub fn values<R: Wait>(&self, rt: &R) -> Result<Values<'a, K, V, S>, Refused>
         ensures walk { IfOk result (λ values. values.pairs.book ≡ self.now.map.book) }
         ensures began { IfOk result (λ values. values.pairs.began ≡ []) }
@@ -138,7 +148,9 @@ impl<'a, K: Hash + Eq, V, S: BuildHasher> HashMapRef<'a, K, V, S> {
 }
 
 impl<K: Hash + Eq, V, S: BuildHasher> HashMap<K, V, S> {
-    /// Removes the entries for which the closure returns `false`: `retain` of 0.2.5. Fails with
+    /// Removes the entries for which the closure returns `false`: `retain` of 0.2.5.
+    ///
+    /// # Errors
     /// `Refused::WrongGuard`, and as [`HashMapRef::retain`].
     pub fn retain<R: Wait, F: FnMut(&K, &V) -> bool, G: Guard>(
         &self,
@@ -163,8 +175,10 @@ impl<K: Hash + Eq, V, S: BuildHasher> HashMap<K, V, S> {
         answer
     }
 
-    /// Removes all entries that the map has: `clear` of 0.2.5. Fails with `Refused::WrongGuard`,
-    /// and as [`HashMapRef::clear`].
+    /// Removes all entries that the map has: `clear` of 0.2.5.
+    ///
+    /// # Errors
+    /// `Refused::WrongGuard`, and as [`HashMapRef::clear`].
     pub fn clear<R: Wait, G: Guard>(&self, rt: &R, guard: &G) -> Result<(), Refused>
         ensures* own { sem 𝓛 (of_its_history (EventOf K.row V.row S.row).coded.code
             (rule_of ⟦<Law<K, V, S> as Rule<Event<K, V, S>, Named<K, V>>>⟧) (unpinned self.now) K.eq
@@ -178,8 +192,10 @@ impl<K: Hash + Eq, V, S: BuildHasher> HashMap<K, V, S> {
         answer
     }
 
-    /// Returns an iterator over the entries: `iter` of 0.2.5. Fails with `Refused::WrongGuard`, and
-    /// as [`HashMapRef::iter_as`].
+    /// Returns an iterator over the entries: `iter` of 0.2.5.
+    ///
+    /// # Errors
+    /// `Refused::WrongGuard`, and as [`HashMapRef::iter_as`].
     pub fn iter<'g, R: Wait, G: Guard>(
         &'g self,
         rt: &R,
@@ -197,7 +213,10 @@ impl<K: Hash + Eq, V, S: BuildHasher> HashMap<K, V, S> {
         self.pin().iter_as(rt, &mut pass)
     }
 
-    /// Returns an iterator over the keys: `keys` of 0.2.5. Fails as [`HashMap::iter`].
+    /// Returns an iterator over the keys: `keys` of 0.2.5.
+    ///
+    /// # Errors
+    /// As [`HashMap::iter`].
     pub fn keys<'g, R: Wait, G: Guard>(
         &'g self,
         rt: &R,
@@ -213,7 +232,10 @@ impl<K: Hash + Eq, V, S: BuildHasher> HashMap<K, V, S> {
         Ok(Keys::of(self.iter(rt, guard)?))
     }
 
-    /// Returns an iterator over the values: `values` of 0.2.5. Fails as [`HashMap::iter`].
+    /// Returns an iterator over the values: `values` of 0.2.5.
+    ///
+    /// # Errors
+    /// As [`HashMap::iter`].
     pub fn values<'g, R: Wait, G: Guard>(
         &'g self,
         rt: &R,

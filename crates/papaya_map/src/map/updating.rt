@@ -23,7 +23,8 @@ impl<'a, K: Hash + Eq + Drop, V: Drop, S: BuildHasher> HashMapRef<'a, K, V, S> {
     /// 0.2.5. Returns `Ok(None)` if the key has none. The closure may be called again if another
     /// call was first to replace the value.
     ///
-    /// Fails as [`HashMapRef::insert_as`] does, and then changes nothing.
+    /// # Errors
+    /// `Refused::Memory`, `Capacity` or `Limit`, as [`HashMapRef::insert_as`]; no entry changes.
     pub fn update<R: Wait, F: Fn(&V) -> V>(
         &self,
         rt: &R,
@@ -44,7 +45,8 @@ impl<'a, K: Hash + Eq + Drop, V: Drop, S: BuildHasher> HashMapRef<'a, K, V, S> {
 
     /// Updates the key's value, or inserts this one if there is none: `update_or_insert` of 0.2.5.
     ///
-    /// Fails as [`HashMapRef::insert_as`] does, and then changes nothing.
+    /// # Errors
+    /// `Refused::Memory`, `Capacity` or `Limit`, as [`HashMapRef::insert_as`]; no entry changes.
     pub fn update_or_insert<R: Wait, F: Fn(&V) -> V>(
         &self,
         rt: &R,
@@ -68,7 +70,8 @@ impl<'a, K: Hash + Eq + Drop, V: Drop, S: BuildHasher> HashMapRef<'a, K, V, S> {
     /// Updates the key's value, or inserts one that a second closure makes if there is none:
     /// `update_or_insert_with` of 0.2.5. That closure is called once at most.
     ///
-    /// Fails as [`HashMapRef::insert_as`] does, and then changes nothing.
+    /// # Errors
+    /// `Refused::Memory`, `Capacity` or `Limit`, as [`HashMapRef::insert_as`]; no entry changes.
     pub fn update_or_insert_with<R: Wait, U: Fn(&V) -> V, F: FnOnce() -> V + Drop>(
         &self,
         rt: &R,
@@ -92,8 +95,11 @@ impl<'a, K: Hash + Eq + Drop, V: Drop, S: BuildHasher> HashMapRef<'a, K, V, S> {
 }
 
 impl<K: Hash + Eq + Drop, V: Drop, S: BuildHasher> HashMap<K, V, S> {
-    /// Replaces the key's value by what the closure makes of it: `update` of 0.2.5. Returns and
-    /// fails as [`HashMapRef::update`], and fails with `Refused::WrongGuard`.
+    /// Replaces the key's value by what the closure makes of it: `update` of 0.2.5. Returns as
+    /// [`HashMapRef::update`].
+    ///
+    /// # Errors
+    /// `Refused::WrongGuard`, and as [`HashMapRef::update`].
     pub fn update<'g, R: Wait, F: Fn(&V) -> V, G: Guard>(
         &'g self,
         rt: &R,
@@ -117,7 +123,9 @@ impl<K: Hash + Eq + Drop, V: Drop, S: BuildHasher> HashMap<K, V, S> {
     }
 
     /// Updates the key's value, or inserts this one if there is none: `update_or_insert` of 0.2.5.
-    /// Fails as [`HashMap::update`].
+    ///
+    /// # Errors
+    /// As [`HashMap::update`].
     pub fn update_or_insert<'g, R: Wait, F: Fn(&V) -> V, G: Guard>(
         &'g self,
         rt: &R,
@@ -143,7 +151,10 @@ impl<K: Hash + Eq + Drop, V: Drop, S: BuildHasher> HashMap<K, V, S> {
     }
 
     /// Updates the key's value, or inserts one that a second closure makes if there is none:
-    /// `update_or_insert_with` of 0.2.5. Fails as [`HashMap::update`].
+    /// `update_or_insert_with` of 0.2.5.
+    ///
+    /// # Errors
+    /// As [`HashMap::update`].
     pub fn update_or_insert_with<'g, R: Wait, U: Fn(&V) -> V, F: FnOnce() -> V + Drop, G: Guard>(
         &'g self,
         rt: &R,

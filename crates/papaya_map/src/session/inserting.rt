@@ -55,8 +55,10 @@ impl<'a, K: Hash + Eq + Drop, V: Drop, S: BuildHasher> Session<'a, K, V, S> {
     /// key is present, its value stays. The error then returns the value that was passed in, or a
     /// reference to it in the arena.
     ///
-    /// Fails as [`Session::insert`] does. The session makes one change if the value was stored, and
-    /// otherwise none.
+    /// The session makes one change if the value was stored, and otherwise none.
+    ///
+    /// # Errors
+    /// `Refused::Memory`, `Capacity` or `Limit`, as [`Session::insert`].
     pub fn try_insert<R: Wait>(
         &mut self,
         rt: &R,
@@ -94,6 +96,9 @@ impl<'a, K: Hash + Eq + Drop, V: Drop, S: BuildHasher> Session<'a, K, V, S> {
 
     /// Inserts a value made by a closure if the key is absent: `try_insert_with` of 0.2.5. The
     /// error is the value that is there. The closure is called once at most.
+    ///
+    /// # Errors
+    /// As [`Session::insert`].
     pub fn try_insert_with<R: Wait, F: FnOnce() -> V + Drop>(
         &mut self,
         rt: &R,
@@ -131,8 +136,10 @@ impl<'a, K: Hash + Eq + Drop, V: Drop, S: BuildHasher> Session<'a, K, V, S> {
     /// Returns the key's value, and first inserts this one if there is none: `get_or_insert` of
     /// 0.2.5.
     ///
-    /// Fails as [`Session::insert`] does. The session makes one change if the value was stored, and
-    /// otherwise none.
+    /// The session makes one change if the value was stored, and otherwise none.
+    ///
+    /// # Errors
+    /// `Refused::Memory`, `Capacity` or `Limit`, as [`Session::insert`].
     pub fn get_or_insert<R: Wait>(&mut self, rt: &R, key: K, value: V) -> Result<&'a V, Refused>
         ensures map { self.new.map ≡ self.old.map }
         ensures seen { IsPrefix self.old.history self.new.history }
@@ -152,6 +159,9 @@ impl<'a, K: Hash + Eq + Drop, V: Drop, S: BuildHasher> Session<'a, K, V, S> {
 
     /// Returns the key's value, and first inserts one that a closure makes if there is none:
     /// `get_or_insert_with` of 0.2.5. The closure is called once at most.
+    ///
+    /// # Errors
+    /// As [`Session::insert`].
     pub fn get_or_insert_with<R: Wait, F: FnOnce() -> V + Drop>(
         &mut self,
         rt: &R,

@@ -43,8 +43,10 @@ impl<'a, K: Hash + Eq, V, S: BuildHasher> Session<'a, K, V, S> {
             .remove_if_as(rt, key, should_remove, &mut self.pass)
     }
 
-    /// Removes a key's entry, and returns its value: `remove` of 0.2.5. Fails as
-    /// [`Session::remove_if`] does.
+    /// Removes a key's entry, and returns its value: `remove` of 0.2.5.
+    ///
+    /// # Errors
+    /// `Refused::Memory` or `Capacity`, as [`Session::remove_if`].
     pub fn remove<R: Wait, Q: Equivalent<K>>(
         &mut self,
         rt: &R,
@@ -62,8 +64,10 @@ impl<'a, K: Hash + Eq, V, S: BuildHasher> Session<'a, K, V, S> {
         self.map.remove_as(rt, key, &mut self.pass)
     }
 
-    /// Removes a key's entry, and returns it: `remove_entry` of 0.2.5. Fails as
-    /// [`Session::remove_if`] does.
+    /// Removes a key's entry, and returns it: `remove_entry` of 0.2.5.
+    ///
+    /// # Errors
+    /// `Refused::Memory` or `Capacity`, as [`Session::remove_if`].
     pub fn remove_entry<R: Wait, Q: Equivalent<K>>(
         &mut self,
         rt: &R,

@@ -14,8 +14,8 @@ use std::hash::{BuildHasher, Hash};
 use std::sync::Wait;
 
 impl<'a, K: Hash + Eq, V, S: BuildHasher> Session<'a, K, V, S> {
-    /// Removes the entries for which the closure returns `false`: `retain` of 0.2.5. The map had
-    /// each entry that it is called with in a history that begins with what the session had
+    /// Removes the entries for which the closure returns `false`: `retain` of 0.2.5. Each entry
+    /// that it is called with was in the map, in a history that begins with what the session had
     /// observed. The closure is called for a key's entry again if another call replaced it
     /// meanwhile, or if everything is copied.
     ///
@@ -64,7 +64,10 @@ impl<'a, K: Hash + Eq, V, S: BuildHasher> Session<'a, K, V, S> {
     /// Removes all entries that the map has: `clear` of 0.2.5. If it succeeds, each entry that the
     /// map had after what the session had observed was removed since, by this call or another. An
     /// entry that is stored meanwhile may stay. The session makes one change for each entry that
-    /// this call removed, and no other. Fails as [`Session::retain`] does.
+    /// this call removed, and no other.
+    ///
+    /// # Errors
+    /// `Refused::Memory` or `Capacity`, as [`Session::retain`].
     pub fn clear<R: Wait>(&mut self, rt: &R) -> Result<(), Refused>
         ensures map { self.new.map ≡ self.old.map }
         ensures seen { IsPrefix self.old.history self.new.history }
@@ -89,7 +92,10 @@ impl<'a, K: Hash + Eq, V, S: BuildHasher> Session<'a, K, V, S> {
     /// entry that is stored or removed meanwhile may be returned or not.
     ///
     /// With `Blocking` the iterator takes the root as it is. Otherwise the call first copies what
-    /// is left to copy, and may fail as [`Session::retain`] does.
+    /// is left to copy.
+    ///
+    /// # Errors
+    /// `Refused::Memory` or `Capacity`, as [`Session::retain`], if that copy needs a table.
     pub fn iter<R: Wait>(&mut self, rt: &R) -> Result<Iter<'a, K, V, S>, Refused>
         ensures map { self.new.map ≡ self.old.map }
         ensures seen { IsPrefix self.old.history self.new.history }
@@ -105,7 +111,10 @@ impl<'a, K: Hash + Eq, V, S: BuildHasher> Session<'a, K, V, S> {
         self.map.iter_as(rt, &mut self.pass)
     }
 
-    /// Returns an iterator over the keys: `keys` of 0.2.5. Fails as [`Session::iter`] does.
+    /// Returns an iterator over the keys: `keys` of 0.2.5.
+    ///
+    /// # Errors
+    /// As [`Session::iter`].
     pub fn keys<R: Wait>(&mut self, rt: &R) -> Result<Keys<'a, K, V, S>, Refused>
         ensures map { self.new.map ≡ self.old.map }
         ensures seen { IsPrefix self.old.history self.new.history }
@@ -121,7 +130,10 @@ impl<'a, K: Hash + Eq, V, S: BuildHasher> Session<'a, K, V, S> {
         Ok(Keys::of(self.iter(rt)?))
     }
 
-    /// Returns an iterator over the values: `values` of 0.2.5. Fails as [`Session::iter`] does.
+    /// Returns an iterator over the values: `values` of 0.2.5.
+    ///
+    /// # Errors
+    /// As [`Session::iter`].
     pub fn values<R: Wait>(&mut self, rt: &R) -> Result<Values<'a, K, V, S>, Refused>
         ensures map { self.new.map ≡ self.old.map }
         ensures seen { IsPrefix self.old.history self.new.history }

@@ -20,8 +20,10 @@ impl<'a, K: Hash + Eq + Drop, V: Drop, S: BuildHasher> Session<'a, K, V, S> {
     /// 0.2.5. Returns `Ok(None)` if the key has none. The closure may be called again if another
     /// call was first to replace the value.
     ///
-    /// Fails as [`Session::insert`] does. The session makes one change if a value was replaced, and
-    /// otherwise none.
+    /// The session makes one change if a value was replaced, and otherwise none.
+    ///
+    /// # Errors
+    /// `Refused::Memory`, `Capacity` or `Limit`, as [`Session::insert`].
     pub fn update<R: Wait, F: Fn(&V) -> V>(
         &mut self,
         rt: &R,
@@ -83,6 +85,9 @@ impl<'a, K: Hash + Eq + Drop, V: Drop, S: BuildHasher> Session<'a, K, V, S> {
 
     /// Updates the key's value, or inserts this one if there is none: `update_or_insert` of 0.2.5.
     /// The session makes one change, or none if the call fails. Otherwise as [`Session::update`].
+    ///
+    /// # Errors
+    /// As [`Session::insert`].
     pub fn update_or_insert<R: Wait, F: Fn(&V) -> V>(
         &mut self,
         rt: &R,
@@ -106,6 +111,9 @@ impl<'a, K: Hash + Eq + Drop, V: Drop, S: BuildHasher> Session<'a, K, V, S> {
 
     /// Updates the key's value, or inserts one that a second closure makes if there is none:
     /// `update_or_insert_with` of 0.2.5. That closure is called once at most.
+    ///
+    /// # Errors
+    /// As [`Session::insert`].
     pub fn update_or_insert_with<R: Wait, U: Fn(&V) -> V, F: FnOnce() -> V + Drop>(
         &mut self,
         rt: &R,
