@@ -96,7 +96,7 @@ impl<K: Hash + Eq, S: BuildHasher> HashSet<K, S> {
     /// allocates.
     ///
     /// # Errors
-    /// Only `Refused::WrongGuard`.
+    /// `Refused::WrongGuard` if the guard is of another collector.
     #[inline]
     pub fn contains<Q: Equivalent<K>, G: Guard>(&self, key: &Q, guard: &G) -> Result<bool, Refused>
         ensures* own { sem 𝓛 (of_its_history (EventOf K.row unit-field.row S.row).coded.code
@@ -143,7 +143,7 @@ impl<K: Hash + Eq, S: BuildHasher> HashSet<K, S> {
     /// it never waits.
     ///
     /// # Errors
-    /// Only `Refused::WrongGuard`.
+    /// `Refused::WrongGuard` if the guard is of another collector.
     #[inline]
     pub fn get<'g, Q: Equivalent<K>, G: Guard>(
         &'g self,

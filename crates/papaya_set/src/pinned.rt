@@ -239,8 +239,8 @@ impl<'a, K: Hash + Eq, S: BuildHasher> HashSetRef<'a, K, S> {
     /// Returns an iterator over the keys: `iter` of 0.2.5. A key that is stored or removed
     /// meanwhile may be returned or not.
     ///
-    /// With `Blocking` the iterator takes the root as it is. Otherwise the call first copies what
-    /// is left to copy.
+    /// With `ResizeMode::Blocking` the iterator takes the root as it is. Otherwise the call first
+    /// copies what is left to copy.
     ///
     /// # Errors
     /// `Refused::Memory` or `Capacity`, as [`HashSetRef::retain`], if that copy needs a table.

@@ -34,8 +34,8 @@ impl<'a, K: Hash + Eq + Drop, V: Drop, S: BuildHasher> HashMapRef<'a, K, V, S> {
     ///
     /// # Errors
     /// As [`HashMapRef::insert_as`], and `Refused::RemoveNothing` if the closure returns a removal
-    /// and there is no entry. The pass makes one change if the closure's operation is one, and none
-    /// if the call fails or aborts.
+    /// and there is no entry. The pass records one change if the closure's operation changes the
+    /// map, and none if the call fails or aborts.
     pub fn compute_as<R: Wait, T: Drop, F: FnMut(Option<(&'a K, &'a V)>) -> Operation<V, T>>(
         &self,
         rt: &R,

@@ -24,17 +24,18 @@ use std::hash::{BuildHasher, Hash};
 use std::sync::Wait;
 
 impl<'a, K: Hash + Eq + Drop, V: Drop, S: BuildHasher> HashMapRef<'a, K, V, S> {
-    /// Inserts an entry, and returns the key's old value: `insert` of 0.2.5. As there, a stored key
-    /// stays, and the key that was passed in is dropped.
+    /// Inserts a key-value pair, and returns the key's old value, if any: `insert` of 0.2.5. As
+    /// there, a stored key stays, and the key that was passed in is dropped.
     ///
     /// If the table has no place for the key, the call allocates the next table, to which the
-    /// entries are copied. The pass makes this one change, or none if the call fails.
+    /// entries are copied. The pass records one change, or none if the call fails.
     ///
     /// # Errors
     /// - `Refused::Memory` if an allocation fails.
     /// - `Refused::Capacity` if the arena of entries or that of tables is full: it gave a number
     ///   past its limit. Also if the next table would be too long, by the length of a table that
-    ///   the pass has observed and the sum of the count. The pass then has that number or that sum.
+    ///   the pass has observed and the sum of the count. Contracts then observe that number or that
+    ///   sum.
     /// - `Refused::Limit` if the map has a limit on entries, and as many are stored or about to be.
     pub fn insert_as<R: Wait>(
         &self,
@@ -71,8 +72,8 @@ impl<'a, K: Hash + Eq + Drop, V: Drop, S: BuildHasher> HashMapRef<'a, K, V, S> {
         before
     }
 
-    /// Inserts an entry, and returns the key's old value: `insert` of 0.2.5. As there, a stored key
-    /// stays, and the key that was passed in is dropped.
+    /// Inserts a key-value pair, and returns the key's old value, if any: `insert` of 0.2.5. As
+    /// there, a stored key stays, and the key that was passed in is dropped.
     ///
     /// # Errors
     /// `Refused::Memory`, `Capacity` or `Limit`, as [`HashMapRef::insert_as`]; no entry changes.
@@ -134,8 +135,7 @@ impl<'a, K: Hash + Eq + Drop, V: Drop, S: BuildHasher> HashMapRef<'a, K, V, S> {
         answer
     }
 
-    /// Returns the key's value, and first inserts this one if there is none: `get_or_insert` of
-    /// 0.2.5.
+    /// Returns the key's value, inserting this one if there is none: `get_or_insert` of 0.2.5.
     ///
     /// # Errors
     /// `Refused::Memory`, `Capacity` or `Limit`, as [`HashMapRef::insert_as`]; no entry changes.
@@ -151,7 +151,7 @@ impl<'a, K: Hash + Eq + Drop, V: Drop, S: BuildHasher> HashMapRef<'a, K, V, S> {
         answer
     }
 
-    /// Returns the key's value, and first inserts one that a closure makes if there is none:
+    /// Returns the key's value, inserting one that a closure makes if there is none:
     /// `get_or_insert_with` of 0.2.5. The closure is called once at most.
     ///
     /// # Errors
@@ -176,7 +176,8 @@ impl<'a, K: Hash + Eq + Drop, V: Drop, S: BuildHasher> HashMapRef<'a, K, V, S> {
 }
 
 impl<K: Hash + Eq + Drop, V: Drop, S: BuildHasher> HashMap<K, V, S> {
-    /// Inserts an entry, and returns the key's old value: `insert` of 0.2.5. A stored key stays.
+    /// Inserts a key-value pair, and returns the key's old value, if any: `insert` of 0.2.5. A
+    /// stored key stays.
     ///
     /// # Errors
     /// `Refused::WrongGuard`, and as [`HashMapRef::insert_as`].
@@ -254,8 +255,7 @@ impl<K: Hash + Eq + Drop, V: Drop, S: BuildHasher> HashMap<K, V, S> {
         answer
     }
 
-    /// Returns the key's value, and first inserts this one if there is none: `get_or_insert` of
-    /// 0.2.5.
+    /// Returns the key's value, inserting this one if there is none: `get_or_insert` of 0.2.5.
     ///
     /// # Errors
     /// As [`HashMap::try_insert`].
@@ -280,7 +280,7 @@ impl<K: Hash + Eq + Drop, V: Drop, S: BuildHasher> HashMap<K, V, S> {
         answer
     }
 
-    /// Returns the key's value, and first inserts one that a closure makes if there is none:
+    /// Returns the key's value, inserting one that a closure makes if there is none:
     /// `get_or_insert_with` of 0.2.5.
     ///
     /// # Errors

@@ -35,7 +35,7 @@ impl<'a, K: Hash + Eq, V, S: BuildHasher> HashMapRef<'a, K, V, S> {
         found
     }
 
-    /// Returns the key's value: `get` of 0.2.5. It never waits, locks or allocates.
+    /// Returns the key's value, if any: `get` of 0.2.5. It never waits, locks or allocates.
     #[inline(always)]
     pub fn get<Q: Equivalent<K>>(&self, key: &Q) -> Option<&'a V>
         ensures* own { sem 𝓛 (of_its_history (EventOf K.row V.row S.row).coded.code
@@ -48,8 +48,8 @@ impl<'a, K: Hash + Eq, V, S: BuildHasher> HashMapRef<'a, K, V, S> {
         answer
     }
 
-    /// Returns the stored key and its value: `get_key_value` of 0.2.5. As [`HashMapRef::get`], it
-    /// never waits, locks or allocates.
+    /// Returns the stored key and its value, if any: `get_key_value` of 0.2.5. As
+    /// [`HashMapRef::get`], it never waits, locks or allocates.
     #[inline(always)]
     pub fn get_key_value<Q: Equivalent<K>>(&self, key: &Q) -> Option<(&'a K, &'a V)>
         ensures* own { sem 𝓛 (of_its_history (EventOf K.row V.row S.row).coded.code
@@ -77,10 +77,10 @@ impl<'a, K: Hash + Eq, V, S: BuildHasher> HashMapRef<'a, K, V, S> {
 }
 
 impl<K: Hash + Eq, V, S: BuildHasher> HashMap<K, V, S> {
-    /// Returns the key's value: `get` of 0.2.5. It never waits, locks or allocates.
+    /// Returns the key's value, if any: `get` of 0.2.5. It never waits, locks or allocates.
     ///
     /// # Errors
-    /// Only `Refused::WrongGuard`.
+    /// `Refused::WrongGuard` if the guard is of another collector.
     #[inline]
     pub fn get<'g, Q: Equivalent<K>, G: Guard>(
         &'g self,
@@ -100,11 +100,11 @@ impl<K: Hash + Eq, V, S: BuildHasher> HashMap<K, V, S> {
         answer
     }
 
-    /// Returns the stored key and its value: `get_key_value` of 0.2.5. As [`HashMap::get`], it
-    /// never waits, locks or allocates.
+    /// Returns the stored key and its value, if any: `get_key_value` of 0.2.5. As [`HashMap::get`],
+    /// it never waits, locks or allocates.
     ///
     /// # Errors
-    /// Only `Refused::WrongGuard`.
+    /// `Refused::WrongGuard` if the guard is of another collector.
     #[inline]
     pub fn get_key_value<'g, Q: Equivalent<K>, G: Guard>(
         &'g self,
@@ -127,7 +127,7 @@ impl<K: Hash + Eq, V, S: BuildHasher> HashMap<K, V, S> {
     /// Returns whether the key has a value: `contains_key` of 0.2.5.
     ///
     /// # Errors
-    /// Only `Refused::WrongGuard`.
+    /// `Refused::WrongGuard` if the guard is of another collector.
     #[inline]
     pub fn contains_key<Q: Equivalent<K>, G: Guard>(
         &self,

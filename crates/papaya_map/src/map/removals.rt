@@ -92,7 +92,7 @@ impl<'a, K: Hash + Eq, V, S: BuildHasher> HashMapRef<'a, K, V, S> {
         answer
     }
 
-    /// Removes a key's entry, and returns its value: `remove` of 0.2.5.
+    /// Removes a key's entry, and returns its value, if any: `remove` of 0.2.5.
     ///
     /// # Errors
     /// `Refused::Memory` or `Capacity`, as [`HashMapRef::remove_if_as`].
@@ -128,7 +128,7 @@ impl<'a, K: Hash + Eq, V, S: BuildHasher> HashMapRef<'a, K, V, S> {
         }
     }
 
-    /// Removes a key's entry, and returns its value: `remove` of 0.2.5.
+    /// Removes a key's entry, and returns its value, if any: `remove` of 0.2.5.
     ///
     /// # Errors
     /// `Refused::Memory` or `Capacity`, as [`HashMapRef::remove_if_as`]; no entry changes.
@@ -146,7 +146,7 @@ impl<'a, K: Hash + Eq, V, S: BuildHasher> HashMapRef<'a, K, V, S> {
         answer
     }
 
-    /// Removes a key's entry, and returns it: `remove_entry` of 0.2.5.
+    /// Removes a key's entry, and returns it, if any: `remove_entry` of 0.2.5.
     ///
     /// # Errors
     /// `Refused::Memory` or `Capacity`, as [`HashMapRef::remove_if_as`]; no entry changes.
@@ -195,7 +195,7 @@ impl<K: Hash + Eq, V, S: BuildHasher> HashMap<K, V, S> {
         answer
     }
 
-    /// Removes a key's entry, and returns its value: `remove` of 0.2.5.
+    /// Removes a key's entry, and returns its value, if any: `remove` of 0.2.5.
     ///
     /// # Errors
     /// `Refused::WrongGuard`, and as [`HashMapRef::remove_if_as`].
@@ -219,7 +219,7 @@ impl<K: Hash + Eq, V, S: BuildHasher> HashMap<K, V, S> {
         answer
     }
 
-    /// Removes a key's entry, and returns it: `remove_entry` of 0.2.5.
+    /// Removes a key's entry, and returns it, if any: `remove_entry` of 0.2.5.
     ///
     /// # Errors
     /// As [`HashMap::remove`].

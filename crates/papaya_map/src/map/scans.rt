@@ -66,8 +66,8 @@ impl<'a, K: Hash + Eq, V, S: BuildHasher> HashMapRef<'a, K, V, S> {
     /// [`Session::learn_walk`](crate::session::Session::learn_walk). An entry that is stored or
     /// removed meanwhile may be returned or not.
     ///
-    /// With `Blocking` the iterator takes the root as it is. Otherwise the call first copies what
-    /// is left to copy.
+    /// With `ResizeMode::Blocking` the iterator takes the root as it is. Otherwise the call first
+    /// copies what is left to copy.
     ///
     /// # Errors
     /// If that copy needs a table: `Refused::Memory` if an allocation fails, and

@@ -30,8 +30,8 @@ fn not_inserted<V>(supply: Option<Ready<V>>, spare: Option<&V>) -> NotInserted<'
 }
 
 impl<'a, K: Hash + Eq + Drop, V: Drop, S: BuildHasher> Session<'a, K, V, S> {
-    /// Inserts an entry, and returns the key's old value: `insert` of 0.2.5. As there, a stored key
-    /// stays, and the key that was passed in is dropped.
+    /// Inserts a key-value pair, and returns the key's old value, if any: `insert` of 0.2.5. As
+    /// there, a stored key stays, and the key that was passed in is dropped.
     ///
     /// # Errors
     /// `Refused::Memory` if an allocation fails, `Refused::Capacity` if an arena is full or a next
@@ -133,8 +133,7 @@ impl<'a, K: Hash + Eq + Drop, V: Drop, S: BuildHasher> Session<'a, K, V, S> {
         }
     }
 
-    /// Returns the key's value, and first inserts this one if there is none: `get_or_insert` of
-    /// 0.2.5.
+    /// Returns the key's value, inserting this one if there is none: `get_or_insert` of 0.2.5.
     ///
     /// The session makes one change if the value was stored, and otherwise none.
     ///
@@ -157,7 +156,7 @@ impl<'a, K: Hash + Eq + Drop, V: Drop, S: BuildHasher> Session<'a, K, V, S> {
         }
     }
 
-    /// Returns the key's value, and first inserts one that a closure makes if there is none:
+    /// Returns the key's value, inserting one that a closure makes if there is none:
     /// `get_or_insert_with` of 0.2.5. The closure is called once at most.
     ///
     /// # Errors

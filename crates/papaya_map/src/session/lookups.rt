@@ -24,8 +24,8 @@ impl<'a, K: Hash + Eq, V, S: BuildHasher> Session<'a, K, V, S> {
         self.map.get_as(key, &mut self.pass)
     }
 
-    /// Returns the stored key and its value: `get_key_value` of 0.2.5. As [`Session::get`], it
-    /// never waits, locks or allocates.
+    /// Returns the stored key and its value, if any: `get_key_value` of 0.2.5. As [`Session::get`],
+    /// it never waits, locks or allocates.
     #[inline]
     pub fn get_key_value<Q: Equivalent<K>>(&mut self, key: &Q) -> Option<(&'a K, &'a V)>
         ensures map { self.new.map ≡ self.old.map }

@@ -43,7 +43,7 @@ impl<'a, K: Hash + Eq, V, S: BuildHasher> Session<'a, K, V, S> {
             .remove_if_as(rt, key, should_remove, &mut self.pass)
     }
 
-    /// Removes a key's entry, and returns its value: `remove` of 0.2.5.
+    /// Removes a key's entry, and returns its value, if any: `remove` of 0.2.5.
     ///
     /// # Errors
     /// `Refused::Memory` or `Capacity`, as [`Session::remove_if`].
@@ -64,7 +64,7 @@ impl<'a, K: Hash + Eq, V, S: BuildHasher> Session<'a, K, V, S> {
         self.map.remove_as(rt, key, &mut self.pass)
     }
 
-    /// Removes a key's entry, and returns it: `remove_entry` of 0.2.5.
+    /// Removes a key's entry, and returns it, if any: `remove_entry` of 0.2.5.
     ///
     /// # Errors
     /// `Refused::Memory` or `Capacity`, as [`Session::remove_if`].

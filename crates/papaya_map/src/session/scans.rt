@@ -91,8 +91,8 @@ impl<'a, K: Hash + Eq, V, S: BuildHasher> Session<'a, K, V, S> {
     /// calls meanwhile, and learns by [`Session::learn_walk`] what the iterator has observed. An
     /// entry that is stored or removed meanwhile may be returned or not.
     ///
-    /// With `Blocking` the iterator takes the root as it is. Otherwise the call first copies what
-    /// is left to copy.
+    /// With `ResizeMode::Blocking` the iterator takes the root as it is. Otherwise the call first
+    /// copies what is left to copy.
     ///
     /// # Errors
     /// `Refused::Memory` or `Capacity`, as [`Session::retain`], if that copy needs a table.
