@@ -28,7 +28,7 @@ const ROOMS: Case = &[
 /// Lookups of all keys.
 const LOOKUPS: Case = &[(GetBelow(1024), Number(1024)); 32];
 
-/// One thread reserves room, and the other finds all keys each time.
+/// Checks that a thread finds all keys each time while another reserves room.
 fn finds_beside<R: Threads + Wait + Sync + Abort>(rt: &R, set: &HashSet<u64>) {
     make(rt, set, &[(InsertBelow(1024), Number(1024))]);
     join(rt, || make(rt, set, ROOMS), || make(rt, set, LOOKUPS));

@@ -30,7 +30,7 @@ fn make<R: Wait + Abort>(rt: &R, map: &HashMap<u64, u64>, case: &[(Step, Answer)
     goes(rt, 0, case, &mut Shared { rt, map });
 }
 
-/// Two threads remove the same keys: for each key one call returns its value.
+/// Checks that of two threads that remove the same keys, one call returns each key's value.
 fn removes<R: Threads + Wait + Sync + Abort>(rt: &R, map: &HashMap<u64, u64>) {
     make(rt, map, &[(InsertBelow(64, 7), Number(64))]);
     let (first, second) = join(rt, || remove(rt, map), || remove(rt, map));

@@ -215,10 +215,9 @@ impl<K: Hash + Eq + Drop, S: BuildHasher> HashSet<K, S> {
     /// Inserts a key, and returns whether it was absent: `insert` of 0.2.5. As there, an equal key
     /// that is stored stays.
     ///
-    /// The set is as it was then, and the key is dropped, at once or with the set.
-    ///
     /// # Errors
-    /// As [`HashMap::insert`].
+    /// As [`HashMap::insert`]. The set is as it was then, and the key is dropped, at once or with
+    /// the set.
     pub fn insert(&mut self, key: K) -> Result<bool, Refused>
         ensures { IsPut K.eq key tt self.old result self.new }
     {

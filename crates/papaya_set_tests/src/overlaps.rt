@@ -274,8 +274,8 @@ fn with_seven<R: Wait>(rt: &R, alloc: Global, mode: ResizeMode) -> Result<Keys, 
     Ok(set)
 }
 
-/// A closure is called with a key whose entry is replaced before it returns, and then with the key
-/// once more, as it was stored. Checks that the set keeps what the closure returns for that.
+/// Checks what is left if a key's entry is replaced before the closure returns. The closure is
+/// called with the key once more, as it was stored, and its last result decides.
 fn overlaps<R: Threads + Wait + Sync + Abort>(rt: &R, set: &Keys, from: u64, left: Option<char>) {
     let did = both(rt, set, Job::Retain(from), Job::Replace);
     is(rt, (did, label(set)), ((true, true), left));
@@ -315,9 +315,10 @@ fn a_reference_stays_as_it_is(rt: HostRuntime) -> Result<(), Fail> {
     Ok(())
 }
 
-/// While a retain's closure does not return, seven threads look up, store, replace and remove keys,
-/// make the table grow, and iterate. They never wait. The keys below 6 stay: the one that the
-/// closure would not keep was replaced meanwhile, and the closure is called with it once more.
+/// Checks that seven threads never wait while a retain's closure does not return. They look up,
+/// store, replace and remove keys, make the table grow, and iterate. The keys below 6 stay: the one
+/// that the closure would not keep was replaced meanwhile, and the closure is called with it once
+/// more.
 fn is_stuck<R: Threads + Wait + Sync + Abort>(
     rt: &R,
     alloc: Global,

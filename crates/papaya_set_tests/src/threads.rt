@@ -52,8 +52,8 @@ fn is_told_once<R: Threads + Wait + Sync>(rt: &R, set: &Keys, call: Call) -> Res
     Ok((first & second, first | second) == (0, u64::MAX))
 }
 
-/// Two threads store the keys, and two remove them. For two that only look, both calls return true
-/// for each key.
+/// Lets two threads store the keys, and two remove them. For two that only look, both calls return
+/// true for each key.
 fn share<R: Threads + Wait + Sync + Abort>(rt: &R, set: &Keys) {
     is(rt, is_told_once(rt, set, Call::Insert), Ok(true));
     is(rt, set.len(), 64);

@@ -45,7 +45,7 @@ impl<K: Hash + Eq, V, S: BuildHasher> Hinting<Event<K, V, S>> for Law<K, V, S> {
         S.Hasher.finish) };
 }
 
-/// The client gains the token of what the step found.
+/// A gain: the client has the token of what the step found.
 pub struct Found<K, V> {
     of: PhantomData<(K, V)>,
 }
@@ -61,7 +61,7 @@ impl<K, V, S> Gain<Event<K, V, S>, Named<K, V>> for Found<K, V> {
         answer };
 }
 
-/// The client gains the rights to make the words that it requested.
+/// A gain: the client has the rights to make the words that it requested.
 pub struct Drawn;
 
 impl<K, V, S> Gain<Event<K, V, S>, Named<K, V>> for Drawn {

@@ -50,7 +50,7 @@ fn a_map_is_reclaimed_where_it_is_due(rt: HostRuntime) -> Result<(), Fail> {
     Ok(())
 }
 
-/// Another handle tries to reclaim while a guard exists; returns whether it does, and how many
+/// Tries to reclaim by another handle while a guard exists; returns whether it does, and how many
 /// entries the guard finds and how many are stored.
 fn tries_beside_a_guard(
     rt: &impl Wait,
