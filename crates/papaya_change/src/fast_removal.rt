@@ -45,7 +45,6 @@ fn help<R: Wait, K: Hash + Eq, V, S: BuildHasher>(
 ///
 /// If the pair was in a later table than the root, it copies a chunk of the root. Otherwise maps
 /// that only remove pairs would stay in their resize, and search two tables each time.
-/// whose pairs are removed would stay in their resize, and search two tables each time.
 #[inline(always)]
 pub fn remove_fast<
     'a,

@@ -72,7 +72,7 @@ impl<'a, K: Hash + Eq + Drop, V: Drop, S: BuildHasher> Writer<'a, K, V, S> {
         Answer::Word(self.call.hint(number, place, window))
     }
 
-    /// Writes the hint of a slot, where it has none.
+    /// Writes the hint of a slot, if it has none.
     pub fn note(&self, number: u64, place: usize, hint: u8, window: &Window<'a, K, V, S>) -> Answer
         requires waits { Waits window.now self.now (WriteHint number place hint) }
         ensures steps { Steps window.now self.now window.now self.now result }

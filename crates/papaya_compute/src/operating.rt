@@ -182,9 +182,9 @@ fn slow<
     unreachable!()
 }
 
-/// Does with a key's pair, or for an absent key, what the operator returns. If it fails with
-/// `Refused::Capacity`, `given` records the number that a full arena of tables gave, or the sum of
-/// the count that makes a next table too long.
+/// Calls the operator with the key's pair, or with `None`, and does what it returns. If it fails
+/// with `Refused::Capacity`, `given` records the number that a full arena of tables gave, or the
+/// sum of the count that makes a next table too long.
 #[inline(always)]
 pub(crate) fn compute<
     'a,

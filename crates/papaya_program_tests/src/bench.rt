@@ -21,7 +21,6 @@ use std::thread::Threads;
 /// seven values at multiples of ten. In a set each key found counts 1: mixed steps look up 57 keys.
 /// The result of a count or a compute is 1 more in the first round, and 2 in the second. To enter a
 /// map and make no call counts 1.
-/// enter a map and make no call counts 1.
 const CHECKED: &str = "\
 get-hit: seq 4032 shared 4032 threads 4032 session 4032 pin-a-call 4032 \
     entered 4032 entered-threads 4032 \

@@ -18,7 +18,7 @@ pub struct Cache {
     alloc: Global,
     young: HashMap<u64, String>,
     elder: HashMap<u64, String>,
-    // how many pages the young one may store, including those that were replaced
+    // at most this many pages are stored in the young one, including those that were replaced
     stored: usize,
     limit: usize,
 }

@@ -80,9 +80,9 @@ impl<'a> Finder<'a> {
     }
 }
 
-/// States a law: if two finders found an item to be new, in one history (as both observe after
-/// [`Finder::compare`]), then that was at one point in time, or the item was forgotten in between.
-/// So if no thread forgets an item, it is new to just one of the threads that meet it.
+/// States a law on two finders that found one item to be new, in one history (as both observe after
+/// [`Finder::compare`]). Either that was at one point in time, or the item was forgotten in
+/// between. So if no thread forgets an item, it is new to just one of the threads that meet it.
 ///
 /// The function does nothing: its contract is the law.
 pub fn told_once()
