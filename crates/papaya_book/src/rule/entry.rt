@@ -108,7 +108,7 @@ pub enum Event<K, V, S> {
     Begin(Begun<K, V, S>),
     /// The book was given its own name.
     Called(Name),
-    /// A seal was added, and so many words of the row were dealt for the table that will have it.
+    /// A seal was added, and this many words of the row were dealt for the table that will have it.
     Dealt(u64, u64),
     /// A word was exchanged.
     Stepped(Step<K, V>),
