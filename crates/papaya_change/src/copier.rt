@@ -40,9 +40,9 @@ pub struct Asked {
     pub follows: u64,
 }
 
-/// The state of a caller that copies: the pair loaded last, the pair that moves to another table,
-/// and a new table until it is tried to be opened or linked. If a number was given past a limit, or
-/// the sum of the count, contracts observe that number.
+/// The state of a caller that copies: the pair loaded last, the pair that moves, and a new table
+/// until the call tries to open or link it. If a number was given past a limit, or the sum of the
+/// count, contracts observe that number.
 #[derive(Drop)]
 pub struct Copier<K: Hash + Eq, V, S: BuildHasher> {
     pub last: Option<Stored<K, V>>,

@@ -263,7 +263,7 @@ pub(crate) fn pass_over<K: Hash + Eq, V, S: BuildHasher>(
     }
 }
 
-/// Where a search of the root has ended.
+/// The end of a search of the root.
 #[derive(Drop)]
 pub struct Spot<'a, K: Hash + Eq, V, S: BuildHasher> {
     pub table: &'a Table<K, V, S>,

@@ -30,9 +30,9 @@ use std::hash::{BuildHasher, Hash};
 use std::sync::{MutexGuard, Wait};
 
 impl<'a, K: Hash + Eq, V, S: BuildHasher> Driver<'a, K, V, S> {
-    /// Copies for a call that is set aside, until it continues for itself: in a next table, at the
-    /// root, or at its end, if a table could not be made. A call that is not set aside stays as it
-    /// is.
+    /// Copies for a call that is set aside, until it continues for itself. It does so in a next
+    /// table, at the root, or at its end if a table could not be made. A call that is not set aside
+    /// stays as it is.
     #[inline(always)]
     pub fn help<R: Wait>(
         &mut self,
@@ -109,7 +109,7 @@ impl<'a, K: Hash + Eq, V, S: BuildHasher> Driver<'a, K, V, S> {
     }
 
     /// Copies slots of a chunk one after another if the first of them is next, and else takes one
-    /// step; returns the answer to what is asked then.
+    /// step; returns the answer to the next ask.
     fn copy_on<R: Wait>(
         &mut self,
         rt: &R,
@@ -141,8 +141,8 @@ impl<'a, K: Hash + Eq, V, S: BuildHasher> Driver<'a, K, V, S> {
         }
     }
 
-    /// Copies slots of the chunk, from the current one on; returns the answer to what is asked when
-    /// that ends.
+    /// Copies slots of the chunk, from the current one on; returns the answer to the ask after
+    /// them.
     fn copy_slots(&mut self, aim: Aim, chunk: Chunk, window: &mut Window<'a, K, V, S>) -> Answer
         requires standing { IsStanding self.old.machine }
         requires can { CanGoOn window.old self.old }
@@ -163,7 +163,7 @@ impl<'a, K: Hash + Eq, V, S: BuildHasher> Driver<'a, K, V, S> {
         answer
     }
 
-    /// Performs what is asked for a copy, and returns the answer.
+    /// Performs an ask of a copy, and returns the answer.
     fn copy<R: Wait>(
         &mut self,
         rt: &R,

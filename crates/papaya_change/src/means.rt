@@ -3,8 +3,8 @@ use papaya_book::count::Shard;
 use std::alloc::Global;
 use std::sync::Wait;
 
-/// The means of a changing call: the runtime that it waits by, its allocator, the length of the
-/// map's first table, and the shard of the count that it adds to.
+/// The means of a changing call: the runtime that it waits by, its allocator, the first table's
+/// length, and the shard of the count that it adds to.
 #[derive(Drop)]
 pub struct Means<'m, 's, R: Wait> {
     pub rt: &'m R,

@@ -242,7 +242,7 @@ pub fn remove_slow<
 
 /// Removes a key's pair if the closure returns true. A lookup's search finds the pair, which is
 /// removed at once if it is live. Otherwise, or if another call was first, the removal's machine
-/// begins. That may fail with `Refused::Capacity` while it helps to copy. Then `given` records the
+/// begins. It may fail with `Refused::Capacity` as it helps to copy. Then `given` records the
 /// number that a full arena of tables gave, or the sum of the count that makes a next table too
 /// long.
 pub fn remove<

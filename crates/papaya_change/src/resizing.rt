@@ -100,8 +100,8 @@ impl<K: Hash + Eq, V, S: BuildHasher> Resizing<K, V, S> {
         self.copier.answer(rt, alloc, shard, asked, making, window)
     }
 
-    /// Copies slots of the chunk, from the current one on; returns the answer to what is asked when
-    /// that ends.
+    /// Copies slots of the chunk, from the current one on; returns the answer to the ask after
+    /// them.
     fn copy_slots<'a>(
         &mut self,
         from: u64,

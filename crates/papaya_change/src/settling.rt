@@ -29,7 +29,7 @@ use papaya_words::probe::ResizeMode;
 use papaya_words::word::{Kind, SHUT, Word, hint};
 use std::hash::{BuildHasher, Hash};
 
-/// Where the copy of a slot stopped, with the answer to what it asked there.
+/// The point where the copy of a slot stopped, with the answer to its ask there.
 #[derive(Drop)]
 pub struct Halt {
     pub settle: Settle,

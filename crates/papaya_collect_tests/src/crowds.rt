@@ -1,4 +1,4 @@
-// Eight threads on a map or a set that grows, while one request for memory in so many is refused.
+// Eight threads on a map or a set that grows, while one request for memory in every few is refused.
 // Each call succeeds or fails with `Refused::Memory`, and no key is lost or invented. With memory
 // the calls go on. The heap of `tests/refused.py` is set to refuse.
 use crate::crowded::Crowded;
@@ -277,7 +277,7 @@ fn goes_on<R: Wait, C: Crowded>(rt: &R, it: &C) -> Result<bool, Refused> {
     Ok(is_full && it.count() == 0)
 }
 
-/// A crowd in which one request in so many is refused, with keys of one path or of their own.
+/// A crowd in which one request in every few is refused, with keys of one path or of their own.
 #[derive(Clone, Copy)]
 struct Crowd {
     mode: ResizeMode,
@@ -300,7 +300,7 @@ fn came_of<R: Threads + Wait + Sync, C: Crowded + Sync + Drop>(
     Ok((stayed, did, is_as_told(rt, &it, &board)?, goes_on(rt, &it)?))
 }
 
-/// One request in so many is refused. With 1, nothing can be stored.
+/// One request in this many is refused. With 1, nothing can be stored.
 const EVERY: [usize; 6] = [1, 4, 5, 6, 9, 14];
 
 /// Runs each crowd, in each mode, with keys that have paths of their own and with keys of one path.

@@ -16,8 +16,8 @@ use std::hash::{BuildHasher, BuildHasherDefault, FoldHasher, Hash};
 use std::sync::Wait;
 
 impl<K: Hash + Eq + Drop, V: Drop, S: BuildHasher> HashMap<K, V, S> {
-    /// Inserts the entries of an iterator in its order: the trait `Extend` of 0.2.5. Of two entries
-    /// with equal keys, the first key and the later value are stored. No room is reserved ahead, so
+    /// Inserts the entries of an iterator in its order: the trait `Extend` of 0.2.5. If two entries
+    /// have equal keys, the first key and the later value are stored. No room is reserved ahead, so
     /// an empty iterator changes nothing at all. Other calls may take effect between the entries.
     ///
     /// # Errors
@@ -74,8 +74,8 @@ impl<K: Hash + Eq + Copy + Drop, V: Copy + Drop, S: BuildHasher> HashMap<K, V, S
 }
 
 impl<K: Hash + Eq + Drop, V: Drop, S: BuildHasher + Default + Drop> HashMap<K, V, S> {
-    /// Creates a map of an iterator's entries: the trait `FromIterator` of 0.2.5. Of two entries
-    /// with equal keys it has the first key and the later value. It resizes and counts as a map of
+    /// Creates a map of an iterator's entries: the trait `FromIterator` of 0.2.5. If two entries
+    /// have equal keys, it has the first key and the later value. It resizes and counts as a map of
     /// [`HashMap::with_hasher`], and has no table if there are no entries.
     ///
     /// # Errors
@@ -101,8 +101,8 @@ impl<K: Hash + Eq + Drop, V: Drop, S: BuildHasher + Default + Drop> HashMap<K, V
 }
 
 impl<K: Hash + Eq + Drop, V: Drop> HashMap<K, V, BuildHasherDefault<FoldHasher>> {
-    /// Creates a map of an array's entries: `From<[(K, V); N]>` of 0.2.5. Of two entries with equal
-    /// keys it has the first key and the later value.
+    /// Creates a map of an array's entries: `From<[(K, V); N]>` of 0.2.5. If two entries have equal
+    /// keys, it has the first key and the later value.
     ///
     /// # Errors
     /// `Refused::Memory` if there is no memory for the map or for the array; otherwise as

@@ -37,8 +37,8 @@ use std::alloc::Global;
 use std::hash::{BuildHasher, BuildHasherDefault, FoldHasher, Hash};
 use std::marker::Model;
 
-/// A map that threads share. Contracts observe what is fixed when it is made: its book, its hasher,
-/// how it resizes, its arenas, the initial capacity that sizes its first table, and its number of
+/// A map that threads share. Contracts observe what is fixed when it is made: its book, hasher,
+/// resize mode and arenas, the initial capacity that sizes its first table, and its number of
 /// shards. They also observe the tables that it had at once, and the history observed at that
 /// point.
 #[derive(Drop)]

@@ -27,7 +27,7 @@ pub enum Job {
     Rewrite(u64),
     /// Inserts and removes the absent keys of a range, one after another, 20 times.
     ComeAndGo(u64, u64),
-    /// Reserves room for so many entries more, then for twice as many, this many times in all.
+    /// Reserves room for this many more, then for twice as many, this many times in all.
     Reserve(usize, u64),
     /// Checks that the keys below this one have themselves as values.
     Has(u64),

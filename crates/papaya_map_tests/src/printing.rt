@@ -1,5 +1,4 @@
-// What a map with one entry, its iterators and a map with two entries print. Either entry may come
-// first.
+// The text that maps of one and of two entries print, and iterators. Either entry may come first.
 use crate::answers::Answer::Absent;
 use crate::board::Board;
 use crate::crowd::Job;

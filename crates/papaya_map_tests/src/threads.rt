@@ -124,7 +124,7 @@ fn each_value_is_taken_out_once(rt: HostRuntime) -> Result<(), Fail> {
 }
 
 /// Checks 256 insertions of each of four threads at each of 16 keys. The values of a key are drawn
-/// from one counter. What was replaced and what is there last are 0 to 1023, each once.
+/// from one counter. The replaced values and the last ones are 0 to 1023, each once.
 #[test]
 fn each_value_is_replaced_once(rt: HostRuntime) -> Result<(), Fail> {
     runs::<_, Numbers>(&rt, rt.alloc(), &MODES, &[Threads(Four([Draw(true); 4]))])

@@ -120,8 +120,8 @@ fn time_map<R: Clock + Wait, M: Reclaimed, W: Write>(
     print_line("reclaim", backend.name(), keys, &numbers, output)
 }
 
-/// Prints lines of a map for one caller and of a shared one, each made for this many keys: the time
-/// to insert them in this many rounds, and then to reclaim the map.
+/// Prints lines of a map for one caller and of a shared one, each made for this many keys. They
+/// have the time to insert these in this many rounds, and then to reclaim the map.
 pub fn time_reclaim<R: Clock + Wait, W: Write>(
     rt: &R,
     alloc: Global,

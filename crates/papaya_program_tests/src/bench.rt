@@ -1,4 +1,4 @@
-// What `papaya-bench` prints, and its failures, of which no clause says anything.
+// The output of `papaya-bench`, and its failures, of which no clause says anything.
 use papaya_measure::growth::time_growth;
 use papaya_measure::reclaim::{time_from_empty, time_reclaim};
 use papaya_measure::run::{run_on, time_workload};
@@ -273,7 +273,7 @@ fn lines_of_shared_growth(rt: HostRuntime) -> Result<(), Fail> {
     is(&rt, timed.is_ok(), true);
     are_lines(&rt, printed.as_slice(), &SHARED_GROWTH)?;
     for line in 0..2 {
-        // Of 40 times the 40th is at p99 and at p99.9, and is the longest.
+        // The 40th of 40 times is at p99 and at p99.9, and is the longest.
         rises(&rt, printed.as_slice(), line, &[4, 5, 6, 3, 6, 5])?;
     }
     Ok(())
@@ -343,7 +343,7 @@ fn prints_soak<R: Clock + Files + Threads + Wait + Sync + Abort>(
 }
 
 /// The lines of soaks: a name, 1000 operations, a time, bytes at most and at the end, the number of
-/// reclaims, and two times. That few operations store too few entries for a reclaim.
+/// reclaims, and two times. These operations store too few entries for a reclaim.
 const MIXED: [&str; 3] = [
     "soak-mixed/enter/40 1000 # # # 0 # #",
     "soak-mixed/refresh/40 1000 # # # 0 # #",

@@ -12,7 +12,7 @@ const BACKENDS: [&str; 2] = ["seq inc:64 id", "shared inc:64 id"];
 
 #[test]
 fn faults_of_the_input(rt: HostRuntime) -> Result<(), Fail> {
-    // What was printed stays. The line that the fault cuts off is not performed, whatever it says
+    // The printed text stays. The line that the fault cuts off is not performed, whatever it says
     // so far, and no line behind a bad one is read.
     let cases = [
         Case::cut(b"", ""),

@@ -29,8 +29,7 @@ pub const LEAST_STORED: usize = 8192;
 ///
 /// Each thread makes a [`Handle`], and enters by it for one call or for many. Threads that enter
 /// never wait for each other. A thread that reclaims waits until each current guard has come back
-/// once, and holds new ones off until it is done. That pause is as long as it takes to copy the
-/// entries.
+/// once, and holds new ones off until it is done. The pause lasts as long as copying the entries.
 ///
 /// It is one of the kit's locks, in eight places on cache lines of their own: entering writes to
 /// one of them, and reclaiming takes all eight.

@@ -13,8 +13,8 @@ use std::alloc::Global;
 use std::hash::{BuildHasher, BuildHasherDefault, FoldHasher, Hash};
 
 impl<K: Hash + Eq + Drop, S: BuildHasher> HashSet<K, S> {
-    /// Inserts the keys of an iterator in its order: the trait `Extend` of 0.2.5. Of two equal keys
-    /// the earlier one stays. No room is reserved ahead, so an empty iterator changes nothing at
+    /// Inserts the keys of an iterator in its order: the trait `Extend` of 0.2.5. The earlier one
+    /// of two equal keys stays. No room is reserved ahead, so an empty iterator changes nothing at
     /// all.
     ///
     /// # Errors
@@ -63,8 +63,8 @@ impl<K: Hash + Eq + Copy + Drop, S: BuildHasher> HashSet<K, S> {
 }
 
 impl<K: Hash + Eq + Drop, S: BuildHasher + Default + Drop> HashSet<K, S> {
-    /// Creates a set of an iterator's keys: the trait `FromIterator` of 0.2.5. Of two equal keys it
-    /// has the earlier one, and it has no table if there are no keys.
+    /// Creates a set of an iterator's keys: the trait `FromIterator` of 0.2.5. It has the earlier
+    /// one of two equal keys, and no table if there are no keys.
     ///
     /// # Errors
     /// `Refused::Memory` if the set is not made; otherwise as [`HashSet::extend`].
@@ -93,8 +93,8 @@ impl<K: Hash + Eq + Drop, S: BuildHasher + Default + Drop> HashSet<K, S> {
 }
 
 impl<K: Hash + Eq + Drop> HashSet<K, BuildHasherDefault<FoldHasher>> {
-    /// Creates a set of an array's keys: `From<[K; N]>` of 0.2.5. Of two equal keys it has the
-    /// earlier one.
+    /// Creates a set of an array's keys: `From<[K; N]>` of 0.2.5. It has the earlier one of two
+    /// equal keys.
     ///
     /// # Errors
     /// `Refused::Memory` if there is no memory for the set or for the array; otherwise as

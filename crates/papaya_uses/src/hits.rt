@@ -17,7 +17,7 @@ use std::sync::Wait;
 /// The number of reads of each page, by the pages' numbers.
 pub type Hits = HashMap<u64, u64, BuildHasherDefault<FoldHasher>>;
 
-/// Counts a read of a page, and returns how often it was read by then. No read is lost if threads
+/// Counts a read of a page, and returns how often it was read so far. No read is lost if threads
 /// count at once: the count goes up from just the one that it replaces.
 pub fn hit<R: Wait>(rt: &R, hits: &mut Session<'_, u64, u64>, page: u64) -> Result<u64, Refused>
     ensures seen { IsPrefix hits.old.history hits.new.history }

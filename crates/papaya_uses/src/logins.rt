@@ -1,4 +1,4 @@
-//! The logins of a server that runs for months: threads share a table of logins, each of which ends
+//! The logins of a server that runs for months. Threads share a table of logins, each of which ends
 //! at a time, and a sweep frees the memory of those that ended.
 ghost use Rattle.std.specs.Prelude.{◌≡◌, ◌<◌, IfOk, IfSome, nat_lt};
 ghost use mathlib.Core.List.{IsPrefix};

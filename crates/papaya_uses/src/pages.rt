@@ -1,4 +1,4 @@
-//! A cache of pages for a server that runs for months: threads share it, and it stores at most as
+//! A cache of pages for a server that runs for months. Threads share it, and it stores at most as
 //! many pages as its limit, including those that were replaced or dropped.
 
 use papaya::reclaiming::Handle;

@@ -1,4 +1,4 @@
-//! The exchange of tokens between a step and the book: a token goes to the book with what comes,
+//! The exchange of tokens between a step and the book. A token goes to the book with what comes,
 //! and a step that finds a name in a word gains its token.
 ghost use Rattle.std.specs.Prelude.{◌≡◌, [], ◌∷◌, None};
 ghost use Rattle.papaya_book.specs.declared.rule.entry.Named.TheVariants.{Nothing, Pair as PairNamed, Table as TableNamed};

@@ -17,7 +17,7 @@ use std::sync::Wait;
 impl<'a, K: Hash + Eq + Drop, V: Drop, S: BuildHasher> Session<'a, K, V, S> {
     /// Calls a closure with the key's entry, or `None`, and does what it returns: `compute` of
     /// 0.2.5. The closure returns what to store, that the entry is removed, or that nothing is
-    /// changed. What it returns may not borrow from the entry; in 0.2.5 it may.
+    /// changed. Its result may not borrow from the entry; in 0.2.5 it may.
     ///
     /// The closure may be called again if another thread was first to replace or remove the entry:
     /// what it returned for one entry is done to that entry alone. It is called with `None` once at

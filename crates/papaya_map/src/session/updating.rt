@@ -110,7 +110,7 @@ impl<'a, K: Hash + Eq + Drop, V: Drop, S: BuildHasher> Session<'a, K, V, S> {
     }
 
     /// Updates the key's value, or inserts one that a second closure makes if there is none:
-    /// `update_or_insert_with` of 0.2.5. That closure is called once at most.
+    /// `update_or_insert_with` of 0.2.5. It is called once at most.
     ///
     /// # Errors
     /// As [`Session::insert`].
