@@ -14,10 +14,10 @@ use std::sync::Wait;
 use std::sync::atomic::Ordering;
 use std::thread::{Threads, map_chunks};
 
-/// How many words are printed.
+/// The number of words that are printed.
 const SHOWN: usize = 10;
 
-/// Counts some words, as one thread does.
+/// Counts some words, by one thread.
 fn count(rt: &impl Wait, alloc: Global, counts: &Metrics, words: &[&str]) -> Result<(), Refused> {
     let mut session = Session::new(counts);
     for word in words {
@@ -47,8 +47,8 @@ fn count_all(
     Ok(())
 }
 
-/// The words of the map with their counts, the commonest first, and of words that are as common the
-/// first one by the alphabet.
+/// Returns the words of the map with their counts, the commonest first. Words that are equally
+/// common are in alphabetical order.
 fn by_count<'a>(
     rt: &impl Wait,
     alloc: Global,
@@ -62,7 +62,7 @@ fn by_count<'a>(
     Ok(found)
 }
 
-/// The whole program, over any reader.
+/// Runs the whole program, over any reader.
 fn run<R: Threads + Wait + Sync + Print, I: Read + Drop>(
     rt: &R,
     alloc: Global,

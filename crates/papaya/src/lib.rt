@@ -1,20 +1,22 @@
 //! A hash map that threads share, and the same map for one caller: `papaya` 0.2.5, proved.
 //!
-//! This crate names again what the others promise to a caller, and has no code of its own. Its
-//! `specs/` name the definitions again that a caller's contracts and proofs cite: `Threads` and
+//! This crate re-exports what the others promise to a caller, and has no code of its own. Its
+//! `specs/` re-export the definitions that a caller's contracts and proofs cite: `Threads` and
 //! `Seq`, and in `Types` the types with their variants. So a caller's line of `crates.txt` names
-//! `papaya` alone.
+//! only `papaya`.
 //!
-//! - [`HashMap`] is the map that threads share, and a [`Session`] one thread's way to it.
-//! - [`HashMap::pin`] gives a [`HashMapRef`], which has all calls, and [`HashMap::pass`] a [`Pass`], the
-//!   record of what one thread has seen.
-//! - [`HashMap::builder`] gives a [`HashMapBuilder`], by which a map's parts are asked for one by one.
+//! - [`HashMap`] is the map that threads share, and a [`Session`] is one thread's access to it.
+//! - [`HashMap::pin`] returns a [`HashMapRef`], which has all calls. [`HashMap::pass`] returns a
+//!   [`Pass`], the record of what one thread has observed.
+//! - [`HashMap::builder`] returns a [`HashMapBuilder`], which has a method for each setting of a
+//!   map.
 //! - [`ReclaimingMap`] and [`ReclaimingSet`] give back memory while threads go on.
 //! - [`HashSet`] is the set that threads share, with its [`HashSetRef`] and its [`HashSetBuilder`].
-//! - [`seq::HashMap`] is the map for one caller: changes take `&mut self`. [`seq::HashSet`] is the set.
-//! - [`json`] makes JSON of maps and sets, and reads it.
-//! - [`schedule`] runs the calls of many callers step by step, in any order that a test gives.
-//! - [`raw`] has the words, tables and machines that all three are made of. [`raw::Machine`] is a
+//! - [`seq::HashMap`] is the map for one caller: changes take `&mut self`. [`seq::HashSet`] is the
+//!   set.
+//! - [`json`] converts maps and sets to JSON, and reads them from it.
+//! - [`schedule`] runs the calls of many callers step by step, in any order that a test chooses.
+//! - [`raw`] has the words, tables and machines of which all three consist. [`raw::Machine`] is a
 //!   call on one table, and [`raw::chain`] has the machines that go on to further tables.
 #![tactic(auto)]
 
@@ -31,13 +33,13 @@ pub use papaya_set::builder::HashSetBuilder;
 pub use papaya_set::set::{HashSet, HashSetRef};
 pub use papaya_words::probe::{Refused, ResizeMode};
 
-/// How a thread enters a map or set that is reclaimed while threads go on.
+/// The handles by which threads enter a map or set that is reclaimed while they go on.
 pub mod reclaiming {
     pub use papaya_reclaiming::reclaim::Reclaim;
     pub use papaya_reclaiming::reclaiming::{Entered, Handle, LEAST_STORED};
 }
 
-/// The walk of the set that threads share.
+/// The iterator of the set that threads share.
 pub mod set {
     pub use papaya_set::iter::Iter;
 }
@@ -50,13 +52,13 @@ pub mod seq {
     pub use papaya_seq::walks::{Iter, Keys, Values};
     pub use papaya_set::seq::HashSet;
 
-    /// The walk of the set.
+    /// The iterator of the set.
     pub mod set {
         pub use papaya_set::walks::Iter;
     }
 }
 
-/// Maps and sets as JSON, and back.
+/// Conversion of maps and sets to JSON, and back.
 pub mod json {
     pub use papaya_json::reading::{map_from_value, set_from_value};
     pub use papaya_json::shared::{
@@ -75,8 +77,7 @@ pub mod schedule {
     pub use papaya_core::trace::{Entry, Event, Trace, Turn};
 }
 
-/// What the maps are made of: words, places, tables and counts, and the calls on one table as
-/// machines.
+/// The parts of the maps: words, places, tables and counts, and the calls on one table as machines.
 pub mod raw {
     pub use papaya_ask::ask::{Answer, Ask, At, OpKind, StepKind};
     pub use papaya_ask::call::{Reply, Task};
@@ -91,7 +92,7 @@ pub mod raw {
     pub use papaya_words::word::{Kind, SHUT, Word, h1, h2, hint, legal, may_hold};
 
     /// The machines that [`super::schedule::Core`] and the maps run, over any number of tables: a
-    /// call on a key, a resize and a scan, each with what it asks and is answered.
+    /// call on a key, a resize and a scan, each with its asks and answers.
     pub mod chain {
         pub use papaya_ask::copy_ask::CopyAsk;
         pub use papaya_chain::ask::{Answer, Ask};

@@ -1,4 +1,4 @@
-//! The lines of an input one by one: each is read, done and answered in turn.
+//! The lines of an input one by one: each is read and performed, and its reply printed.
 ghost use Rattle.std.specs.Prelude.{◌≡◌, ◌≢◌, ◌⊎◌, ℕ, List, [], ◌∷◌, ◌++◌, IfErr, IfOk, IfSome, OnOk};
 ghost use Rattle.std.specs.Io.Buffered.{reader_remaining};
 ghost use Rattle.std.specs.Io.KnownBytes.{Appends, Keeps};
@@ -17,17 +17,17 @@ use papaya_words::probe::Refused;
 use std::alloc::Global;
 use std::io::{BufReader, Read, Write};
 
-/// What does lines, one at a time.
+/// An object that performs lines, one at a time.
 ///
-/// Each tells contracts what is printed of a line that it does from one state to another, and which
-/// lines are bad.
+/// Each states for contracts what is printed of a line that takes it from one state to another, and
+/// which lines are bad.
 pub trait Obey {
     ghost does: { Self → List ℕ → Printed → Self → Type 0 };
 
     ghost is_bad: { List ℕ → Type 0 };
 
-    /// Does what the line of this number asks for, and answers what is printed of it. A bad line
-    /// does nothing. A walk fails where there is no memory for its pairs.
+    /// Does what the line of this number requests, and returns what is printed of it. A bad line
+    /// does nothing. An iteration fails if there is no memory for its pairs.
     fn obey_line(&mut self, alloc: Global, number: u64, line: &[u8]) -> Result<Printed, Failure>
         ensures done { IfOk result (λ printed. does self.old line.now printed self.new) }
         ensures failed { IfErr result (λ failure. (is_bad line.now × (failure ≡ Failure.Line number)
@@ -35,7 +35,7 @@ pub trait Obey {
             × (failure ≡ without_memory))) };
 }
 
-/// Writes out what was printed, unless the reader has a whole line at hand: then it need not wait.
+/// Writes out what was printed, unless the reader has a whole line buffered: then it need not wait.
 fn show<R: Read, W: Write>(reader: &BufReader<R>, output: &mut W) -> Result<(), Failure>
     ensures kept { OnOk result (Keeps (W.contents output.old) (W.contents output.new)) }
     ensures failed { IfErr result (λ failure. failure ≡ Failure.Output) }
@@ -55,7 +55,7 @@ fn print<W: Write>(printed: &Printed, output: &mut W) -> Result<(), Failure>
     writeln!(output, "{printed}").map_err(|_| Failure::Output)
 }
 
-/// Has a line done, and prints its reply. An empty line is passed over.
+/// Performs a line, and prints its reply. An empty line is skipped.
 fn answer<B: Obey, W: Write>(
     alloc: Global,
     backend: &mut B,
@@ -77,8 +77,8 @@ fn answer<B: Obey, W: Write>(
     print(&printed, output)
 }
 
-/// Has the lines done, and prints their replies. A reply is written out before the reader may have
-/// to wait, so that whoever types a line sees its reply.
+/// Performs the lines, and prints their replies. A reply is written out before the reader may have
+/// to wait, so that a user who types a line sees its reply.
 fn obey_lines<B: Obey, R: Read, W: Write>(
     alloc: Global,
     backend: &mut B,
@@ -100,8 +100,8 @@ fn obey_lines<B: Obey, R: Read, W: Write>(
     Err(Failure::Input)
 }
 
-/// Has each line of the input done, and prints its reply. Lines count from 1, and empty ones are
-/// passed over. The first line that fails ends the run; what lines before it print is written
+/// Performs each line of the input, and prints its reply. Lines count from 1, and empty ones are
+/// skipped. The first line that fails ends the run; the replies to the lines before it are written
 /// out first.
 pub fn run_lines<B: Obey, R: Read, W: Write>(
     alloc: Global,

@@ -24,15 +24,15 @@ use std::sync::Wait;
 /// The name of the program in what it prints on standard error.
 pub const PROGRAM: &str = "papaya-run";
 
-/// The writer behind a buffer: what is printed reaches it where the program may wait for its input,
-/// and at its end.
+/// Buffers the writer: what is printed reaches it where the program may wait for its input, and at
+/// its end.
 pub fn buffered<W: Write + Drop>(alloc: Global, output: W) -> Result<BufWriter<W>, Failure>
     ensures failed { IfErr result (λ failure. failure ≡ without_memory) }
 {
     BufWriter::new(alloc, output).map_err(|_| Failure::Refused(Refused::Memory))
 }
 
-/// Runs the lines on the backend that is asked for, with this hasher.
+/// Runs the lines on the requested backend, with this hasher.
 fn run_by<H: Wait, S: BuildHasher + Drop, R: Read, W: Write>(
     rt: &H,
     alloc: Global,
@@ -54,7 +54,7 @@ fn run_by<H: Wait, S: BuildHasher + Drop, R: Read, W: Write>(
     }
 }
 
-/// Runs what the arguments ask for.
+/// Runs what the arguments request.
 fn run<H: Wait, R: Read, W: Write>(
     rt: &H,
     alloc: Global,
@@ -78,15 +78,15 @@ fn run<H: Wait, R: Read, W: Write>(
     }
 }
 
-/// Runs the program on the arguments behind its name, and answers its exit status: 0, or the
-/// failure's that it has printed on `errors`. The arguments are looked at first, then the map is
-/// made, then lines are read. A line's number counts from 1.
+/// Runs the program on the arguments behind its name, and returns its exit status: 0, or that of
+/// the failure that it has printed on `errors`. It first checks the arguments, then makes the map,
+/// then reads lines. A line's number counts from 1.
 ///
-/// Where the bytes of the input are known, the contract says what was written of them: what their
-/// lines print one after the other, up to the first bad one. Of a run that ends by want of memory
-/// or by a fault of the input or the output, which has status 1, it says nothing.
+/// If the bytes of the input are known, the contract states what was written for them: what their
+/// lines print one after the other, up to the first bad one. It states nothing of a run with status
+/// 1, which ends as memory runs out or as the input or the output fails.
 ///
-/// What is printed is handed to `output` line by line, so a caller buffers it.
+/// The program writes to `output` line by line, so a caller buffers it.
 pub fn run_on<H: Wait, R: Read, W: Write, E: Write>(
     rt: &H,
     alloc: Global,

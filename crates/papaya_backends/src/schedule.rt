@@ -1,4 +1,4 @@
-//! The lines as one schedule of many callers on one map, a step at a time.
+//! The lines as one schedule of many callers on one map, one step at a time.
 ghost use Rattle.std.specs.Prelude.{◌≡◌, IfErr, IfOk, IfSome};
 ghost use Rattle.std.specs.Hash.{u64};
 ghost use Rattle.std.specs.Io.KnownBytes.{Appends};

@@ -1,4 +1,4 @@
-//! The lines on a map for one caller: each is read, done and printed before the next is read.
+//! The lines on a map for one caller: each is read, performed and printed before the next is read.
 ghost use Rattle.std.specs.Prelude.{◌≡◌, IfErr, IfOk, IfSome};
 ghost use Rattle.std.specs.Io.KnownBytes.{Appends};
 ghost use Rattle.papaya_lines.specs.Lines.{lines_of};
@@ -21,7 +21,7 @@ use std::alloc::Global;
 use std::hash::BuildHasher;
 use std::io::{Read, Write};
 
-/// The pairs of the map.
+/// Returns the pairs of the map.
 fn walk<S: BuildHasher + Drop>(alloc: Global, map: &HashMap<u64, u64, S>) -> Result<Walk, Failure>
     ensures walked { IfOk result (IsByKey (pairs_of map.now)) }
     ensures failed { IfErr result (λ failure. failure ≡ without_memory) }
@@ -33,8 +33,8 @@ fn walk<S: BuildHasher + Drop>(alloc: Global, map: &HashMap<u64, u64, S>) -> Res
     Ok(Walk::new(pairs))
 }
 
-/// Does what a command asks for, and answers what is printed of it. A walk fails where there is no
-/// memory for its pairs.
+/// Does what a command requests, and returns what is printed of it. An iteration fails if there is
+/// no memory for its pairs.
 fn obey<S: BuildHasher + Drop>(
     alloc: Global,
     map: &mut HashMap<u64, u64, S>,
@@ -88,7 +88,7 @@ impl<S: BuildHasher + Drop> Obey for HashMap<u64, u64, S> {
 }
 
 /// Runs the lines of the input one by one on a new map, and prints each reply at once. The first
-/// line of bad form ends the run.
+/// bad line ends the run.
 pub(crate) fn run_seq<S: BuildHasher + Drop, R: Read, W: Write>(
     alloc: Global,
     mode: ResizeMode,

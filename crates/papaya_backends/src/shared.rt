@@ -1,4 +1,4 @@
-//! The lines on the map that threads share, by its plain calls: each is read, done and printed
+//! The lines on the map that threads share, by its plain calls: each is read, performed and printed
 //! before the next is read.
 ghost use Rattle.std.specs.Prelude.{◌≡◌, ◌⊎◌, IfErr, IfOk, IfSome, None};
 ghost use Rattle.std.specs.Io.KnownBytes.{Appends};
@@ -23,10 +23,10 @@ use std::hash::BuildHasher;
 use std::io::{Read, Write};
 use std::sync::Wait;
 
-/// Over how many shards the pairs are counted.
+/// The number of shards over which the pairs are counted.
 const SHARDS: usize = 16;
 
-/// The pairs that a walk gives.
+/// Returns the pairs of an iterator.
 fn listed<S: BuildHasher + Drop>(
     alloc: Global,
     pairs: Iter<'_, u64, u64, S>,
@@ -56,7 +56,7 @@ impl<'a, H: Wait, S: BuildHasher + Drop> Caller<'a, H, S> {
         Caller { rt, map: map.pin() }
     }
 
-    /// Stores a pair, and answers what is printed of it.
+    /// Stores a pair, and returns what is printed of it.
     #[tactic(auto, using(crate::proofs::SharedLemmas::plain))]
     fn insert(&self, key: u64, value: u64) -> Printed
         ensures { Obeys (asked.Insert key value) result }
@@ -68,7 +68,7 @@ impl<'a, H: Wait, S: BuildHasher + Drop> Caller<'a, H, S> {
         }
     }
 
-    /// Looks a key up, and answers what is printed of it.
+    /// Looks a key up, and returns what is printed of it.
     fn look_up(&self, key: u64) -> Printed
         ensures { Obeys (asked.Get key) result }
     {
@@ -78,7 +78,7 @@ impl<'a, H: Wait, S: BuildHasher + Drop> Caller<'a, H, S> {
         }
     }
 
-    /// Removes a key, and answers what is printed of it.
+    /// Removes a key, and returns what is printed of it.
     fn remove(&self, key: u64) -> Printed
         ensures { Obeys (asked.Remove key) result }
     {
@@ -89,7 +89,7 @@ impl<'a, H: Wait, S: BuildHasher + Drop> Caller<'a, H, S> {
         }
     }
 
-    /// Updates a key, and answers what is printed of it.
+    /// Updates a key, and returns what is printed of it.
     fn update(&self, key: u64) -> Printed
         ensures { Obeys (asked.Update key) result }
     {
@@ -100,7 +100,7 @@ impl<'a, H: Wait, S: BuildHasher + Drop> Caller<'a, H, S> {
         }
     }
 
-    /// Removes all pairs, and answers what is printed of it.
+    /// Removes all pairs, and returns what is printed of it.
     fn clear(&self) -> Printed
         ensures { IsCleared result }
     {
@@ -110,7 +110,7 @@ impl<'a, H: Wait, S: BuildHasher + Drop> Caller<'a, H, S> {
         }
     }
 
-    /// Walks over the map, and answers what is printed of it. It fails where there is no memory for
+    /// Iterates over the map, and returns what is printed of it. Fails if there is no memory for
     /// the pairs.
     fn walk(&self, alloc: Global) -> Result<Printed, Failure>
         ensures walked { IfOk result IsWalked }
@@ -122,8 +122,8 @@ impl<'a, H: Wait, S: BuildHasher + Drop> Caller<'a, H, S> {
         }
     }
 
-    /// Does what the command of the line of this number asks for, and answers what is printed of
-    /// it. It fails where the shared map has no such command, and where a walk does.
+    /// Does what the command of the line of this number requests, and returns what is printed of
+    /// it. Fails if the shared map has no such command, and if an iteration does.
     fn obey(&self, alloc: Global, number: u64, command: Command) -> Result<Printed, Failure>
         ensures obeys { IfOk result (Obeys command) }
         ensures failed { IfErr result (λ failure. (IsMissing command
@@ -157,7 +157,7 @@ impl<H: Wait, S: BuildHasher + Drop> Obey for Caller<'_, H, S> {
 }
 
 /// Runs the lines of the input one by one on a new map, and prints each reply at once. The first
-/// line of bad form ends the run, and so does one that the shared map has not.
+/// bad line ends the run, and so does a command that the shared map has not.
 pub(crate) fn run_shared<H: Wait, S: BuildHasher + Drop, R: Read, W: Write>(
     rt: &H,
     alloc: Global,

@@ -1,4 +1,4 @@
-//! `papaya-bench`: times the maps at a few workloads, or checks that they answer alike.
+//! `papaya-bench`: times the maps at several workloads, or checks that their results are the same.
 #![tactic(auto)]
 
 use papaya_measure::run::{PROGRAM, run_on};

@@ -30,9 +30,9 @@ use papaya_ask::ask::At;
 use papaya_log::token::tell;
 use std::hash::{BuildHasher, Hash};
 
-/// What all callers of a map share: what its book was opened with, the root, the word that only
-/// makers of tables use and the one that counts numbers for pairs. `origin` has seen the first
-/// entry of the log alone, and `begun` also the book's name.
+/// The state that all callers of a map share: its parts, the root, the word that only makers of
+/// tables use, and the word that counts numbers for pairs. `origin` has observed the first entry of
+/// the log alone, and `begun` also the book's name.
 #[derive(Drop)]
 pub struct Book<K: Hash + Eq, V, S: BuildHasher> {
     pub parts: Parts<K, V, S>,
@@ -54,7 +54,7 @@ pub struct Book<K: Hash + Eq, V, S: BuildHasher> {
 impl<K: Hash + Eq, V, S: BuildHasher> Book<K, V, S> {
     ghost use Rattle.papaya_book.specs.Books.{CanPut, CanTry, IsIn, IsRead, IsRoot, Puts, Tries};
 
-    /// One atomic load: the word that stands there. The offer gains what it names.
+    /// Loads the word, in one atomic step. The offer gains what the word names.
     pub fn read(
         &self,
         word: &Cell<K, V, S>,
@@ -75,7 +75,7 @@ impl<K: Hash + Eq, V, S: BuildHasher> Book<K, V, S> {
         (found, offer)
     }
 
-    /// One atomic exchange with which nothing comes, of a call or of a copy: the word found there.
+    /// Exchanges a word for a call or a copy, without passing anything in; returns the word found.
     pub(crate) fn exchange(
         &self,
         word: &Cell<K, V, S>,
@@ -102,7 +102,7 @@ impl<K: Hash + Eq, V, S: BuildHasher> Book<K, V, S> {
         (found, offer)
     }
 
-    /// One atomic exchange with which the pair comes that the call has made: the word found there.
+    /// Exchanges a word for one that names the pair that the call has made; returns the word found.
     pub(crate) fn put(
         &self,
         word: &Cell<K, V, S>,
@@ -130,7 +130,7 @@ impl<K: Hash + Eq, V, S: BuildHasher> Book<K, V, S> {
         (found, offer)
     }
 
-    /// One atomic load of the root: its number, and its table, whose token the load gains.
+    /// Loads the root in one atomic step; returns its number and its table, whose token it gains.
     pub(crate) fn root<'a>(&'a self, sight: &mut Seen<K, V, S>) -> (u64, Option<&'a Table<K, V, S>>)
         requires book { sight.old.book ≡ self.now.begun.book }
         ensures book { sight.new.book ≡ sight.old.book }

@@ -1,4 +1,4 @@
-//! Steps on words for copies of tables. No change of the map is made by them.
+//! Steps on words for copies of tables. They make no change of the map.
 ghost use Rattle.std.specs.Prelude.{◌≡◌, ◌<◌, ◌≤◌, ◌+◌, ◌⊎◌, Some, IfErr, IfOk, length};
 ghost use Rattle.papaya_ask.specs.Search.{IsSize};
 ghost use Rattle.papaya_ask.specs.declared.ask.At.TheVariants.{Aborted, Done, Root, Slot};
@@ -27,7 +27,7 @@ use std::hash::{BuildHasher, Hash};
 use std::sync::Wait;
 
 impl<'a, K: Hash + Eq, V, S: BuildHasher> Window<'a, K, V, S> {
-    /// The table of this number, which has come. It takes one atomic load, whatever the number.
+    /// Returns the table of this number, which has come. It takes one atomic load for any number.
     #[inline]
     pub fn table(&mut self, number: u64) -> &'a Table<K, V, S>
         requires come { HasCome self.old number }
@@ -46,7 +46,7 @@ impl<'a, K: Hash + Eq, V, S: BuildHasher> Window<'a, K, V, S> {
         self.book.parts.tables.value(&token)
     }
 
-    /// One atomic load of the word that says whether a table was given up.
+    /// Loads the word that says whether a table was given up, in one atomic step.
     pub fn aborted(&mut self, table: &Table<K, V, S>, number: u64) -> u64
         requires table { IsTable self.old number table.now }
         ensures sees { Sees self.old self.new }
@@ -61,7 +61,7 @@ impl<'a, K: Hash + Eq, V, S: BuildHasher> Window<'a, K, V, S> {
         found
     }
 
-    /// One atomic load of the word that says whether a chunk was copied to a table.
+    /// Loads the word that says whether a chunk was copied to a table, in one atomic step.
     pub fn done(&mut self, table: &Table<K, V, S>, number: u64, chunk: usize) -> u64
         requires table { IsTable self.old number table.now }
         requires chunk { chunk < length table.now.done }
@@ -77,8 +77,8 @@ impl<'a, K: Hash + Eq, V, S: BuildHasher> Window<'a, K, V, S> {
         found
     }
 
-    /// One atomic exchange of a slot for a copy: the word found there, and the token of the pair
-    /// that it names.
+    /// Exchanges a slot for a copy, in one atomic step; returns the word found, and the token of
+    /// the pair that it names.
     pub fn copy_slot(
         &mut self,
         table: &Table<K, V, S>,
@@ -109,7 +109,7 @@ impl<'a, K: Hash + Eq, V, S: BuildHasher> Window<'a, K, V, S> {
         (found, pair_in(found, offer))
     }
 
-    /// One atomic exchange of the root for a copy: the number found there.
+    /// Exchanges the root for a copy, in one atomic step; returns the number found.
     pub fn copy_root(
         &mut self,
         kind: Option<StepKind>,
@@ -133,8 +133,8 @@ impl<'a, K: Hash + Eq, V, S: BuildHasher> Window<'a, K, V, S> {
         found
     }
 
-    /// One atomic exchange of the word that says whether a table was given up: the word
-    /// found there.
+    /// Exchanges the word that says whether a table was given up, in one atomic step; returns the
+    /// word found.
     pub fn copy_aborted(
         &mut self,
         table: &Table<K, V, S>,
@@ -162,8 +162,8 @@ impl<'a, K: Hash + Eq, V, S: BuildHasher> Window<'a, K, V, S> {
         found
     }
 
-    /// One atomic exchange of the word that says whether a chunk was copied to a table: the word
-    /// found there.
+    /// Exchanges the word that says whether a chunk was copied to a table, in one atomic step;
+    /// returns the word found.
     pub fn copy_done(
         &mut self,
         table: &Table<K, V, S>,
@@ -194,8 +194,8 @@ impl<'a, K: Hash + Eq, V, S: BuildHasher> Window<'a, K, V, S> {
         found
     }
 
-    /// A table as [`Window::make_table`] makes it, with a number past that of the table which it is
-    /// to follow. A table whose number is not is left unused, and another one made.
+    /// Makes a table as [`Window::make_table`] does, with a number past that of the table before
+    /// it. A table whose number is not past it is left unused, and another one is made.
     pub fn make_table_after<R: Wait>(
         &mut self,
         rt: &R,
@@ -229,8 +229,8 @@ impl<'a, K: Hash + Eq, V, S: BuildHasher> Window<'a, K, V, S> {
         unreachable!()
     }
 
-    /// One atomic exchange: the table becomes the one after another, if that has none. The number
-    /// found there.
+    /// Makes the table the next one of another, if that has none, in one atomic exchange. Returns
+    /// the number found.
     pub fn link(
         &mut self,
         after: &Table<K, V, S>,

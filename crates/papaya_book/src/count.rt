@@ -1,5 +1,5 @@
 //! The count of a map's pairs, in shards, so that callers seldom meet at one word; and where the
-//! next copy begins, so that they seldom meet at one chunk.
+//! next copy begins, so that copiers seldom meet at one chunk.
 ghost use Rattle.std.specs.Prelude.{◌≡◌, ◌<◌, ◌≤◌, [], ◌∷◌, Err, IfErr, IfOk, IfSome, length};
 ghost use Rattle.std.specs.Int.{IsNextPowerOfTwo, IsPowerOfTwo};
 ghost use Rattle.papaya_book.specs.declared.rule.own.CapacityCause.TheVariants as numbers;
@@ -12,12 +12,12 @@ use std::alloc::Global;
 use std::marker::Model;
 use std::sync::atomic::{AtomicI64, AtomicU64, Ordering};
 
-/// A signed number in shards. Contracts see how many shards there are. Its additions are steps
-/// apart from the changes that they count, so a sum may lag behind them, and no contract says what
-/// it is.
+/// A signed number in shards. Contracts observe the number of shards. Additions are steps apart
+/// from the changes that they count. So a sum may lag behind them, and no contract states what it
+/// is.
 ///
-/// As in 0.2.5 each shard has cache lines of its own. There their number is taken from the
-/// machine's processors.
+/// As in 0.2.5 each shard has cache lines of its own. There the number of shards is derived from
+/// the machine's processors.
 #[derive(Drop)]
 pub struct Count {
     shards: Vec<CachePadded<AtomicI64>>,
@@ -36,7 +36,7 @@ impl Model for Count {
 }
 
 impl Count {
-    /// A count of 0 over at least so many shards: rounded up to a power of two.
+    /// Returns a count of 0 over at least this many shards, rounded up to a power of two.
     pub fn new(alloc: Global, shards: usize) -> Result<Count, Refused>
         ensures many { MAX_SHARDS < shards → result ≡ Err Refused.Capacity }
         ensures few { shards ≤ MAX_SHARDS → IfErr result (λ refused. refused ≡ Refused.Memory) }
@@ -48,7 +48,7 @@ impl Count {
         zero(alloc, shards.next_power_of_two())
     }
 
-    /// A count of 0 over as many shards.
+    /// Returns a count of 0 over as many shards.
     pub fn anew(&self, alloc: Global) -> Result<Count, Refused>
         ensures ok { IfOk result (λ count. count ≡ self.now) }
         ensures err { IfErr result (λ refused. refused ≡ Refused.Memory) }
@@ -56,8 +56,8 @@ impl Count {
         zero(alloc, self.shards.len())
     }
 
-    /// What a caller adds to: the shard that its number picks, or, where it has none, another one
-    /// for each key.
+    /// Returns the shard that a caller adds to: the one that its number picks, or one for each key
+    /// if it has no number.
     #[inline(always)]
     pub fn shard(&self, number: Option<u64>) -> Shard<'_> {
         Shard {
@@ -66,13 +66,13 @@ impl Count {
         }
     }
 
-    /// The number that says at which chunk a copy begins: one more each time, so that it goes on
-    /// where the one before it began. It is an advice: any number will do.
+    /// Returns the number that says at which chunk a copy begins. It is one more each time, so that
+    /// a copy continues where the one before began. It is a hint: any number will do.
     pub fn next_start(&self) -> u64 {
         self.start.fetch_add(1, Ordering::SeqCst)
     }
 
-    /// The sum of all shards, each as it is when it is read; a negative one counts as 0.
+    /// Returns the sum of all shards, each as it is when it is read; a negative sum counts as 0.
     pub fn sum(&self) -> usize {
         let mut sum: i64 = 0;
         for shard in &self.shards {
@@ -81,7 +81,7 @@ impl Count {
         if sum < 0 { 0 } else { sum as usize }
     }
 
-    /// The sum, and what shows that the count gave it.
+    /// Returns the sum, with evidence that the count gave it.
     pub fn given_sum(&self) -> (usize, OwnSteps<CapacityCause>)
         ensures { result.1.done ≡ numbers.Sum result.0 ∷ [] }
     {
@@ -91,7 +91,7 @@ impl Count {
     }
 }
 
-/// So many shards of 0, or none where there is no memory.
+/// Returns this many shards of 0, or `None` if memory runs out.
 fn row(alloc: Global, len: usize) -> Option<Vec<CachePadded<AtomicI64>>>
     ensures { IfSome result (λ shards. length shards.items ≡ len) }
 {
@@ -102,7 +102,7 @@ fn row(alloc: Global, len: usize) -> Option<Vec<CachePadded<AtomicI64>>>
     Some(shards)
 }
 
-/// A count of 0 over so many shards.
+/// Returns a count of 0 over this many shards.
 fn zero(alloc: Global, len: usize) -> Result<Count, Refused>
     requires { IsPowerOfTwo len }
     ensures ok { IfOk result (λ count. count ≡ len) }
@@ -125,14 +125,14 @@ pub struct Shard<'a> {
 }
 
 impl Shard<'_> {
-    /// The count that the shard is of.
+    /// Returns the count that the shard is of.
     #[inline(always)]
     pub fn count(&self) -> &Count {
         self.count
     }
 
-    /// Adds to the caller's shard. Where the caller has no number, this one picks the shard: the
-    /// hash of a key, or the place of its slot. The sum wraps.
+    /// Adds to the caller's shard. If the caller has no number, `pick` selects the shard: the hash
+    /// of a key, or the place of its slot. The sum wraps.
     #[inline(always)]
     pub fn add(&self, pick: u64, by: i64) {
         let count: &Count = self.count;

@@ -1,8 +1,8 @@
-//! When keys are equal, and their hashes, as contracts name them.
+//! Equality of keys and their hashes, as contracts name them.
 use papaya_keys::guard::Equivalent;
 use std::hash::{BuildHasher, Hash};
 
-/// The keys of a map with this hasher. Every hasher has them.
+/// A hasher together with the keys of a map that has it. Every hasher implements it.
 pub trait Keyed<K: Hash + Eq>: BuildHasher {
     ghost use Rattle.papaya_book.specs.Keys.{Keys};
 
@@ -15,7 +15,7 @@ impl<K: Hash + Eq, S: BuildHasher> Keyed<K> for S {
     ghost keys = { keys_of K.Hash S.BuildHasher S.Hasher.Hasher };
 }
 
-/// The hashes that a map with this hasher looks things up by. Every hasher has them.
+/// A hasher together with the hashes of lookups in a map that has it. Every hasher implements it.
 pub trait Hashed<Q: Hash>: BuildHasher {
     ghost use Rattle.std.specs.Prelude.{ℕ};
 
@@ -28,7 +28,7 @@ impl<Q: Hash, S: BuildHasher> Hashed<Q> for S {
     ghost hash = { hash_of Q.hash_input S.build_hasher S.Hasher.write S.Hasher.finish };
 }
 
-/// What a query asks of a map with this hasher.
+/// A hasher together with the queries to a map that has it.
 pub trait Asked<K: Hash + Eq, Q: Equivalent<K>>: BuildHasher {
     ghost use Rattle.papaya_book.specs.Keys.{Query};
 

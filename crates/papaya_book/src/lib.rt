@@ -2,12 +2,12 @@
 //!
 //! Read [`rule`] first: what the log says ([`rule::entry`]), when an exchange is allowed
 //! ([`rule::law`]), and how the tokens of pairs and tables pass between a step and the book. Then
-//! [`book`]: its words, the arena of pairs, and tables that are made while others act. Loads and
-//! exchanges as calls are the methods of [`window::Window`].
+//! [`book`]: its words, the arena of pairs, and tables that are made while other threads act. The
+//! methods of [`window::Window`] are loads and exchanges as calls make them.
 //!
-//! Whatever the kind of an exchange, the same two steps try it: one with which nothing comes or a
-//! pair, and one with which a table comes. A caller shows that its exchange is allowed whenever its
-//! old word stands there; the machines' laws say just that.
+//! Two steps try exchanges of all kinds: one brings nothing or a pair, and the other a table. A
+//! caller proves that its exchange is allowed whenever the word still holds the expected value; the
+//! machines' laws state just that.
 #![tactic(auto)]
 
 pub mod book;

@@ -8,10 +8,10 @@ use crate::slot::Slot;
 use std::alloc::{AllocError, Global};
 use std::hash::{BuildHasher, Hash};
 
-/// How many slots are written ahead at a time: a few pages.
+/// The number of slots that are written ahead at a time: a few pages.
 const AHEAD_SLOTS: usize = 1024;
 
-/// Fresh slots, which are written a few at a time, so that no call pays for a whole table.
+/// Fresh slots, written a few at a time, so that no call pays for a whole table.
 #[derive(Drop)]
 pub struct Room<K: Hash + Eq, V, S: BuildHasher> {
     slots: Vec<Slot<K, V, S>>,
@@ -19,14 +19,14 @@ pub struct Room<K: Hash + Eq, V, S: BuildHasher> {
 }
 
 impl<K: Hash + Eq, V, S: BuildHasher> Room<K, V, S> {
-    /// No slots yet.
+    /// Returns a room without slots.
     pub(crate) fn new(alloc: Global) -> Room<K, V, S> {
         Room {
             slots: Vec::new(alloc),
         }
     }
 
-    /// Some more slots, until there are `len`. Where there is no memory for so many, it is as it was.
+    /// Adds some slots, until there are `len`. If memory runs out, the room is as it was.
     pub(crate) fn with_more(self, len: usize, sight: &Seen<K, V, S>) -> Self {
         let Self { mut slots } = self;
         let left = len.saturating_sub(slots.len());
@@ -38,7 +38,7 @@ impl<K: Hash + Eq, V, S: BuildHasher> Room<K, V, S> {
         }
     }
 
-    /// The slots, where there is room for just so many.
+    /// Returns the slots if there is room for just this many.
     fn into_slots(self, len: usize) -> Option<Vec<Slot<K, V, S>>>
         ensures { IfSome result (λ slots. AreFresh slots.items × (vec_capacity slots ≡ len)) }
     {
@@ -51,7 +51,7 @@ impl<K: Hash + Eq, V, S: BuildHasher> Room<K, V, S> {
     }
 }
 
-/// So many more fresh slots, for which there is room.
+/// Returns the slots with this many more fresh ones, for which there is room.
 fn with_fresh<K: Hash + Eq, V, S: BuildHasher>(
     ahead: Vec<Slot<K, V, S>>,
     more: usize,
@@ -69,7 +69,7 @@ fn with_fresh<K: Hash + Eq, V, S: BuildHasher>(
     slots
 }
 
-/// So many fresh slots: those of the room, where it is for so many, and others.
+/// Returns this many fresh slots: those of the room if it is for this many, and others.
 pub(crate) fn fresh_slots<K: Hash + Eq, V, S: BuildHasher>(
     room: Option<Room<K, V, S>>,
     alloc: Global,

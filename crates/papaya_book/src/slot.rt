@@ -14,11 +14,11 @@ use std::marker::Model;
 /// An atomic word of the map.
 pub type Cell<K, V, S> = Word<Event<K, V, S>, Named<K, V>, Law<K, V, S>>;
 
-/// The number that keeps the hint of a slot.
+/// The number that holds the hint of a slot.
 pub type HintCell<K, V, S> = Hint<Event<K, V, S>, Named<K, V>, Law<K, V, S>>;
 
-/// A slot of a table. Its hint lies beside its word, and so on the word's cache line. Contracts see
-/// the word. A fresh slot is of no table yet, so no book tracks its word.
+/// A slot of a table. Its hint is beside its word, and so on the word's cache line. Contracts
+/// observe the word. A fresh slot belongs to no table yet, so no book tracks its word.
 #[derive(Drop)]
 pub struct Slot<K: Hash + Eq, V, S: BuildHasher> {
     word: Cell<K, V, S>,
@@ -40,7 +40,7 @@ impl<K: Hash + Eq, V, S: BuildHasher> Model for Slot<K, V, S> {
 }
 
 impl<K: Hash + Eq, V, S: BuildHasher> Slot<K, V, S> {
-    /// A fresh slot. Its two numbers are 0.
+    /// Returns a fresh slot. Its two numbers are 0.
     #[inline(always)]
     pub fn fresh(sight: &Seen<K, V, S>) -> Slot<K, V, S>
         ensures { result.tracked ≡ false }
@@ -50,8 +50,8 @@ impl<K: Hash + Eq, V, S: BuildHasher> Slot<K, V, S> {
         Slot { word, hint }
     }
 
-    /// Gives a fresh slot the next word of the row, where it lies: that is no code. Its hint says
-    /// nothing yet.
+    /// Gives a fresh slot the next word of the row, in place: no code is left of this. Its hint
+    /// says nothing yet.
     #[inline(always)]
     pub fn give(&mut self, row: &mut Pens, sight: &Seen<K, V, S>)
         requires fresh { self.old.tracked ≡ false }
@@ -66,7 +66,7 @@ impl<K: Hash + Eq, V, S: BuildHasher> Slot<K, V, S> {
         self.hint.stand_beside(&self.word, sight);
     }
 
-    /// The word.
+    /// Returns the word.
     #[inline(always)]
     pub fn word(&self) -> &Cell<K, V, S>
         ensures { result.now ≡ self.now }
@@ -74,7 +74,7 @@ impl<K: Hash + Eq, V, S: BuildHasher> Slot<K, V, S> {
         &self.word
     }
 
-    /// The hint, which stands beside the word.
+    /// Returns the hint beside the word.
     #[inline(always)]
     pub fn hint(&self) -> &HintCell<K, V, S>
         ensures { result.now ≡ self.now }

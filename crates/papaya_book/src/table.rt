@@ -12,8 +12,8 @@ use std::hash::{BuildHasher, Hash};
 use std::marker::Model;
 use std::sync::{Mutex, MutexGuard, Wait};
 
-/// A table: its slots, how far a search of it goes, and which chunks of the table before were
-/// copied to it. Contracts see it as the keys of its words. Who makes its next table holds
+/// A table: its slots, how far a search of it goes, and which chunks of the previous table were
+/// copied to it. Contracts observe it as the keys of its words. The maker of its next table holds
 /// `making`, so that not each thread that needs one pays for it. Slots of that table are written
 /// ahead while this one fills up; `ahead` has none once they were taken.
 #[derive(Drop)]
@@ -48,21 +48,21 @@ impl<K: Hash + Eq, V, S: BuildHasher> Model for Table<K, V, S> {
 }
 
 impl<K: Hash + Eq, V, S: BuildHasher> Table<K, V, S> {
-    /// How many slots the table has.
+    /// Returns the number of slots.
     pub fn len(&self) -> usize
         ensures { result ≡ length self.now.slots }
     {
         self.slots.len()
     }
 
-    /// How many places a search looks at after the first.
+    /// Returns how many places a search looks at after the first.
     pub fn limit(&self) -> usize
         ensures { result ≡ self.now.limit }
     {
         self.limit
     }
 
-    /// How many slots the table has, and how many places a search looks at after the first.
+    /// Returns the number of slots, and how many places a search looks at after the first.
     pub fn size(&self) -> (usize, usize)
         ensures len { result.0 ≡ length self.now.slots }
         ensures limit { result.1 ≡ self.now.limit }
@@ -71,7 +71,7 @@ impl<K: Hash + Eq, V, S: BuildHasher> Table<K, V, S> {
         (self.slots.len(), self.limit)
     }
 
-    /// The word of a slot.
+    /// Returns the word of a slot.
     pub fn slot(&self, place: usize) -> &Cell<K, V, S>
         requires { place < length self.now.slots }
         ensures { (k : ℕ) × (slice_get self.now.slots place ≡ Some k)
@@ -80,7 +80,7 @@ impl<K: Hash + Eq, V, S: BuildHasher> Table<K, V, S> {
         self.slots[place].word()
     }
 
-    /// The hint beside the word of a slot.
+    /// Returns the hint beside the word of a slot.
     #[inline(always)]
     pub fn hint(&self, place: usize) -> &HintCell<K, V, S>
         requires { place < length self.now.slots }
@@ -90,25 +90,25 @@ impl<K: Hash + Eq, V, S: BuildHasher> Table<K, V, S> {
         self.slots[place].hint()
     }
 
-    /// The word with the number of the next table.
+    /// Returns the word with the number of the next table.
     pub fn next(&self) -> &Cell<K, V, S>
         ensures { result.now ≡ word_named self.now.book self.now.next }
     {
         &self.next
     }
 
-    /// Waits until no other thread makes the next table, and keeps the others waiting until the
-    /// guard goes. No lookup takes it, and no contract relies on it.
+    /// Waits until no other thread makes the next table, and keeps others waiting until the guard
+    /// is dropped. No lookup takes it, and no contract relies on it.
     pub fn lock_next<R: Wait>(&self, rt: &R) -> MutexGuard<'_, ()> {
         self.making.lock(rt)
     }
 
-    /// Writes some slots of the next table ahead, which is as long as the count asks for by now. It
-    /// waits for nobody: where another thread does so, or they were taken, it writes none.
+    /// Writes some slots of the next table ahead, which is as long as the count now requires. It
+    /// never waits: if another thread writes them, or they were taken, it writes none.
     #[cold]
     #[inline(never)]
     pub fn write_ahead(&self, sight: &Seen<K, V, S>, count: &Count) {
-        // Maps seldom shrink, so none is written for a shorter table.
+        // Maps seldom shrink, so no slots are written for a shorter table.
         let len = self.slots.len();
         let Ok(next) = next_len(len, count.sum(), len, false) else {
             return;
@@ -122,19 +122,19 @@ impl<K: Hash + Eq, V, S: BuildHasher> Table<K, V, S> {
         *ahead = Some(room.with_more(next, sight));
     }
 
-    /// The slots of the next table that were written ahead.
+    /// Returns the slots of the next table that were written ahead.
     pub fn take_room<R: Wait>(&self, rt: &R) -> Option<Room<K, V, S>> {
         self.ahead.lock(rt).take()
     }
 
-    /// The word that says whether the table was given up.
+    /// Returns the word that says whether the table was given up.
     pub fn aborted(&self) -> &Cell<K, V, S>
         ensures { result.now ≡ word_named self.now.book self.now.seal }
     {
         &self.aborted
     }
 
-    /// The word that says whether a chunk was copied to this table.
+    /// Returns the word that says whether a chunk was copied to this table.
     pub fn done(&self, chunk: usize) -> &Cell<K, V, S>
         requires { chunk < length self.now.done }
         ensures { (k : ℕ) × (slice_get self.now.done chunk ≡ Some k)

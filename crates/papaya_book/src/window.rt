@@ -1,4 +1,4 @@
-//! What a call sees of a map, with the laws of the map's keys.
+//! A call's access to a map, with the laws of the map's keys.
 ghost use Rattle.std.specs.Prelude.{◌≡◌};
 ghost use Rattle.papaya_book.specs.Keys.{IsLawful as AreLawful};
 
@@ -22,8 +22,8 @@ use std::alloc::Global;
 use std::hash::{BuildHasher, Hash};
 use std::sync::Wait;
 
-/// The book that a call works on, what it has seen of that book's log, the exchanges of slots that
-/// were made through this window, and the root as the caller keeps it.
+/// The book that a call works on, and the part of its log that the call has observed. It also has
+/// the exchanges of slots made through this window, and the root as the caller keeps it.
 #[derive(Drop)]
 pub struct Window<'a, K: Hash + Eq, V, S: Keyed<K>> {
     pub book: &'a Book<K, V, S>,
@@ -45,7 +45,7 @@ impl<'a, K: Hash + Eq, V, S: BuildHasher> Window<'a, K, V, S> {
     ghost use Rattle.papaya_book.specs.Windows.{IsSlot, IsSlotWord, IsTable, IsWord, MayHint, Opens, PutsSlot, Sees, TriesSlot};
     ghost use Rattle.papaya_book.specs.declared.rule.entry.Named.TheVariants.{Pair as PairNamed, Table as TableNamed};
 
-    /// What one who has seen so much, and made these exchanges, sees of the book.
+    /// Returns a window onto the book with this observed history and these exchanges.
     #[inline(always)]
     pub fn new(
         book: &'a Book<K, V, S>,
@@ -67,7 +67,7 @@ impl<'a, K: Hash + Eq, V, S: BuildHasher> Window<'a, K, V, S> {
         }
     }
 
-    /// What the book was opened with, and what it says by now.
+    /// Observes what the book was opened with, and what its log now has.
     #[inline(always)]
     pub fn learn(&mut self)
         ensures sees { Sees self.old self.new }
@@ -77,8 +77,8 @@ impl<'a, K: Hash + Eq, V, S: BuildHasher> Window<'a, K, V, S> {
         self.sight.learn(&self.book.begun);
     }
 
-    /// One atomic load of the root: its number, and its table. That is the one kept, where the
-    /// number is; else the root is loaded once more, with its table.
+    /// Loads the root's number in one atomic step, and returns it with its table: the one kept if
+    /// the number is the same. Otherwise it loads the root once more, with its table.
     #[inline(always)]
     pub fn root(&mut self) -> (u64, Option<&'a Table<K, V, S>>)
         ensures sees { Sees self.old self.new }
@@ -96,7 +96,7 @@ impl<'a, K: Hash + Eq, V, S: BuildHasher> Window<'a, K, V, S> {
         self.book.root(&mut self.sight)
     }
 
-    /// One atomic load of the number of the next table, and that table.
+    /// Loads the number of the next table in one atomic step, and returns it with that table.
     #[inline(always)]
     pub fn next(&mut self, table: &Table<K, V, S>, number: u64) -> (u64, Option<&'a Table<K, V, S>>)
         requires table { IsTable self.old number table.now }
@@ -117,7 +117,7 @@ impl<'a, K: Hash + Eq, V, S: BuildHasher> Window<'a, K, V, S> {
         (found, Some(self.book.parts.tables.value(&token)))
     }
 
-    /// One atomic load: how many numbers for pairs were taken.
+    /// Loads how many numbers were taken for pairs, in one atomic step.
     pub fn made(&mut self) -> u64
         ensures sees { Sees self.old self.new }
         ensures own { self.new.own ≡ self.old.own }
@@ -128,7 +128,7 @@ impl<'a, K: Hash + Eq, V, S: BuildHasher> Window<'a, K, V, S> {
         found
     }
 
-    /// One atomic exchange of that word: the count found there.
+    /// Exchanges that word in one atomic step; returns the count found.
     pub fn take(&mut self, kind: Option<StepKind>, words: (u64, u64)) -> u64
         requires can { CanCopy self.old Made kind None words }
         ensures sees { Sees self.old self.new }
@@ -147,7 +147,7 @@ impl<'a, K: Hash + Eq, V, S: BuildHasher> Window<'a, K, V, S> {
         found
     }
 
-    /// One atomic load of the hint of a table's slot: 0, which says nothing, where none
+    /// Loads the hint of a table's slot in one atomic step. Returns 0, which says nothing, if none
     /// was written.
     #[inline(always)]
     pub fn hint(&mut self, table: &Table<K, V, S>, number: u64, place: usize) -> u64
@@ -163,8 +163,8 @@ impl<'a, K: Hash + Eq, V, S: BuildHasher> Window<'a, K, V, S> {
         hint
     }
 
-    /// One atomic exchange: a slot without a hint has this one from then on. Nothing tells whether
-    /// it was written, and nothing further is seen.
+    /// Writes this hint to a slot that has none, in one atomic exchange. It does not return whether
+    /// the hint was written, and observes nothing further.
     #[inline(always)]
     pub fn write_hint(&self, table: &Table<K, V, S>, number: u64, place: usize, hint: u8)
         requires table { IsTable self.now number table.now }
@@ -176,8 +176,8 @@ impl<'a, K: Hash + Eq, V, S: BuildHasher> Window<'a, K, V, S> {
         table.hint(place).compare_exchange(0, hint as u64, &seen);
     }
 
-    /// One atomic load of a table's slot: the word, and what gains the token of the pair that
-    /// it names.
+    /// Loads a table's slot in one atomic step; returns the word, and the gain of the token of the
+    /// pair that it names.
     #[inline(always)]
     pub fn slot_word(
         &mut self,
@@ -198,7 +198,7 @@ impl<'a, K: Hash + Eq, V, S: BuildHasher> Window<'a, K, V, S> {
         self.book.read(table.slot(place), &sought, &mut self.sight)
     }
 
-    /// One atomic load of a table's slot: the word, and the token of the pair that it names.
+    /// Loads a table's slot in one atomic step; returns the word, and the token of its pair.
     #[inline(always)]
     pub fn slot(
         &mut self,
@@ -216,8 +216,8 @@ impl<'a, K: Hash + Eq, V, S: BuildHasher> Window<'a, K, V, S> {
         (found, pair_in(found, offer))
     }
 
-    /// One atomic exchange of a slot, with which nothing comes: the word found there, and the token
-    /// of the pair that it names.
+    /// Exchanges a slot without passing anything in, in one atomic step; returns the word found,
+    /// and the token of the pair that it names.
     pub fn exchange_slot(
         &mut self,
         table: &Table<K, V, S>,
@@ -247,8 +247,8 @@ impl<'a, K: Hash + Eq, V, S: BuildHasher> Window<'a, K, V, S> {
         (found, pair_in(found, offer))
     }
 
-    /// One atomic exchange of a slot, with which the pair comes that the call has made: the word
-    /// found there, and the token of the pair that it names.
+    /// Exchanges a slot for the pair that the call has made, in one atomic step; returns the word
+    /// found, and the token of the pair that it names.
     pub fn put_slot(
         &mut self,
         table: &Table<K, V, S>,
@@ -281,7 +281,7 @@ impl<'a, K: Hash + Eq, V, S: BuildHasher> Window<'a, K, V, S> {
         (found, pair_in(found, offer))
     }
 
-    /// Keeps the last exchange that was seen, where it is the caller's.
+    /// Keeps the last exchange observed, if it is the caller's.
     #[inline(always)]
     fn keep(&mut self, exchanged: bool)
         ensures sight { (self.new.sight ≡ self.old.sight) × (self.new.book ≡ self.old.book) }
@@ -292,9 +292,9 @@ impl<'a, K: Hash + Eq, V, S: BuildHasher> Window<'a, K, V, S> {
         }
     }
 
-    /// A table of so many slots, all Empty, to which a table of so many chunks is copied, in the
-    /// log of tables, with the pen of its seal. Its slots are those that were written ahead, and
-    /// others. Refused as [`Book::log_table`].
+    /// Stores a table of `Empty` slots in the arena, to which a table of this many chunks is
+    /// copied, and returns it with the pen of its seal. Its slots are those written ahead, and
+    /// others. Fails as [`Book::log_table`] does.
     pub fn make_table<R: Wait>(
         &mut self,
         rt: &R,
@@ -326,8 +326,8 @@ impl<'a, K: Hash + Eq, V, S: BuildHasher> Window<'a, K, V, S> {
         Ok((table, seal))
     }
 
-    /// One atomic exchange: the table becomes the root, if there is none. The number found, and the
-    /// root's table.
+    /// Makes the table the root if there is none, in one atomic exchange. Returns the number found,
+    /// and the root's table.
     pub fn open_root(
         &mut self,
         table: &Pushed<Table<K, V, S>>,

@@ -94,7 +94,7 @@ impl<S: BuildHasher> Calls for HashMap<u64, u64, S> {
     }
 }
 
-/// Each case in each mode, on maps for one caller.
+/// Runs each case in each mode, on maps for one caller.
 fn cases<S: BuildHasher + Copy>(rt: &impl Abort, alloc: Global, hasher: S) -> Result<(), Fail> {
     for mode in MODES {
         for (at, case) in CASES.iter().enumerate() {

@@ -61,7 +61,7 @@ impl<S: BuildHasher> Calls for HashSet<u64, S> {
     }
 }
 
-/// Each case in each mode.
+/// Runs each case in each mode.
 fn cases<S: BuildHasher + Copy>(rt: &impl Abort, alloc: Global, hasher: S) -> Result<(), Fail> {
     for mode in MODES {
         for (at, case) in CASES.iter().enumerate() {

@@ -1,41 +1,41 @@
-// What calls answer, as values.
+// Results of calls, as values.
 use papaya_keys::compute::Compute;
 use papaya_keys::occupied::{NotInserted, OccupiedError};
 use papaya_words::probe::Refused;
 
-/// What a call answers.
+/// The result of a call.
 #[derive(Clone, Copy, PartialEq)]
 pub enum Answer {
-    /// It is over.
+    /// The call is over.
     Done,
-    /// There is no pair, or no key.
+    /// There is no entry, or no key.
     Absent,
-    /// It is so, or not.
+    /// A Boolean result.
     Is(bool),
     /// A value, a key of a set, or a count.
     Number(u64),
     /// A key and its value.
     Pair(u64, u64),
-    /// What is there stays: its key and value.
+    /// The entry that stays: its key and value.
     Kept(u64, u64),
-    /// The value that is there stays, and the other one is given back.
+    /// The value that stays, and the other one, which is returned.
     Occupied(u64, u64),
-    /// The value that is there stays, and no other was made.
+    /// The value that stays; no other was made.
     NotMade(u64),
-    /// A compute put the second value in the first one's place.
+    /// A compute replaced the first value by the second.
     Updated(u64, u64),
-    /// A compute stored this pair.
+    /// A compute inserted this entry.
     Inserted(u64, u64),
-    /// A compute removed this pair.
+    /// A compute removed this entry.
     Removed(u64, u64),
     /// A compute did nothing.
     Aborted,
-    /// How many pairs a walk gives, and the sums of their keys and values.
+    /// How many entries an iterator returns, and the sums of their keys and values.
     Walked(u64, u64, u64),
     Refused(Refused),
 }
 
-/// What was answered, also where it was refused.
+/// Returns the result, also if the call failed.
 pub fn said(answer: Result<Answer, Refused>) -> Answer {
     match answer {
         Ok(answer) => answer,
@@ -43,7 +43,7 @@ pub fn said(answer: Result<Answer, Refused>) -> Answer {
     }
 }
 
-/// The value, if there is one.
+/// Converts the value, if there is one.
 pub fn value_of(found: Option<&u64>) -> Answer {
     match found {
         Some(value) => Answer::Number(*value),
@@ -51,7 +51,7 @@ pub fn value_of(found: Option<&u64>) -> Answer {
     }
 }
 
-/// The pair, if there is one.
+/// Converts the entry, if there is one.
 pub fn pair_of(found: Option<(&u64, &u64)>) -> Answer {
     match found {
         Some((key, value)) => Answer::Pair(*key, *value),
@@ -59,7 +59,7 @@ pub fn pair_of(found: Option<(&u64, &u64)>) -> Answer {
     }
 }
 
-/// The pair that was removed, if there was one, or the one that stays.
+/// Converts the entry that was removed, if there was one, or the one that stays.
 pub fn removal_of(removed: Result<Option<(&u64, &u64)>, (&u64, &u64)>) -> Answer {
     match removed {
         Ok(found) => pair_of(found),
@@ -67,7 +67,7 @@ pub fn removal_of(removed: Result<Option<(&u64, &u64)>, (&u64, &u64)>) -> Answer
     }
 }
 
-/// The value that was stored, or the one that stays and the one that comes back.
+/// Converts the value that was stored, or the one that stays and the one that is returned.
 pub fn insertion_of(tried: Result<&u64, OccupiedError<'_, u64>>) -> Answer {
     match tried {
         Ok(stored) => Answer::Number(*stored),
@@ -78,7 +78,7 @@ pub fn insertion_of(tried: Result<&u64, OccupiedError<'_, u64>>) -> Answer {
     }
 }
 
-/// The value that was made and stored, or the one that stays where none was made.
+/// Converts the value that was made and stored, or the one that stays if none was made.
 pub fn making_of(tried: Result<&u64, &u64>, made: bool) -> Answer {
     match (tried, made) {
         (Ok(stored), true) => Answer::Number(*stored),
@@ -87,7 +87,7 @@ pub fn making_of(tried: Result<&u64, &u64>, made: bool) -> Answer {
     }
 }
 
-/// What a compute did.
+/// Converts the result of a compute.
 pub fn compute_of(computed: Compute<'_, u64, u64, ()>) -> Answer {
     match computed {
         Compute::Inserted(key, value) => Answer::Inserted(*key, *value),

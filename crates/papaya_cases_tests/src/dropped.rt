@@ -1,4 +1,4 @@
-// Keys and values end with their map or set.
+// Keys and values are dropped with their map or set.
 use crate::expect::is;
 use papaya_map::map;
 use papaya_seq::seq;
@@ -11,12 +11,12 @@ use std::test::Fail;
 
 type Key = Arc<u64>;
 
-/// So many clones of the key are alive.
+/// Checks that this many clones of the key are alive.
 fn are_alive(rt: &impl Abort, key: &Key, clones: usize) {
     is(rt, Arc::strong_count(key), clones);
 }
 
-/// A map for one caller has the key, both as a key and as a value.
+/// Stores the key in a map for one caller, both as a key and as a value.
 fn alone(rt: &impl Abort, alloc: Global, key: &Key) -> Result<(), Fail> {
     let mut map: seq::HashMap<Key, Key> = seq::HashMap::default(alloc)?;
     is(
@@ -28,7 +28,7 @@ fn alone(rt: &impl Abort, alloc: Global, key: &Key) -> Result<(), Fail> {
     Ok(())
 }
 
-/// So has a map that threads share.
+/// Stores it so in a map that threads share.
 fn shared<R: Wait + Abort>(rt: &R, alloc: Global, key: &Key) -> Result<(), Fail> {
     let map: map::HashMap<Key, Key> = map::HashMap::default(rt, alloc)?;
     let stored = map
@@ -39,7 +39,7 @@ fn shared<R: Wait + Abort>(rt: &R, alloc: Global, key: &Key) -> Result<(), Fail>
     Ok(())
 }
 
-/// A set for one caller has it as a key.
+/// Stores it in a set for one caller.
 fn in_a_set(rt: &impl Abort, alloc: Global, key: &Key) -> Result<(), Fail> {
     let mut set: HashSet<Key> = HashSet::default(alloc)?;
     is(rt, set.insert(Arc::try_clone(key)?), Ok(true));
@@ -47,7 +47,7 @@ fn in_a_set(rt: &impl Abort, alloc: Global, key: &Key) -> Result<(), Fail> {
     Ok(())
 }
 
-/// So has a set that threads share.
+/// Stores it in a set that threads share.
 fn in_a_shared_set<R: Wait + Abort>(rt: &R, alloc: Global, key: &Key) -> Result<(), Fail> {
     let set: set::HashSet<Key> = set::HashSet::default(rt, alloc)?;
     is(rt, set.pin().insert(rt, Arc::try_clone(key)?), Ok(true));

@@ -1,6 +1,6 @@
 // The cases on sets that threads share, by their calls with a guard: of the set's collector, or of
-// another one. Where the two have one number the calls answer as ever, and else each refuses and
-// changes nothing.
+// another one. If both collectors have the same number, the calls work as usual. Otherwise each
+// fails and changes nothing.
 use crate::answers::Answer::{self, Is, Number, Walked};
 use crate::expect::{MODES, is};
 use crate::key_steps::Calls;
@@ -19,7 +19,7 @@ use std::test::Fail;
 
 type Keys = HashSet<u64, Same>;
 
-/// A set that threads share, a guard for its calls, and what may wait.
+/// A set that threads share, a guard for its calls, and the runtime.
 #[derive(Drop)]
 struct Guarded<'r, 's, R, G> {
     rt: &'r R,
@@ -78,7 +78,7 @@ impl<R: Wait, G: Guard> Calls for Guarded<'_, '_, R, G> {
     }
 }
 
-/// What makes the guards.
+/// The origin of the guards.
 #[derive(Clone, Copy)]
 enum Holder {
     Set,
@@ -88,13 +88,13 @@ enum Holder {
     OtherOwned,
 }
 
-/// The calls of a case with a guard answer so.
+/// Checks that the calls of a case with a guard have these results.
 fn goes_guarded<R: Wait + Abort, G: Guard>(rt: &R, at: usize, case: Case, set: &Keys, guard: &G) {
     is(rt, set.verify(guard), Ok(()));
     goes(rt, at, case, &mut Guarded { rt, set, guard });
 }
 
-/// The calls of a case answer so, with a guard of this holder.
+/// Checks that the calls of a case have these results, with a guard of this holder.
 fn held<R: Wait + Abort>(rt: &R, at: usize, case: Case, set: &Keys, holder: Holder) {
     let other = Collector::new(0);
     match holder {
@@ -123,11 +123,10 @@ fn cases_of_sets_with_a_guard(rt: HostRuntime) -> Result<(), Fail> {
     Ok(())
 }
 
-/// What is answered where the guard has another number.
+/// The result if the guard has another number.
 const WRONG: Answer = Answer::Refused(Refused::WrongGuard);
 
-/// Each call is refused: it stores nothing, removes nothing, finds nothing, walks over nothing, and
-/// makes no room.
+/// Each call fails: it stores, removes, finds and iterates over nothing, and reserves no room.
 const REFUSES: Case = &[
     (Insert(1), WRONG),
     (Remove(42), WRONG),
@@ -147,7 +146,7 @@ const HAS_ONE: Case = &[
     (Walk, Walked(1, 42, 0)),
 ];
 
-/// A guard of another number is refused by each call, and the set stays as it was.
+/// Checks that each call refuses a guard of another number, and the set stays as it was.
 fn refuses<R: Wait + Abort, G: Guard>(rt: &R, set: &Keys, guard: &G) {
     is(rt, set.verify(guard), Err(Refused::WrongGuard));
     goes(rt, 0, REFUSES, &mut Guarded { rt, set, guard });

@@ -1,4 +1,4 @@
-// Where an equal key comes the one that is stored stays: in maps, for one caller and shared.
+// A stored key stays if an equal one is inserted: in maps, for one caller and shared.
 use crate::expect::is;
 use crate::labels::{Labelled, seven};
 use papaya_call::answers::Operation;
@@ -11,35 +11,35 @@ use std::process::Abort;
 use std::sync::Wait;
 use std::test::Fail;
 
-/// A pair of key 7: its label and its value.
+/// An entry of key 7: its label and its value.
 type Pair = (char, u64);
 
-/// A map of such keys. Its calls are of key 7, and each hands in a key with this label.
+/// A map of such keys. Its calls are of key 7, and each passes in a key with this label.
 trait Labels {
-    /// By `insert`.
+    /// Stores by `insert`.
     fn store<R: Wait>(&mut self, rt: &R, label: char, value: u64) -> Result<Option<u64>, Refused>;
 
-    /// By `get_key_value`.
+    /// Looks up by `get_key_value`.
     fn stored(&self) -> Option<Pair>;
 
-    /// By `remove`.
+    /// Removes by `remove`.
     fn take_out<R: Wait>(&mut self, rt: &R) -> Result<Option<u64>, Refused>;
 
-    /// By a compute that adds 1: the pair that was there, and the one that took its place.
+    /// Adds 1 by a compute; returns the entry that was there, and the one that took its place.
     fn add<R: Wait>(&mut self, rt: &R, label: char) -> Result<Option<(Pair, Pair)>, Refused>;
 }
 
-/// A pair as it is stored.
+/// Returns an entry as it is stored.
 fn pair_of(entry: (&Labelled, &u64)) -> Pair {
     (entry.0.label, *entry.1)
 }
 
-/// The same, if there is one.
+/// Returns the same, if there is one.
 fn found(entry: Option<(&Labelled, &u64)>) -> Option<Pair> {
     Some(pair_of(entry?))
 }
 
-/// The value after the one that is shown.
+/// Returns the value after the closure's argument.
 fn next(shown: Option<(&Labelled, &u64)>) -> Operation<u64, ()> {
     match shown {
         Some((_, value)) => Operation::Insert(value.wrapping_add(1)),
@@ -47,7 +47,7 @@ fn next(shown: Option<(&Labelled, &u64)>) -> Operation<u64, ()> {
     }
 }
 
-/// What a compute put in the place of what.
+/// Returns the entries before and after a compute.
 fn updated(computed: Compute<'_, Labelled, u64, ()>) -> Option<(Pair, Pair)> {
     match computed {
         Compute::Updated { old, new } => Some((pair_of(old), pair_of(new))),
@@ -92,7 +92,7 @@ impl Labels for map::HashMap<Labelled, u64> {
     }
 }
 
-/// A replaced value leaves its key, and a pair that went leaves none.
+/// Checks that a replaced value keeps its key, and that a removed entry leaves none.
 fn keeps<R: Wait + Abort, L: Labels>(rt: &R, map: &mut L) {
     is(rt, map.store(rt, 'x', 1), Ok(None));
     is(rt, map.store(rt, 'y', 2), Ok(Some(1)));
@@ -102,13 +102,13 @@ fn keeps<R: Wait + Abort, L: Labels>(rt: &R, map: &mut L) {
     is(rt, map.stored(), Some(('y', 3)));
 }
 
-/// So does a value that is computed.
+/// Checks that a computed value keeps its key.
 fn keeps_in_computes<R: Wait + Abort, L: Labels>(rt: &R, map: &mut L) {
     is(rt, map.add(rt, 'x'), Ok(Some((('y', 3), ('y', 4)))));
     is(rt, map.stored(), Some(('y', 4)));
 }
 
-/// Both on a new map.
+/// Checks both on a new map.
 fn keeps_all<R: Wait + Abort, L: Labels + Drop>(
     rt: &R,
     made: Result<L, Refused>,

@@ -1,4 +1,4 @@
-// Where an equal key comes the one that is stored stays: in sets, for one caller and shared.
+// A stored key stays if an equal one is inserted: in sets, for one caller and shared.
 use crate::expect::is;
 use crate::labels::{Labelled, seven};
 use papaya_set::{seq, set};
@@ -9,17 +9,17 @@ use std::test::Fail;
 
 /// A set of such keys. Its calls are of key 7.
 trait Labels {
-    /// By `insert` of a key with this label.
+    /// Stores by `insert` of a key with this label.
     fn store<R: Wait>(&mut self, rt: &R, label: char) -> Result<bool, Refused>;
 
-    /// The label of the key that `get` answers.
+    /// Returns the label of the key that `get` returns.
     fn stored(&self) -> Option<char>;
 
-    /// By `remove`.
+    /// Removes by `remove`.
     fn take_out<R: Wait>(&mut self, rt: &R) -> Result<bool, Refused>;
 }
 
-/// The label of a key.
+/// Returns the label of a key.
 fn label_of(key: Option<&Labelled>) -> Option<char> {
     Some(key?.label)
 }
@@ -52,7 +52,7 @@ impl Labels for set::HashSet<Labelled> {
     }
 }
 
-/// An equal key leaves the one that is stored, and one that went leaves none.
+/// Checks that a stored key stays if an equal one is inserted, and that a removed key leaves none.
 fn keeps<R: Wait + Abort, L: Labels>(rt: &R, set: &mut L) {
     is(rt, set.store(rt, 'x'), Ok(true));
     is(rt, set.store(rt, 'y'), Ok(false));
@@ -62,7 +62,7 @@ fn keeps<R: Wait + Abort, L: Labels>(rt: &R, set: &mut L) {
     is(rt, set.stored(), Some('y'));
 }
 
-/// So does one of a new set.
+/// Checks this on a new set.
 fn keeps_in_new<R: Wait + Abort, L: Labels + Drop>(
     rt: &R,
     made: Result<L, Refused>,
@@ -72,7 +72,7 @@ fn keeps_in_new<R: Wait + Abort, L: Labels + Drop>(
     Ok(())
 }
 
-/// A set that was made of two equal keys has the first.
+/// Checks that a set made of two equal keys has the first.
 fn has_first<L: Labels + Drop>(rt: &impl Abort, made: Result<L, Refused>) -> Result<(), Refused> {
     let set = made?;
     is(rt, set.stored(), Some('x'));

@@ -1,8 +1,8 @@
-// Calls of sets as values, and what makes them.
+// Calls of sets as values, and the code that makes them.
 use crate::answers::{Answer, said};
 use papaya_words::probe::Refused;
 
-/// A call of a set, or some of one kind.
+/// A call of a set, or several calls of one kind.
 #[derive(Clone, Copy)]
 pub enum Step {
     Insert(u64),
@@ -15,12 +15,11 @@ pub enum Step {
     Reserve(usize),
     /// Keeps the keys from this one on.
     RetainFrom(u64),
-    /// Inserts, gets or removes each key below this one. Answered is how many were new, or
-    /// were there.
+    /// Inserts, gets or removes each key below this one; returns how many were new, or were there.
     InsertBelow(u64),
     GetBelow(u64),
     RemoveBelow(u64),
-    /// Takes the keys from one to another, which are owned, or these three, which are lent.
+    /// Inserts the keys from one to another, which are owned, or these three, which are references.
     Extend(u64, u64),
     ExtendRef([u64; 3]),
 }
@@ -36,7 +35,7 @@ pub trait Calls {
     fn get_one(&self, key: u64) -> Result<Option<u64>, Refused>;
 
     fn keys(&self) -> usize;
-    /// How many keys a walk gives, and their sum.
+    /// Returns how many keys an iterator returns, and their sum.
     fn walk(&self) -> Result<(u64, u64), Refused>;
 
     fn clear_all(&mut self) -> Result<(), Refused>;
@@ -50,7 +49,7 @@ pub trait Calls {
     fn take_lent(&mut self, keys: &[u64]) -> Result<(), Refused>;
 }
 
-/// How many keys were new.
+/// Returns how many keys were new.
 fn insert_below<C: Calls>(set: &mut C, end: u64) -> Result<Answer, Refused> {
     let mut new = 0u64;
     for key in 0..end {
@@ -61,7 +60,7 @@ fn insert_below<C: Calls>(set: &mut C, end: u64) -> Result<Answer, Refused> {
     Ok(Answer::Number(new))
 }
 
-/// How many keys were there.
+/// Returns how many keys were there.
 fn remove_below<C: Calls>(set: &mut C, end: u64) -> Result<Answer, Refused> {
     let mut went = 0u64;
     for key in 0..end {
@@ -72,7 +71,7 @@ fn remove_below<C: Calls>(set: &mut C, end: u64) -> Result<Answer, Refused> {
     Ok(Answer::Number(went))
 }
 
-/// How many keys are there.
+/// Returns how many keys are there.
 fn get_below<C: Calls>(set: &C, end: u64) -> Result<Answer, Refused> {
     let mut found = 0u64;
     for key in 0..end {
@@ -83,7 +82,7 @@ fn get_below<C: Calls>(set: &C, end: u64) -> Result<Answer, Refused> {
     Ok(Answer::Number(found))
 }
 
-/// The key that was found, if one was.
+/// Converts the key that was found, if one was.
 fn key_of(found: Option<u64>) -> Answer {
     match found {
         Some(key) => Answer::Number(key),
@@ -91,7 +90,7 @@ fn key_of(found: Option<u64>) -> Answer {
     }
 }
 
-/// What a call answers that changes nothing.
+/// Returns the result of a call that changes nothing.
 fn asked<C: Calls>(set: &C, step: Step) -> Result<Answer, Refused> {
     match step {
         Step::Contains(key) => is(set.contains_one(key)),
@@ -117,7 +116,7 @@ fn made<C: Calls>(set: &mut C, step: Step) -> Result<(), Refused> {
     }
 }
 
-/// It is over, or was refused.
+/// Converts the result of a call that returns nothing, or fails.
 fn over(made: Result<(), Refused>) -> Result<Answer, Refused> {
     match made {
         Ok(()) => Ok(Answer::Done),
@@ -125,7 +124,7 @@ fn over(made: Result<(), Refused>) -> Result<Answer, Refused> {
     }
 }
 
-/// Was it so, or was it refused?
+/// Converts a Boolean result, or a refusal.
 fn is(told: Result<bool, Refused>) -> Result<Answer, Refused> {
     match told {
         Ok(yes) => Ok(Answer::Is(yes)),
@@ -133,7 +132,7 @@ fn is(told: Result<bool, Refused>) -> Result<Answer, Refused> {
     }
 }
 
-/// What a call answers.
+/// Returns the result of a call.
 pub fn answer<C: Calls>(set: &mut C, step: Step) -> Answer {
     said(match step {
         Step::Insert(key) => is(set.insert_one(key)),

@@ -1,4 +1,4 @@
-// Keys that are equal where their numbers are. A label tells which of them is stored.
+// Keys that are equal if their numbers are. A label tells which of them is stored.
 ghost use Rattle.std.specs.Prelude.{◌≡◌, ◌==◌};
 ghost use Rattle.std.proofs.Common.{ap};
 ghost use Rattle.std.specs.Cmp.{nat_eq_equiv, on_equiv, partial_equiv_from_equiv, unsigned_Decides};
@@ -6,7 +6,7 @@ ghost use Rattle.std.specs.Hash as fed;
 
 use std::hash::{Hash, Hasher};
 
-/// A number with a label that no comparison looks at.
+/// A number with a label that comparisons ignore.
 #[derive(Clone, Copy)]
 pub struct Labelled {
     number: u64,
@@ -37,7 +37,7 @@ impl Hash for Labelled {
     }
 }
 
-/// Key 7 with this label.
+/// Returns key 7 with this label.
 pub fn seven(label: char) -> Labelled {
     Labelled { number: 7, label }
 }

@@ -1,4 +1,4 @@
-// The cases of papaya's own tests of the map that `papaya-run` cannot say. Each begins with a
+// The cases of papaya's own tests of the map that `papaya-run` cannot express. Each begins with a
 // new map.
 use crate::answers::Answer::{
     self, Aborted, Absent, Done, Is, Kept, NotMade, Number, Occupied, Pair, Removed, Updated,
@@ -14,7 +14,7 @@ use crate::steps::Step::{
 use crate::steps::{Calls, answer};
 use std::process::Abort;
 
-/// Calls, each with what it answers.
+/// Calls, each with its result.
 pub type Case = &'static [(Step, Answer)];
 
 const GET_KEY_VALUE_EMPTY: Case = &[(GetKeyValue(42), Absent)];
@@ -124,7 +124,7 @@ const RETAIN_SOME: Case = &[
     (GetBelow(100, 0), Number(5)),
 ];
 
-/// What is added to take 1 off.
+/// The number that is added to take 1 off.
 const LESS: u64 = u64::MAX;
 
 const MIXED: Case = &[
@@ -152,7 +152,7 @@ const MIXED: Case = &[
     (GetBelow(240, 1), Number(240)),
 ];
 
-/// By the hasher whose hash is the greatest number a path begins at a table's last slot.
+/// With the hasher whose hash is the greatest number, a path begins at a table's last slot.
 const TEST_MAX_HASHER: Case = &[
     (InsertBelow(100, 0), Number(100)),
     (Contains(u64::MAX), Is(false)),
@@ -181,7 +181,7 @@ pub const CASES: [Case; 16] = [
     TEST_MAX_HASHER,
 ];
 
-/// The calls of a case answer so.
+/// Checks that the calls of a case have these results.
 pub fn goes<C: Calls>(rt: &impl Abort, at: usize, case: &[(Step, Answer)], map: &mut C) {
     for (step, &(call, wanted)) in case.iter().enumerate() {
         answers(rt, at, step, answer(map, call), wanted);

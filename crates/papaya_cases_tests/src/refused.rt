@@ -1,5 +1,5 @@
-// Each call on one key, with each request for memory refused to it in turn, at each stage of the
-// growth of a map. What is told to refuse is the heap of `tests/refused.py`.
+// Each call on one key, with each of its requests for memory refused in turn, at each stage of the
+// growth of a map. The heap of `tests/refused.py` is set to refuse.
 use crate::answers::Answer::{
     self, Aborted, Absent, Kept, NotMade, Number, Occupied, Pair, Updated,
 };
@@ -20,17 +20,17 @@ use std::alloc::Global;
 use std::process::Abort;
 use std::sync::Wait;
 
-/// A key that is there, with this value, and one that is not.
+/// A key that is present with this value, and one that is not.
 const OLD: u64 = 200;
 
 const VALUE: u64 = 5;
 
 const NEW: u64 = 201;
 
-/// A call, what it answers, and what is at the old key and at the new one then.
+/// A call, its result, and the values of the old key and of the new one afterwards.
 type Row = (Step, Answer, Answer, Answer);
 
-/// Calls of the key that is not there.
+/// Calls on the key that is absent.
 const AT_NEW: [Row; 11] = [
     (Insert(NEW, 7), Absent, Number(VALUE), Number(7)),
     (TryInsert(NEW, 7), Number(7), Number(VALUE), Number(7)),
@@ -50,7 +50,7 @@ const AT_NEW: [Row; 11] = [
     (RemoveIf(NEW, Always), Absent, Number(VALUE), Absent),
 ];
 
-/// Calls of the key that is there.
+/// Calls on the key that is present.
 const AT_OLD: [Row; 12] = [
     (Insert(OLD, 7), Number(VALUE), Number(7), Absent),
     (TryInsert(OLD, 7), Occupied(VALUE, 7), Number(VALUE), Absent),
@@ -76,26 +76,27 @@ const AT_OLD: [Row; 12] = [
     ),
 ];
 
-/// What a map has before a call: the keys below a number, each with itself, and the old one.
+/// The contents of a map before a call: the keys below a number, each with itself, and the old one.
 #[derive(Clone, Copy)]
 struct Start {
     mode: ResizeMode,
     keys: u64,
 }
 
-/// How many of the two keys are there.
+/// Returns how many of the two keys are there.
 fn there(old: Answer, new: Answer) -> u64 {
     u64::from(old != Absent).wrapping_add(u64::from(new != Absent))
 }
 
-/// Has the map the keys below this one, these at the old and the new one, and no other?
+/// Returns whether the map has the keys below this one, these values at the old and the new key,
+/// and no other.
 fn is_as<C: Calls>(map: &mut C, keys: u64, old: Answer, new: Answer) -> bool {
     let is_there = answer(map, Get(OLD)) == old && answer(map, Get(NEW)) == new;
     let is_kept = answer(map, GetBelow(keys, 0)) == Number(keys);
     is_there && is_kept && answer(map, Len) == Number(keys.wrapping_add(there(old, new)))
 }
 
-/// A map and the call that it is ready for.
+/// A map, and the call that it is ready for.
 #[derive(Drop)]
 struct OnKey<'m, C> {
     map: &'m mut C,
@@ -126,7 +127,7 @@ fn tries_on<C: Calls>(alloc: Global, map: &mut C, keys: u64, row: Row, number: u
     tries(alloc, &mut OnKey { map, keys, row }, number)
 }
 
-/// A call of maps for one caller.
+/// A call on maps for one caller.
 #[derive(Drop)]
 struct Alone {
     alloc: Global,
@@ -142,7 +143,7 @@ impl Trial for Alone {
     }
 }
 
-/// A call of maps that threads share.
+/// A call on maps that threads share.
 #[derive(Drop)]
 struct Together<'r, R> {
     rt: &'r R,
@@ -163,14 +164,14 @@ impl<R: Wait> Trial for Together<'_, R> {
     }
 }
 
-/// Which maps are tried.
+/// The maps that are tried.
 #[derive(Clone, Copy)]
 enum Which {
     Alone,
     Together,
 }
 
-/// Is there a request that the call fails without?
+/// Returns the request whose refusal breaks the call, if there is one.
 fn wrong<R: Wait>(
     rt: &R,
     alloc: Global,
@@ -189,7 +190,7 @@ fn wrong<R: Wait>(
     }
 }
 
-/// No call of these fails at such a start.
+/// Checks that no call of these fails at such a start.
 fn each_row<R: Wait + Abort>(rt: &R, alloc: Global, which: Which, start: Start, rows: &[Row]) {
     for (case, &row) in rows.iter().enumerate() {
         let found = wrong(rt, alloc, which, start, row);
@@ -197,8 +198,8 @@ fn each_row<R: Wait + Abort>(rt: &R, alloc: Global, which: Which, start: Start, 
     }
 }
 
-/// So many keys of one path are there beside the old one. A table is full at the next key or not,
-/// is being copied, and with 64 in all one is given up in `Blocking`.
+/// The number of keys of one path beside the old key. A table is full at the next key or not, or is
+/// being copied; with 64 in all one is given up in `Blocking`.
 const STAGES: [u64; 9] = [0, 24, 25, 26, 47, 62, 63, 64, 66];
 
 const MODES: [ResizeMode; 3] = [
@@ -207,7 +208,7 @@ const MODES: [ResizeMode; 3] = [
     ResizeMode::Incremental(64),
 ];
 
-/// Each call, from each start.
+/// Makes each call, from each start.
 fn each_start<R: Wait + Abort>(rt: &R, alloc: Global, which: Which) {
     for mode in MODES {
         for keys in STAGES {
@@ -228,9 +229,9 @@ fn calls_of_maps_that_threads_share_are_refused_memory(rt: HostRuntime) {
     each_start(&rt, rt.alloc(), Which::Together);
 }
 
-/// A mode, a capacity, how many keys are there beside the old one, and how many slots the root has
-/// with one more. In `Blocking` it is the table after one that is given up, where so many keys are
-/// on one path.
+/// A mode, a capacity, the number of keys beside the old one, and the number of slots that the root
+/// has with one more. In `Blocking` it is the table after one that is given up, if that many keys
+/// are on one path.
 type Length = (ResizeMode, usize, u64, usize);
 
 const LENGTHS: [Length; 3] = [
@@ -239,7 +240,7 @@ const LENGTHS: [Length; 3] = [
     (ResizeMode::Incremental(1), 6, 7, 8),
 ];
 
-/// An insertion into a map for one caller whose root table has so many slots then.
+/// An insertion into a map for one caller whose root table has this many slots then.
 #[derive(Drop)]
 struct Long {
     alloc: Global,

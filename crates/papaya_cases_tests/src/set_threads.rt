@@ -1,4 +1,4 @@
-// Threads that look the keys of a set up while room is made.
+// Threads that look up the keys of a set while room is reserved.
 use crate::answers::Answer::{self, Done, Number};
 use crate::expect::MODES;
 use crate::key_steps::Step::{self, GetBelow, InsertBelow, Reserve};
@@ -11,12 +11,12 @@ use std::sync::Wait;
 use std::test::Fail;
 use std::thread::{Threads, join};
 
-/// The calls answer so.
+/// Checks that the calls have these results.
 fn make<R: Wait + Abort>(rt: &R, set: &HashSet<u64>, case: &[(Step, Answer)]) {
     goes(rt, 0, case, &mut Shared { rt, set });
 }
 
-/// Room for more keys, each time in a longer table.
+/// Reserves room for more keys, each time in a longer table.
 const ROOMS: Case = &[
     (Reserve(2048), Done),
     (Reserve(4096), Done),
@@ -28,7 +28,7 @@ const ROOMS: Case = &[
 /// Lookups of all keys.
 const LOOKUPS: Case = &[(GetBelow(1024), Number(1024)); 32];
 
-/// One thread makes room, and the other finds all keys each time.
+/// Checks that a thread finds all keys each time while another reserves room.
 fn finds_beside<R: Threads + Wait + Sync + Abort>(rt: &R, set: &HashSet<u64>) {
     make(rt, set, &[(InsertBelow(1024), Number(1024))]);
     join(rt, || make(rt, set, ROOMS), || make(rt, set, LOOKUPS));

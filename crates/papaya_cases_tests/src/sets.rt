@@ -9,7 +9,7 @@ use crate::key_steps::{Calls, answer};
 use papaya_words::probe::Refused;
 use std::process::Abort;
 
-/// Calls, each with what it answers.
+/// Calls, each with its result.
 pub type Case = &'static [(Step, Answer)];
 
 const NEW: Case = &[(Len, Number(0)), (Walk, Walked(0, 0, 0))];
@@ -110,7 +110,7 @@ const MIXED: Case = &[
     (GetBelow(250), Number(240)),
 ];
 
-/// For the hashers that answer the least and the greatest number.
+/// A case for the hashers that return the least and the greatest number.
 const TEST_HASHERS: Case = &[
     (InsertBelow(100), Number(100)),
     (Contains(u64::MAX), Is(false)),
@@ -120,7 +120,7 @@ const TEST_HASHERS: Case = &[
     (Contains(100), Is(false)),
 ];
 
-/// None of papaya's: room is made beside keys, and room for too many is refused.
+/// A case that papaya has not: it reserves room beside keys, and room for too many is refused.
 const RESERVE: Case = &[
     (Reserve(20), Done),
     (InsertBelow(9), Number(9)),
@@ -149,7 +149,7 @@ pub const CASES: [Case; 18] = [
     RESERVE,
 ];
 
-/// The calls of a case answer so.
+/// Checks that the calls of a case have these results.
 pub fn goes<C: Calls>(rt: &impl Abort, at: usize, case: &[(Step, Answer)], set: &mut C) {
     for (step, &(call, wanted)) in case.iter().enumerate() {
         answers(rt, at, step, answer(set, call), wanted);

@@ -13,7 +13,7 @@ use std::sync::Wait;
 use std::sync::atomic::{AtomicBool, Ordering};
 use std::test::Fail;
 
-/// A map that threads share, and what may wait.
+/// A map that threads share, and the runtime.
 #[derive(Drop)]
 pub struct Shared<'r, 'm, R, S: BuildHasher> {
     pub rt: &'r R,
@@ -118,7 +118,7 @@ impl<R: Wait, S: BuildHasher> Calls for Shared<'_, '_, R, S> {
     }
 }
 
-/// Each case in each mode, on maps that threads share.
+/// Runs each case in each mode, on maps that threads share.
 fn cases<R: Wait + Abort, S: BuildHasher + Copy>(
     rt: &R,
     alloc: Global,

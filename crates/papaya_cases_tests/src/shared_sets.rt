@@ -11,7 +11,7 @@ use std::process::Abort;
 use std::sync::Wait;
 use std::test::Fail;
 
-/// A set that threads share, and what may wait.
+/// A set that threads share, and the runtime.
 #[derive(Drop)]
 pub struct Shared<'r, 's, R, S: BuildHasher> {
     pub rt: &'r R,
@@ -69,7 +69,7 @@ impl<R: Wait, S: BuildHasher> Calls for Shared<'_, '_, R, S> {
     }
 }
 
-/// Each case in each mode.
+/// Runs each case in each mode.
 fn cases<R: Wait + Abort, S: BuildHasher + Copy>(
     rt: &R,
     alloc: Global,

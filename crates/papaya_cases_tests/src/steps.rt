@@ -1,19 +1,19 @@
-// Calls of maps as values, and what makes them.
+// Calls of maps as values, and the code that makes them.
 use crate::answers::{Answer, said};
 use papaya_call::answers::Operation;
 use papaya_words::probe::Refused;
 
-/// What the closure of a removal says.
+/// The result of a removal's closure.
 #[derive(Clone, Copy)]
 pub enum Agrees {
     Always,
     Never,
-    /// To a pair of this value.
+    /// True for an entry of this value.
     To(u64),
 }
 
 impl Agrees {
-    /// Does it agree to this value?
+    /// Returns whether it is true for this value.
     pub fn to(self, value: u64) -> bool {
         match self {
             Agrees::Always => true,
@@ -23,7 +23,7 @@ impl Agrees {
     }
 }
 
-/// Removes an even value, and stores the next of an odd one.
+/// Removes an even value, and replaces an odd one by the next number.
 pub fn by_parity(shown: Option<(&u64, &u64)>) -> Operation<u64, ()> {
     match shown {
         Some((_, value)) if *value % 2 == 0 => Operation::Remove,
@@ -32,7 +32,7 @@ pub fn by_parity(shown: Option<(&u64, &u64)>) -> Operation<u64, ()> {
     }
 }
 
-/// A call of a map, or some of one kind.
+/// A call of a map, or several calls of one kind.
 #[derive(Clone, Copy)]
 pub enum Step {
     Insert(u64, u64),
@@ -56,18 +56,18 @@ pub enum Step {
     Walk,
     /// Keeps the values below this one.
     RetainBelow(u64),
-    /// Inserts the keys below the first number, with the sum of key and second number as value.
-    /// How many were new?
+    /// Inserts the keys below the first number, with the sum of key and second number as value;
+    /// returns how many were new.
     InsertBelow(u64, u64),
-    /// How many of these keys have that value?
+    /// Returns how many of these keys have that value.
     GetBelow(u64, u64),
-    /// Adds the second number to the value of each. How many were there?
+    /// Adds the second number to the value of each; returns how many were there.
     UpdateBelow(u64, u64),
-    /// Removes each. How many had that value?
+    /// Removes each; returns how many had that value.
     RemoveBelow(u64, u64),
 }
 
-/// A map whose calls answer in this crate's words.
+/// A map whose calls return this crate's answers.
 pub trait Calls {
     fn insert_one(&mut self, key: u64, value: u64) -> Result<Answer, Refused>;
 
@@ -104,7 +104,7 @@ pub trait Calls {
     fn retain_below(&mut self, end: u64) -> Result<(), Refused>;
 }
 
-/// How many keys were new.
+/// Returns how many keys were new.
 fn insert_below<C: Calls>(map: &mut C, end: u64, more: u64) -> Result<Answer, Refused> {
     let mut new = 0u64;
     for key in 0..end {
@@ -115,7 +115,7 @@ fn insert_below<C: Calls>(map: &mut C, end: u64, more: u64) -> Result<Answer, Re
     Ok(Answer::Number(new))
 }
 
-/// How many keys had the value.
+/// Returns how many keys had the value.
 fn get_below<C: Calls>(map: &C, end: u64, more: u64) -> Answer {
     let mut found = 0u64;
     for key in 0..end {
@@ -126,7 +126,7 @@ fn get_below<C: Calls>(map: &C, end: u64, more: u64) -> Answer {
     Answer::Number(found)
 }
 
-/// How many keys were there.
+/// Returns how many keys were there.
 fn update_below<C: Calls>(map: &mut C, end: u64, by: u64) -> Result<Answer, Refused> {
     let mut updated = 0u64;
     for key in 0..end {
@@ -137,7 +137,7 @@ fn update_below<C: Calls>(map: &mut C, end: u64, by: u64) -> Result<Answer, Refu
     Ok(Answer::Number(updated))
 }
 
-/// How many keys had the value.
+/// Returns how many keys had the value.
 fn remove_below<C: Calls>(map: &mut C, end: u64, more: u64) -> Result<Answer, Refused> {
     let mut went = 0u64;
     for key in 0..end {
@@ -148,7 +148,7 @@ fn remove_below<C: Calls>(map: &mut C, end: u64, more: u64) -> Result<Answer, Re
     Ok(Answer::Number(went))
 }
 
-/// What a call answers that changes nothing.
+/// Returns the result of a call that changes nothing.
 fn asked<C: Calls>(map: &C, step: Step) -> Result<Answer, Refused> {
     match step {
         Step::Get(key) => Ok(map.get_one(key)),
@@ -160,7 +160,7 @@ fn asked<C: Calls>(map: &C, step: Step) -> Result<Answer, Refused> {
     }
 }
 
-/// What a call answers that stores a value only where there is none, or what is computed of one.
+/// Returns the result of a call that stores a value only if there is none, or computes one.
 fn stored<C: Calls>(map: &mut C, step: Step) -> Result<Answer, Refused> {
     match step {
         Step::TryInsert(key, value) => map.try_one(key, value),
@@ -180,7 +180,7 @@ fn retain<C: Calls>(map: &mut C, end: u64) -> Result<Answer, Refused> {
     Ok(Answer::Done)
 }
 
-/// What a call answers.
+/// Returns the result of a call.
 pub fn answer<C: Calls>(map: &mut C, step: Step) -> Answer {
     said(match step {
         Step::Insert(key, value) => map.insert_one(key, value),

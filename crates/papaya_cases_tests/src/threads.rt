@@ -12,7 +12,7 @@ use std::sync::Wait;
 use std::test::Fail;
 use std::thread::{Threads, join};
 
-/// How many there were.
+/// Returns the count.
 fn count(answer: Answer) -> u64 {
     match answer {
         Number(count) => count,
@@ -20,17 +20,17 @@ fn count(answer: Answer) -> u64 {
     }
 }
 
-/// Removes 64 keys. Of how many was the value told?
+/// Removes 64 keys; returns for how many the call returned the value.
 fn remove<R: Wait>(rt: &R, map: &HashMap<u64, u64>) -> u64 {
     count(answer(&mut Shared { rt, map }, RemoveBelow(64, 7)))
 }
 
-/// Stores them, or looks for them.
+/// Stores them, or looks them up.
 fn make<R: Wait + Abort>(rt: &R, map: &HashMap<u64, u64>, case: &[(Step, Answer)]) {
     goes(rt, 0, case, &mut Shared { rt, map });
 }
 
-/// Two threads remove the same keys: of each just one is told its value.
+/// Checks that of two threads that remove the same keys, one call returns each key's value.
 fn removes<R: Threads + Wait + Sync + Abort>(rt: &R, map: &HashMap<u64, u64>) {
     make(rt, map, &[(InsertBelow(64, 7), Number(64))]);
     let (first, second) = join(rt, || remove(rt, map), || remove(rt, map));

@@ -1,4 +1,4 @@
-// Maps for one caller that are made of pairs, take further ones, and are compared.
+// Maps for one caller that are made of entries, take further ones, and are compared.
 use crate::answers::Answer;
 use crate::expect::{MODES, answers, is};
 use crate::steps::Calls;
@@ -11,14 +11,15 @@ use std::test::Fail;
 
 type Numbers = HashMap<u64, u64>;
 
-/// A walk of the map gives so many pairs, with these sums of their keys and values.
+/// Checks that an iterator of the map returns this many entries, with these sums of their keys and
+/// values.
 fn walks(rt: &impl Abort, map: &Numbers, pairs: u64, keys: u64, values: u64) -> Result<(), Fail> {
     answers(rt, 0, 0, map.walk()?, Answer::Walked(pairs, keys, values));
     is(rt, map.len() as u64, pairs);
     Ok(())
 }
 
-/// A map was made, and a walk of it gives so many.
+/// Checks that a map was made, and what its iterator returns.
 fn is_made(
     rt: &impl Abort,
     made: Result<Numbers, Refused>,
@@ -50,20 +51,20 @@ fn maps_are_made_of_pairs(rt: HostRuntime) -> Result<(), Fail> {
     )
 }
 
-/// A map of these pairs.
+/// Returns a map of these entries.
 fn made(alloc: Global, mode: ResizeMode, pairs: &[(u64, u64)]) -> Result<Numbers, Fail> {
     let mut map = HashMap::with_parts(alloc, mode, 0, 1, BuildHasherDefault::new(), None)?;
     map.extend(pairs.iter().copied())?;
     Ok(map)
 }
 
-/// Of three lent pairs one is of a key that the map has.
+/// Inserts three entries by reference, one of which has a key that is in the map.
 fn take(rt: &impl Abort, map: &mut Numbers) -> Result<(), Fail> {
     map.extend_ref([(&42, &0), (&16, &6), (&38, &42)])?;
     walks(rt, map, 4, 97, 49)
 }
 
-/// A map of two pairs takes them.
+/// Inserts them into a map of two entries.
 fn take_in(rt: &impl Abort, alloc: Global, mode: ResizeMode) -> Result<(), Fail> {
     let mut map = made(alloc, mode, &[(1, 1), (16, 0)])?;
     walks(rt, &map, 2, 17, 1)?;
@@ -78,7 +79,7 @@ fn a_map_takes_further_pairs(rt: HostRuntime) -> Result<(), Fail> {
     Ok(())
 }
 
-/// The pairs of two maps, and whether the maps are equal.
+/// The entries of two maps, and whether the maps are equal.
 type Compared = (&'static [(u64, u64)], &'static [(u64, u64)], bool);
 
 const COMPARED: &[Compared] = &[
@@ -90,13 +91,13 @@ const COMPARED: &[Compared] = &[
     (&[(1, 10), (2, 20)], &[(2, 21), (1, 10), (2, 20)], true),
 ];
 
-/// Both maps are equal or not, each to the other.
+/// Checks whether both maps are equal, each to the other.
 fn compare(rt: &impl Abort, one: &Numbers, other: &Numbers, wanted: bool) {
     is(rt, one.eq(other), wanted);
     is(rt, other.eq(one), wanted);
 }
 
-/// So are maps of these pairs.
+/// Checks this for maps of these entries.
 fn compare_made(
     rt: &impl Abort,
     alloc: Global,

@@ -1,5 +1,5 @@
-//! What is asked for a copy, answered by steps on the book. Whoever copies, a call that is set
-//! aside or one that resizes the map, this is the one place where tables are copied.
+//! Performs the steps of a copy on the book. All tables are copied here, by a call that is set
+//! aside or by one that resizes the map.
 ghost use Rattle.std.specs.Prelude.{◌≡◌, ◌≢◌, ◌⊎◌, ◌<◌, ◌+◌, ℕ, [], ◌∷◌, IfErr, IfOk, None, Some, length};
 ghost use Rattle.papaya_ask.specs.Search.{IsSize};
 ghost use Rattle.papaya_ask.specs.declared.ask.At.TheVariants.{Next, Slot};
@@ -30,19 +30,19 @@ use std::alloc::Global;
 use std::hash::{BuildHasher, Hash};
 use std::sync::{MutexGuard, Wait};
 
-/// What a machine asks for a copy.
+/// A machine's request for a copy.
 #[derive(Clone, Copy)]
 pub struct Asked {
     pub ask: CopyAsk,
-    /// The kind of the exchange that is asked for, if one is.
+    /// The kind of the requested exchange, if one is requested.
     pub kind: Option<StepKind>,
-    /// The table that one in the making is to follow.
+    /// The table that the new table is to follow.
     pub follows: u64,
 }
 
-/// What one holds who copies: the pair that was loaded last, the pair that is carried to another
-/// table, and a table that was made, until it is tried to be opened or linked. Where a number was
-/// given past a limit, or the sum of the count, contracts see that number.
+/// The state of a caller that copies: the pair loaded last, the pair that moves, and a new table
+/// until the call tries to open or link it. If a number was given past a limit, or the sum of the
+/// count, contracts observe that number.
 #[derive(Drop)]
 pub struct Copier<K: Hash + Eq, V, S: BuildHasher> {
     pub last: Option<Stored<K, V>>,
@@ -51,7 +51,7 @@ pub struct Copier<K: Hash + Eq, V, S: BuildHasher> {
     pub given: OwnSteps<CapacityCause>,
 }
 
-/// What an exchange is answered that found this word.
+/// Returns the answer to an exchange that found this word.
 pub(crate) fn tried(found: u64, old: u64) -> Answer
     ensures value { result ≡ tried_answer found old }
     ensures fit { IsFit result }
@@ -64,7 +64,7 @@ pub(crate) fn tried(found: u64, old: u64) -> Answer
 }
 
 impl<K: Hash + Eq, V, S: BuildHasher> Copier<K, V, S> {
-    /// One that holds nothing.
+    /// Returns a copier that holds nothing.
     #[inline(always)]
     pub fn new() -> Copier<K, V, S>
         ensures { (result.last ≡ None) × (result.kept ≡ None) × (result.fresh ≡ None)
@@ -78,8 +78,8 @@ impl<K: Hash + Eq, V, S: BuildHasher> Copier<K, V, S> {
         }
     }
 
-    /// The answer to what is asked for a copy. `making` keeps the turn to make a next table, from
-    /// the making to the try to link it.
+    /// Performs what is requested for a copy, and returns the answer. `making` keeps the turn to
+    /// make a next table, until the try to link it.
     pub fn answer<'a, R: Wait>(
         &mut self,
         rt: &R,
@@ -192,7 +192,7 @@ impl<K: Hash + Eq, V, S: BuildHasher> Copier<K, V, S> {
         word
     }
 
-    /// Tries to make the table that was made the one after another: the number that was found.
+    /// Tries to link the new table after another one; returns the number found.
     fn link<'a>(&mut self, number: u64, window: &mut Window<'a, K, V, S>) -> u64
         requires can { (new : ℕ) × CanJoin window.old number new self.old }
         ensures sees { Sees window.old window.new }
@@ -244,8 +244,8 @@ impl<K: Hash + Eq, V, S: BuildHasher> Copier<K, V, S> {
         }
     }
 
-    /// Tries to exchange the word of a table's slot: the word that was found, and the pair that
-    /// it names.
+    /// Tries to exchange the word of a table's slot; returns the word found, and the pair that it
+    /// names.
     #[inline(always)]
     fn try_slot<'a>(
         &self,
@@ -267,9 +267,8 @@ impl<K: Hash + Eq, V, S: BuildHasher> Copier<K, V, S> {
         window.copy_slot(table, number, place, kind, &self.kept, words)
     }
 
-    /// Tries to exchange the word of a table's slot: the word that was found. The pair last told of
-    /// is the one that stood there where that is marked now, and the one that was found where the
-    /// exchange wasn't made.
+    /// Tries to exchange the word of a table's slot; returns the word found. The pair kept
+    /// afterwards is the slot's if it is marked now, and the one found if the exchange failed.
     #[inline(always)]
     pub(crate) fn exchange_slot<'a>(
         &mut self,
@@ -298,7 +297,7 @@ impl<K: Hash + Eq, V, S: BuildHasher> Copier<K, V, S> {
         found
     }
 
-    /// Carries the pair last told of: the hash of its key.
+    /// Takes the pair kept last as the one to move; returns the hash of its key.
     #[inline(always)]
     pub(crate) fn carry<'a>(&mut self, window: &Window<'a, K, V, S>) -> u64
         requires some { (p : _) × (self.old.last ≡ Some p) }
@@ -316,7 +315,7 @@ impl<K: Hash + Eq, V, S: BuildHasher> Copier<K, V, S> {
         hash
     }
 
-    /// Have the pair that is carried and the one last told of equal keys?
+    /// Returns whether the pair that moves and the one kept last have equal keys.
     fn same_pair<'a>(&self, window: &Window<'a, K, V, S>) -> bool
         requires kept { (p : _) × (self.now.kept ≡ Some p) }
         requires last { (q : _) × (self.now.last ≡ Some q) }
@@ -332,7 +331,7 @@ impl<K: Hash + Eq, V, S: BuildHasher> Copier<K, V, S> {
         *book.key(book.pair(kept)) == *book.key(book.pair(last))
     }
 
-    /// How many pairs the map counts.
+    /// Returns how many pairs the map counts.
     fn sum(&mut self, count: &Count) -> usize
         ensures given { self.new.given.done ≡ Sum result ∷ [] }
         ensures rest { self.new ≡ record self.old { given = self.new.given } }
@@ -342,8 +341,8 @@ impl<K: Hash + Eq, V, S: BuildHasher> Copier<K, V, S> {
         sum
     }
 
-    /// Makes a table that is to follow another, with so many words for chunks, once it is this
-    /// thread's turn, and keeps it with its seal until it is tried to be linked: its number.
+    /// Makes a table that is to follow another, with this many words for chunks, once it is this
+    /// thread's turn. Keeps it with its seal until it is tried to be linked; returns its number.
     fn make_next<'a, R: Wait>(
         &mut self,
         rt: &R,
@@ -411,7 +410,7 @@ fn load_hint<'a, K: Hash + Eq, V, S: BuildHasher>(
     window.hint(table, number, place)
 }
 
-/// Writes the hint of a table's slot, where it has none.
+/// Writes the hint of a table's slot, if it has none.
 #[inline(always)]
 pub(crate) fn write_hint_at<'a, K: Hash + Eq, V, S: BuildHasher>(
     table: &Table<K, V, S>,
@@ -431,7 +430,7 @@ pub(crate) fn write_hint_at<'a, K: Hash + Eq, V, S: BuildHasher>(
     window.write_hint(table, number, place, hint);
 }
 
-/// Writes the hint of a slot of a table that has come, where it has none.
+/// Writes the hint of a slot of a table that has come, if it has none.
 fn write_hint<'a, K: Hash + Eq, V, S: BuildHasher>(
     number: u64,
     place: usize,
@@ -449,8 +448,8 @@ fn write_hint<'a, K: Hash + Eq, V, S: BuildHasher>(
     window.write_hint(table, number, place, hint);
 }
 
-/// The size of a table: how many slots it has, and at how many places but for the first a search of
-/// it looks.
+/// Returns the size of a table: its number of slots, and how many places a search looks at after
+/// the first.
 #[inline(always)]
 pub(crate) fn size_at<'a, K: Hash + Eq, V, S: BuildHasher>(
     table: &Table<K, V, S>,
@@ -468,8 +467,8 @@ pub(crate) fn size_at<'a, K: Hash + Eq, V, S: BuildHasher>(
     size
 }
 
-/// The size of a table that has come: how many slots it has, and at how many places but for the
-/// first a search of it looks.
+/// Returns the size of a table that has come: its number of slots, and how many places a search
+/// looks at after the first.
 fn size<'a, K: Hash + Eq, V, S: BuildHasher>(
     number: u64,
     window: &mut Window<'a, K, V, S>,
@@ -485,12 +484,12 @@ fn size<'a, K: Hash + Eq, V, S: BuildHasher>(
     size
 }
 
-/// Waits for the turn to make the table after this one: how large a table to make, and the slots
-/// that were written ahead of it. Where another thread was first that is a small one, since it will
-/// not be linked. Nobody waits to make a first table, which follows none.
+/// Waits for the turn to make the table after this one. Returns how large a table to make, and the
+/// slots that were written ahead of it. If another thread was first, that is a small table, since
+/// it will not be linked. Nobody waits to make a first table, which follows none.
 ///
-/// A thread has one turn at most, as it gives back the one that it has before it waits. It waits
-/// for nothing else until it has tried to link the table, so two threads never wait for each other.
+/// A thread has one turn at most, as it gives back its turn before it waits. It waits for nothing
+/// else until it has tried to link the table, so two threads never wait for each other.
 fn turn<'a, K: Hash + Eq, V, S: BuildHasher, R: Wait>(
     rt: &R,
     follows: u64,

@@ -1,4 +1,4 @@
-//! A changing call under way, whatever its task: what it holds, and its loads.
+//! A changing call under way, for any task: its state, and its loads.
 ghost use Rattle.papaya_change.specs.Driver.{HoldsNothing};
 ghost use Rattle.std.specs.Prelude.{◌≡◌, None};
 ghost use Rattle.std.specs.Int.{IsPowerOfTwo};
@@ -31,8 +31,8 @@ use papaya_words::probe::ResizeMode;
 use std::hash::{BuildHasher, Hash};
 
 /// A changing call under way: its machine, the table that it loaded last, and the pairs that its
-/// change took out and put in. Its copier holds the pair that it loaded last, and answers for it
-/// while it is set aside for a copy. A table that it has made is opened or linked by its next step.
+/// change took out and put in. Its copier holds the pair loaded last, and acts for the call while
+/// it is set aside for a copy. A new table is opened or linked by the copier's next step.
 #[derive(Drop)]
 pub struct Driver<'a, K: Hash + Eq, V, S: BuildHasher> {
     pub machine: Machine,
@@ -43,7 +43,7 @@ pub struct Driver<'a, K: Hash + Eq, V, S: BuildHasher> {
 }
 
 impl<'a, K: Hash + Eq, V, S: BuildHasher> Driver<'a, K, V, S> {
-    /// A call that begins. At which chunk it copies a table first is told once it is set aside.
+    /// Begins a call. The chunk that it copies first is chosen once it is set aside.
     #[inline(always)]
     pub fn new(
         task: Task,
@@ -67,7 +67,7 @@ impl<'a, K: Hash + Eq, V, S: BuildHasher> Driver<'a, K, V, S> {
         }
     }
 
-    /// Has the call stand here, and hold this table.
+    /// Sets the call's state, and the table that it holds.
     #[inline(always)]
     pub fn stand(&mut self, state: State, table: &'a Table<K, V, S>)
         ensures { self.new ≡ record self.old {
@@ -81,7 +81,7 @@ impl<'a, K: Hash + Eq, V, S: BuildHasher> Driver<'a, K, V, S> {
         self.table = Some(table);
     }
 
-    /// Has the call have made these pairs.
+    /// Sets the pairs that the call has made.
     #[inline(always)]
     pub fn set_made(&mut self, made: Made)
         ensures { self.new ≡ record self.old {
@@ -93,8 +93,8 @@ impl<'a, K: Hash + Eq, V, S: BuildHasher> Driver<'a, K, V, S> {
         self.machine.call.made = made;
     }
 
-    /// Where the call looks for this key in the table that it holds, has it go over the places that
-    /// hold other keys. Its machine would ask for each of them.
+    /// Moves a call that searches the table which it holds past the places with other keys. Its
+    /// machine would ask for each of them.
     #[inline(always)]
     pub fn look_on(&mut self, key: &K, window: &mut Window<'a, K, V, S>)
         requires standing { IsStanding self.old.machine }
@@ -113,7 +113,7 @@ impl<'a, K: Hash + Eq, V, S: BuildHasher> Driver<'a, K, V, S> {
         self.stand(State::Searching(Search::Looking(to)), table);
     }
 
-    /// Goes on after an answer to what the call asked for itself.
+    /// Continues after an answer to what the call asked for itself.
     #[inline(always)]
     pub fn answer(&mut self, answer: CallAnswer)
         requires standing { IsStanding self.old.machine }
@@ -126,7 +126,7 @@ impl<'a, K: Hash + Eq, V, S: BuildHasher> Driver<'a, K, V, S> {
         self.machine.answer(Answer::Call(answer));
     }
 
-    /// One atomic load: the word that stands there.
+    /// Loads a word in one atomic step.
     #[inline(always)]
     pub fn load(&mut self, at: At, window: &mut Window<'a, K, V, S>) -> u64
         requires held { Holds at window.old self.old }
@@ -159,7 +159,7 @@ impl<'a, K: Hash + Eq, V, S: BuildHasher> Driver<'a, K, V, S> {
         }
     }
 
-    /// One atomic load of a slot's hint.
+    /// Loads a slot's hint in one atomic step.
     #[inline(always)]
     pub fn hint(&self, number: u64, place: usize, window: &mut Window<'a, K, V, S>) -> u64
         requires { Holds (Slot number place) window.old self.now }
@@ -173,7 +173,7 @@ impl<'a, K: Hash + Eq, V, S: BuildHasher> Driver<'a, K, V, S> {
         window.hint(table, number, place)
     }
 
-    /// Writes a slot's hint, where it has none. Nothing further is seen.
+    /// Writes a slot's hint, if it has none. Observes nothing further.
     #[inline(always)]
     pub fn note(&self, number: u64, place: usize, hint: u8, window: &Window<'a, K, V, S>)
         requires held { Holds (Slot number place) window.now self.now }
@@ -185,7 +185,7 @@ impl<'a, K: Hash + Eq, V, S: BuildHasher> Driver<'a, K, V, S> {
         window.write_hint(table, number, place, hint);
     }
 
-    /// The size of the table that is held.
+    /// Returns the size of the table that is held.
     pub fn size(&self) -> CallAnswer
         requires held { self.now.table ≡ None → ⊥ }
         ensures size { IsSizeOf self.now.table result }
@@ -213,7 +213,7 @@ impl<'a, K: Hash + Eq, V, S: BuildHasher> Driver<'a, K, V, S> {
         }
     }
 
-    /// Tries to delete the pair that a slot holds.
+    /// Tries to remove the pair that a slot holds.
     pub fn bury(
         &mut self,
         number: u64,
@@ -247,8 +247,8 @@ impl<'a, K: Hash + Eq, V, S: BuildHasher> Driver<'a, K, V, S> {
         }
     }
 
-    /// The call tried an exchange with which the pair comes that is to be put in, if one is, and
-    /// found this word and this pair.
+    /// Records a tried exchange, with the pair that it puts in, if any, and the word and the pair
+    /// that it found.
     #[inline(always)]
     pub fn tried(
         &mut self,

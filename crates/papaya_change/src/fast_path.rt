@@ -1,5 +1,5 @@
-//! Insertions whose search of the root ends where most do: their pair is logged and put in at once.
-//! The machine stands in the proof. Computes search so too, and put their pairs in so.
+//! Insertions whose search of the root ends as most do: their pair is stored and put in at once.
+//! Only the proof has the machine. Computes search in the same way, and put in their pairs so.
 ghost use Rattle.papaya_change.specs.Window.Ends.{Ends, HasTried, TellsWhy};
 ghost use Rattle.std.specs.Prelude.{◌≡◌, ◌==◌, ◌<◌, true, is_ok, length};
 ghost use Rattle.std.specs.Prelude.{Ok, Err, IfErr, IfOk, None, Some};
@@ -50,7 +50,7 @@ use std::hash::{BuildHasher, Hash};
 use std::marker::Model;
 use std::sync::Wait;
 
-/// A live pair of the key that a search has met, and where it lies in the arena of pairs.
+/// A live pair of the key that a search has met, and where it is in the arena of pairs.
 #[derive(Drop)]
 pub struct Live<'a, K, V> {
     pub(crate) met: Met<K, V>,
@@ -72,7 +72,7 @@ impl<'a, K, V> Model for Live<'a, K, V> {
 }
 
 impl<'a, K, V> Live<'a, K, V> {
-    /// The pair.
+    /// Returns the pair.
     #[inline(always)]
     pub fn pair(&self) -> &'a Pair<K, V>
         ensures { result.now ≡ self.now.stored.value }
@@ -80,7 +80,7 @@ impl<'a, K, V> Live<'a, K, V> {
         self.pair
     }
 
-    /// Where it was met.
+    /// Returns where it was met.
     #[inline(always)]
     pub fn met(&self) -> &Met<K, V>
         ensures { result.now ≡ self.now }
@@ -88,7 +88,7 @@ impl<'a, K, V> Live<'a, K, V> {
         &self.met
     }
 
-    /// Where it was met, alone.
+    /// Returns where it was met, without the pair.
     pub fn into_met(self) -> Met<K, V>
         ensures { result ≡ self.entry }
     {
@@ -97,10 +97,10 @@ impl<'a, K, V> Live<'a, K, V> {
     }
 }
 
-/// Where a turn of a search leads a call.
+/// The result of one turn of a search.
 #[derive(Drop)]
 pub enum Turn<M> {
-    /// This place is looked at next.
+    /// The search looks at this place next.
     Next(Place),
     /// This place is empty, and no pair has the key.
     Empty(Place),
@@ -112,7 +112,7 @@ pub enum Turn<M> {
     Else,
 }
 
-/// Where a search goes on that has met no pair of the key.
+/// Returns where a search continues that has met no pair of the key.
 #[inline(always)]
 fn without<M>(seen: Probed) -> Turn<M>
     ensures { result ≡ turn_of seen }
@@ -125,7 +125,7 @@ fn without<M>(seen: Probed) -> Turn<M>
     }
 }
 
-/// Has the pair a key that equals this one? None where its value is another pair's.
+/// Returns whether the pair's key equals this one, or `None` if its value is another pair's.
 #[inline(always)]
 fn has_key<K: Hash + Eq, V, S: BuildHasher>(
     book: &Book<K, V, S>,
@@ -179,8 +179,8 @@ fn read_at<'a, K: Hash + Eq, V, S: BuildHasher>(
     without(seen)
 }
 
-/// Looks at one place of a table: loads its hint, and its word where the hint says nothing or is
-/// the key's.
+/// Looks at one place of a table: loads its hint, and its word if the hint says nothing or is the
+/// key's.
 #[inline(always)]
 fn look_at<'a, K: Hash + Eq, V, S: BuildHasher>(
     window: &mut Window<'a, K, V, S>,
@@ -207,8 +207,8 @@ fn look_at<'a, K: Hash + Eq, V, S: BuildHasher>(
     read_at(window, key, table, at)
 }
 
-/// Where a pair of the key may be put in, as one search of a table sees it: at an empty place, or
-/// in place of a live pair of the key.
+/// Searches one table for where a pair of the key may be put in: an empty place, or the place of a
+/// live pair of the key.
 #[inline(always)]
 fn seek<'a, K: Hash + Eq, V, S: BuildHasher>(
     window: &mut Window<'a, K, V, S>,
@@ -233,7 +233,7 @@ fn seek<'a, K: Hash + Eq, V, S: BuildHasher>(
     }
 }
 
-/// The first place from this one on that a turn of the search does not lead past.
+/// Returns the first place, from this one on, that the search does not pass.
 pub(crate) fn pass_over<K: Hash + Eq, V, S: BuildHasher>(
     window: &mut Window<'_, K, V, S>,
     key: &K,
@@ -263,14 +263,14 @@ pub(crate) fn pass_over<K: Hash + Eq, V, S: BuildHasher>(
     }
 }
 
-/// Where a search of the root has led a call.
+/// The end of a search of the root.
 #[derive(Drop)]
 pub struct Spot<'a, K: Hash + Eq, V, S: BuildHasher> {
     pub table: &'a Table<K, V, S>,
     pub turn: Turn<Live<'a, K, V>>,
 }
 
-/// Where a pair of the key may be put in, as the search of the root sees it.
+/// Searches the root for where a pair of the key may be put in.
 #[inline(always)]
 pub fn find_place<'a, K: Hash + Eq, V, S: BuildHasher>(
     window: &mut Window<'a, K, V, S>,
@@ -294,18 +294,18 @@ pub fn find_place<'a, K: Hash + Eq, V, S: BuildHasher>(
     Some(Spot { table, turn })
 }
 
-/// What came of a pair that was logged for a place that a search had found.
+/// The outcome of an attempt to store a pair at a place that a search found.
 #[derive(Drop)]
 pub enum Tried<K, V, B> {
     /// It was put in.
     Put(Stored<K, V>),
-    /// Another word stands there by now.
+    /// Another word is there now.
     Lost(Stored<K, V>),
-    /// It was not logged, since the arena of pairs has no slot at hand: what was handed in.
+    /// It was not stored, since the arena of pairs has no free slot: what was passed in.
     Back(B),
 }
 
-/// Logs a pair and tries to claim for it the empty place that a search has found.
+/// Stores a pair, and tries to claim for it the empty place that a search has found.
 #[inline(always)]
 pub fn claim<K: Hash + Eq + Drop, V: Drop, S: BuildHasher>(
     shard: &Shard<'_>,
@@ -342,9 +342,9 @@ pub fn claim<K: Hash + Eq + Drop, V: Drop, S: BuildHasher>(
     Tried::Put(pair)
 }
 
-/// Logs a pair with the key that a search has met, and tries to put it in the place of the pair
-/// that has that. The number of that pair picks the lane, so that a key which is replaced often
-/// takes slots of all lanes.
+/// Stores a pair with the key that a search has met, and tries to replace the pair of that key by
+/// it. The number of that pair picks the lane, so that a key which is replaced often takes slots of
+/// all lanes.
 #[inline(always)]
 pub fn replace<K: Hash + Eq + Drop, V: Drop, S: BuildHasher>(
     window: &mut Window<'_, K, V, S>,
@@ -378,9 +378,9 @@ pub fn replace<K: Hash + Eq + Drop, V: Drop, S: BuildHasher>(
     Tried::Put(pair)
 }
 
-/// Tries to exchange the word of a slot, which names this pair, for its buried word: the word
-/// that was found there, and the pair that it names. Where the exchange was made, the count has one
-/// pair less, and the pair that went is this one.
+/// Tries to exchange the word of a slot, which names this pair, for its buried word. Returns the
+/// word found, and the pair that it names. If the exchange is made, the count has one pair less,
+/// and the pair that was removed is this one.
 #[inline(always)]
 pub fn bury_slot<K: Hash + Eq, V, S: BuildHasher>(
     shard: &Shard<'_>,
@@ -414,8 +414,8 @@ pub fn bury_slot<K: Hash + Eq, V, S: BuildHasher>(
     (found, before)
 }
 
-/// Tries to bury the pair that a search has met: whether its word stood
-/// there still. The count then has one pair less, and the pair that went is the one that was met.
+/// Tries to bury the pair that a search has met; returns whether its word was still there. The
+/// count then has one pair less, and the pair that was removed is the one that was met.
 #[inline(always)]
 pub(crate) fn bury_met<K: Hash + Eq, V, S: BuildHasher>(
     shard: &Shard<'_>,
@@ -438,8 +438,8 @@ pub(crate) fn bury_met<K: Hash + Eq, V, S: BuildHasher>(
     found == word
 }
 
-/// Tries to delete the live pair that a compute's search has met: whether its word stood there
-/// still.
+/// Tries to remove the live pair that a compute's search has met; returns whether its word was
+/// still there.
 #[inline(always)]
 pub fn bury<K: Hash + Eq, V, S: BuildHasher>(
     shard: &Shard<'_>,
@@ -456,8 +456,8 @@ pub fn bury<K: Hash + Eq, V, S: BuildHasher>(
     bury_met(shard, window, table, met)
 }
 
-/// Inserts a pair at the empty place that a search has found for it. Where another word stands
-/// there by now, its machine begins.
+/// Inserts a pair at the empty place that a search has found for it. If another word is there now,
+/// its machine begins.
 #[inline(always)]
 fn claim_at<'a, R: Wait, K: Hash + Eq + Drop, V: Drop, S: BuildHasher>(
     means: &Means<'_, '_, R>,
@@ -487,9 +487,8 @@ fn claim_at<'a, R: Wait, K: Hash + Eq + Drop, V: Drop, S: BuildHasher>(
     }
 }
 
-/// Inserts a pair with the key that a search has met in the place of the pair that has that: the
-/// value that it had. The key that was handed in goes. Where another word stands there by now, its
-/// machine begins.
+/// Replaces the pair that a search has met by one with its key; returns the old value. The key that
+/// was passed in is dropped. If another word is there now, its machine begins.
 #[inline(always)]
 fn replace_at<'a, R: Wait, K: Hash + Eq + Drop, V: Drop, S: BuildHasher>(
     means: &Means<'_, '_, R>,
@@ -526,9 +525,9 @@ fn replace_at<'a, R: Wait, K: Hash + Eq + Drop, V: Drop, S: BuildHasher>(
     }
 }
 
-/// Inserts a pair: the value that its key had. Where it is refused for want of room, `given` tells
-/// the number that a full log of tables gave, or the sum of the count that makes a next table too
-/// long.
+/// Inserts a pair; returns the value that its key had. If it fails with `Refused::Capacity`,
+/// `given` records the number that a full arena of tables gave, or the sum of the count that makes
+/// a next table too long.
 pub fn insert<'a, R: Wait, K: Hash + Eq + Drop, V: Drop, S: BuildHasher>(
     rt: &R,
     alloc: Global,
@@ -554,10 +553,10 @@ pub fn insert<'a, R: Wait, K: Hash + Eq + Drop, V: Drop, S: BuildHasher>(
         initial,
         shard,
     };
-    // The root is searched for the key's pair or an empty place. The new pair is logged first, and
-    // then one exchange puts it there, by which the insertion takes effect. Where a limit asks for
-    // a number, the root has no place, pairs are being moved or the exchange is lost, the machine
-    // of the call does it step by step.
+    // Searches the root for the key's pair or an empty place. The new pair is stored first, and
+    // then one exchange puts it there, by which the insertion takes effect. If a limit requires a
+    // number, the root has no place, pairs are being moved or the exchange is lost, the machine of
+    // the call does it step by step.
     if window.book.parts.limit.is_some() {
         return insert_slow(&means, window, given, key, value);
     }

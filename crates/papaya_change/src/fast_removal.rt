@@ -1,5 +1,5 @@
-//! Removals whose pair a lookup's search finds live: it is deleted at once. The machine stands in
-//! the proof.
+//! Removals whose pair a lookup's search finds live: it is removed at once. Only the proof has the
+//! machine.
 ghost use Rattle.papaya_change.specs.Window.Ends.{Ends};
 ghost use Rattle.std.specs.Int.{IsPowerOfTwo};
 ghost use Rattle.papaya_call.specs.Made.{IsLimit};
@@ -18,8 +18,8 @@ use papaya_words::word::{Kind, Word};
 use std::hash::{BuildHasher, Hash};
 use std::sync::Wait;
 
-/// A limit on pairs is a number of 64 bits, which no clause of the book says. No code is left
-/// of this.
+/// States that a limit on pairs is a number of 64 bits, which no clause of the book does. No code
+/// is left of this.
 #[inline(always)]
 fn fits(limit: Option<u64>)
     ensures { IsLimit limit }
@@ -39,12 +39,12 @@ fn help<R: Wait, K: Hash + Eq, V, S: BuildHasher>(
     }
 }
 
-/// Finds a key's pair by a lookup's search, shows it to the closure where it is live, and deletes
-/// it if that agrees. None where the pair is being moved, or another word stands in its place by
-/// then: the closure may have been shown a pair all the same.
+/// Finds a key's pair by a lookup's search, calls the closure with it if it is live, and removes it
+/// if the closure returns true. Returns `None` if the pair is being moved or another word is in its
+/// place; the closure may have been called all the same.
 ///
-/// Where the pair stood in a later table than the root, a chunk of the root is copied. Else maps
-/// whose pairs are removed would stay in their resize, and search two tables each time.
+/// If the pair was in a later table than the root, it copies a chunk of the root. Otherwise maps
+/// that only remove pairs would stay in their resize, and search two tables each time.
 #[inline(always)]
 pub fn remove_fast<
     'a,

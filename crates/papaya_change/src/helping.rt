@@ -1,5 +1,5 @@
-//! A call that is set aside makes a next table or copies the root, and goes on then. What it asks
-//! for that a copier answers.
+//! A call that is set aside makes a next table or copies the root, and then continues. A copier
+//! performs what it asks for in between.
 ghost use Rattle.std.specs.Prelude.{◌≡◌, ◌≢◌, ℕ, MatchOption};
 ghost use Rattle.papaya_chain.specs.Machine.{IsFit, IsStanding, ask_of};
 ghost use Rattle.papaya_chain.specs.declared.ask.Ask.TheVariants.{Copy};
@@ -30,9 +30,9 @@ use std::hash::{BuildHasher, Hash};
 use std::sync::{MutexGuard, Wait};
 
 impl<'a, K: Hash + Eq, V, S: BuildHasher> Driver<'a, K, V, S> {
-    /// Copies for a call that is set aside, until it goes on for itself: in a next table, at the
-    /// root, or at its end, where a table could not be made. One that is not set aside stays as
-    /// it is.
+    /// Copies for a call that is set aside, until it continues for itself. It does so in a next
+    /// table, at the root, or at its end if a table could not be made. A call that is not set aside
+    /// stays as it is.
     #[inline(always)]
     pub fn help<R: Wait>(
         &mut self,
@@ -55,7 +55,7 @@ impl<'a, K: Hash + Eq, V, S: BuildHasher> Driver<'a, K, V, S> {
         self.help_set_aside(rt, alloc, shard, window);
     }
 
-    /// Copies until the call goes on for itself. It is a function of its own, so that a call that
+    /// Copies until the call continues for itself. It is a function of its own, so that a call that
     /// is not set aside pays nothing for it.
     #[inline(never)]
     fn help_set_aside<R: Wait>(
@@ -73,8 +73,8 @@ impl<'a, K: Hash + Eq, V, S: BuildHasher> Driver<'a, K, V, S> {
         ensures rest { (self.new.taken ≡ self.old.taken) × (self.new.put ≡ self.old.put) }
     {
         self.machine.number = shard.count().next_start();
-        // The turn to make a next table, until that is linked. Where it is refused the copy ends,
-        // and the turn goes with it.
+        // Keeps the turn to make a next table, until that is linked. If it fails, the copy ends,
+        // and the turn with it.
         let mut making: Option<MutexGuard<'a, ()>> = None;
         for _ in rt.forever() {
             let Ask::Copy(ask) = self.machine.ask() else {
@@ -87,7 +87,7 @@ impl<'a, K: Hash + Eq, V, S: BuildHasher> Driver<'a, K, V, S> {
         unreachable!()
     }
 
-    /// Holds the table in which the call is to look for its key, where a copy has led it to one.
+    /// Holds the table in which the call is to search for its key, if a copy has led it to one.
     fn arrive(&mut self, window: &mut Window<'a, K, V, S>)
         requires lawful { IsLawful window.old }
         requires come { (n : ℕ) → IsEntering self.old.machine n → HasCome window.old n }
@@ -108,8 +108,8 @@ impl<'a, K: Hash + Eq, V, S: BuildHasher> Driver<'a, K, V, S> {
         }
     }
 
-    /// Copies slots of a chunk one after another, where the first of them is looked at, and else
-    /// one step further: the answer to what is asked then.
+    /// Copies slots of a chunk one after another if the first of them is next, and else takes one
+    /// step; returns the answer to the next ask.
     fn copy_on<R: Wait>(
         &mut self,
         rt: &R,
@@ -141,8 +141,8 @@ impl<'a, K: Hash + Eq, V, S: BuildHasher> Driver<'a, K, V, S> {
         }
     }
 
-    /// Copies slots of the chunk, from the one that is looked at on: the answer to what is asked
-    /// where that ends.
+    /// Copies slots of the chunk, from the current one on; returns the answer to the ask after
+    /// them.
     fn copy_slots(&mut self, aim: Aim, chunk: Chunk, window: &mut Window<'a, K, V, S>) -> Answer
         requires standing { IsStanding self.old.machine }
         requires can { CanGoOn window.old self.old }
@@ -163,7 +163,7 @@ impl<'a, K: Hash + Eq, V, S: BuildHasher> Driver<'a, K, V, S> {
         answer
     }
 
-    /// The answer to what is asked for a copy.
+    /// Performs an ask of a copy, and returns the answer.
     fn copy<R: Wait>(
         &mut self,
         rt: &R,

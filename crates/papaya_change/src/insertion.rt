@@ -1,4 +1,4 @@
-//! Insertions: their machine, answered by steps on the book.
+//! Insertions: their machine, whose asks are performed by steps on the book.
 ghost use Rattle.papaya_change.specs.Window.Ends.{Ends, TellsWhy};
 ghost use Rattle.papaya_lookup.specs.Drivers.{past};
 ghost use Rattle.papaya_lookup.specs.History.{key_of};
@@ -46,8 +46,8 @@ use std::alloc::Global;
 use std::hash::{BuildHasher, Hash};
 use std::sync::Wait;
 
-/// An insertion under way, with the pair of its own key that it made, and the last that it made of
-/// a key that it met.
+/// An insertion under way, with the pair of its own key that it made, and the last pair that it
+/// made with a key that it met.
 #[derive(Drop)]
 pub struct Insertion<'a, K: Hash + Eq, V, S: BuildHasher> {
     writer: Writer<'a, K, V, S>,
@@ -56,7 +56,7 @@ pub struct Insertion<'a, K: Hash + Eq, V, S: BuildHasher> {
 }
 
 impl<'a, K: Hash + Eq + Drop, V: Drop, S: BuildHasher> Insertion<'a, K, V, S> {
-    /// An insertion of this key and value, which begins at the root and has made no pair.
+    /// Begins an insertion of this key and value at the root; it has made no pair.
     #[inline(always)]
     fn begin<R: Wait>(
         means: &Means<'_, '_, R>,
@@ -86,7 +86,7 @@ impl<'a, K: Hash + Eq + Drop, V: Drop, S: BuildHasher> Insertion<'a, K, V, S> {
         }
     }
 
-    /// Logs the pair of the call's key and the value.
+    /// Stores the pair of the call's key and the value.
     fn make_pair<R: Wait>(&mut self, rt: &R, window: &Window<'a, K, V, S>) -> Answer
         requires standing { IsStanding self.old.writer.call.machine }
         requires can { CanInsert window.now self.old }
@@ -104,7 +104,7 @@ impl<'a, K: Hash + Eq + Drop, V: Drop, S: BuildHasher> Insertion<'a, K, V, S> {
         }
     }
 
-    /// Logs the pair of the value and the key that was met.
+    /// Stores the pair of the value and the key that was met.
     fn make_pair_of<R: Wait>(&mut self, rt: &R, window: &Window<'a, K, V, S>) -> Answer
         requires standing { IsStanding self.old.writer.call.machine }
         requires can { CanInsert window.now self.old }
@@ -122,7 +122,7 @@ impl<'a, K: Hash + Eq + Drop, V: Drop, S: BuildHasher> Insertion<'a, K, V, S> {
         }
     }
 
-    /// Tries to put a pair into a slot: of the call's own key where that is empty, and else of the
+    /// Tries to put a pair into a slot: of the call's own key if it is empty, and otherwise of the
     /// key that is there.
     fn put(
         &mut self,
@@ -148,7 +148,7 @@ impl<'a, K: Hash + Eq + Drop, V: Drop, S: BuildHasher> Insertion<'a, K, V, S> {
         self.writer.put(number, place, words, of, window)
     }
 
-    /// The answer to what the machine asks. None where it has replied.
+    /// Performs what the machine asks for. Returns `None` once it has replied.
     fn answer<R: Wait>(
         &mut self,
         rt: &R,
@@ -199,7 +199,7 @@ impl<'a, K: Hash + Eq + Drop, V: Drop, S: BuildHasher> Insertion<'a, K, V, S> {
         }
     }
 
-    /// What the insertion answers that has replied: the value that its key had.
+    /// Returns the result of an insertion that has replied: the value that its key had.
     fn replied(&self, window: &Window<'a, K, V, S>) -> Result<Option<&'a V>, Refused>
         requires standing { IsStanding self.now.writer.call.machine }
         requires can { CanInsert window.now self.now }
@@ -222,8 +222,8 @@ impl<'a, K: Hash + Eq + Drop, V: Drop, S: BuildHasher> Insertion<'a, K, V, S> {
     }
 }
 
-/// Runs an insertion under way to its end, which has not changed the map yet: the value that its
-/// key had.
+/// Runs an insertion to its end that has not changed the map yet; returns the value that its key
+/// had.
 fn drive<'a, R: Wait, K: Hash + Eq + Drop, V: Drop, S: BuildHasher>(
     means: &Means<'_, '_, R>,
     window: &mut Window<'a, K, V, S>,
@@ -261,9 +261,9 @@ fn drive<'a, R: Wait, K: Hash + Eq + Drop, V: Drop, S: BuildHasher>(
     unreachable!()
 }
 
-/// Inserts a pair by its machine: the value that its key had. Where it is refused for want of room,
-/// `given` tells the number that a full log of tables gave, or the sum of the count that makes a
-/// next table too long.
+/// Inserts a pair by its machine; returns the value that its key had. If it fails with
+/// `Refused::Capacity`, `given` records the number that a full arena of tables gave, or the sum of
+/// the count that makes a next table too long.
 pub(crate) fn insert_slow<'a, R: Wait, K: Hash + Eq + Drop, V: Drop, S: BuildHasher>(
     means: &Means<'_, '_, R>,
     window: &mut Window<'a, K, V, S>,
@@ -287,8 +287,8 @@ pub(crate) fn insert_slow<'a, R: Wait, K: Hash + Eq + Drop, V: Drop, S: BuildHas
     drive(means, window, given, insertion)
 }
 
-/// Inserts a pair by its machine, whose search of this table has found no place for the key: the
-/// value that its key had.
+/// Inserts a pair by its machine, whose search of this table has found no place for the key;
+/// returns the value that its key had.
 pub(crate) fn insert_onward<'a, R: Wait, K: Hash + Eq + Drop, V: Drop, S: BuildHasher>(
     means: &Means<'_, '_, R>,
     window: &mut Window<'a, K, V, S>,
@@ -318,7 +318,7 @@ pub(crate) fn insert_onward<'a, R: Wait, K: Hash + Eq + Drop, V: Drop, S: BuildH
     drive(means, window, given, insertion)
 }
 
-/// Inserts a pair that lies in the log, with its key, by its machine: the value that its key had.
+/// Inserts a pair that is in the arena, with its key, by its machine; returns the key's old value.
 pub(crate) fn insert_logged<'a, R: Wait, K: Hash + Eq + Drop, V: Drop, S: BuildHasher>(
     means: &Means<'_, '_, R>,
     window: &mut Window<'a, K, V, S>,
@@ -349,8 +349,8 @@ pub(crate) fn insert_logged<'a, R: Wait, K: Hash + Eq + Drop, V: Drop, S: BuildH
     drive(means, window, given, insertion)
 }
 
-/// Inserts the value of a pair that lies in the log, with a key that was met in the slot of this
-/// write, by its machine: the value that the call's key had.
+/// Inserts the value of a pair in the arena by its machine, with a key met in the slot of this
+/// write; returns the value that the call's key had.
 pub(crate) fn insert_met<'a, R: Wait, K: Hash + Eq + Drop, V: Drop, S: BuildHasher>(
     means: &Means<'_, '_, R>,
     window: &mut Window<'a, K, V, S>,

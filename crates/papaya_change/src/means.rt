@@ -1,10 +1,10 @@
-//! What a changing call is made with.
+//! The means of a changing call.
 use papaya_book::count::Shard;
 use std::alloc::Global;
 use std::sync::Wait;
 
-/// What a changing call is made with: what it may wait by, where it has memory from, how long the
-/// map's first table is to be, and the shard of the count that it adds to.
+/// The means of a changing call: the runtime that it waits by, its allocator, the first table's
+/// length, and the shard of the count that it adds to.
 #[derive(Drop)]
 pub struct Means<'m, 's, R: Wait> {
     pub rt: &'m R,

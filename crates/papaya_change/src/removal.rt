@@ -1,5 +1,5 @@
-//! Removals: by a lookup's search where it finds their pair live, and else their machine, answered
-//! by steps on the book and by a closure.
+//! Removals: by a lookup's search if it finds their pair live. Otherwise by their machine, whose
+//! asks are performed by steps on the book and by a closure.
 ghost use Rattle.papaya_change.specs.Window.Ends.{Ends};
 ghost use Rattle.papaya_lookup.specs.Drivers.{past};
 ghost use Rattle.papaya_lookup.specs.History.{key_of};
@@ -40,14 +40,14 @@ use std::alloc::Global;
 use std::hash::{BuildHasher, Hash};
 use std::sync::Wait;
 
-/// A removal under way, with the pair that its closure was shown last.
+/// A removal under way, with the pair that its closure was called with last.
 #[derive(Drop)]
 pub struct Removal<'a, K: Hash + Eq, V, S: BuildHasher> {
     call: Driver<'a, K, V, S>,
     shown: Option<Stored<K, V>>,
 }
 
-/// The key and the value of a pair.
+/// Returns the key and the value of a pair.
 #[inline(always)]
 pub fn entry<'a, K: Hash + Eq, V, S: BuildHasher>(
     book: &'a Book<K, V, S>,
@@ -59,7 +59,7 @@ pub fn entry<'a, K: Hash + Eq, V, S: BuildHasher>(
     book.entry(book.pair(stored))
 }
 
-/// The value of a pair.
+/// Returns the value of a pair.
 #[inline(always)]
 pub fn value_of<'a, K: Hash + Eq, V, S: BuildHasher>(
     book: &'a Book<K, V, S>,
@@ -72,7 +72,7 @@ pub fn value_of<'a, K: Hash + Eq, V, S: BuildHasher>(
 }
 
 impl<'a, K: Hash + Eq, V, S: BuildHasher> Removal<'a, K, V, S> {
-    /// Does the key match that of the pair last loaded?
+    /// Returns whether the key matches that of the pair last loaded.
     fn same<Q: Equivalent<K>>(&self, key: &Q, window: &Window<'a, K, V, S>) -> Answer
         requires last { HasLast window.now self.now.call }
         ensures same { (p : _) → self.now.call.copier.last ≡ Some p
@@ -85,7 +85,7 @@ impl<'a, K: Hash + Eq, V, S: BuildHasher> Removal<'a, K, V, S> {
         Answer::Yes(key.equivalent(book.key(book.pair(last))))
     }
 
-    /// Calls the closure with the pair last loaded, and keeps that.
+    /// Calls the closure with the pair last loaded, and keeps that pair.
     fn show<F: FnMut(&K, &V) -> bool>(
         &mut self,
         agrees: &mut F,
@@ -105,7 +105,7 @@ impl<'a, K: Hash + Eq, V, S: BuildHasher> Removal<'a, K, V, S> {
         Answer::Yes(agreed)
     }
 
-    /// The answer to what the machine asks. None where it has replied.
+    /// Performs what the machine asks for. Returns `None` once it has replied.
     fn answer<Q: Equivalent<K>, F: FnMut(&K, &V) -> bool>(
         &mut self,
         shard: &Shard<'_>,
@@ -145,8 +145,8 @@ impl<'a, K: Hash + Eq, V, S: BuildHasher> Removal<'a, K, V, S> {
                 Some(Answer::Ok)
             }
             CallAsk::Done(_) => None,
-            // A removal shows only a pair, makes no key and no pair, fills no slot and opens
-            // no table.
+            // A removal only shows a pair to its closure: it makes no key and no pair, fills no
+            // slot and opens no table.
             CallAsk::ShowNone
             | CallAsk::WriteHint(_, _, _)
             | CallAsk::Exchange(_, _, _)
@@ -158,7 +158,7 @@ impl<'a, K: Hash + Eq, V, S: BuildHasher> Removal<'a, K, V, S> {
         }
     }
 
-    /// What the removal answers that has replied.
+    /// Returns the result of a removal that has replied.
     fn replied(
         &self,
         window: &Window<'a, K, V, S>,
@@ -186,7 +186,7 @@ impl<'a, K: Hash + Eq, V, S: BuildHasher> Removal<'a, K, V, S> {
     }
 }
 
-/// Removes a key's pair if the closure agrees, as the removal's machine asks.
+/// Removes a key's pair if the closure returns true, as the removal's machine asks.
 #[inline(never)]
 pub fn remove_slow<
     'a,
@@ -240,10 +240,11 @@ pub fn remove_slow<
     unreachable!()
 }
 
-/// Removes a key's pair if the closure agrees. The pair is found by a lookup's search, and deleted
-/// at once where it is found live; where it is not, or another call was there first, the removal's
-/// machine begins. Where that is refused for want of room while it helps to copy, `given` tells the
-/// number that a full log of tables gave, or the sum of the count that makes a next table too long.
+/// Removes a key's pair if the closure returns true. A lookup's search finds the pair, which is
+/// removed at once if it is live. Otherwise, or if another call was first, the removal's machine
+/// begins. It may fail with `Refused::Capacity` as it helps to copy. Then `given` records the
+/// number that a full arena of tables gave, or the sum of the count that makes a next table too
+/// long.
 pub fn remove<
     'a,
     R: Wait,

@@ -1,4 +1,4 @@
-//! Calls that resize the shared map and change no pair of it: their machine, answered by a copier.
+//! Calls that resize the map and change no pair of it: their machine, whose copier acts for it.
 ghost use Rattle.std.specs.Prelude.{◌≡◌, ℕ, IfErr, IfOk, Some, None, Err};
 ghost use Rattle.std.specs.Int.{IsPowerOfTwo};
 ghost use Rattle.papaya_chain.specs.Machine.{IsFit};
@@ -40,7 +40,7 @@ pub struct Resizing<K: Hash + Eq, V, S: BuildHasher> {
 }
 
 impl<K: Hash + Eq, V, S: BuildHasher> Resizing<K, V, S> {
-    /// The answer to what the machine asks.
+    /// Performs what the machine asks for, and returns the answer.
     fn answer<'a, R: Wait>(
         &mut self,
         rt: &R,
@@ -72,7 +72,7 @@ impl<K: Hash + Eq, V, S: BuildHasher> Resizing<K, V, S> {
         }
     }
 
-    /// The answer to what it asks, where no table is opened.
+    /// Performs what it asks for, if no table is opened, and returns the answer.
     fn copy<'a, R: Wait>(
         &mut self,
         rt: &R,
@@ -100,8 +100,8 @@ impl<K: Hash + Eq, V, S: BuildHasher> Resizing<K, V, S> {
         self.copier.answer(rt, alloc, shard, asked, making, window)
     }
 
-    /// Copies slots of the chunk, from the one that is looked at on: the answer to what is asked
-    /// where that ends.
+    /// Copies slots of the chunk, from the current one on; returns the answer to the ask after
+    /// them.
     fn copy_slots<'a>(
         &mut self,
         from: u64,
@@ -127,7 +127,7 @@ impl<K: Hash + Eq, V, S: BuildHasher> Resizing<K, V, S> {
         answer
     }
 
-    /// Tries to make the table that was made the root.
+    /// Tries to make the new table the root.
     fn open<'a>(&mut self, window: &mut Window<'a, K, V, S>) -> Answer
         requires standing { IsStandingResizer self.old.machine }
         requires can { CanResize window.old self.old }
@@ -145,7 +145,7 @@ impl<K: Hash + Eq, V, S: BuildHasher> Resizing<K, V, S> {
         tried(found, 0)
     }
 
-    /// How one has ended.
+    /// Returns the result of a call that has replied.
     fn replied(&self) -> Result<(), Refused>
         requires { ask_of self.now.machine ≡ None }
         ensures done { IfOk result (λ _. self.now.machine.state ≡ Done) }
@@ -159,9 +159,9 @@ impl<K: Hash + Eq, V, S: BuildHasher> Resizing<K, V, S> {
     }
 }
 
-/// Resizes the map, and changes no pair. `given` tells the sum of the count beside which there is
-/// room then. Where it is refused for want of room, it tells the number that a full log of tables
-/// gave, or the sum that makes a table too long.
+/// Resizes the map, and changes no pair. `given` then records the sum of the count beside which
+/// there is room. If it fails with `Refused::Capacity`, `given` records the number that a full
+/// arena of tables gave, or the sum that makes a table too long.
 pub fn resize<'a, R: Wait, K: Hash + Eq, V, S: BuildHasher>(
     rt: &R,
     alloc: Global,
@@ -200,8 +200,8 @@ pub fn resize<'a, R: Wait, K: Hash + Eq, V, S: BuildHasher>(
     unreachable!()
 }
 
-/// Copies a chunk of the root, if the root is being copied. A caller whose call is done helps so.
-/// Where that is refused, the copy is left to the next caller.
+/// Copies a chunk of the root, if the root is being copied. A caller helps so after its own call.
+/// If that fails, the copy is left to the next caller.
 #[cold]
 #[inline(never)]
 pub(crate) fn copy_chunk<R: Wait, K: Hash + Eq, V, S: BuildHasher>(

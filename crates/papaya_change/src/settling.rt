@@ -1,5 +1,5 @@
-//! Slots of a chunk that are copied one after another, as long as no other caller is met. The
-//! machine stands in the proof.
+//! Copies the slots of a chunk one after another, as long as no other caller is met. Only the proof
+//! has the machine.
 ghost use Rattle.std.specs.Prelude.{◌≡◌, List, None};
 ghost use mathlib.Core.List.{IsPrefix};
 ghost use Rattle.papaya_ask.specs.Search.{IsWithin};
@@ -29,19 +29,19 @@ use papaya_words::probe::ResizeMode;
 use papaya_words::word::{Kind, SHUT, Word, hint};
 use std::hash::{BuildHasher, Hash};
 
-/// Where the copy of a slot was left, with the answer to what it asked there.
+/// The point where the copy of a slot stopped, with the answer to its ask there.
 #[derive(Drop)]
 pub struct Halt {
     pub settle: Settle,
     pub answer: Answer,
 }
 
-/// Where a look at a place of the next table leads.
+/// The result of looking at a place of the next table.
 #[derive(Drop)]
 pub enum Look {
-    /// This place is looked at next.
+    /// The search looks at this place next.
     Next(Place),
-    /// The slot is settled, or its copy was left.
+    /// The slot is migrated, or its copy stopped.
     Left(Option<Halt>),
 }
 
@@ -54,7 +54,7 @@ pub struct Site<'a, K: Hash + Eq, V, S: BuildHasher> {
     pub mode: ResizeMode,
 }
 
-/// This word, with its pair marked.
+/// Returns this word, with its pair marked.
 #[inline(always)]
 fn with_mark(word: u64) -> u64
     ensures { result ≡ marked_as word }
@@ -62,7 +62,7 @@ fn with_mark(word: u64) -> u64
     Word::marked(Word(word).pair()).0
 }
 
-/// This word, which is marked, with its pair copied.
+/// Returns this word, which is marked, with its pair copied.
 #[inline(always)]
 fn with_copy(marked: u64) -> u64
     ensures { result ≡ copied_as marked }
@@ -70,7 +70,7 @@ fn with_copy(marked: u64) -> u64
     Word::copied(Word(marked).pair()).0
 }
 
-/// The word of the pair that this one names, as it is put into the next table.
+/// Returns the word of the pair that this one names, as it is put into the next table.
 #[inline(always)]
 fn with_life(marked: u64) -> u64
     ensures { result ≡ live_word (pair_of marked) }
@@ -79,8 +79,8 @@ fn with_life(marked: u64) -> u64
 }
 
 impl<K: Hash + Eq, V, S: BuildHasher> Copier<K, V, S> {
-    /// The pair was put into a table that takes it, so the slot's word is to say so. Where another
-    /// word stands there, it says so by now.
+    /// Sets the slot's word to copied, after its pair was put into a next table. If another word is
+    /// there, another caller did it.
     #[inline(always)]
     fn finish<'a>(
         &mut self,
@@ -109,7 +109,7 @@ impl<K: Hash + Eq, V, S: BuildHasher> Copier<K, V, S> {
         None
     }
 
-    /// Puts the pair that is carried into this place, which is empty, its hint last.
+    /// Puts the pair that moves into this place, which is empty, and writes its hint last.
     #[inline(always)]
     fn fill<'a>(
         &mut self,
@@ -149,7 +149,7 @@ impl<K: Hash + Eq, V, S: BuildHasher> Copier<K, V, S> {
         }
     }
 
-    /// Puts the pair that is carried into this place, if it is empty.
+    /// Puts the pair that moves into this place, if it is empty.
     #[inline(always)]
     fn put<'a>(
         &mut self,
@@ -181,7 +181,7 @@ impl<K: Hash + Eq, V, S: BuildHasher> Copier<K, V, S> {
         self.fill(site, to, marked, hash, place, window)
     }
 
-    /// Looks at one place of the next table for the pair that is carried.
+    /// Looks at one place of the next table for the pair that moves.
     #[inline(always)]
     fn look<'a>(
         &mut self,
@@ -216,7 +216,7 @@ impl<K: Hash + Eq, V, S: BuildHasher> Copier<K, V, S> {
         }
     }
 
-    /// Looks for an empty place in the next table for the pair that is carried, from this one on.
+    /// Searches the next table for an empty place for the pair that moves, from this one on.
     #[inline(always)]
     fn seek<'a>(
         &mut self,
@@ -247,7 +247,7 @@ impl<K: Hash + Eq, V, S: BuildHasher> Copier<K, V, S> {
         }
     }
 
-    /// Carries the pair of the slot, which is marked, to the next table.
+    /// Moves the pair of the slot, which is marked, to the next table.
     #[inline(always)]
     fn transfer<'a>(
         &mut self,
@@ -271,7 +271,7 @@ impl<K: Hash + Eq, V, S: BuildHasher> Copier<K, V, S> {
         self.seek(site, to, marked, hash, first, window)
     }
 
-    /// Marks the pair of the slot, which this word names, and carries it to the next table.
+    /// Marks the pair of the slot, which this word names, and moves it to the next table.
     #[inline(always)]
     fn mark<'a>(
         &mut self,
@@ -306,7 +306,7 @@ impl<K: Hash + Eq, V, S: BuildHasher> Copier<K, V, S> {
         self.transfer(site, marked, window)
     }
 
-    /// Shuts the slot, which is empty, its hint last.
+    /// Closes the slot, which is empty, and writes its hint last.
     #[inline(always)]
     fn close<'a>(
         &mut self,
@@ -346,7 +346,7 @@ impl<K: Hash + Eq, V, S: BuildHasher> Copier<K, V, S> {
         None
     }
 
-    /// Copies a slot. It may have been seen before that its copy stands here.
+    /// Copies a slot. The caller may know already that its copy is at this step.
     #[inline(always)]
     fn settle<'a>(
         &mut self,
@@ -373,8 +373,8 @@ impl<K: Hash + Eq, V, S: BuildHasher> Copier<K, V, S> {
     }
 
     /// Copies the slots of a chunk from this one on, as long as no other caller is met and the
-    /// pairs find a place in the next table: where the copy stands then, and what it was
-    /// answered there.
+    /// pairs find a place in the next table. Returns where the copy is then, and the answer that it
+    /// got there.
     pub(crate) fn copy_slots<'a>(
         &mut self,
         aim: Aim,
@@ -392,10 +392,10 @@ impl<K: Hash + Eq, V, S: BuildHasher> Copier<K, V, S> {
         ensures ends { Ends window.old mode (at_slot aim chunk settles.Looking) self.old window.new
             self.new result }
     {
-        // An empty slot is closed, so that no pair comes to it. A live one is marked, so that no
-        // call changes its pair, the pair is put into the next table, and the slot says that it was
-        // copied. The chunk's word comes last: who reads 1 there need not look at its slots. Others
-        // may copy the chunk at once, and of each two exchanges one is lost.
+        // An empty slot is closed, so that no pair enters it. A live one is marked, so that no call
+        // changes its pair; the pair is put into the next table, and the slot is set to copied. The
+        // chunk's word comes last: a reader of 1 there need not look at its slots. Others may copy
+        // the chunk at the same time, and of each two exchanges one is lost.
         let table = window.table(chunk.cursor.from);
         let mut site = Site {
             table,

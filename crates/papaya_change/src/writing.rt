@@ -1,4 +1,4 @@
-//! What calls that insert have in common: their machine's asks, answered by steps on the book.
+//! The shared part of calls that insert: their machine's asks, performed by steps on the book.
 ghost use Rattle.papaya_book.specs.Windows.{IsIn};
 ghost use Rattle.papaya_change.specs.Window.LookingOn.{GoesOver};
 ghost use Rattle.papaya_change.specs.Window.Writing.{CanPut, CanWrite, Logs, MakesPart, Puts, Steps, Tries, Waits, Writes};
@@ -32,8 +32,8 @@ use std::alloc::Global;
 use std::hash::{BuildHasher, Hash};
 use std::sync::Wait;
 
-/// A call that inserts, under way: its key, and the value of the pair that it makes next. They are
-/// handed in, and are those of a pair once they went into the log with it.
+/// A call that inserts, under way: its key, and the value of the pair that it makes next. Both are
+/// passed in, and belong to a stored pair once they are in the arena with it.
 #[derive(Drop)]
 pub struct Writer<'a, K: Hash + Eq, V, S: BuildHasher> {
     pub call: Driver<'a, K, V, S>,
@@ -72,7 +72,7 @@ impl<'a, K: Hash + Eq + Drop, V: Drop, S: BuildHasher> Writer<'a, K, V, S> {
         Answer::Word(self.call.hint(number, place, window))
     }
 
-    /// Writes the hint of a slot, where it has none.
+    /// Writes the hint of a slot, if it has none.
     pub fn note(&self, number: u64, place: usize, hint: u8, window: &Window<'a, K, V, S>) -> Answer
         requires waits { Waits window.now self.now (WriteHint number place hint) }
         ensures steps { Steps window.now self.now window.now self.now result }
@@ -81,7 +81,7 @@ impl<'a, K: Hash + Eq + Drop, V: Drop, S: BuildHasher> Writer<'a, K, V, S> {
         Answer::Ok
     }
 
-    /// The size of the table.
+    /// Returns the size of the table.
     pub fn size(&self, window: &Window<'a, K, V, S>) -> Answer
         requires waits { (t : ℕ) × Waits window.now self.now (SizeOf t) }
         requires standing { IsStanding self.now.call.machine }
@@ -90,7 +90,7 @@ impl<'a, K: Hash + Eq + Drop, V: Drop, S: BuildHasher> Writer<'a, K, V, S> {
         self.call.size()
     }
 
-    /// Has the pair last loaded a key that equals the call's?
+    /// Returns whether the pair last loaded has a key that equals the call's.
     pub fn same(&self, window: &Window<'a, K, V, S>) -> Answer
         requires waits { (n : ℕ) × Waits window.now self.now (SameKey n) }
         requires standing { IsStanding self.now.call.machine }
@@ -109,7 +109,7 @@ impl<'a, K: Hash + Eq + Drop, V: Drop, S: BuildHasher> Writer<'a, K, V, S> {
         Answer::Yes(same)
     }
 
-    /// Where the call looks for its key in a table, has it go over the places that hold other keys.
+    /// Moves a call that searches a table for its key past the places with other keys.
     #[inline(always)]
     pub fn look_on(&mut self, window: &mut Window<'a, K, V, S>)
         requires can { CanWrite window.old self.old }
@@ -127,8 +127,8 @@ impl<'a, K: Hash + Eq + Drop, V: Drop, S: BuildHasher> Writer<'a, K, V, S> {
         }
     }
 
-    /// The key and the value go into the arena of pairs, with the first pair that has them, so that
-    /// nothing is made for them now. They have no number yet, and their machine asks for none.
+    /// Answers that the key and the value are made. They enter the arena with the first pair that
+    /// has them, so nothing is made now. They have no number yet, and their machine asks for none.
     pub fn make_part(&self) -> Answer
         requires asks { (ask_of self.now.call.machine ≡ Call MakeKey)
             ⊎ (ask_of self.now.call.machine ≡ Call MakeValue) }
@@ -139,8 +139,8 @@ impl<'a, K: Hash + Eq + Drop, V: Drop, S: BuildHasher> Writer<'a, K, V, S> {
         Answer::Made(0)
     }
 
-    /// Logs the pair of the call's key and the value, and hands it out. Where there is none, what
-    /// the machine is to be answered.
+    /// Stores the pair of the call's key and the value, and returns it. On failure it returns the
+    /// answer for the machine.
     pub fn log_pair<R: Wait>(
         &mut self,
         rt: &R,
@@ -171,8 +171,8 @@ impl<'a, K: Hash + Eq + Drop, V: Drop, S: BuildHasher> Writer<'a, K, V, S> {
         }
     }
 
-    /// Logs the pair of the value and the key of the pair last loaded, and hands it out. Where
-    /// there is none, what the machine is to be answered.
+    /// Stores the pair of the value and the key of the pair last loaded, and returns it. On failure
+    /// it returns the answer for the machine.
     pub fn log_pair_of<R: Wait>(
         &mut self,
         rt: &R,
@@ -203,7 +203,7 @@ impl<'a, K: Hash + Eq + Drop, V: Drop, S: BuildHasher> Writer<'a, K, V, S> {
         }
     }
 
-    /// The pair was logged that has the value, and is handed out.
+    /// Records that the pair with the value was stored, and returns it.
     fn hold(&mut self, pair: Stored<K, V>) -> Stored<K, V>
         ensures pair { result ≡ pair }
         ensures value { self.new ≡ record self.old { value = Some (ValuePart.Of pair) } }
@@ -247,7 +247,7 @@ impl<'a, K: Hash + Eq + Drop, V: Drop, S: BuildHasher> Writer<'a, K, V, S> {
         }
     }
 
-    /// Tries to make the table that was made the root.
+    /// Tries to make the new table the root.
     pub fn open(&mut self, window: &mut Window<'a, K, V, S>) -> Answer
         requires waits { (old : ℕ) × (new : ℕ) × Waits window.old self.old (Exchange Root old new) }
         requires standing { IsStanding self.old.call.machine }
@@ -293,7 +293,7 @@ impl<'a, K: Hash + Eq + Drop, V: Drop, S: BuildHasher> Writer<'a, K, V, S> {
         self.call.tried(words.0, found, before, Some(put))
     }
 
-    /// Tries to delete the pair that a slot holds.
+    /// Tries to remove the pair that a slot holds.
     pub fn bury(
         &mut self,
         number: u64,

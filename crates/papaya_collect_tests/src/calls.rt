@@ -1,6 +1,6 @@
-// Each call that takes memory for many keys, also while these are being moved, with each request
-// for memory refused to it in turn: it says so and leaves what was there, and then it succeeds.
-// What is told to refuse is the heap of `tests/refused.py`.
+// Each call that allocates for many keys, also while these are being moved, with each of its
+// requests for memory refused in turn. It fails and leaves what was there, and then it succeeds.
+// The heap of `tests/refused.py` is set to refuse.
 use crate::collection::{Collection, Maker, has_below};
 use crate::expect::is_at;
 use crate::keys::{END, Key, MODES, Pair, START};
@@ -14,7 +14,7 @@ use std::marker::PhantomData;
 use std::process::Abort;
 use std::sync::Wait;
 
-/// The calls, and those on one key of maps and sets alike.
+/// The calls, and the calls on one key that maps and sets share.
 #[derive(Clone, Copy)]
 enum Call {
     FromIter,
@@ -29,7 +29,7 @@ enum Call {
     Reserve,
     Clear,
     Retain,
-    /// Stores a key that is not there, or takes out one that is.
+    /// Stores an absent key, or removes one that is there.
     Store,
     TakeOut,
 }
@@ -51,10 +51,10 @@ const CALLS: [Call; 14] = [
     Call::TakeOut,
 ];
 
-/// The pairs of which one is made: of two with one key the later value stays.
+/// The entries of which a collection is made: of two with one key the later value stays.
 const ITEMS: [Pair; 3] = [(Key(0), 7), (Key(1), 10), (Key(0), 0)];
 
-/// One that a call makes, beside the one that is there.
+/// Returns the collection that a call makes beside the one that is there.
 fn make<R: Wait, C: Collection>(rt: &R, alloc: Global, it: &C, call: Call) -> Result<C, Refused> {
     match call {
         Call::FromIter => C::of_items(rt, alloc, ITEMS),
@@ -64,7 +64,7 @@ fn make<R: Wait, C: Collection>(rt: &R, alloc: Global, it: &C, call: Call) -> Re
     }
 }
 
-/// How many keys such a one has, made of one that has so many.
+/// Returns how many keys such a collection has, made of one with this many.
 fn keys_made(call: Call, keys: u64) -> u64 {
     match call {
         Call::FromIter | Call::FromArray => 2,
@@ -72,7 +72,7 @@ fn keys_made(call: Call, keys: u64) -> u64 {
     }
 }
 
-/// Makes a call that changes the one that is there.
+/// Makes a call that changes the collection that is there.
 fn change<R: Wait, C: Collection>(rt: &R, it: &mut C, call: Call) -> Result<(), Refused> {
     match call {
         Call::Extend => it.take(rt),
@@ -84,8 +84,8 @@ fn change<R: Wait, C: Collection>(rt: &R, it: &mut C, call: Call) -> Result<(), 
     }
 }
 
-/// Are all its keys below this one with their values, and are the even ones there, where
-/// these stay?
+/// Returns whether all its keys are below this one and have their values, and whether the even ones
+/// are there, if these stay.
 fn is_left<C: Collection>(it: &C, keys: u64, evens_stay: bool) -> bool {
     let mut left = 0u64;
     for key in 0..keys {
@@ -98,7 +98,7 @@ fn is_left<C: Collection>(it: &C, keys: u64, evens_stay: bool) -> bool {
     it.count() == left
 }
 
-/// Is it as such a call leaves one that had so many keys?
+/// Returns whether it is as such a call leaves a collection that had this many keys.
 fn is_changed<C: Collection>(it: &C, call: Call, keys: u64) -> bool {
     match call {
         Call::Extend | Call::ExtendRef => has_below(it, keys.max(END)),
@@ -108,26 +108,27 @@ fn is_changed<C: Collection>(it: &C, call: Call, keys: u64) -> bool {
     }
 }
 
-/// Stores the key after the ones that are there: was it new, and is it there?
+/// Stores the key after the ones that are there; returns whether it was new, and is there.
 fn stores<R: Wait, C: Collection>(rt: &R, it: &mut C, keys: u64) -> Result<bool, Refused> {
     let is_new = it.store(rt, (Key(keys), keys.wrapping_mul(10)))?;
     Ok(is_new && has_below(it, keys.wrapping_add(1)))
 }
 
-/// Takes the last key out: was it there, if any was, and is it gone?
+/// Removes the last key; returns whether it was there, if any was, and is gone.
 fn takes_out<R: Wait, C: Collection>(rt: &R, it: &mut C, keys: u64) -> Result<bool, Refused> {
     let left = keys.saturating_sub(1);
     Ok(it.take_out(rt, Key(left))? == (left < keys) && has_below(it, left))
 }
 
-/// Does a walk give each of so many keys, by their number and sum?
+/// Returns whether an iterator returns this many keys, by their number and sum.
 fn walks<R: Wait, C: Collection>(rt: &R, it: &C, keys: u64) -> Result<bool, Refused> {
     let (found, sum, _) = it.walk(rt)?;
     let wanted = keys.wrapping_mul(keys.saturating_sub(1)) / 2;
     Ok(found == keys && sum == wanted && has_below(it, keys))
 }
 
-/// The function that makes a text of a key is refused memory too, and says that there is none then.
+/// Converts a refusal: the function that makes a text of a key is refused memory too, and returns
+/// `None` then.
 fn of_memory(refused: Refused) -> Refused {
     match refused {
         Refused::Item => Refused::Memory,
@@ -135,7 +136,7 @@ fn of_memory(refused: Refused) -> Refused {
     }
 }
 
-/// Makes one of this one, or of others: has it its keys?
+/// Makes a collection of this one, or of others; returns whether it has its keys.
 fn makes<R: Wait, C: Collection + Drop>(
     rt: &R,
     alloc: Global,
@@ -147,7 +148,7 @@ fn makes<R: Wait, C: Collection + Drop>(
     Ok(has_below(&made, keys_made(call, keys)) && has_below(it, keys))
 }
 
-/// Changes one that has so many keys: is it as it should be?
+/// Changes a collection of this many keys; returns whether it is as expected.
 fn changes<R: Wait, C: Collection>(
     rt: &R,
     it: &mut C,
@@ -158,7 +159,7 @@ fn changes<R: Wait, C: Collection>(
     Ok(is_changed(it, call, keys))
 }
 
-/// Makes a call on one that has the keys below this one: came of it what was to come?
+/// Makes a call on a collection with the keys below this one; returns whether its result is right.
 fn calls<R: Wait, C: Collection + Drop>(
     rt: &R,
     alloc: Global,
@@ -178,8 +179,8 @@ fn calls<R: Wait, C: Collection + Drop>(
     }
 }
 
-/// After a refusal it is as it was. Where it took further keys, it has those before the refused
-/// one, and where keys were to go, those that did not go yet.
+/// Returns whether the collection is as it was after a refusal. If the call inserts keys, it has
+/// those before the refused one; if it removes keys, it has those not removed yet.
 fn is_kept<C: Collection>(it: &C, call: Call, keys: u64) -> bool {
     let count = it.count();
     match call {
@@ -192,7 +193,7 @@ fn is_kept<C: Collection>(it: &C, call: Call, keys: u64) -> bool {
     }
 }
 
-/// One that has the keys below this one, and a call of it.
+/// A collection that has the keys below this one, and a call on it.
 #[derive(Drop)]
 struct Called<'r, 'c, R, C> {
     rt: &'r R,
@@ -212,7 +213,7 @@ impl<R: Wait, C: Collection + Drop> Ready for Called<'_, '_, R, C> {
     }
 }
 
-/// Stores the keys below this one: are they there?
+/// Stores the keys below this one; returns whether they are there.
 fn is_filled<R: Wait, C: Collection>(rt: &R, it: &mut C, end: u64) -> Result<bool, Refused> {
     for key in 0..end {
         if !it.store(rt, (Key(key), key.wrapping_mul(10)))? {
@@ -222,7 +223,7 @@ fn is_filled<R: Wait, C: Collection>(rt: &R, it: &mut C, end: u64) -> Result<boo
     Ok(has_below(it, end))
 }
 
-/// A call of one that is made and filled for it.
+/// A call on a collection that is made and filled for it.
 #[derive(Drop)]
 struct Calling<'r, R, C> {
     rt: &'r R,
@@ -250,7 +251,7 @@ impl<R: Wait, C: Collection + Drop> Trial for Calling<'_, R, C> {
     }
 }
 
-/// One is made in this way, and filled.
+/// A collection that is made in this way, and filled.
 #[derive(Drop)]
 struct Making<'r, R, C> {
     rt: &'r R,
@@ -282,7 +283,7 @@ impl<R: Wait, C: Collection + Drop> Trial for Making<'_, R, C> {
     }
 }
 
-/// What makes one of no keys.
+/// The ways to make an empty collection.
 const MAKERS: [Maker; 7] = [
     Maker::Parts(ResizeMode::Blocking),
     Maker::New,
@@ -293,7 +294,7 @@ const MAKERS: [Maker; 7] = [
     Maker::Built,
 ];
 
-/// Each of them makes one that is filled.
+/// Checks that each of them makes a collection that can be filled.
 fn each_maker<R: Wait + Abort, C: Collection + Drop>(rt: &R, alloc: Global) {
     for (case, by) in MAKERS.into_iter().enumerate() {
         let making: Making<'_, R, C> = Making {
@@ -306,17 +307,17 @@ fn each_maker<R: Wait + Abort, C: Collection + Drop>(rt: &R, alloc: Global) {
     }
 }
 
-/// So many keys of one path are there. A table is full at the next one or not, is being copied, and
-/// with 64 in all one is given up in `Blocking`.
+/// The numbers of keys of one path at which calls are made. A table is full at the next key or not,
+/// or is being copied; with 64 in all one is given up in `Blocking`.
 const STAGES: [u64; 10] = [0, 20, 25, 26, 27, 47, 63, 64, 65, 67];
 
-/// Of so many keys some are copied into a second table, or that is made at the next call.
+/// At these numbers of keys some are copied into a second table, or the next call makes it.
 const COPIED: [u64; 32] = [
     32, 33, 34, 35, 36, 37, 38, 39, 40, 41, 42, 43, 44, 45, 46, 47, 48, 49, 50, 51, 52, 53, 54, 55,
     56, 57, 58, 59, 60, 61, 62, 63,
 ];
 
-/// Does a call take the ten keys that follow on those that are there at least?
+/// Returns whether a call inserts at least the ten keys that follow on those that are there.
 fn follows(call: Call) -> bool {
     match call {
         Call::Extend | Call::ExtendRef => true,
@@ -324,7 +325,7 @@ fn follows(call: Call) -> bool {
     }
 }
 
-/// Makes a call on one that has so many keys.
+/// Makes a call on a collection with this many keys.
 fn at_stage<R: Wait + Abort, C: Collection + Drop>(
     rt: &R,
     alloc: Global,
@@ -358,7 +359,7 @@ fn each_stage<R: Wait + Abort, C: Collection + Drop>(
     }
 }
 
-/// Makes each call, and those that take all keys out at more stages.
+/// Makes each call, and makes those that remove all keys at more stages.
 fn each_call<R: Wait + Abort, C: Collection + Drop>(rt: &R, alloc: Global) {
     each_maker::<R, C>(rt, alloc);
     for mode in MODES {

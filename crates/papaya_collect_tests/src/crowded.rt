@@ -8,26 +8,26 @@ use std::sync::Wait;
 
 /// A map or a set of many threads. Its keys are below 256.
 pub trait Crowded: Sized {
-    /// One of no keys.
+    /// Returns an empty collection.
     fn none<R: Wait>(
         rt: &R,
         alloc: Global,
         mode: ResizeMode,
         hasher: Times,
     ) -> Result<Self, Refused>;
-    /// What a key has to which this value was given.
+    /// Returns what a key has to which this value was given.
     fn value_of(given: u64) -> u64;
-    /// Stores a value at a key: which one was there?
+    /// Stores a value at a key; returns the old one.
     fn put<R: Wait>(&self, rt: &R, key: u64, value: u64) -> Result<Option<u64>, Refused>;
-    /// Takes a key out: which value had it?
+    /// Removes a key; returns its value.
     fn take_out<R: Wait>(&self, rt: &R, key: u64) -> Result<Option<u64>, Refused>;
-    /// The value of a key.
+    /// Returns the value of a key.
     fn find(&self, key: u64) -> Option<u64>;
-    /// Makes room for so many more.
+    /// Reserves room for this many more.
     fn make_room<R: Wait>(&self, rt: &R, more: usize) -> Result<(), Refused>;
-    /// How many keys below this one a walk gives, and how many in all.
+    /// Returns how many keys below this one an iterator returns, and how many in all.
     fn walk<R: Wait>(&self, rt: &R, end: u64) -> Result<(u64, u64), Refused>;
-    /// How many keys it has.
+    /// Returns how many keys it has.
     fn count(&self) -> u64;
 }
 

@@ -1,6 +1,6 @@
-// Eight threads on a map or a set that grows, while each so many requests for memory one is
-// refused: each call is answered or refused memory, and no key is lost or invented. With memory it
-// goes on. What is told to refuse is the heap of `tests/refused.py`.
+// Eight threads on a map or a set that grows, while one request for memory in every few is refused.
+// Each call succeeds or fails with `Refused::Memory`, and no key is lost or invented. With memory
+// the calls go on. The heap of `tests/refused.py` is set to refuse.
 use crate::crowded::Crowded;
 use crate::expect::is_at;
 use crate::keys::MODES;
@@ -19,7 +19,7 @@ use std::thread::{Threads, for_each_mut, yield_now};
 /// The keys below this one stay as they are.
 const STAY: u64 = 16;
 
-/// Those from there to this one all threads change, and each thread so many that no other does.
+/// All threads change the keys from there to this one. Each thread also has as many of its own.
 const SHARED: u64 = 32;
 
 const OWN: u64 = 12;
@@ -28,21 +28,21 @@ const KEYS: u64 = 128;
 
 const THREADS: u64 = 8;
 
-/// So often a thread goes over its keys.
+/// The number of times that a thread goes over its keys.
 const ROUNDS: u64 = 4;
 
-/// What the threads tell each other, and what calls that were answered have done to each key.
+/// The state that the threads share, and what calls that succeeded have done to each key.
 #[derive(Drop)]
 struct Board {
     here: AtomicU64,
     is_open: AtomicBool,
-    /// How often a key came in, less how often it went.
+    /// How often a key was inserted, less how often it was removed.
     there: Vec<AtomicU64>,
-    /// The sum of the values that came in, less those that went.
+    /// The sum of the values inserted, less those removed.
     sums: Vec<AtomicU64>,
 }
 
-/// So many zeros.
+/// Returns this many zeros.
 fn zeros(alloc: Global) -> Result<Vec<AtomicU64>, Fail> {
     let mut zeros = Vec::new(alloc);
     for _ in 0..KEYS {
@@ -51,14 +51,14 @@ fn zeros(alloc: Global) -> Result<Vec<AtomicU64>, Fail> {
     Ok(zeros)
 }
 
-/// Adds to what is told of a key.
+/// Adds to the record of a key.
 fn add(told: &[AtomicU64], key: u64, by: u64) {
     if let Some(told) = told.get(key as usize) {
         told.fetch_add(by, Ordering::SeqCst);
     }
 }
 
-/// What is told of a key.
+/// Returns the record of a key.
 fn told(told: &[AtomicU64], key: u64) -> u64 {
     match told.get(key as usize) {
         Some(told) => told.load(Ordering::SeqCst),
@@ -76,14 +76,14 @@ impl Board {
         })
     }
 
-    /// A value took the place of what was there.
+    /// Records that a value took the place of what was there.
     fn came(&self, key: u64, value: u64, old: Option<u64>) {
         add(self.there.as_slice(), key, u64::from(old.is_none()));
         let more = value.wrapping_sub(old.unwrap_or(0));
         add(self.sums.as_slice(), key, more);
     }
 
-    /// What was there went.
+    /// Records that what was there was removed.
     fn went(&self, key: u64, old: Option<u64>) {
         if let Some(old) = old {
             add(self.there.as_slice(), key, u64::MAX);
@@ -91,7 +91,7 @@ impl Board {
         }
     }
 
-    /// By what was told, is this what is at a key?
+    /// Returns whether this is what is at a key, by the record.
     fn has(&self, key: u64, found: Option<u64>) -> bool {
         let there = told(self.there.as_slice(), key);
         let sum = told(self.sums.as_slice(), key);
@@ -99,7 +99,7 @@ impl Board {
     }
 }
 
-/// Waits until all threads are here, if they ever are. The last one tells the heap to refuse.
+/// Waits until all threads are here, if they ever are. The last one sets the heap to refuse.
 fn meet(alloc: Global, board: &Board, every: usize) {
     if board.here.fetch_add(1, Ordering::SeqCst) == THREADS - 1 {
         refuse_each(alloc, every);
@@ -113,8 +113,8 @@ fn meet(alloc: Global, board: &Board, every: usize) {
     }
 }
 
-/// Stores a value. At a key that no other thread changes it is there then, or what was
-/// there before.
+/// Stores a value. At a key that no other thread changes it is there then, or what was there
+/// before.
 fn puts<R: Wait, C: Crowded>(
     rt: &R,
     it: &C,
@@ -137,7 +137,7 @@ fn puts<R: Wait, C: Crowded>(
     }
 }
 
-/// Takes a key out. One that no other thread changes is gone then, or as it was before.
+/// Removes a key. One that no other thread changes is gone then, or as it was before.
 fn takes<R: Wait, C: Crowded>(rt: &R, it: &C, board: &Board, key: u64, is_own: bool) -> bool {
     let before = it.find(key);
     let taken = it.take_out(rt, key);
@@ -152,7 +152,7 @@ fn takes<R: Wait, C: Crowded>(rt: &R, it: &C, board: &Board, key: u64, is_own: b
     }
 }
 
-/// Puts a value at a key, or takes the key out in one round of three.
+/// Stores a value at a key, or removes the key in one round of three.
 fn changes<R: Wait, C: Crowded>(
     rt: &R,
     it: &C,
@@ -168,12 +168,12 @@ fn changes<R: Wait, C: Crowded>(
     }
 }
 
-/// Is a call over, or refused for want of memory?
+/// Returns whether a call succeeded or failed with `Refused::Memory`.
 fn is_over(answer: Result<(), Refused>) -> bool {
     answer == Ok(()) || answer == Err(Refused::Memory)
 }
 
-/// Does a walk give each key that stays once, where it is not refused for want of memory?
+/// Returns whether an iterator returns each key that stays once, if memory does not run out.
 fn walks<R: Wait, C: Crowded>(rt: &R, it: &C) -> bool {
     match it.walk(rt, STAY) {
         Ok((below, _)) => below == STAY,
@@ -181,7 +181,7 @@ fn walks<R: Wait, C: Crowded>(rt: &R, it: &C) -> bool {
     }
 }
 
-/// Goes over the keys once: was all as it should be?
+/// Goes over the keys once; returns whether everything was as expected.
 fn goes_over<R: Wait, C: Crowded>(rt: &R, it: &C, board: &Board, thread: u64, round: u64) -> bool {
     let first = OWN.wrapping_mul(thread).wrapping_add(SHARED);
     let given = ROUNDS.wrapping_mul(thread).wrapping_add(round);
@@ -198,7 +198,7 @@ fn goes_over<R: Wait, C: Crowded>(rt: &R, it: &C, board: &Board, thread: u64, ro
     walks(rt, it) && is_over(it.make_room(rt, 64usize.wrapping_mul(round as usize)))
 }
 
-/// What a thread does.
+/// Does the work of a thread.
 fn works<R: Wait, C: Crowded>(
     rt: &R,
     alloc: Global,
@@ -216,7 +216,7 @@ fn works<R: Wait, C: Crowded>(
     true
 }
 
-/// Eight threads do so, each with a number: was all as it should be?
+/// Lets eight threads do so, each with a number; returns whether everything was as expected.
 fn eight<R: Threads + Wait + Sync, C: Crowded + Sync>(
     rt: &R,
     alloc: Global,
@@ -236,7 +236,7 @@ fn eight<R: Threads + Wait + Sync, C: Crowded + Sync>(
     did == [true; 8]
 }
 
-/// Puts the keys that stay, each with itself.
+/// Stores the keys that stay, each with itself.
 fn stays<R: Wait, C: Crowded>(rt: &R, it: &C, board: &Board) -> Result<bool, Refused> {
     for key in 0..STAY {
         if it.put(rt, key, key)?.is_some() {
@@ -247,7 +247,7 @@ fn stays<R: Wait, C: Crowded>(rt: &R, it: &C, board: &Board) -> Result<bool, Ref
     Ok(true)
 }
 
-/// Is at each key what was told, and at no other any?
+/// Returns whether each key has what was recorded, and no other key has any value.
 fn is_as_told<R: Wait, C: Crowded>(rt: &R, it: &C, board: &Board) -> Result<bool, Refused> {
     let mut keys = 0u64;
     for key in 0..KEYS {
@@ -260,7 +260,7 @@ fn is_as_told<R: Wait, C: Crowded>(rt: &R, it: &C, board: &Board) -> Result<bool
     Ok(it.count() == keys && it.walk(rt, KEYS)? == (keys, keys))
 }
 
-/// Takes each key now, and gives each up again: is what was there each time what should be?
+/// Stores each key now, and removes each again; returns whether the old values were as expected.
 fn goes_on<R: Wait, C: Crowded>(rt: &R, it: &C) -> Result<bool, Refused> {
     for key in 0..KEYS {
         let before = it.find(key);
@@ -277,7 +277,7 @@ fn goes_on<R: Wait, C: Crowded>(rt: &R, it: &C) -> Result<bool, Refused> {
     Ok(is_full && it.count() == 0)
 }
 
-/// Each so many requests one is refused, that so many keys have one path, or each its own.
+/// A crowd in which one request in every few is refused, with keys of one path or of their own.
 #[derive(Clone, Copy)]
 struct Crowd {
     mode: ResizeMode,
@@ -285,8 +285,8 @@ struct Crowd {
     every: usize,
 }
 
-/// What came of a crowd: all was as it should be while memory was refused, after that, and
-/// with memory.
+/// Returns whether everything was as expected while memory was refused, after that, and with
+/// memory.
 fn came_of<R: Threads + Wait + Sync, C: Crowded + Sync + Drop>(
     rt: &R,
     alloc: Global,
@@ -300,10 +300,10 @@ fn came_of<R: Threads + Wait + Sync, C: Crowded + Sync + Drop>(
     Ok((stayed, did, is_as_told(rt, &it, &board)?, goes_on(rt, &it)?))
 }
 
-/// One request of so many is refused. Where it is each one, nothing can be stored.
+/// One request in this many is refused. With 1, nothing can be stored.
 const EVERY: [usize; 6] = [1, 4, 5, 6, 9, 14];
 
-/// Each crowd, in each mode, with keys that have paths of their own and with keys of one path.
+/// Runs each crowd, in each mode, with keys that have paths of their own and with keys of one path.
 fn crowds<R: Threads + Wait + Sync + Abort, C: Crowded + Sync + Drop>(
     rt: &R,
     alloc: Global,

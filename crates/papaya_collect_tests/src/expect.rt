@@ -1,14 +1,14 @@
-// What the tests compare with. A test is calls of this, since each assertion that stands written
-// out in one makes its proof longer.
+// The comparisons of the tests. A test calls these, since each assertion that is written out in one
+// makes its proof longer.
 use std::fmt::Debug;
 use std::process::Abort;
 
-/// What was found is what is wanted.
+/// Checks that what was found is what is wanted.
 pub fn is<T: PartialEq + Debug + Drop>(rt: &impl Abort, found: T, wanted: T) {
     assert_eq!(rt; found, wanted);
 }
 
-/// What was found in a case, which has a number, is what is wanted.
+/// Checks that what was found in the case of this number is what is wanted.
 pub fn is_at<T: PartialEq + Debug + Drop>(rt: &impl Abort, case: usize, found: T, wanted: T) {
     assert_eq!(rt; found, wanted, "at {case}");
 }

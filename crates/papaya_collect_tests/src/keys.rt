@@ -7,14 +7,14 @@ use papaya_words::probe::ResizeMode;
 use std::alloc::Global;
 use std::hash::{Hash, Hasher};
 
-/// How the collections of the tests resize.
+/// The resize modes of the tests.
 pub const MODES: [ResizeMode; 3] = [
     ResizeMode::Blocking,
     ResizeMode::Incremental(1),
     ResizeMode::Incremental(64),
 ];
 
-/// A number whose hash is that of all others.
+/// A number with the same hash as all others.
 #[derive(Clone, Copy, Debug, PartialEq, Eq)]
 pub struct Key(pub u64);
 
@@ -51,7 +51,7 @@ pub const PAIRS: [Pair; 10] = [
     (Key(29), 290),
 ];
 
-/// The same lent.
+/// The same entries by reference.
 pub const LENT: [(&Key, &u64); 10] = [
     (&Key(20), &200),
     (&Key(21), &210),
@@ -65,7 +65,7 @@ pub const LENT: [(&Key, &u64); 10] = [
     (&Key(29), &290),
 ];
 
-/// The same without values.
+/// The same keys without values.
 pub const KEYS: [Key; 10] = [
     Key(20),
     Key(21),
@@ -79,7 +79,7 @@ pub const KEYS: [Key; 10] = [
     Key(29),
 ];
 
-/// A key as decimal digits, if there is memory for them.
+/// Returns a key as decimal digits, if there is memory for them.
 pub fn digits(alloc: Global, key: &Key) -> Option<String> {
     key.0.to_string(alloc).ok()
 }

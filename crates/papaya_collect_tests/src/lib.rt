@@ -1,5 +1,5 @@
-//! The tests of calls that take many keys, copy, compare, or make a map or a set anew: on maps and
-//! sets, for one caller and shared by threads. And those of maps and sets as JSON.
+//! The tests of calls that take many keys, copy, compare or reclaim: on maps and sets, for one
+//! caller and shared by threads. It also has the tests of maps and sets as JSON.
 #![tactic(auto)]
 
 #[cfg(test)]

@@ -116,7 +116,7 @@ impl Collection for HashMap<Key, u64> {
     }
 }
 
-/// How many slots a map has that was made, or why there is none.
+/// Returns how many slots a new map has, or why there is none.
 fn slots(made: Result<HashMap<Key, u64>, Refused>) -> Result<usize, Refused> {
     Ok(made?.slots())
 }

@@ -1,4 +1,5 @@
-// What collections are made of, which of them are equal, and what one that is made anew has.
+// The entries of which collections are made, which collections are equal, and what a reclaimed one
+// has.
 use crate::collection::{Collection, Maker, has_below};
 use crate::expect::is_at;
 use crate::keys::{Key, MODES, Pair};
@@ -11,7 +12,7 @@ use std::process::Abort;
 use std::sync::Wait;
 use std::test::Fail;
 
-/// Pairs with three keys, the same in another order, and others.
+/// Entries with three keys, the same in another order, and others.
 const THREE: [Pair; 3] = [(Key(1), 10), (Key(2), 20), (Key(3), 30)];
 
 const TURNED: [Pair; 3] = [(Key(3), 30), (Key(1), 10), (Key(2), 20)];
@@ -20,22 +21,22 @@ const OTHER_VALUE: [Pair; 3] = [(Key(1), 10), (Key(2), 21), (Key(3), 30)];
 
 const OTHER_KEY: [Pair; 3] = [(Key(1), 10), (Key(4), 20), (Key(3), 30)];
 
-/// Pairs with two keys, and with one.
+/// Entries with two keys, and with one.
 const TWO: [Pair; 3] = [(Key(1), 10), (Key(2), 21), (Key(2), 20)];
 
 const ONE: [Pair; 3] = [(Key(0), 1), (Key(0), 2), (Key(0), 3)];
 
-/// Pairs, and what a walk gives of the map of them: how many, and the sums of keys and values.
+/// Entries, and what an iterator of their map returns: how many, and the sums of keys and values.
 type Made = ([Pair; 3], (u64, u64, u64));
 
 const MADE: [Made; 3] = [(THREE, (3, 6, 60)), (TWO, (2, 3, 30)), (ONE, (1, 0, 3))];
 
-/// The sum of the values, of which a set has none.
+/// Returns the sum of the values; a set has none.
 fn values_of(has_values: bool, sum: u64) -> u64 {
     if has_values { sum } else { 0 }
 }
 
-/// It was made, and a walk gives this.
+/// Checks that it was made, and what its iterator returns.
 fn is_made<R: Wait + Abort, C: Collection + Drop>(
     rt: &R,
     case: usize,
@@ -48,7 +49,7 @@ fn is_made<R: Wait + Abort, C: Collection + Drop>(
     Ok(())
 }
 
-/// One is made of these, by an iterator and by an array.
+/// Checks that a collection is made of these, by an iterator and by an array.
 fn is_made_of<R: Wait + Abort, C: Collection + Drop>(
     rt: &R,
     alloc: Global,
@@ -60,7 +61,7 @@ fn is_made_of<R: Wait + Abort, C: Collection + Drop>(
     is_made::<R, C>(rt, case, C::of_array(rt, alloc, items), wanted)
 }
 
-/// So is one of each, and one of nothing.
+/// Checks this for each of these lists, and for none.
 fn are_made<R: Wait + Abort, C: Collection + Drop>(
     rt: &R,
     alloc: Global,
@@ -74,15 +75,15 @@ fn are_made<R: Wait + Abort, C: Collection + Drop>(
     Ok(())
 }
 
-/// Pairs of which one gets another value from the ten further ones.
+/// Entries of which one gets another value from the ten further ones.
 const BEFORE: [Pair; 3] = [(Key(1), 10), (Key(25), 7), (Key(29), 290)];
 
-/// Takes the ten further pairs, owned or lent.
+/// Inserts the ten further entries, owned or by reference.
 fn take_further<R: Wait, C: Collection>(rt: &R, it: &mut C, lent: bool) -> Result<(), Refused> {
     if lent { it.take_lent(rt) } else { it.take(rt) }
 }
 
-/// What a walk gives then, or why they were not taken.
+/// Returns what an iterator returns then, or why they were not inserted.
 fn walked_after<R: Wait, C: Collection + Drop>(
     rt: &R,
     alloc: Global,
@@ -93,14 +94,14 @@ fn walked_after<R: Wait, C: Collection + Drop>(
     it.walk(rt)
 }
 
-/// The later value of two with one key stays.
+/// Checks that the later value of two with one key stays.
 fn are_taken<R: Wait + Abort, C: Collection + Drop>(rt: &R, alloc: Global, has_values: bool) {
     let wanted = (11, 246, values_of(has_values, 2460));
     is_at(rt, 0, walked_after::<R, C>(rt, alloc, false), Ok(wanted));
     is_at(rt, 1, walked_after::<R, C>(rt, alloc, true), Ok(wanted));
 }
 
-/// The pairs of two maps, whether these are equal, and whether the sets of their keys are.
+/// The entries of two maps, whether these are equal, and whether the sets of their keys are.
 type Compared = ([Pair; 3], [Pair; 3], bool, bool);
 
 const COMPARED: [Compared; 6] = [
@@ -112,12 +113,13 @@ const COMPARED: [Compared; 6] = [
     (ONE, ONE, true, true),
 ];
 
-/// Is the first equal to the second, and this to it?
+/// Returns whether the first is equal to the second, and the second to the first.
 fn equal<R: Wait, C: Collection>(rt: &R, one: &C, other: &C) -> Result<(bool, bool), Refused> {
     Ok((one.equals(rt, other)?, other.equals(rt, one)?))
 }
 
-/// Such are equal or not, and none with a key is equal to one without. A copy of one without is.
+/// Checks which collections are equal. None with a key is equal to an empty one; a copy of an empty
+/// one is.
 fn are_compared<R: Wait + Abort, C: Collection + Drop>(
     rt: &R,
     alloc: Global,
@@ -141,10 +143,10 @@ fn are_compared<R: Wait + Abort, C: Collection + Drop>(
     Ok(())
 }
 
-/// The keys below this one are stored twice before one is made anew.
+/// The keys below this one are stored twice before a collection is reclaimed.
 const TWICE: u64 = 100;
 
-/// Stores each of them twice, at last with ten times itself.
+/// Stores each of them twice, the second time with ten times itself.
 fn store_twice<R: Wait, C: Collection>(rt: &R, it: &mut C) -> Result<(), Refused> {
     for key in 0..TWICE {
         it.store(rt, (Key(key), 1000))?;
@@ -153,8 +155,8 @@ fn store_twice<R: Wait, C: Collection>(rt: &R, it: &mut C) -> Result<(), Refused
     Ok(())
 }
 
-/// Made anew, it has just its keys, is equal to a copy of before, and takes a further key that the
-/// copy has not.
+/// Reclaims it; returns whether it has just its keys, is equal to an earlier copy, and takes a
+/// further key that the copy has not.
 fn goes_on<R: Wait, C: Collection>(rt: &R, it: &mut C, before: &C) -> Result<bool, Refused> {
     it.make_anew(rt)?;
     let is_same = has_below(it, TWICE) && it.equals(rt, before)?;
@@ -162,7 +164,7 @@ fn goes_on<R: Wait, C: Collection>(rt: &R, it: &mut C, before: &C) -> Result<boo
     Ok(is_same && is_new && has_below(before, TWICE) && !it.equals(rt, before)?)
 }
 
-/// So it is in each mode.
+/// Checks this in each mode.
 fn are_made_anew<R: Wait + Abort, C: Collection + Drop>(
     rt: &R,
     alloc: Global,
@@ -176,7 +178,7 @@ fn are_made_anew<R: Wait + Abort, C: Collection + Drop>(
     Ok(())
 }
 
-/// All of this.
+/// Checks all of this.
 fn rows<R: Wait + Abort, C: Collection + Drop>(
     rt: &R,
     alloc: Global,

@@ -1,4 +1,4 @@
-//! Computes: their machine, answered by steps on the book and by a closure.
+//! Computes: their machine, whose asks are performed by steps on the book and by a closure.
 ghost use Rattle.papaya_compute.specs.FastPath.{IsAhead};
 ghost use Rattle.papaya_book.specs.declared.rule.entry.Named.TheVariants.{Pair as PairNamed};
 ghost use Rattle.papaya_book.specs.Windows.{Does, IsIn as IsInWindow, IsLawful, Sees};
@@ -45,9 +45,9 @@ use std::alloc::Global;
 use std::hash::{BuildHasher, Hash};
 use std::sync::Wait;
 
-/// A compute under way: the pair that its closure was shown last, if it was one; the pair that it
-/// would put in where there is none; the pair of which it was answered what is to become, and the
-/// one that is to take its place, with its key; and what its closure ended it with.
+/// A compute under way. It holds the pair that its closure was called with last, and the pair that
+/// it would put in if there is none. It also holds the pair chosen to be replaced or removed, the
+/// one that is to take its place, with its key, and the closure's final result.
 #[derive(Drop)]
 pub struct Computing<'a, K: Hash + Eq, V, S: BuildHasher, T> {
     pub writer: Writer<'a, K, V, S>,
@@ -58,18 +58,18 @@ pub struct Computing<'a, K: Hash + Eq, V, S: BuildHasher, T> {
     pub aborted: Option<T>,
 }
 
-/// What a compute does next.
+/// The next step of a compute.
 #[derive(Drop)]
 pub enum Turn<K, V> {
-    /// Its machine asked for something, and is answered so.
+    /// Its machine asked for something, and has this answer.
     Answered(Answer),
-    /// Its closure is to be shown this pair, or that there is none.
+    /// Its closure is to be called with this pair, or with `None`.
     Shows(Option<Stored<K, V>>),
     /// It has replied.
     Replied,
 }
 
-/// The pair of which it was answered that it is to go, or the one of before.
+/// Returns the pair that was chosen to be removed or replaced, or the previous one.
 fn chosen_after<K, V, T>(
     shown: &Option<Stored<K, V>>,
     operation: &Operation<V, T>,
@@ -84,7 +84,7 @@ fn chosen_after<K, V, T>(
     }
 }
 
-/// The pair that an exchange of this kind puts in: a claim the one that fills.
+/// Returns the pair that an exchange of this kind puts in: for a claim the one that fills.
 fn pair_for<K, V>(
     kind: Option<StepKind>,
     fill: &Option<Stored<K, V>>,
@@ -100,7 +100,7 @@ fn pair_for<K, V>(
     }
 }
 
-/// The call of a compute that begins at the root with what it remembers.
+/// Begins the call of a compute at the root, with what it remembers.
 fn resume<'a, K: Hash + Eq, V, S: BuildHasher>(
     book: &Book<K, V, S>,
     initial: usize,
@@ -125,7 +125,7 @@ fn resume<'a, K: Hash + Eq, V, S: BuildHasher>(
 }
 
 impl<'a, K: Hash + Eq + Drop, V: Drop, S: BuildHasher, T: Drop> Computing<'a, K, V, S, T> {
-    /// Keeps what the closure answered, and tells the machine of it.
+    /// Keeps what the closure returned, and passes it on to the machine.
     fn keep(&mut self, operation: Operation<V, T>) -> Answer
         ensures { IsKept operation result self.old self.new }
     {
@@ -142,7 +142,7 @@ impl<'a, K: Hash + Eq + Drop, V: Drop, S: BuildHasher, T: Drop> Computing<'a, K,
         }
     }
 
-    /// A compute that begins.
+    /// Begins a compute.
     pub fn new(window: &Window<'a, K, V, S>, initial: usize, key: K) -> Computing<'a, K, V, S, T>
         requires lawful { IsLawful window.now }
         requires initial { IsPowerOfTwo initial }
@@ -171,7 +171,7 @@ impl<'a, K: Hash + Eq + Drop, V: Drop, S: BuildHasher, T: Drop> Computing<'a, K,
         }
     }
 
-    /// A compute that goes on with this pair, made where its closure was shown that there is none.
+    /// Continues a compute with this pair, made after its closure was called with `None`.
     pub(crate) fn filled(
         window: &Window<'a, K, V, S>,
         initial: usize,
@@ -206,7 +206,7 @@ impl<'a, K: Hash + Eq + Drop, V: Drop, S: BuildHasher, T: Drop> Computing<'a, K,
         }
     }
 
-    /// One that goes on with this pair, made where its closure was shown the pair that was met.
+    /// Continues a compute with this pair, made after its closure was called with the pair met.
     pub(crate) fn replaced(
         window: &Window<'a, K, V, S>,
         initial: usize,
@@ -257,7 +257,7 @@ impl<'a, K: Hash + Eq + Drop, V: Drop, S: BuildHasher, T: Drop> Computing<'a, K,
         }
     }
 
-    /// One that goes on to remove the pair that its closure was shown.
+    /// Continues a compute that removes the pair which its closure was called with.
     pub(crate) fn removing(
         window: &Window<'a, K, V, S>,
         initial: usize,
@@ -290,7 +290,7 @@ impl<'a, K: Hash + Eq + Drop, V: Drop, S: BuildHasher, T: Drop> Computing<'a, K,
         }
     }
 
-    /// The pair that the closure is to be shown: the one last loaded.
+    /// Returns the pair that the closure is to be called with: the one last loaded.
     fn to_show(&self) -> Stored<K, V>
         requires can { IsAnyCompute ⟦<S as Keyed<K>>⟧.keys self.now }
         requires asks { (n : ℕ) × (ask_of self.now.writer.call.machine ≡ Call (ShowPair n)) }
@@ -303,7 +303,7 @@ impl<'a, K: Hash + Eq + Drop, V: Drop, S: BuildHasher, T: Drop> Computing<'a, K,
         last.again()
     }
 
-    /// The closure was shown this, and answered so.
+    /// Records that the closure was called with this, and returned this operation.
     pub fn hear(&mut self, shown: Option<Stored<K, V>>, operation: Operation<V, T>) -> Answer
         requires standing { IsStanding self.old.writer.call.machine }
         requires shows { IsToShow self.old shown }
@@ -315,7 +315,7 @@ impl<'a, K: Hash + Eq + Drop, V: Drop, S: BuildHasher, T: Drop> Computing<'a, K,
         self.keep(operation)
     }
 
-    /// Tells its machine an answer, and copies where the call is set aside for that.
+    /// Passes an answer on to its machine, and copies if the call is set aside for that.
     pub fn tell<R: Wait>(
         &mut self,
         rt: &R,
@@ -332,8 +332,8 @@ impl<'a, K: Hash + Eq + Drop, V: Drop, S: BuildHasher, T: Drop> Computing<'a, K,
         self.writer.call.help(rt, alloc, shard, window);
     }
 
-    /// Logs the pair that is to stand where there is none: of the call's key and of the value that
-    /// the closure answered last.
+    /// Stores the pair for an absent key: of the call's key and of the value that the closure
+    /// returned last.
     fn make_pair<R: Wait>(&mut self, rt: &R, window: &Window<'a, K, V, S>) -> Answer
         requires can { CanCompute window.now self.old }
         requires standing { IsStanding self.old.writer.call.machine }
@@ -351,8 +351,8 @@ impl<'a, K: Hash + Eq + Drop, V: Drop, S: BuildHasher, T: Drop> Computing<'a, K,
         }
     }
 
-    /// Logs a pair in the place of the one that the closure was shown last: of that one's key and
-    /// of the value that was answered of it.
+    /// Stores a pair in place of the one that the closure was called with last: of that one's key
+    /// and of the value that it returned.
     fn make_pair_of<R: Wait>(&mut self, rt: &R, window: &Window<'a, K, V, S>) -> Answer
         requires can { CanCompute window.now self.old }
         requires standing { IsStanding self.old.writer.call.machine }
@@ -376,7 +376,7 @@ impl<'a, K: Hash + Eq + Drop, V: Drop, S: BuildHasher, T: Drop> Computing<'a, K,
         }
     }
 
-    /// Tries to put the pair into a slot that was made for it.
+    /// Tries to put the pair that was made for a slot into that slot.
     fn put(
         &mut self,
         number: u64,
@@ -425,7 +425,7 @@ impl<'a, K: Hash + Eq + Drop, V: Drop, S: BuildHasher, T: Drop> Computing<'a, K,
         }
     }
 
-    /// The answer to an ask that any call makes which inserts.
+    /// Performs an ask that all inserting calls make, and returns the answer.
     fn write<R: Wait>(
         &mut self,
         rt: &R,
@@ -457,7 +457,7 @@ impl<'a, K: Hash + Eq + Drop, V: Drop, S: BuildHasher, T: Drop> Computing<'a, K,
         }
     }
 
-    /// What it does next: the machine is answered, but for what only the closure can.
+    /// Performs what the machine asks for, except what only the closure can.
     pub fn turn<R: Wait>(
         &mut self,
         rt: &R,
@@ -493,7 +493,7 @@ impl<'a, K: Hash + Eq + Drop, V: Drop, S: BuildHasher, T: Drop> Computing<'a, K,
         }
     }
 
-    /// What it answers where it put a pair in.
+    /// Returns the result of a compute that put a pair in.
     fn inserted(&self, window: &Window<'a, K, V, S>) -> Compute<'a, K, V, T>
         requires standing { IsStanding self.now.writer.call.machine }
         requires can { CanCompute window.now self.now }
@@ -513,7 +513,7 @@ impl<'a, K: Hash + Eq + Drop, V: Drop, S: BuildHasher, T: Drop> Computing<'a, K,
         }
     }
 
-    /// What it answers where a pair took the place of another.
+    /// Returns the result of a compute that replaced a pair.
     fn updated(&self, window: &Window<'a, K, V, S>) -> Compute<'a, K, V, T>
         requires standing { IsStanding self.now.writer.call.machine }
         requires can { CanCompute window.now self.now }
@@ -537,7 +537,7 @@ impl<'a, K: Hash + Eq + Drop, V: Drop, S: BuildHasher, T: Drop> Computing<'a, K,
         }
     }
 
-    /// What it answers where it took a pair out.
+    /// Returns the result of a compute that removed a pair.
     fn removed(&self, window: &Window<'a, K, V, S>) -> Compute<'a, K, V, T>
         requires standing { IsStanding self.now.writer.call.machine }
         requires can { CanCompute window.now self.now }
@@ -557,7 +557,7 @@ impl<'a, K: Hash + Eq + Drop, V: Drop, S: BuildHasher, T: Drop> Computing<'a, K,
         }
     }
 
-    /// The value that its closure was shown last, and that of the pair that would fill.
+    /// Returns the value that its closure had last, and that of the pair that would fill.
     pub(crate) fn left(&self, window: &Window<'a, K, V, S>) -> (Option<&'a V>, Option<&'a V>)
         requires can { CanCompute window.now self.now }
         ensures current { option_map (λ v. v.now) result.0 ≡ value_in self.now.shown }
@@ -567,7 +567,7 @@ impl<'a, K: Hash + Eq + Drop, V: Drop, S: BuildHasher, T: Drop> Computing<'a, K,
         (value_in(book, &self.shown), value_in(book, &self.fill))
     }
 
-    /// What the compute answers that has replied.
+    /// Returns the result of a compute that has replied.
     pub fn replied(&mut self, window: &Window<'a, K, V, S>) -> Result<Compute<'a, K, V, T>, Refused>
         requires standing { IsStanding self.old.writer.call.machine }
         requires can { CanCompute window.now self.old }
@@ -589,7 +589,7 @@ impl<'a, K: Hash + Eq + Drop, V: Drop, S: BuildHasher, T: Drop> Computing<'a, K,
     }
 }
 
-/// The value of a pair, if there is one.
+/// Returns the value of a pair, if there is one.
 pub(crate) fn value_in<'a, K: Hash + Eq, V, S: BuildHasher>(
     book: &'a Book<K, V, S>,
     pair: &Option<Stored<K, V>>,

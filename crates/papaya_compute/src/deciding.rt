@@ -1,5 +1,5 @@
-//! Calls that store a value where their rule says so. Each is a compute whose rule is a type in the
-//! place of a closure, and no pair is removed by it.
+//! Calls that store a value as their rule decides. Each is a compute whose rule is a type in place
+//! of a closure, and none removes a pair.
 ghost use Rattle.papaya_change.specs.Window.Ends.{Ends, TellsWhy};
 ghost use Rattle.std.specs.Prelude.{◌≡◌, None, Some, Option, Ok, Err};
 ghost use Rattle.std.specs.Int.{IsPowerOfTwo};
@@ -17,44 +17,44 @@ use std::alloc::Global;
 use std::hash::{BuildHasher, Hash};
 use std::sync::Wait;
 
-/// The rule of such a call: which value is stored, by the one that the key has. It may be asked
-/// again, where another call was first to change the key's pair.
+/// The rule of such a call: it decides which value is stored, by the one that the key has. It may
+/// be called again if another call was first to change the key's pair.
 ///
-/// A rule tells contracts what each asking may answer, and what the rule is then.
+/// A rule states for contracts what each call of it may return, and the rule's state then.
 pub trait Rule<V> {
     ghost callable: { Self → Type 0 };
 
     ghost decides: { Self → Option V → Option V → Self → Type 0 };
 
-    /// What is stored where the key has no pair. None: nothing. It is asked this once at most.
+    /// Returns the value to store for an absent key, or `None` for none. Called once at most.
     fn absent(&mut self) -> Option<V>
         requires { callable self.old }
         ensures callable { callable self.new }
         ensures decides { decides self.old None result self.new };
 
-    /// What is stored in the place of this value. None: it stays.
+    /// Returns the value to store in place of this one, or `None` to keep it.
     fn present(&mut self, value: &V) -> Option<V>
         requires { callable self.old }
         ensures callable { callable self.new }
         ensures decides { decides self.old (Some value.now) result self.new };
 }
 
-/// What such a call did.
+/// The outcome of such a call.
 #[derive(Drop)]
 pub enum Outcome<'a, V> {
     /// The key had no pair, and has this value now.
     Put(&'a V),
     /// This value took another's place.
     Replaced(&'a V),
-    /// All is as it was. The key's value, if it has one; and a value that was logged where it had
-    /// none, and then lost the race.
+    /// All is as it was: the key's value, if it has one, and a value that was stored in the arena
+    /// for an absent key and then lost the race.
     Left {
         current: Option<&'a V>,
         spare: Option<&'a V>,
     },
 }
 
-/// Asks a rule.
+/// Calls a rule.
 struct ByRule;
 
 impl<'a, K, V, D: Rule<V>> Operator<'a, K, V, (), D> for ByRule {
@@ -75,8 +75,8 @@ impl<'a, K, V, D: Rule<V>> Operator<'a, K, V, (), D> for ByRule {
     }
 }
 
-/// What the call did, by what its compute did, where the key had the current value, and the spare
-/// one was logged.
+/// Returns the outcome by what the compute did, if the key had the current value, and the spare one
+/// was stored.
 #[inline(always)]
 fn outcome_by<'a, K, V>(
     done: Compute<'a, K, V, ()>,
@@ -94,7 +94,7 @@ fn outcome_by<'a, K, V>(
     }
 }
 
-/// What the call answers, by what its compute answered.
+/// Returns the result of the call by the result of its compute.
 #[inline(always)]
 fn decision<'a, K, V>(
     answer: Result<Compute<'a, K, V, ()>, Refused>,
@@ -110,8 +110,9 @@ fn decision<'a, K, V>(
     }
 }
 
-/// Stores for a key what the rule answers. Where it is refused for want of room, `given` tells the
-/// number that a full log of tables gave, or the sum of the count that makes a next table too long.
+/// Stores for a key what the rule returns. If it fails with `Refused::Capacity`, `given` records
+/// the number that a full arena of tables gave, or the sum of the count that makes a next table too
+/// long.
 pub fn decide<'a, R: Wait, K: Hash + Eq + Drop, V: Drop, S: BuildHasher, D: Rule<V>>(
     rt: &R,
     alloc: Global,

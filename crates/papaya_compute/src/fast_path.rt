@@ -1,6 +1,6 @@
-//! Computes whose search of the root ends at an empty place or at a live pair: what their closure
-//! answered is done at once. Where another call was first, they tell in a few words where their
-//! machine starts. A machine is large, so that no fast path makes one.
+//! Computes whose search of the root ends at an empty place or at a live pair: they do at once what
+//! their closure returned. If another call was first, they return in a few words where their
+//! machine starts. A machine is large, so no fast path makes one.
 ghost use Rattle.std.specs.Prelude.{◌≡◌, Some, IfSome, List, Option};
 ghost use Rattle.std.specs.Int.{IsPowerOfTwo};
 ghost use Rattle.papaya_call.specs.declared.answers.Operation.{Operation};
@@ -30,33 +30,33 @@ use papaya_words::probe::Refused;
 use std::hash::{BuildHasher, Hash};
 use std::sync::Wait;
 
-/// What a first look at the root has come to.
+/// The result of a first look at the root.
 #[derive(Drop)]
 pub enum First<C, A> {
-    /// The call is over, and answers this.
+    /// The call is over, and returns this.
     Over(A),
     /// Its machine goes on from here.
     On(C),
 }
 
-/// Where the machine of a compute starts whose fast path has given up.
+/// The start of a compute's machine after its fast path gave up.
 #[derive(Drop)]
 pub enum Start<K, V> {
-    /// Anew: its closure was asked nothing yet.
+    /// From the beginning: its closure was not called yet.
     Anew(K),
-    /// With this pair, made where its closure was shown that there is none.
+    /// With this pair, made after its closure was called with `None`.
     Filled {
         hash: u64,
         pair: Stored<K, V>,
     },
-    /// With this pair, made where its closure was shown the pair that was met.
+    /// With this pair, made after its closure was called with the pair that was met.
     Replaced {
         key: K,
         hash: u64,
         met: Met<K, V>,
         pair: Stored<K, V>,
     },
-    /// With the removal of this pair, which its closure was shown.
+    /// With the removal of this pair, which its closure was called with.
     Removing {
         key: K,
         hash: u64,
@@ -64,8 +64,8 @@ pub enum Start<K, V> {
     },
 }
 
-/// Where the search of the root has led a compute. None where there is no root, and where there is
-/// a limit: there each pair needs a number, which the machine takes.
+/// Searches the root for a compute. Returns `None` if there is no root, or if there is a limit:
+/// there each pair needs a number, which the machine takes.
 #[inline(always)]
 pub fn look<'a, K: Hash + Eq, V, S: BuildHasher>(
     window: &mut Window<'a, K, V, S>,
@@ -84,7 +84,7 @@ pub fn look<'a, K: Hash + Eq, V, S: BuildHasher>(
     find_place(window, key, hash)
 }
 
-/// The machine of a compute that starts so.
+/// Returns the machine of a compute that starts so.
 pub fn machine_of<'a, K: Hash + Eq + Drop, V: Drop, S: BuildHasher, T: Drop>(
     window: &mut Window<'a, K, V, S>,
     initial: usize,
@@ -114,8 +114,8 @@ pub fn machine_of<'a, K: Hash + Eq + Drop, V: Drop, S: BuildHasher, T: Drop>(
     }
 }
 
-/// Logs a pair of this key and this value for which the arena had no slot at hand. None where there
-/// is no memory.
+/// Stores a pair of this key and value, for which the arena had no free slot. Returns `None` if
+/// memory runs out.
 #[cold]
 #[inline(never)]
 fn log_by_waiting<R: Wait, K: Hash + Eq + Drop, V: Drop, S: BuildHasher>(
@@ -131,8 +131,7 @@ fn log_by_waiting<R: Wait, K: Hash + Eq + Drop, V: Drop, S: BuildHasher>(
     book.log_pair(rt, lane, key, ValuePart::Own(value)).ok()
 }
 
-/// Does what the closure answered that was shown that there is none, at the empty place that a
-/// search has found.
+/// Does what the closure returned for an absent key, at the empty place that a search has found.
 #[inline(always)]
 pub fn fill<'a, R: Wait, K: Hash + Eq + Drop, V: Drop, S: BuildHasher, T: Drop>(
     means: &Means<'_, '_, R>,
@@ -167,8 +166,8 @@ pub fn fill<'a, R: Wait, K: Hash + Eq + Drop, V: Drop, S: BuildHasher, T: Drop>(
     }
 }
 
-/// Does what the closure answered that was shown the live pair which a search has met. The new pair
-/// has the same key, so that is not read again.
+/// Does what the closure returned for the live pair that a search has met. The new pair has the
+/// same key, so that is not read again.
 #[inline(always)]
 pub fn renew<'a, R: Wait, K: Hash + Eq + Drop, V: Drop, S: BuildHasher, T: Drop>(
     means: &Means<'_, '_, R>,

@@ -1,6 +1,5 @@
-//! Computes whose closure is lent the pair that it is shown, for the time of its call alone. So
-//! the closure's type names no lifetime, and such a call can be made in other crates for keys of
-//! any type.
+//! Computes whose closure borrows the pair only for the time of its call. So the closure's type
+//! names no lifetime, and other crates can make such a call for keys of any type.
 ghost use Rattle.papaya_change.specs.Window.Ends.{Ends, TellsWhy};
 ghost use Rattle.std.specs.Prelude.{◌≡◌, Err};
 ghost use Rattle.std.specs.Fn.{Called};
@@ -20,7 +19,7 @@ use std::alloc::Global;
 use std::hash::{BuildHasher, Hash};
 use std::sync::Wait;
 
-/// Asks a closure that is lent the pair.
+/// Calls a closure that borrows the pair.
 struct Lending;
 
 impl<'a, K, V, T, F: FnMut(Option<(&K, &V)>) -> Operation<V, T>> Operator<'a, K, V, T, F>
@@ -35,9 +34,9 @@ impl<'a, K, V, T, F: FnMut(Option<(&K, &V)>) -> Operation<V, T>> Operator<'a, K,
     }
 }
 
-/// Does with a key's pair, or where it has none, what the closure answers that is lent it. Where it
-/// is refused for want of room, `given` tells the number that a full log of tables gave, or the sum
-/// of the count that makes a next table too long.
+/// Calls a closure with the key's pair, or with `None`, and does what it returns. If it fails with
+/// `Refused::Capacity`, `given` records the number that a full arena of tables gave, or the sum of
+/// the count that makes a next table too long.
 pub fn compute_lent<
     'a,
     R: Wait,

@@ -1,11 +1,11 @@
-//! Computes on the shared map: their machine, answered by steps on the book, by what a closure or a
-//! rule said.
+//! Computes on the shared map: their machine, whose asks are performed by steps on the book and by
+//! a closure or a rule.
 //!
-//! [`operating`] has the one compute, generic over how it asks: its fast path, and the loop of its
-//! slow one. [`lending`] calls it with a closure that is lent the pair, and [`deciding`] with one of
-//! the [`rules`]. What both paths do names neither: what is done at once stands in [`fast_path`],
-//! the steps of the machine in [`computing`]. So a closure that may keep what it is shown has both
-//! paths in `papaya_map`.
+//! [`operating`] has the one compute, generic over how it calls either: its fast path, and the loop
+//! of its slow one. [`lending`] calls it with a closure that borrows the pair, and [`deciding`]
+//! with one of the [`rules`]. The steps of both paths name neither: [`fast_path`] has those that
+//! are done at once, and [`computing`] those of the machine. So `papaya_map` has both paths for a
+//! closure that may keep its argument.
 #![tactic(auto)]
 
 pub mod computing;

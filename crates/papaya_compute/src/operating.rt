@@ -1,5 +1,5 @@
-//! The one compute: its fast path, the loop of its slow one, and how it asks what becomes of a
-//! key's pair. A closure that is lent the pair is asked so (`lending`), and a rule (`deciding`).
+//! The one compute: its fast path, the loop of its slow one, and the trait by which it calls a
+//! closure that borrows the pair (`lending`) or a rule (`deciding`).
 ghost use Rattle.std.specs.Prelude.{◌≡◌, Option, Err};
 ghost use Rattle.std.specs.Int.{IsPowerOfTwo};
 ghost use denote.Bor.{Bor};
@@ -31,33 +31,33 @@ use std::alloc::Global;
 use std::hash::{BuildHasher, Hash};
 use std::sync::Wait;
 
-/// How an `O` is asked what becomes of a key's pair. It may be asked again, where another call was
-/// first to change that pair.
+/// A way to call an `O` for what becomes of a key's pair. It may be called again if another call
+/// was first to change that pair.
 ///
-/// An operator tells contracts what each asking may answer, and what the `O` is then.
+/// An operator states for contracts what each call may return, and the state of the `O` then.
 pub trait Operator<'a, K, V, T, O> {
     ghost callable: { O → Type 0 };
 
     ghost operates: { O → Option (Bor K × Bor V) → Operation V T → O → Type 0 };
 
-    /// What becomes of the pair that is shown, or, where none is, what is stored.
+    /// Returns what becomes of the pair, or, for `None`, what is stored.
     fn operate(op: &mut O, shown: Option<(&'a K, &'a V)>) -> Operation<V, T>
         requires callable { callable op.old }
         ensures callable { callable op.new }
         ensures operates { operates op.old shown.entry result op.new };
 }
 
-/// How a compute has ended.
+/// The end of a compute.
 #[derive(Drop)]
 pub struct Ended<'a, K, V, T> {
     pub answer: Result<Compute<'a, K, V, T>, Refused>,
-    /// The value of the pair that was shown last.
+    /// The value of the pair that `O` was called with last.
     pub current: Option<&'a V>,
-    /// The value of the pair that was logged where the key had none.
+    /// The value of the pair that was stored in the arena for an absent key.
     pub spare: Option<&'a V>,
 }
 
-/// What becomes of the pair that is shown by its token, or, where none is, what is stored.
+/// Calls the operator with the pair of this token, or with `None`, and returns what it returns.
 fn show<'a, A: Operator<'a, K, V, T, O>, K: Hash + Eq, V, S: BuildHasher, T, O>(
     book: &'a Book<K, V, S>,
     shown: &Option<Stored<K, V>>,
@@ -74,9 +74,9 @@ fn show<'a, A: Operator<'a, K, V, T, O>, K: Hash + Eq, V, S: BuildHasher, T, O>(
     }
 }
 
-/// Looks for the key in the root, and does at once what is answered where the search ends at an
-/// empty place or at a live pair, with the value of that pair. Else, and where another call was
-/// first, it tells where the machine starts.
+/// Looks for the key in the root. If the search ends at an empty place or at a live pair, it does
+/// at once what the operator returns. Otherwise, and if another call was first, it returns where
+/// the machine starts.
 #[inline(always)]
 fn fast<
     'a,
@@ -125,8 +125,8 @@ fn fast<
     }
 }
 
-/// Runs the machine to its end that starts so. It is a call of its own, since no frame of a fast
-/// path shall hold a machine.
+/// Runs the machine from this start to its end. It is a call of its own, since no frame of a fast
+/// path may hold a machine.
 #[inline(never)]
 fn slow<
     'a,
@@ -182,9 +182,9 @@ fn slow<
     unreachable!()
 }
 
-/// Does with a key's pair, or where it has none, what is answered by the operator's `O`. Where it
-/// is refused for want of room, `given` tells the number that a full log of tables gave, or the sum
-/// of the count that makes a next table too long.
+/// Calls the operator with the key's pair, or with `None`, and does what it returns. If it fails
+/// with `Refused::Capacity`, `given` records the number that a full arena of tables gave, or the
+/// sum of the count that makes a next table too long.
 #[inline(always)]
 pub(crate) fn compute<
     'a,
@@ -228,7 +228,7 @@ pub(crate) fn compute<
             spare: None,
         },
         First::On(start) => {
-            // taken apart, so that what a fast path answers lies in no memory that a call writes
+            // Taken apart, so that a fast path's result is in no memory that a call writes.
             let Ended {
                 answer,
                 current,

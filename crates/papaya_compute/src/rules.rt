@@ -1,23 +1,23 @@
-//! The rules of the calls that store a value where their rule says so.
+//! The rules of the calls that store a value as their rule decides.
 ghost use Rattle.std.specs.Prelude.{◌≡◌, MatchOption};
 ghost use Rattle.std.specs.Fn.{FnReturnsAt};
 ghost use Rattle.papaya_compute.specs.Rules.{Gives, Updates, Upserts};
 
 use crate::deciding::Rule;
 
-/// What a value is had from that is needed once at most.
+/// A source of a value that is needed once at most.
 pub trait Supply<V> {
     ghost can_give: { Self → Type 0 };
 
     ghost gives: { Self → V → Type 0 };
 
-    /// The value.
+    /// Returns the value.
     fn give(self) -> V
         requires { can_give self }
         ensures { gives self result };
 }
 
-/// A value that is at hand.
+/// A value that exists already.
 #[derive(Drop)]
 pub struct Ready<V> {
     pub value: V,
@@ -49,7 +49,7 @@ impl<V, F: FnOnce() -> V> Supply<V> for Made<F> {
     }
 }
 
-/// A value is stored where the key has none.
+/// Stores a value if the key has none.
 #[derive(Drop)]
 pub struct Giving<G> {
     pub supply: Option<G>,
@@ -72,7 +72,7 @@ impl<V, G: Supply<V>> Rule<V> for Giving<G> {
     }
 }
 
-/// The value that is there is replaced by what the closure makes of it.
+/// Replaces the value that is there by what the closure makes of it.
 #[derive(Drop)]
 pub struct Updating<F> {
     pub update: F,
@@ -92,7 +92,7 @@ impl<V, F: Fn(&V) -> V> Rule<V> for Updating<F> {
     }
 }
 
-/// The same, and where the key has none a value is stored.
+/// Replaces the value that is there in the same way, and stores a value if the key has none.
 #[derive(Drop)]
 pub struct Upserting<F, G> {
     pub update: F,

@@ -9,18 +9,18 @@ ghost use Rattle.papaya_lines.specs.Arguments.{WritesArguments, WritesMode, back
 use crate::numbers::number_of;
 use papaya_words::probe::ResizeMode;
 
-/// What the lines run on.
+/// The map that the lines run on.
 #[derive(Clone, Copy)]
 pub enum Backend {
-    /// Any number of callers on one map, a step at a time.
+    /// Any number of callers on one map, one step at a time.
     Core,
-    /// One caller, a whole call at a time.
+    /// One caller, one call at a time.
     Seq,
-    /// The map that threads share, by its plain calls, a whole call at a time.
+    /// The map that threads share, by its plain calls, one call at a time.
     Shared,
 }
 
-/// How keys are hashed.
+/// The hash of keys.
 #[derive(Clone, Copy)]
 pub enum Hashing {
     /// A key to itself.
@@ -29,7 +29,7 @@ pub enum Hashing {
     Zero,
 }
 
-/// What the arguments ask for.
+/// The parsed arguments.
 #[derive(Clone, Copy)]
 pub struct Arguments {
     pub backend: Backend,
@@ -37,7 +37,7 @@ pub struct Arguments {
     pub hashing: Hashing,
 }
 
-/// The backend of this word.
+/// Returns the backend of this word.
 fn backend_of(word: &str) -> Option<Backend>
     ensures { MatchOption result ((backend : Backend) → word.now ≢ backend_word backend)
         (λ backend. word.now ≡ backend_word backend) }
@@ -50,7 +50,7 @@ fn backend_of(word: &str) -> Option<Backend>
     }
 }
 
-/// The mode of this word.
+/// Returns the mode of this word.
 fn mode_of(word: &[u8]) -> Option<ResizeMode>
     ensures { MatchOption result ((mode : ResizeMode) → ¬ (WritesMode word.now mode))
         (WritesMode word.now) }
@@ -64,7 +64,7 @@ fn mode_of(word: &[u8]) -> Option<ResizeMode>
     }
 }
 
-/// The way to hash of this word.
+/// Returns the hash of this word.
 fn hashing_of(word: &str) -> Option<Hashing>
     ensures { MatchOption result ((hashing : Hashing) → word.now ≢ hashing_word hashing)
         (λ hashing. word.now ≡ hashing_word hashing) }
@@ -77,8 +77,8 @@ fn hashing_of(word: &str) -> Option<Hashing>
 }
 
 impl Arguments {
-    /// The arguments behind the program's name, or None where they are bad. That a chunk is not 0
-    /// is for the map to see.
+    /// Returns the arguments behind the program's name, or `None` if they are bad. The map checks
+    /// that a chunk is not 0.
     pub fn from_words(words: &[String]) -> Option<Arguments>
         ensures { MatchOption result ((arguments : Arguments)
             → ¬ (WritesArguments (map string_bytes words.now) arguments))

@@ -1,19 +1,19 @@
-//! What the closures of a script's calls answer.
+//! The closures of a script's calls.
 ghost use Rattle.std.specs.Prelude.{◌≡◌, ℕ, Option, Bool, true, option_map};
 ghost use Rattle.papaya_call.specs.declared.answers.Operation.{Operation};
 ghost use Rattle.papaya_lines.specs.Closures.{follower, operation_of};
 
 use papaya_call::answers::{Answers, Operation};
 
-/// The number after this one; 0 follows the greatest.
+/// Returns the number after this one; 0 follows the greatest.
 pub fn follower(value: &u64) -> u64
     ensures { result ≡ follower value.now }
 {
     value.wrapping_add(1)
 }
 
-/// The closures of a script: a removal agrees to what it is shown, and an update puts the number
-/// after a value in its place.
+/// The closures of a script: a removal's closure returns true for each entry, and an update's
+/// returns the number after the value.
 #[derive(Clone, Copy)]
 pub struct Answering;
 

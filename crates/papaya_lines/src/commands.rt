@@ -1,4 +1,4 @@
-//! The lines that are one call or one question, whatever they run on.
+//! The lines that are one call or one query, whatever they run on.
 ghost use Rattle.std.specs.Prelude.{◌≡◌, ◌≢◌, ℕ, List, ◌∷◌, ◌++◌, Contains, MatchOption};
 ghost use Rattle.papaya_lines.specs.Commands.{Parts, WritesBare, WritesCommand, keyed_word};
 ghost use Rattle.papaya_lines.specs.declared.commands.Command.{Command};
@@ -6,10 +6,10 @@ ghost use Rattle.papaya_lines.specs.declared.commands.Keyed.{Keyed};
 
 use crate::numbers::number_of;
 
-/// What a line asks of the map.
+/// The command of a line to the map.
 #[derive(Clone, Copy)]
 pub enum Command {
-    /// Stores a pair.
+    /// Stores an entry.
     Insert(u64, u64),
     /// Looks a key up.
     Get(u64),
@@ -17,17 +17,17 @@ pub enum Command {
     Remove(u64),
     /// Adds 1 to the value of a key; 0 follows the greatest.
     Update(u64),
-    /// How many pairs there are.
+    /// Returns how many entries there are.
     Len,
-    /// How many slots the root table has.
+    /// Returns how many slots the root table has.
     Slots,
-    /// Removes all pairs.
+    /// Removes all entries.
     Clear,
-    /// All pairs.
+    /// Lists all entries.
     Walk,
 }
 
-/// What stands before the first space, and what after it.
+/// Returns the text before the first space, and the text after it.
 pub fn parted(text: &[u8]) -> Option<(&[u8], &[u8])>
     ensures { MatchOption result (¬ (Contains text.now 32)) (λ p. Parts text.now p.0.now p.1.now) }
 {
@@ -35,7 +35,7 @@ pub fn parted(text: &[u8]) -> Option<(&[u8], &[u8])>
     Some((&text[..place], &text[place + 1..]))
 }
 
-/// What a command is named that has a key.
+/// The name of a command that has a key.
 enum Keyed {
     Get,
     Insert,
@@ -43,7 +43,7 @@ enum Keyed {
     Update,
 }
 
-/// The command of this name that has a key.
+/// Returns the command of this name that has a key.
 fn keyed_of(word: &[u8]) -> Option<Keyed>
     ensures { MatchOption result ((name : Keyed) → word.now ≢ keyed_word name)
         (λ name. word.now ≡ keyed_word name) }
@@ -57,7 +57,7 @@ fn keyed_of(word: &[u8]) -> Option<Keyed>
     }
 }
 
-/// The command that is one word.
+/// Returns the command that is one word.
 fn bare_of(word: &[u8]) -> Option<Command>
     ensures { MatchOption result ((command : Command) → ¬ (WritesBare word.now command))
         (WritesBare word.now) }
@@ -71,7 +71,7 @@ fn bare_of(word: &[u8]) -> Option<Command>
     }
 }
 
-/// The command that a line writes, or None where the line is of another form.
+/// Returns the command of a line, or `None` if the line is of another form.
 pub fn command_of(text: &[u8]) -> Option<Command>
     ensures { MatchOption result ((command : Command) → ¬ (WritesCommand text.now command))
         (WritesCommand text.now) }

@@ -10,7 +10,7 @@ pub struct IdentityHasher {
     pub number: u64,
 }
 
-/// The number of these eight bytes, the lowest first, and 0 for any other count of bytes.
+/// Returns the number of these eight bytes, the lowest first, or 0 for any other count of bytes.
 fn number_written(bytes: &[u8]) -> u64
     ensures { result ≡ number_written bytes.now }
 {

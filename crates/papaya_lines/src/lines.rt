@@ -8,7 +8,7 @@ use papaya_words::probe::Refused;
 use std::io;
 use std::io::{BufRead, ErrorKind};
 
-/// Takes the line end away, where there is one.
+/// Removes the line end, if there is one.
 fn cut_end(line: &mut Vec<u8>)
     ensures { line.new.items ≡ strip_last 10 line.old.items }
 {
@@ -17,7 +17,7 @@ fn cut_end(line: &mut Vec<u8>)
     }
 }
 
-/// The failure of a program whose reader fails so.
+/// Returns the failure of a program whose reader fails so.
 fn failure_of(error: io::Error) -> Failure
     ensures { IsReadFailure result }
 {
@@ -27,7 +27,7 @@ fn failure_of(error: io::Error) -> Failure
     }
 }
 
-/// Reads a line into `line`, without its line end, or answers false at the input's end. The last
+/// Reads a line into `line`, without its line end, or returns false at the input's end. The last
 /// line may lack its line end.
 pub fn next_line<R: BufRead>(input: &mut R, line: &mut Vec<u8>) -> Result<bool, Failure>
     ensures read { IfOk result (λ more. IfSome (R.Read.remaining input.old)

@@ -2,8 +2,8 @@
 ghost use Rattle.std.specs.Prelude.{◌≡◌, ℕ, MatchOption};
 ghost use Rattle.papaya_lines.specs.Numbers.{WritesNumber};
 
-/// The number that decimal digits write, within 64 bits. Leading zeros are digits; a sign, a
-/// space or an empty text is none.
+/// Returns the number of decimal digits, within 64 bits. Leading zeros are allowed. Returns `None`
+/// for a sign, a space or an empty text.
 pub fn number_of(text: &[u8]) -> Option<u64>
     ensures { MatchOption result ((n : ℕ) → ¬ (WritesNumber text.now n)) (WritesNumber text.now) }
 {

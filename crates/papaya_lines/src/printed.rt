@@ -3,10 +3,10 @@ use crate::walk::Walk;
 use papaya_words::probe::Refused;
 use std::fmt;
 
-/// What is printed of a reply.
+/// The printed form of a reply.
 #[derive(Drop)]
 pub enum Printed {
-    /// There is no such pair, or there was none.
+    /// There is no such entry, or there was none.
     Absent,
     /// The value that a lookup found.
     Found(u64),
@@ -16,15 +16,15 @@ pub enum Printed {
     New(u64),
     /// The value that a removal took out.
     Removed(u64),
-    /// How many pairs there are.
+    /// The number of entries.
     Length(usize),
-    /// How many slots the root table has.
+    /// The number of slots of the root table.
     Slots(usize),
-    /// The pairs of a walk.
+    /// The entries of an iteration.
     Walk(Walk),
-    /// All was done that was asked for.
+    /// The call succeeded, and has nothing to print.
     Done,
-    /// Why the call changed nothing.
+    /// The reason for which the call changed nothing.
     Refused(Refused),
 }
 

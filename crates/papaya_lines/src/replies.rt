@@ -1,4 +1,4 @@
-//! What the program prints of a core's trace.
+//! The text that the program prints of a core's trace.
 ghost use Rattle.std.specs.Prelude.{◌≡◌, ℕ, List, [], ◌∷◌, ◌++◌, IfErr, IfOk, OnOk, reverse};
 ghost use Rattle.std.specs.Io.KnownBytes.{Appends};
 ghost use Rattle.papaya_lines.specs.Replies.{printed_of, value_in};
@@ -20,7 +20,7 @@ use std::alloc::Global;
 use std::hash::BuildHasher;
 use std::io::Write;
 
-/// The value of a pair that was stored.
+/// Returns the value of a pair that was stored.
 fn value_of<S: BuildHasher + Drop>(core: &Core<u64, u64, S, Answering>, pair: u64) -> Option<u64>
     ensures { result ≡ value_in core.now.store pair }
 {
@@ -28,8 +28,8 @@ fn value_of<S: BuildHasher + Drop>(core: &Core<u64, u64, S, Answering>, pair: u6
     Some(*value)
 }
 
-/// What is printed of a reply, of an update or of another call. A reply names a pair that the core
-/// has stored, so there always is something.
+/// Returns what is printed of a reply, of an update or of another call. A reply names a pair that
+/// the core has stored, so there always is something.
 fn printed_of<S: BuildHasher + Drop>(
     core: &Core<u64, u64, S, Answering>,
     is_update: bool,
@@ -50,12 +50,12 @@ fn printed_of<S: BuildHasher + Drop>(
     }
 }
 
-/// Of each caller what its last call is, as far as what is printed hangs on it.
+/// The last call of each caller, as far as the text depends on it.
 #[derive(Drop)]
 struct Calls([Part; CALLERS as usize]);
 
 impl Calls {
-    /// Notes what a line begins, and answers what its caller's call is.
+    /// Notes what a line begins, and returns its caller's call.
     fn note(&mut self, line: Line) -> Part
         ensures calls { self.new.0 ≡ with_call self.old.0 line }
         ensures call { result ≡ call_of self.old.0 line }
@@ -86,7 +86,7 @@ fn push_pair<S: BuildHasher + Drop>(
     Ok(())
 }
 
-/// The pairs that a caller's last call gave up to this turn, of which these entries tell.
+/// Returns the pairs that a caller's last call returned up to this turn, by these entries.
 fn given<S: BuildHasher + Drop>(
     alloc: Global,
     core: &Core<u64, u64, S, Answering>,
@@ -114,7 +114,7 @@ fn given<S: BuildHasher + Drop>(
     Ok(pairs)
 }
 
-/// The reply among these entries.
+/// Returns the reply among these entries.
 fn reply_of(entries: &[Entry]) -> Option<Reply>
     ensures { result ≡ reply_among entries.now }
 {
@@ -126,7 +126,7 @@ fn reply_of(entries: &[Entry]) -> Option<Reply>
     None
 }
 
-/// The entries at the front that are of this turn, and those behind them.
+/// Returns the entries at the front that are of this turn, and those behind them.
 fn split_turn(entries: &[Entry], turn: usize) -> (&[Entry], &[Entry])
     ensures own { result.0.now ≡ own_of turn entries.now }
     ensures behind { result.1.now ≡ behind turn entries.now }
@@ -138,7 +138,7 @@ fn split_turn(entries: &[Entry], turn: usize) -> (&[Entry], &[Entry])
     entries.split_at(count)
 }
 
-/// A line as its turn comes: what its caller's call is, and the turn's place in the schedule.
+/// A line at its turn: its caller's call, and the turn's place in the schedule.
 #[derive(Clone, Copy)]
 struct Here {
     line: Line,
@@ -146,7 +146,7 @@ struct Here {
     turn: usize,
 }
 
-/// What is printed of the reply that a line's turn gave.
+/// Returns what is printed of the reply to a line's turn.
 fn replied<S: BuildHasher + Drop>(
     alloc: Global,
     core: &Core<u64, u64, S, Answering>,
@@ -185,7 +185,7 @@ fn print_reply<W: Write>(
     }
 }
 
-/// Prints what a line says whose turn gave no reply.
+/// Prints the text of a line whose turn got no reply.
 fn print_unended<W: Write>(line: Line, output: &mut W) -> Result<(), Failure>
     ensures printed { OnOk result (Appends (W.contents output.old) (W.contents output.new)
         (unended_text line.caller line.part)) }
@@ -198,7 +198,7 @@ fn print_unended<W: Write>(line: Line, output: &mut W) -> Result<(), Failure>
     }
 }
 
-/// Prints what a line tells, by the reply of its turn.
+/// Prints the text of a line, by the reply to its turn.
 fn print_line<S: BuildHasher + Drop, W: Write>(
     alloc: Global,
     core: &Core<u64, u64, S, Answering>,
@@ -221,8 +221,8 @@ fn print_line<S: BuildHasher + Drop, W: Write>(
     }
 }
 
-/// Prints what the lines print, and answers the number of the first line whose turn was passed
-/// over, if there is one. Such a turn has no entry in the trace; no line behind it prints.
+/// Prints what the lines print, and returns the number of the first line whose turn was skipped, if
+/// there is one. Such a turn has no entry in the trace; no line behind it prints.
 pub fn print_trace<S: BuildHasher + Drop, W: Write>(
     alloc: Global,
     core: &Core<u64, u64, S, Answering>,

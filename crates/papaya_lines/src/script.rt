@@ -1,4 +1,4 @@
-//! A whole script: the turns that its lines ask for.
+//! A whole script: the turns of its lines.
 ghost use Rattle.std.specs.Prelude.{◌≡◌, IfErr, IfOk, IfSome, OnOk};
 ghost use Rattle.papaya_lines.specs.Lines.{IsReadFailure, lines_of};
 ghost use Rattle.papaya_lines.specs.Script.{Adds, IsScript, line_of};
@@ -14,22 +14,22 @@ use papaya_shell::failure::Failure;
 use std::alloc::Global;
 use std::io::BufRead;
 
-/// What a line has its caller do, as far as what is printed hangs on it.
+/// The part of a line's turn that the printed text depends on.
 #[derive(Clone, Copy, PartialEq)]
 pub enum Part {
-    /// It begins an update, of whose reply the new value is printed.
+    /// It begins an update, and the new value of its reply is printed.
     Update,
-    /// It begins a walk, of whose reply the pairs are printed that it gave.
+    /// It begins an iteration, and the pairs that it returned are printed.
     Walk,
     /// It begins another call.
     Call,
     Step,
-    /// It says so where its call is still running.
+    /// It prints a text if its call is still running.
     Finish,
 }
 
 impl Part {
-    /// Does it begin a call?
+    /// Returns whether it begins a call.
     pub(crate) fn begins(self) -> bool
         ensures { result ≡ begins_call self }
     {
@@ -49,7 +49,7 @@ pub struct Line {
     pub part: Part,
 }
 
-/// The line of this number, which asks for this turn.
+/// Returns the line of this number, which has this turn.
 fn line_of(number: u64, turn: &Turn<u64, u64, Answering>) -> Line
     ensures { result ≡ line_of number turn.now }
 {
@@ -67,13 +67,13 @@ fn line_of(number: u64, turn: &Turn<u64, u64, Answering>) -> Line
     }
 }
 
-/// A whole script, up to its first line of bad form.
+/// A whole script, up to its first bad line.
 #[derive(Drop)]
 pub struct Script {
     pub turns: Vec<Turn<u64, u64, Answering>>,
     /// The line of each turn, in order.
     pub lines: Vec<Line>,
-    /// The number of the first line of bad form.
+    /// The number of the first bad line.
     pub bad_line: Option<u64>,
 }
 
@@ -100,8 +100,7 @@ impl Script {
         Err(Failure::Input)
     }
 
-    /// Adds a line, or notes that it is of bad form. An empty line, and one behind a bad line, is
-    /// passed over.
+    /// Adds a line, or notes that it is bad. Empty lines, and lines behind a bad one, are skipped.
     fn add(&mut self, number: u64, line: &[u8]) -> Result<(), Failure>
         ensures added { OnOk result (Adds self.old number line.now self.new) }
         ensures failed { IfErr result (λ failure. failure ≡ without_memory) }

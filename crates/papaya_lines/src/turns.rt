@@ -12,13 +12,13 @@ use crate::numbers::number_of;
 use papaya_ask::call::Call;
 use papaya_core::trace::Turn;
 
-/// How many callers a script may name.
+/// The number of callers that a script may name.
 pub(crate) const CALLERS: u64 = 64;
 
-/// How many steps `finish` makes at most.
+/// The most steps that `finish` makes.
 const MOST_STEPS: usize = 1_000_000;
 
-/// The caller of this number.
+/// Returns the caller of this number.
 fn caller_of(text: &[u8]) -> Option<usize>
     ensures { MatchOption result ((caller : ℕ) → ¬ (WritesCaller text.now caller))
         (WritesCaller text.now) }
@@ -31,7 +31,7 @@ fn caller_of(text: &[u8]) -> Option<usize>
     }
 }
 
-/// The call that this text writes. A question is none.
+/// Returns the call of this text. A query is none.
 fn call_of(text: &[u8]) -> Option<Call<u64, u64, Answering>>
     ensures { MatchOption result ((call : Call ℕ ℕ Answering) → ¬ (WritesCall text.now call))
         (WritesCall text.now) }
@@ -47,7 +47,7 @@ fn call_of(text: &[u8]) -> Option<Call<u64, u64, Answering>>
     }
 }
 
-/// What a line has a caller do.
+/// The verb of a line.
 enum Verb {
     Begin,
     Step,
@@ -55,7 +55,7 @@ enum Verb {
     Finish,
 }
 
-/// The verb of this word.
+/// Returns the verb of this word.
 fn verb_of(word: &[u8]) -> Option<Verb>
     ensures { MatchOption result ((verb : Verb) → word.now ≢ verb_word verb)
         (λ verb. word.now ≡ verb_word verb) }
@@ -69,8 +69,8 @@ fn verb_of(word: &[u8]) -> Option<Verb>
     }
 }
 
-/// The turn that a line asks for, or None where the line is of bad form. An empty line asks for
-/// none: a script passes over it.
+/// Returns the turn of a line, or `None` if the line is bad. An empty line has no turn: a script
+/// skips it.
 pub fn turn_of(line: &[u8]) -> Option<Turn<u64, u64, Answering>>
     ensures { MatchOption result ((turn : Turn ℕ ℕ Answering) → ¬ (WritesTurn line.now turn))
         (WritesTurn line.now) }

@@ -1,11 +1,11 @@
-//! The pairs of a walk, as they are printed.
+//! The entries of an iteration, as they are printed.
 ghost use Rattle.std.specs.Prelude.{◌≡◌};
 ghost use Rattle.papaya_lines.specs.Walk.{IsByKey};
 
 use std::fmt;
 use std::marker::Model;
 
-/// The pairs of a walk, by rising key. Contracts see them as a list.
+/// The entries of an iteration, by rising key. Contracts observe them as a list.
 #[derive(Drop)]
 pub struct Walk {
     pairs: Vec<(u64, u64)>,
@@ -20,7 +20,7 @@ impl Model for Walk {
 }
 
 impl Walk {
-    /// A walk of these pairs.
+    /// Returns an iteration of these entries.
     pub fn new(mut pairs: Vec<(u64, u64)>) -> Walk
         ensures { IsByKey pairs.items result }
     {

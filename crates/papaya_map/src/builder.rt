@@ -1,4 +1,4 @@
-//! The builder of a map, which asks for its parts one by one.
+//! The builder of a map, with a method for each setting.
 ghost use Rattle.std.specs.Prelude.{◌≡◌, [], IfErr, IfOk, None, Some};
 ghost use Rattle.std.specs.Arc.{arc_value};
 ghost use Rattle.papaya_words.specs.declared.limits.TheConstants.{DEFAULT_CHUNK, DEFAULT_SHARDS};
@@ -19,8 +19,8 @@ use std::hash::{BuildHasher, BuildHasherDefault, FoldHasher, Hash};
 use std::marker::{Model, PhantomData};
 use std::sync::{Arc, Wait};
 
-/// What a map is to be made of: `HashMapBuilder` of 0.2.5. Contracts see each part that was asked
-/// for. What cannot be had is refused when the map is built.
+/// The settings of a map that is to be built: `HashMapBuilder` of 0.2.5. Contracts observe each
+/// setting. A setting that is out of range is refused when the map is built.
 #[derive(Drop)]
 pub struct HashMapBuilder<K, V, S = BuildHasherDefault<FoldHasher>> {
     hasher: S,
@@ -48,9 +48,9 @@ impl<K, V, S> Model for HashMapBuilder<K, V, S> {
 }
 
 impl<K: Hash + Eq, V> HashMap<K, V, BuildHasherDefault<FoldHasher>> {
-    /// A builder of a map for no pairs, which resizes as [`ResizeMode::default`] says, counts its
-    /// pairs over [`DEFAULT_SHARDS`] shards, has no limit on the pairs that it logs, and has a
-    /// collector of number 0: `builder` of 0.2.5.
+    /// Returns a builder with the default settings: `builder` of 0.2.5. The map has no initial
+    /// capacity, resizes by [`ResizeMode::default`] and counts over [`DEFAULT_SHARDS`] shards. It
+    /// has no limit on stored entries, and its collector has number 0.
     pub fn builder() -> HashMapBuilder<K, V, BuildHasherDefault<FoldHasher>>
         ensures collector { result.collector ≡ 0 }
         ensures capacity { result.capacity ≡ 0 }
@@ -71,7 +71,7 @@ impl<K: Hash + Eq, V> HashMap<K, V, BuildHasherDefault<FoldHasher>> {
 }
 
 impl<K, V, S: Drop> HashMapBuilder<K, V, S> {
-    /// Asks for this hasher: `hasher` of 0.2.5.
+    /// Sets the hasher: `hasher` of 0.2.5.
     pub fn hasher<T>(self, hasher: T) -> HashMapBuilder<K, V, T>
         ensures { result ≡ record {
           hasher = hasher;
@@ -104,7 +104,7 @@ impl<K, V, S: Drop> HashMapBuilder<K, V, S> {
 }
 
 impl<K, V, S> HashMapBuilder<K, V, S> {
-    /// Asks for this collector: `collector` of 0.2.5. Guards of its number are the map's.
+    /// Sets the collector: `collector` of 0.2.5. The map accepts guards of that collector's number.
     pub fn collector(self, collector: Collector) -> HashMapBuilder<K, V, S>
         ensures { result ≡ record {
           hasher = self.hasher;
@@ -118,10 +118,9 @@ impl<K, V, S> HashMapBuilder<K, V, S> {
         HashMapBuilder { collector, ..self }
     }
 
-    /// Asks for a collector that other maps may have too: `shared_collector` of 0.2.5. A guard of
-    /// one such map fits all, and so does one of the caller's collector, since a guard is known by
-    /// its collector's number alone. The map keeps that number, and counts the guards that it gives
-    /// out itself.
+    /// Sets a collector that other maps may have too: `shared_collector` of 0.2.5. A guard is known
+    /// by its collector's number alone. So a guard of one such map, or of the caller's collector,
+    /// fits all of them. The map keeps that number, and counts the guards that it creates itself.
     pub fn shared_collector(self, collector: Arc<Collector>) -> HashMapBuilder<K, V, S>
         ensures { result ≡ record {
           hasher = self.hasher;
@@ -136,7 +135,7 @@ impl<K, V, S> HashMapBuilder<K, V, S> {
         self.collector(Collector::new(number))
     }
 
-    /// Asks for a first table for so many pairs: `capacity` of 0.2.5.
+    /// Sets the number of entries that the first table has room for: `capacity` of 0.2.5.
     pub fn capacity(self, capacity: usize) -> HashMapBuilder<K, V, S>
         ensures { result ≡ record {
           hasher = self.hasher;
@@ -150,7 +149,7 @@ impl<K, V, S> HashMapBuilder<K, V, S> {
         HashMapBuilder { capacity, ..self }
     }
 
-    /// Asks for this way to resize: `resize_mode` of 0.2.5.
+    /// Sets how the map resizes: `resize_mode` of 0.2.5.
     pub fn resize_mode(self, mode: ResizeMode) -> HashMapBuilder<K, V, S>
         ensures { result ≡ record {
           hasher = self.hasher;
@@ -164,8 +163,8 @@ impl<K, V, S> HashMapBuilder<K, V, S> {
         HashMapBuilder { mode, ..self }
     }
 
-    /// Asks for so many shards of the count, which are rounded up to a power of two. 0.2.5 takes
-    /// their number from the machine's processors.
+    /// Sets the number of shards of the count, which is rounded up to a power of two. 0.2.5 derives
+    /// it from the number of processors.
     pub fn shards(self, shards: usize) -> HashMapBuilder<K, V, S>
         ensures { result ≡ record {
           hasher = self.hasher;
@@ -179,9 +178,9 @@ impl<K, V, S> HashMapBuilder<K, V, S> {
         HashMapBuilder { shards, ..self }
     }
 
-    /// Asks for a limit on the pairs that the map logs, those that were replaced or removed among
-    /// them: a call that would log one more is refused `Refused::Limit`. `reclaim` leaves just the
-    /// pairs that are there to be counted. With 0 no pair is ever stored. 0.2.5 has no such limit.
+    /// Limits how many entries the map may store, including those that were replaced or removed. A
+    /// call that would store one more fails with `Refused::Limit`. After `reclaim` only the entries
+    /// of the map count. With 0 no entry is ever stored. 0.2.5 has no such limit.
     pub fn pair_limit(self, pairs: u64) -> HashMapBuilder<K, V, S>
         ensures { result ≡ record {
           hasher = self.hasher;
@@ -200,7 +199,10 @@ impl<K, V, S> HashMapBuilder<K, V, S> {
 }
 
 impl<K: Hash + Eq + Drop, V: Drop, S: BuildHasher + Drop> HashMapBuilder<K, V, S> {
-    /// The map: `build` of 0.2.5. Refused as [`HashMap::with_parts`].
+    /// Builds the map: `build` of 0.2.5.
+    ///
+    /// # Errors
+    /// As [`HashMap::with_parts`].
     pub fn build<R: Wait>(self, rt: &R, alloc: Global) -> Result<HashMap<K, V, S>, Refused>
         ensures ok { IfOk result (λ map. IsAllowed self.mode self.capacity self.shards) }
         ensures made { IfOk result (IsFor self.mode self.capacity self.shards self.limit) }
@@ -220,8 +222,11 @@ impl<K: Hash + Eq + Drop, V: Drop, S: BuildHasher + Drop> HashMapBuilder<K, V, S
         HashMap::with_collector(rt, alloc, mode, capacity, shards, hasher, limit, collector)
     }
 
-    /// A map of the same parts for one caller, which has no need of a collector; 0.2.5 has none
-    /// such. Refused as [`seq::HashMap::with_parts`].
+    /// Builds a map of the same settings for one caller; it needs no collector. 0.2.5 has no such
+    /// map.
+    ///
+    /// # Errors
+    /// As [`seq::HashMap::with_parts`].
     pub fn build_seq(self, alloc: Global) -> Result<seq::HashMap<K, V, S>, Refused>
         ensures ok { IfOk result (λ map. IsAllowed self.mode self.capacity self.shards
             × IsNewLimited {A = Unit {0}} self.mode self.capacity self.shards self.hasher self.limit

@@ -1,7 +1,7 @@
-//! Calls that take many pairs, compare two maps, or make a map anew of another's pairs.
+//! Calls that take many entries, compare two maps, or rebuild a map from a map's entries.
 //!
-//! Each is made of the calls for one pair. Other threads may change the maps between these, so what
-//! the maps have then is no clause of theirs.
+//! Each consists of calls for one entry. Other threads may change the maps between these, so no
+//! contract describes what the maps have afterwards.
 ghost use Rattle.std.specs.Prelude.{◌≡◌, ℕ, IfOk, IfErr, None};
 ghost use Rattle.std.specs.Iterator.{IsFiniteIterable};
 ghost use Rattle.papaya_words.specs.declared.limits.TheConstants.{DEFAULT_CHUNK, DEFAULT_SHARDS};
@@ -16,12 +16,13 @@ use std::hash::{BuildHasher, BuildHasherDefault, FoldHasher, Hash};
 use std::sync::Wait;
 
 impl<K: Hash + Eq + Drop, V: Drop, S: BuildHasher> HashMap<K, V, S> {
-    /// Stores pairs in the order in which they come: what the trait `Extend` does in 0.2.5. Of two
-    /// pairs with equal keys the first one's key stays, and the later one's value. No room is made
-    /// ahead, so for no pairs nothing is done at all. Calls of others go on between the pairs.
+    /// Inserts the entries of an iterator in its order: the trait `Extend` of 0.2.5. If two entries
+    /// have equal keys, the first key and the later value are stored. No room is reserved ahead, so
+    /// an empty iterator changes nothing at all. Other calls may take effect between the entries.
     ///
-    /// Refused as [`HashMapRef::insert_as`](crate::map::HashMapRef::insert_as) is for a pair. The
-    /// pairs before it were stored then, and those after it were not asked for.
+    /// # Errors
+    /// As [`HashMapRef::insert_as`](crate::map::HashMapRef::insert_as) for one entry. The entries
+    /// before it are stored then, and those after it are not taken from the iterator.
     pub fn extend<R: Wait, U: IntoIterator<Item = (K, V)>>(
         &self,
         rt: &R,
@@ -44,9 +45,11 @@ impl<K: Hash + Eq + Drop, V: Drop, S: BuildHasher> HashMap<K, V, S> {
 }
 
 impl<K: Hash + Eq + Copy + Drop, V: Copy + Drop, S: BuildHasher> HashMap<K, V, S> {
-    /// [`HashMap::extend`] by pairs that are lent and copied: what the trait `Extend` of such pairs
-    /// does in 0.2.5. The pairs of another map may be lent:
-    /// `map.extend_ref(rt, other.pin().iter(rt)?)`.
+    /// Inserts entries that are passed by reference and copied: `Extend<(&K, &V)>` of 0.2.5. The
+    /// entries of another map can be passed: `map.extend_ref(rt, other.pin().iter(rt)?)`.
+    ///
+    /// # Errors
+    /// As [`HashMap::extend`].
     pub fn extend_ref<'a, R: Wait, U: IntoIterator<Item = (&'a K, &'a V)>>(
         &self,
         rt: &R,
@@ -71,11 +74,12 @@ impl<K: Hash + Eq + Copy + Drop, V: Copy + Drop, S: BuildHasher> HashMap<K, V, S
 }
 
 impl<K: Hash + Eq + Drop, V: Drop, S: BuildHasher + Default + Drop> HashMap<K, V, S> {
-    /// A map of these pairs: what the trait `FromIterator` makes in 0.2.5. Of two pairs with equal
-    /// keys it has the first one's key and the later one's value, and of no pairs it has no table.
-    /// It resizes and counts as one of [`HashMap::with_hasher`] does.
+    /// Creates a map of an iterator's entries: the trait `FromIterator` of 0.2.5. If two entries
+    /// have equal keys, it has the first key and the later value. It resizes and counts as a map of
+    /// [`HashMap::with_hasher`], and has no table if there are no entries.
     ///
-    /// `Refused::Memory` where the map was not made; else refused as [`HashMap::extend`].
+    /// # Errors
+    /// `Refused::Memory` if the map cannot be allocated; otherwise as [`HashMap::extend`].
     pub fn from_iter<R: Wait, U: IntoIterator<Item = (K, V)>>(
         rt: &R,
         alloc: Global,
@@ -97,11 +101,12 @@ impl<K: Hash + Eq + Drop, V: Drop, S: BuildHasher + Default + Drop> HashMap<K, V
 }
 
 impl<K: Hash + Eq + Drop, V: Drop> HashMap<K, V, BuildHasherDefault<FoldHasher>> {
-    /// A map of the pairs of an array: what `From<[(K, V); N]>` makes in 0.2.5. Of two pairs with
-    /// equal keys it has the first one's key and the later one's value.
+    /// Creates a map of an array's entries: `From<[(K, V); N]>` of 0.2.5. If two entries have equal
+    /// keys, it has the first key and the later value.
     ///
-    /// `Refused::Memory` where the map was not made, or the array had no room in memory; else
-    /// refused as [`HashMap::extend`].
+    /// # Errors
+    /// `Refused::Memory` if there is no memory for the map or for the array; otherwise as
+    /// [`HashMap::extend`].
     pub fn from_array<R: Wait, const N: usize>(
         rt: &R,
         alloc: Global,
@@ -119,7 +124,7 @@ impl<K: Hash + Eq + Drop, V: Drop> HashMap<K, V, BuildHasherDefault<FoldHasher>>
 }
 
 impl<K: Hash + Eq, V: PartialEq, S: BuildHasher> HashMap<K, V, S> {
-    /// Has the map an equal value at this key?
+    /// Returns whether the map has an equal value for this key.
     fn has_equal(&self, key: &K, value: &V) -> bool {
         match self.pin().get(key) {
             Some(there) => *value == *there,
@@ -127,13 +132,16 @@ impl<K: Hash + Eq, V: PartialEq, S: BuildHasher> HashMap<K, V, S> {
         }
     }
 
-    /// Have both maps the same keys, with equal values? It is what `PartialEq` answers in 0.2.5. It
-    /// compares the counts, and then looks up each pair of a walk over this map in the other. So
-    /// where others change one of the maps meanwhile, it may say either.
+    /// Returns whether both maps have the same keys with equal values: `PartialEq` of 0.2.5. It
+    /// compares the counts, then iterates over this map and looks up each entry in the other. If
+    /// another thread changes one of the maps meanwhile, the result may be either.
     ///
-    /// Refused as [`HashMapRef::iter_as`](crate::map::HashMapRef::iter_as) is, since the walk may
-    /// copy first what is left to copy. It holds no lock while it looks into the other map, so two
-    /// threads may compare two maps in either order, and a map with itself.
+    /// It holds no lock while it looks into the other map. So two threads may compare two maps in
+    /// either order, or a map with itself.
+    ///
+    /// # Errors
+    /// As [`HashMapRef::iter_as`](crate::map::HashMapRef::iter_as), since the iteration may first
+    /// copy what is left to copy.
     pub fn eq<R: Wait>(&self, rt: &R, other: &HashMap<K, V, S>) -> Result<bool, Refused>
         ensures { IfErr result IsMemoryOrCapacity }
     {
@@ -150,8 +158,8 @@ impl<K: Hash + Eq, V: PartialEq, S: BuildHasher> HashMap<K, V, S> {
 }
 
 impl<K: Hash + Eq + Clone + Drop, V: Clone + Drop, S: BuildHasher> HashMap<K, V, S> {
-    /// Stores clones of this map's pairs in another one. `Refused::Memory` also where a clone was
-    /// not made.
+    /// Stores clones of this map's entries in another one. Fails with `Refused::Memory` also if a
+    /// clone is not made.
     fn copy_into<R: Wait>(&self, rt: &R, copy: &HashMap<K, V, S>) -> Result<(), Refused>
         ensures { IfErr result (IsPlainRefusal copy.now.begun.limit) }
     {
@@ -172,16 +180,18 @@ impl<K: Hash + Eq + Clone + Drop, V: Clone + Drop, S: BuildHasher> HashMap<K, V,
 }
 
 impl<K: Hash + Eq + Clone + Drop, V: Clone + Drop, S: BuildHasher + Clone + Drop> HashMap<K, V, S> {
-    /// A map of clones of this one's pairs: what the trait `Clone` makes in 0.2.5. As there, it has
-    /// a clone of the hasher, room for as many pairs as were counted, and else what a map of
-    /// [`HashMap::with_capacity_and_hasher`] has: neither this one's mode nor its collector, and no
-    /// limit on pairs. A pair that is stored, replaced or removed meanwhile may be copied or not.
+    /// Returns a map of clones of this one's entries: the trait `Clone` of 0.2.5. As there, it has
+    /// a clone of the hasher and room for as many entries as were counted. Otherwise it is a map of
+    /// [`HashMap::with_capacity_and_hasher`]: it has neither this map's mode nor its collector, and
+    /// no limit on entries. An entry that is stored, replaced or removed meanwhile may be copied or
+    /// not.
     ///
-    /// A key's clone has to be equal to it. Where it is not, the copy may have fewer pairs.
+    /// A key's clone must be equal to the key. If one is not, the copy may have fewer entries.
     ///
-    /// `Refused::Memory` where a growth was refused or a clone was not made, and
-    /// `Refused::Capacity` where there is no room, as for [`HashMap::with_parts`] and
-    /// [`HashMap::extend`]. This map keeps its pairs then.
+    /// # Errors
+    /// `Refused::Memory` if an allocation fails or a clone is not made. `Refused::Capacity` if
+    /// there is no room, as for [`HashMap::with_parts`] and [`HashMap::extend`]. This map keeps its
+    /// entries then.
     pub fn try_clone<R: Wait>(&self, rt: &R, alloc: Global) -> Result<HashMap<K, V, S>, Refused>
         ensures made { IfOk result (λ map. (pairs : ℕ)
             × IsFor (ResizeMode.Incremental DEFAULT_CHUNK) pairs DEFAULT_SHARDS None map) }
@@ -196,23 +206,24 @@ impl<K: Hash + Eq + Clone + Drop, V: Clone + Drop, S: BuildHasher + Clone + Drop
         Ok(copy)
     }
 
-    /// Makes the map anew of clones of its pairs, and gives back the memory of all keys and pairs
-    /// that it had before: of those that were replaced or removed, too. 0.2.5 frees those while the
-    /// map is shared, and has no such call; here they stay until this one. Mode, limit, initial
-    /// capacity, collector and shards stay, and the hasher is a clone of what it was. The map opens a
-    /// table with room for its pairs, which is no shorter than the initial capacity. It opens none if
-    /// it has no pairs and was given no capacity. Just the pairs that are kept count against the
-    /// limit, so it is not met here: that is tested, and no clause says it.
+    /// Rebuilds the map from clones of its entries, and frees all keys and values that it had
+    /// before. It also frees those that were replaced or removed, which stay in memory until this
+    /// call. 0.2.5 frees those while the map is shared, and has no such call. Mode, limit, initial
+    /// capacity, collector and shards stay, and the hasher is a clone of the old one. The map opens
+    /// a table with room for its entries, no shorter than the initial capacity. It opens none if it
+    /// has no entries and was given no capacity. Only the entries that are kept count against the
+    /// limit, so the call does not reach it: a test shows that, and no clause states it.
     ///
-    /// The map takes `&mut self`, so no other thread, no pinned map and no reference to a key or a
-    /// value outlasts the call. A [`Pass`](crate::map::Pass) of before is of no use after it, since
-    /// it has seen the history of the map as it was: a new one is made by [`HashMap::pass`].
-    /// Refused, the map is as it was, and passes of before go on.
+    /// The call takes `&mut self`, so no other thread, no pinned map and no reference to a key or a
+    /// value outlasts it. A [`Pass`](crate::map::Pass) from before is of no use afterwards, since
+    /// it observed the history of the old map: [`HashMap::pass`] creates a new one. If the call
+    /// fails, the map is as it was, and earlier passes continue.
     ///
-    /// A key's clone has to be equal to it. Where it is not, the map may have fewer pairs then.
+    /// A key's clone must be equal to the key. If one is not, the map may have fewer entries then.
     ///
-    /// `Refused::Memory` where a growth was refused or a clone was not made: beside the old map
-    /// there has to be room for the new one. `Refused::Capacity` as for [`HashMap::extend`].
+    /// # Errors
+    /// `Refused::Memory` if an allocation fails or a clone is not made: there must be room for the
+    /// new map beside the old one. `Refused::Capacity` as for [`HashMap::extend`].
     pub fn reclaim<R: Wait>(&mut self, rt: &R) -> Result<(), Refused>
         ensures ok { IfOk result (λ _. HasSettingsOf self.old self.new) }
         ensures hasher { IfOk result (λ _. S.is_clone self.old.begun.hasher

@@ -1,6 +1,7 @@
-//! Computes whose closure may keep what it is shown: their fast path, and the loop of their slow
-//! one. The one compute of `papaya_compute` can't ask such a closure, whose bound names a lifetime.
-//! No call that needs an impl with that bound is proved, nor one of another crate's function.
+//! Computes whose closure may keep the entry that it is called with: their fast path, and the loop
+//! of the slow one. The compute of `papaya_compute` cannot call such a closure, whose bound names a
+//! lifetime. No call that needs an impl with that bound is proved, nor one of another crate's
+//! function.
 ghost use Rattle.std.specs.Prelude.{◌≡◌, None, Err};
 ghost use Rattle.std.specs.Int.{IsPowerOfTwo};
 ghost use Rattle.papaya_book.specs.Books.{IsIn};
@@ -30,14 +31,14 @@ use std::alloc::Global;
 use std::hash::{BuildHasher, Hash};
 use std::sync::Wait;
 
-/// What a closure is shown where there is no pair: a pair would be borrowed like the book.
+/// Returns `None`, the argument of a closure for an absent key, with the lifetime of the book.
 fn no_entry<K: Hash + Eq, V, S: BuildHasher>(_book: &Book<K, V, S>) -> Option<(&K, &V)>
     ensures { result ≡ None }
 {
     None
 }
 
-/// What the closure answers that is shown this pair, or that there is none.
+/// Calls the closure with this entry, or with `None`, and returns what it returns.
 fn operate<
     'a,
     K: Hash + Eq,
@@ -57,9 +58,9 @@ fn operate<
     }
 }
 
-/// Looks for the key in the root, and does at once what the closure answers where the search
-/// ends at an empty place or at a live pair. Else, and where another call was first, it tells where
-/// the machine starts.
+/// Looks for the key in the root table. If the search ends at an empty slot or at a live entry, it
+/// does at once what the closure returns. Otherwise, and if another call was first, it returns
+/// where the machine starts.
 #[inline(always)]
 fn compute_fast<
     'a,
@@ -102,8 +103,8 @@ fn compute_fast<
     }
 }
 
-/// Runs the machine to its end that starts so. It is a call of its own, since no frame of a fast
-/// path shall hold a machine.
+/// Runs the machine from this start to its end. It is a call of its own, since no frame of a fast
+/// path may hold a machine.
 #[inline(never)]
 fn compute_slow<
     'a,
@@ -152,8 +153,8 @@ fn compute_slow<
     unreachable!()
 }
 
-/// Does with a key's pair, or where it has none, what the closure answers that is shown it. Where
-/// it is refused for want of room, `given` tells the number that a full log of tables gave, or the
+/// Calls the closure with the key's entry, or with `None`, and does what it returns. If it fails
+/// with `Refused::Capacity`, `given` records the number that a full arena of tables gave, or the
 /// sum of the count that makes a next table too long.
 pub fn compute<
     'a,

@@ -37,10 +37,10 @@ use std::alloc::Global;
 use std::hash::{BuildHasher, BuildHasherDefault, FoldHasher, Hash};
 use std::marker::Model;
 
-/// A map that threads share. Contracts see what of it is fixed when it is made: which book it has,
-/// the hasher, how it resizes, its logs, the initial capacity by which its first table is sized,
-/// over how many shards it counts, which tables it had at once, and what had been seen of its
-/// history then.
+/// A map that threads share. Contracts observe what is fixed when it is made: its book, hasher,
+/// resize mode and arenas, the initial capacity that sizes its first table, and its number of
+/// shards. They also observe the tables that it had at once, and the history observed at that
+/// point.
 #[derive(Drop)]
 pub struct HashMap<K: Hash + Eq, V, S: BuildHasher = BuildHasherDefault<FoldHasher>> {
     pub(crate) alloc: Global,
@@ -69,17 +69,18 @@ impl<K: Hash + Eq, V, S: BuildHasher> Model for HashMap<K, V, S> {
     ghost invariant = { λ m. IsLegalHistory K.eq key_of (history_of m.opened.log) };
 }
 
-/// What a caller has seen of a map's history, and what it changed itself. Of all this it keeps no
-/// more than a number, by which its calls pick a shard of the map's count. Contracts see that
-/// history, which is legal, the changes that were made by this pass, oldest first, and which book
-/// they are of. They see how many slots each table has that it has seen come, oldest first. Where
-/// its last change was refused for want of room, they see the number that a full log of tables
-/// gave, or the sum of the map's count by which the table after one of those would be too long. And
-/// of a map with a limit on pairs they see how many numbers were taken for pairs.
+/// The part of a map's history that a caller has observed, and the caller's own changes. At run
+/// time it holds only a number, by which its calls pick a shard of the map's count. Contracts
+/// observe the history, which is legal, the changes made by this pass, oldest first, and the book
+/// of both. They observe the number of slots of each table that the pass has observed, oldest
+/// first. If its last change failed with `Refused::Capacity`, they observe the number that a full
+/// arena of tables gave. Or they observe the sum of the map's count by which the table after one of
+/// those would be too long. For a map with a limit on entries they observe how many numbers were
+/// taken for entries.
 ///
-/// Each call by a pass stands in the history after all that the pass had seen before, and
-/// afterwards the pass has seen the call's own moment. A call that changes the map makes one change
-/// by its pass, and any other call makes none.
+/// Each call by a pass takes effect after all that the pass had observed before. Afterwards the
+/// pass has observed the call's own point in time. A call that changes the map makes one change by
+/// its pass, and any other call makes none.
 #[derive(Drop)]
 pub struct Pass<K: Hash + Eq, V, S: BuildHasher> {
     pub(crate) number: Option<u64>,
@@ -104,8 +105,8 @@ impl<K: Hash + Eq, V, S: BuildHasher> Model for Pass<K, V, S> {
 }
 
 impl<K: Hash + Eq, V, S: BuildHasher> Pass<K, V, S> {
-    /// An answer, with what shows the history that the pass has seen. A call that makes a pass of
-    /// its own tells by this which history its answer is of: see [`Told`].
+    /// Returns a result, with evidence of the history that the pass has observed. A call that
+    /// creates its own pass shows by this which history its result is of: see [`Told`].
     #[inline(always)]
     pub fn tell<B>(&self, answer: B) -> Told<B, Event<K, V, S>, Named<K, V>, Law<K, V, S>>
         ensures answer { result.answer ≡ answer }
@@ -116,7 +117,7 @@ impl<K: Hash + Eq, V, S: BuildHasher> Pass<K, V, S> {
         tell(answer, &self.sight)
     }
 
-    /// Takes what a call saw and did through its window. Nothing is done when the program runs.
+    /// Takes over what a call observed and did through its window. Does nothing at run time.
     #[inline(always)]
     pub(crate) fn keep(&mut self, window: Window<'_, K, V, S>)
         requires { IsLawful window }
@@ -132,9 +133,10 @@ impl<K: Hash + Eq, V, S: BuildHasher> Pass<K, V, S> {
     }
 }
 
-/// A map, as calls take it. What it answers stays for as long as the map does. It keeps the root as
-/// it was found when the map was pinned, so that calls need not look for the table again. Contracts
-/// see what they see of the map, and what had been seen of its history when it was pinned.
+/// A pinned map, on which calls are made. References that it returns live as long as the map. It
+/// keeps the root table found when the map was pinned, so that calls need not look it up again.
+/// Contracts observe what they observe of the map, and the history that had been observed at the
+/// pin.
 pub struct HashMapRef<'a, K: Hash + Eq, V, S: BuildHasher> {
     pub(crate) map: &'a HashMap<K, V, S>,
     kept: KeptRoot<'a, K, V, S>,
@@ -151,7 +153,7 @@ impl<'a, K: Hash + Eq, V, S: BuildHasher> Model for HashMapRef<'a, K, V, S> {
         × IsLegalHistory K.eq key_of (history_of r.seen.log) };
 }
 
-// By hand, so that a caller's proof sees the whole value to its end.
+// By hand, so that a caller's proof knows the whole value to its end.
 impl<'a, K: Hash + Eq, V, S: BuildHasher> Drop for HashMapRef<'a, K, V, S> {
     fn drop(self) {
         let Self { map: _, kept, seen } = self;
@@ -161,7 +163,7 @@ impl<'a, K: Hash + Eq, V, S: BuildHasher> Drop for HashMapRef<'a, K, V, S> {
 }
 
 impl<K: Hash + Eq, V, S: BuildHasher> HashMap<K, V, S> {
-    /// The map, as calls take it. It writes no word.
+    /// Pins the map, and returns the reference on which calls are made. It writes no word.
     #[inline]
     pub fn pin(&self) -> HashMapRef<'_, K, V, S>
         ensures { result.map ≡ self.now }
@@ -176,26 +178,26 @@ impl<K: Hash + Eq, V, S: BuildHasher> HashMap<K, V, S> {
         }
     }
 
-    /// The same as [`HashMap::pin`]: `pin_owned` of 0.2.5, whose reference may go to another
-    /// thread. Here each may, as it holds no guard.
+    /// Pins the map as [`HashMap::pin`] does: `pin_owned` of 0.2.5, whose reference may be sent to
+    /// another thread. Here every pinned map may, as it holds no guard.
     pub fn pin_owned(&self) -> HashMapRef<'_, K, V, S>
         ensures { result.map ≡ self.now }
     {
         self.pin()
     }
 
-    /// How many pairs were counted. A change is counted a step after it was made.
+    /// Returns the number of entries counted. A change is counted one step after it is made.
     pub fn len(&self) -> usize {
         self.count.sum()
     }
 
-    /// Were no pairs counted?
+    /// Returns whether no entries are counted.
     pub fn is_empty(&self) -> bool {
         self.len() == 0
     }
 
-    /// A new pass of this map. It has seen no change yet: each history of a map begins as that of
-    /// the empty one.
+    /// Returns a new pass of this map. It has observed no change yet: each history of a map begins
+    /// as that of the empty one.
     pub fn pass(&self) -> Pass<K, V, S>
         ensures book { result.book ≡ self.now.book }
         ensures new { result.history ≡ [] }
@@ -206,14 +208,14 @@ impl<K: Hash + Eq, V, S: BuildHasher> HashMap<K, V, S> {
         self.numbered(self.number())
     }
 
-    /// Draws the number by which a pass picks a shard of the count, where no guard gives one. A
-    /// caller has no need of it: [`HashMap::pass`] calls it.
+    /// Draws the number by which a pass picks a shard of the count, if no guard gives one. Users
+    /// need not call it: [`HashMap::pass`] does.
     pub fn number(&self) -> u64 {
         self.collector.enter().number()
     }
 
-    /// Tells a pass which tables the map had when it was made: one of at least the initial
-    /// capacity, where it was made for pairs. Nothing is done when the program runs.
+    /// Records in a pass which tables the map had when it was made: one of at least the initial
+    /// capacity, if it was made for entries. Does nothing at run time.
     pub fn learn_opened(&self, pass: &mut Pass<K, V, S>)
         requires { pass.old.book ≡ self.now.book }
         ensures book { pass.new.book ≡ pass.old.book }
@@ -226,8 +228,8 @@ impl<K: Hash + Eq, V, S: BuildHasher> HashMap<K, V, S> {
         pass.sight.learn(&self.opened);
     }
 
-    /// A new pass of this map, whose calls pick the count's shard by this number, as that of
-    /// a guard. A caller takes [`HashMap::pass`], which draws a number.
+    /// Returns a new pass of this map, whose calls pick the count's shard by this number, such as a
+    /// guard's. Users call [`HashMap::pass`], which draws a number.
     pub fn numbered(&self, number: u64) -> Pass<K, V, S>
         ensures book { result.book ≡ self.now.book }
         ensures new { result.history ≡ [] }
@@ -244,9 +246,9 @@ impl<K: Hash + Eq, V, S: BuildHasher> HashMap<K, V, S> {
         }
     }
 
-    /// A new pass of this map, which has seen what had been seen when the map was made. Its calls
-    /// pick the count's shard by this number, if there is one, and else by the key. A call that
-    /// takes a guard makes its pass by this; a caller takes [`HashMap::pass`].
+    /// Returns a new pass of this map, which has observed the history up to the map's creation. Its
+    /// calls pick the count's shard by this number if there is one, and otherwise by the key. A
+    /// call with a guard creates its pass by this; users call [`HashMap::pass`].
     #[inline(always)]
     pub fn begun(&self, number: Option<u64>) -> Pass<K, V, S>
         ensures book { result.book ≡ self.now.book }
@@ -264,14 +266,14 @@ impl<K: Hash + Eq, V, S: BuildHasher> HashMap<K, V, S> {
 }
 
 impl<'a, K: Hash + Eq, V, S: BuildHasher> HashMapRef<'a, K, V, S> {
-    /// The map that was pinned: `map` of 0.2.5.
+    /// Returns the map that was pinned: `map` of 0.2.5.
     pub fn map(&self) -> &'a HashMap<K, V, S>
         ensures { result.now ≡ self.now.map }
     {
         self.map
     }
 
-    /// The same.
+    /// Returns the same pinned map again.
     #[inline(always)]
     pub(crate) fn again(&self) -> HashMapRef<'a, K, V, S>
         ensures { result ≡ self.now }
@@ -283,19 +285,19 @@ impl<'a, K: Hash + Eq, V, S: BuildHasher> HashMapRef<'a, K, V, S> {
         }
     }
 
-    /// How many pairs were counted. A change is counted a step after it was made.
+    /// Returns the number of entries counted. A change is counted one step after it is made.
     pub fn len(&self) -> usize {
         self.map.len()
     }
 
-    /// Were no pairs counted?
+    /// Returns whether no entries are counted.
     pub fn is_empty(&self) -> bool {
         self.map.is_empty()
     }
 
-    /// A new pass of this map, which has seen what had been seen when the map was pinned. Its calls
-    /// pick the count's shard by this number, if there is one, and else by the key. A call that
-    /// takes no pass makes its own by this; a caller takes [`HashMap::pass`].
+    /// Returns a new pass of this map, which has observed the history up to the pin. Its calls pick
+    /// the count's shard by this number if there is one, and otherwise by the key. A call without a
+    /// pass creates its own by this; users call [`HashMap::pass`].
     #[inline(always)]
     pub fn begun(&self, number: Option<u64>) -> Pass<K, V, S>
         ensures book { result.book ≡ self.now.map.book }
@@ -311,7 +313,7 @@ impl<'a, K: Hash + Eq, V, S: BuildHasher> HashMapRef<'a, K, V, S> {
         }
     }
 
-    /// Through which a call by this pass works on the map: it has seen what the pass has.
+    /// Returns a window for a call by this pass, which has observed what the pass has.
     #[inline(always)]
     pub(crate) fn window(&self, pass: &Pass<K, V, S>) -> Window<'a, K, V, S>
         requires { pass.now.book ≡ self.now.map.book }
@@ -325,9 +327,8 @@ impl<'a, K: Hash + Eq, V, S: BuildHasher> HashMapRef<'a, K, V, S> {
         Window::new(&map.book, &self.kept, &pass.sight, &pass.own)
     }
 
-    /// Tells each of two passes of this map what the other has seen. Afterwards both have seen one
-    /// history, which begins with what each had seen. Nothing is done when the program runs, and
-    /// the call is never refused.
+    /// Shares what two passes of this map have observed. Afterwards both have observed one history,
+    /// which begins with what each had observed. Does nothing at run time, and never fails.
     pub fn meet(&self, a: &mut Pass<K, V, S>, b: &mut Pass<K, V, S>)
         requires first { a.old.book ≡ self.now.map.book }
         requires second { b.old.book ≡ self.now.map.book }

@@ -1,4 +1,4 @@
-//! What `Debug` prints of a map: `{key: value, ..}`, as of that of 0.2.5.
+//! `Debug` of a map prints `{key: value, ..}`, as in 0.2.5.
 use crate::map::{HashMap, HashMapRef};
 use papaya_book::rule::own::OwnSteps;
 use papaya_book::window::Window;
@@ -7,7 +7,7 @@ use std::fmt;
 use std::hash::{BuildHasher, Hash};
 
 impl<K: Hash + Eq + fmt::Debug, V: fmt::Debug, S: BuildHasher> fmt::Debug for HashMap<K, V, S> {
-    /// It waits for nobody, takes no lock and no memory, and copies nothing.
+    /// Prints the entries. It never waits, locks or allocates, and copies no table.
     fn fmt<W: fmt::Write>(&self, f: &mut fmt::Formatter<W>) -> fmt::Result {
         let kept = self.book.keep_root();
         let mut window = Window::new(&self.book, &kept, &self.book.unseen(), &OwnSteps::nothing());
@@ -16,8 +16,8 @@ impl<K: Hash + Eq + fmt::Debug, V: fmt::Debug, S: BuildHasher> fmt::Debug for Ha
 }
 
 impl<K: Hash + Eq + fmt::Debug, V, S: BuildHasher> HashMap<K, V, S> {
-    /// Prints the keys alone, as `{key, ..}`: what `Debug` of a set prints. It waits for nobody,
-    /// takes no lock and no memory, and copies nothing.
+    /// Prints the keys alone, as `{key, ..}`: `Debug` of a set. It never waits, locks or allocates,
+    /// and copies no table.
     pub fn print_keys<W: fmt::Write>(&self, f: &mut fmt::Formatter<W>) -> fmt::Result {
         let kept = self.book.keep_root();
         let mut window = Window::new(&self.book, &kept, &self.book.unseen(), &OwnSteps::nothing());

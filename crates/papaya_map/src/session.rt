@@ -1,4 +1,4 @@
-//! One thread's way to a map: the session, and its calls, a file for each kind.
+//! The session, one thread's access to a map, and its calls, a file for each kind.
 ghost use Rattle.std.specs.Prelude.{◌≡◌, IfOk, Err, [], is_ok, true};
 ghost use mathlib.Core.List.{IsPrefix};
 ghost use Rattle.papaya_lookup.specs.History.{IsLegalHistory, history_of, key_of};
@@ -20,15 +20,16 @@ use papaya_words::probe::Refused;
 use std::hash::{BuildHasher, BuildHasherDefault, FoldHasher, Hash};
 use std::marker::Model;
 
-/// One thread's way to a map: the map, pinned, and a pass of it. Contracts see what of the map is
-/// fixed, the history that was seen, and the changes that were made by this session, oldest first.
-/// They see how many slots each table has that was seen to come; where the last change was refused
-/// for want of room, the number that a full log of tables gave or the sum of the map's count; and
-/// how many numbers were taken for pairs, where the map has a limit on them.
+/// One thread's access to a map: the pinned map, and a pass of it. Contracts observe what is fixed
+/// of the map, the observed history, and the changes that this session made, oldest first. They
+/// observe the number of slots of each table that the session has observed. If the last change
+/// failed with `Refused::Capacity`, they observe the number that a full arena of tables gave, or
+/// the sum of the map's count. If the map has a limit on entries, they observe how many numbers
+/// were taken for entries.
 ///
-/// Each call stands in the history after all that the session had seen before, and afterwards the
-/// session has seen the call's own moment. So a thread reads its own writes: what it reads is the
-/// map's after them.
+/// Each call takes effect after all that the session had observed before. Afterwards the session
+/// has observed the call's own point in time. So a thread reads its own writes: the map had what it
+/// reads at some point after them.
 #[derive(Drop)]
 pub struct Session<'a, K: Hash + Eq, V, S: BuildHasher = BuildHasherDefault<FoldHasher>> {
     map: HashMapRef<'a, K, V, S>,
@@ -54,9 +55,9 @@ impl<'a, K: Hash + Eq, V, S: BuildHasher> Model for Session<'a, K, V, S> {
 }
 
 impl<'a, K: Hash + Eq, V, S: BuildHasher> Session<'a, K, V, S> {
-    /// A session of this map, in the place of `pin` of 0.2.5. It has seen no change yet: each
-    /// history of a map begins as that of the empty one. The map's collector numbers its pass by
-    /// one addition; no word of a table is written.
+    /// Returns a session of this map, in the place of `pin` of 0.2.5. It has observed no change
+    /// yet: each history of a map begins as that of the empty one. The map's collector numbers its
+    /// pass by one addition; no word of a table is written.
     pub fn new(map: &'a HashMap<K, V, S>) -> Session<'a, K, V, S>
         ensures map { result.map ≡ map.now }
         ensures new { result.history ≡ [] }
@@ -70,7 +71,7 @@ impl<'a, K: Hash + Eq, V, S: BuildHasher> Session<'a, K, V, S> {
         }
     }
 
-    /// Returns how many pairs the map's arena holds, as [`HashMap::stored`] counts them.
+    /// Returns the number of entries in the map's arena, as [`HashMap::stored`] counts them.
     pub fn stored(&self) -> usize {
         self.map.stored()
     }
@@ -82,20 +83,20 @@ impl<'a, K: Hash + Eq, V, S: BuildHasher> Session<'a, K, V, S> {
         self.map.map()
     }
 
-    /// Returns how many pairs were counted: `len` of 0.2.5. A change is counted a step after it
-    /// was made.
+    /// Returns the number of entries counted: `len` of 0.2.5. A change is counted one step after it
+    /// is made.
     pub fn len(&self) -> usize {
         self.map.len()
     }
 
-    /// Were no pairs counted?
+    /// Returns whether no entries are counted.
     pub fn is_empty(&self) -> bool {
         self.map.is_empty()
     }
 
-    /// Does nothing. Its contract says that the history which was seen is legal: each change takes
-    /// out what the map has there, and puts in a pair of its class, with the key of the pair that
-    /// it replaces.
+    /// Does nothing. Its contract states that the observed history is legal: each change takes out
+    /// what the map has for its key, and puts in an entry of an equal key. An entry that replaces
+    /// another one has the same stored key.
     pub fn legal(&self)
         ensures { IsLegalHistory K.eq key_of self.now.history }
     {
@@ -105,8 +106,8 @@ impl<'a, K: Hash + Eq, V, S: BuildHasher> Session<'a, K, V, S> {
         } = self.pass.tell(());
     }
 
-    /// Returns an answer, with what shows the history that the session has seen. A call that makes
-    /// a session of its own tells by this which history its answer is of: see [`Told`].
+    /// Returns a result, with evidence of the history that the session has observed. A call that
+    /// creates its own session shows by this which history its result is of: see [`Told`].
     #[inline(always)]
     pub fn tell<B>(&self, answer: B) -> Saying<B, K, V, S>
         ensures answer { result.answer ≡ answer }
@@ -117,9 +118,9 @@ impl<'a, K: Hash + Eq, V, S: BuildHasher> Session<'a, K, V, S> {
         self.pass.tell(answer)
     }
 
-    /// Tells each of two sessions what the other has seen. Afterwards both have seen one history,
-    /// which begins with what each had seen. Nothing is done when the program runs, and the call is
-    /// never refused. A premise is left: that both are of one map, which no type says.
+    /// Shares what two sessions have observed. Afterwards both have observed one history, which
+    /// begins with what each had observed. Does nothing at run time, and never fails. One premise
+    /// is left, which no type states: both sessions are of one map.
     pub fn meet(&mut self, other: &mut Session<'_, K, V, S>)
         requires { other.old.map.book ≡ self.old.map.book }
         ensures maps { (self.new.map ≡ self.old.map) × (other.new.map ≡ other.old.map) }
@@ -134,10 +135,10 @@ impl<'a, K: Hash + Eq, V, S: BuildHasher> Session<'a, K, V, S> {
         self.map.meet(&mut self.pass, &mut other.pass)
     }
 
-    /// Tells the session what a walk has seen. Afterwards the session has seen a history that
-    /// begins with what each had seen, so its calls stand after all that the walk gave. Nothing is
-    /// done when the program runs, and the call is never refused. As at [`Session::meet`] a premise
-    /// is left: that the walk is of the session's map.
+    /// Passes what an iterator has observed on to the session. Afterwards the session has observed
+    /// a history that begins with what each had observed. So its calls take effect after all that
+    /// the iterator returned. Does nothing at run time, and never fails. As at [`Session::meet`] a
+    /// premise is left: the iterator is of the session's map.
     pub fn learn_walk(&mut self, walk: &Iter<'_, K, V, S>)
         requires { walk.now.book ≡ self.old.map.book }
         ensures map { self.new.map ≡ self.old.map }
@@ -152,9 +153,9 @@ impl<'a, K: Hash + Eq, V, S: BuildHasher> Session<'a, K, V, S> {
 }
 
 impl<'a, K: Hash + Eq, V, S: BuildHasher> HashMapRef<'a, K, V, S> {
-    /// A session of this map, which has seen what had been seen when the map was pinned. Its calls
-    /// pick the count's shard by this number, if there is one, and else by the key. A call that
-    /// takes no session makes its own by this; a caller takes [`Session::new`].
+    /// Returns a session of this map, which has observed the history up to the pin. Its calls pick
+    /// the count's shard by this number if there is one, and otherwise by the key. A call without a
+    /// session creates its own by this; users call [`Session::new`].
     #[inline(always)]
     pub fn begun_session(&self, number: Option<u64>) -> Session<'a, K, V, S>
         ensures map { result.map ≡ self.now.map }
@@ -170,9 +171,9 @@ impl<'a, K: Hash + Eq, V, S: BuildHasher> HashMapRef<'a, K, V, S> {
 }
 
 impl<K: Hash + Eq, V, S: BuildHasher> HashMap<K, V, S> {
-    /// A session of this map, which has seen what had been seen when the map was made. Its calls
-    /// pick the count's shard by this number, if there is one, and else by the key. A call that
-    /// takes a guard makes its session by this; a caller takes [`Session::new`].
+    /// Returns a session of this map, which has observed the history up to the map's creation. Its
+    /// calls pick the count's shard by this number if there is one, and otherwise by the key. A
+    /// call with a guard creates its session by this; users call [`Session::new`].
     #[inline(always)]
     pub fn begun_session(&self, number: Option<u64>) -> Session<'_, K, V, S>
         ensures map { result.map ≡ self.now }
@@ -186,8 +187,8 @@ impl<K: Hash + Eq, V, S: BuildHasher> HashMap<K, V, S> {
         }
     }
 
-    /// A session for a call by this guard, by whose number it picks the count's shard. Refused as
-    /// [`HashMap::verify`] is.
+    /// Returns a session for a call with this guard, by whose number it picks the count's shard.
+    /// Fails as [`HashMap::verify`] does.
     #[inline(always)]
     pub(crate) fn session_by<'g, G: Guard>(
         &'g self,

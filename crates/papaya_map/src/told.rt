@@ -1,9 +1,9 @@
-//! An answer, and what was seen when it was given.
+//! The result of a call, with evidence of the history observed for it.
 //!
-//! A call that takes no pass makes one for itself, or a session, and is cut in two. Its first half
-//! (in `map/told`) answers a [`Told`] by [`Pass::tell`](crate::map::Pass::tell) or
-//! [`Session::tell`](crate::session::Session::tell). Its second half answers the same, and its
-//! contract says, by what is told, that the answer is of a history of that very map
+//! A call without a pass creates one for itself, or a session, and consists of two halves. Its
+//! first half (in `map/told`) returns a [`Told`] by [`Pass::tell`](crate::map::Pass::tell) or
+//! [`Session::tell`](crate::session::Session::tell). Its second half returns the same result. Its
+//! contract states, by that evidence, that the result is of a history of that very map
 //! (`of_its_history`).
 ghost use Rattle.std.specs.Prelude.{◌≡◌, ℕ, List};
 ghost use base.Stored.{coded_list};
@@ -15,8 +15,8 @@ use papaya_book::rule::entry::{Event, Named};
 use papaya_book::rule::law::Law;
 use std::marker::{Model, PhantomData};
 
-/// An answer, with what shows that a book has reached a log: contracts see that book and that log.
-/// It holds no more than the answer when the program runs.
+/// A result, with evidence that a book has reached a log: contracts observe that book and that log.
+/// At run time it holds only the result.
 pub struct Told<B, E, A, P: Rule<E, A>> {
     pub answer: B,
     pub marker: PhantomData<(E, A, P)>,
@@ -25,7 +25,7 @@ pub struct Told<B, E, A, P: Rule<E, A>> {
     pub ghost log: { List E } by { coded_list E.code },
 }
 
-/// An answer of a map, with what shows that the map's book has reached a log.
+/// A result of a map, with evidence that the map's book has reached a log.
 pub type Saying<B, K, V, S> = Told<B, Event<K, V, S>, Named<K, V>, Law<K, V, S>>;
 
 impl<B, E, A, P: Rule<E, A>> Model for Told<B, E, A, P> {
@@ -33,7 +33,7 @@ impl<B, E, A, P: Rule<E, A>> Model for Told<B, E, A, P> {
         t.names t.log };
 }
 
-/// The answer, with what was seen. Nothing is done when the program runs.
+/// Returns the result, with what was observed. Does nothing at run time.
 pub fn tell<B, E, A, P: Rule<E, A>>(answer: B, seen: &Seen<E, A, P>) -> Told<B, E, A, P>
     ensures { (result.answer ≡ answer) × (result.book ≡ seen.now.book)
         × (result.names ≡ seen.now.names) × (result.log ≡ seen.now.log) }

@@ -8,13 +8,13 @@ use crate::shared::{MODES, runs};
 use crate::steps::Step::{HasBelow, Insert, InsertBelow, Len};
 use std::test::Fail;
 
-/// Each of four keys ends at 2000.
+/// Checks that each of four keys ends at 2000.
 const ENDS_AT_2000: Turn = Calls(&[(Len, Number(4)), (HasBelow(4, 0, 2000), Is(true))]);
 
-/// Eight threads add 250 to each of four keys of a map of no pairs, by computes.
+/// Eight threads add 250 to each of four keys of an empty map, by computes.
 const COMPUTES: [Turn; 2] = [Threads(Eight([Add; 4], [Add; 4])), ENDS_AT_2000];
 
-/// No addition of eight threads is lost, and none is made twice.
+/// Checks that no addition of eight threads is lost or made twice.
 #[test]
 fn each_addition_is_made_once(rt: HostRuntime) -> Result<(), Fail> {
     runs::<_, Numbers>(&rt, rt.alloc(), &MODES, &COMPUTES)
@@ -38,7 +38,7 @@ const LOSES_ADDITIONS: [Turn; 3] = [
     ]),
 ];
 
-/// Additions that are a lookup and an insertion are lost, and that is found out.
+/// Checks that additions by a lookup and an insertion are lost, and that the test notices it.
 #[test]
 fn additions_by_two_calls_are_lost(rt: HostRuntime) -> Result<(), Fail> {
     runs::<_, Numbers>(&rt, rt.alloc(), &MODES, &LOSES_ADDITIONS)

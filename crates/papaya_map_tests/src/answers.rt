@@ -1,37 +1,37 @@
-// What calls answer, as values.
+// Results of calls, as values.
 use papaya_keys::compute::Compute;
 use papaya_keys::occupied::{NotInserted, OccupiedError};
 use papaya_words::probe::Refused;
 
-/// What a call answers, or what some calls of one kind came to.
+/// The result of a call, or of several calls of one kind.
 #[derive(Clone, Copy, PartialEq)]
 pub enum Answer {
-    /// It is over.
+    /// The call is over.
     Done,
-    /// There is no pair.
+    /// There is no entry.
     Absent,
-    /// It is so, or not.
+    /// A Boolean result.
     Is(bool),
     /// A value, or a count.
     Number(u64),
-    /// A key and its value, or two numbers of what a walk gave.
+    /// A key and its value, or two numbers about an iterator's entries.
     Pair(u64, u64),
-    /// What is there stays: its key and value, or its value and the one that was not stored.
+    /// The entry that stays: its key and value, or its value and the one that was not stored.
     Kept(u64, u64),
-    /// A compute stored this pair.
+    /// A compute inserted this entry.
     Inserted(u64, u64),
-    /// A compute put the second value in the first one's place.
+    /// A compute replaced the first value by the second.
     Updated(u64, u64),
-    /// A compute removed this pair.
+    /// A compute removed this entry.
     Removed(u64, u64),
-    /// A compute ended with this number.
+    /// A compute aborted with this number.
     Aborted(u64),
-    /// How often a closure was shown that there is no pair, how often one, and which last.
+    /// How often a closure was called with `None`, how often with an entry, and the last argument.
     Saw(u64, u64, Option<(u64, u64)>),
     Refused(Refused),
 }
 
-/// A call that answers nothing is over, or refused.
+/// Converts the result of a call that returns nothing, or fails.
 pub fn done(answer: Result<(), Refused>) -> Answer {
     match answer {
         Ok(()) => Answer::Done,
@@ -39,7 +39,7 @@ pub fn done(answer: Result<(), Refused>) -> Answer {
     }
 }
 
-/// It is so, or not.
+/// Converts a Boolean result.
 pub fn truth(answer: Result<bool, Refused>) -> Answer {
     match answer {
         Ok(answer) => Answer::Is(answer),
@@ -47,7 +47,7 @@ pub fn truth(answer: Result<bool, Refused>) -> Answer {
     }
 }
 
-/// The value, if there is one.
+/// Converts the value, if there is one.
 pub fn value(answer: Result<Option<&u64>, Refused>) -> Answer {
     match answer {
         Ok(Some(value)) => Answer::Number(*value),
@@ -56,7 +56,7 @@ pub fn value(answer: Result<Option<&u64>, Refused>) -> Answer {
     }
 }
 
-/// The value that is there now.
+/// Converts the value that is there now.
 pub fn there(answer: Result<&u64, Refused>) -> Answer {
     match answer {
         Ok(value) => Answer::Number(*value),
@@ -64,7 +64,7 @@ pub fn there(answer: Result<&u64, Refused>) -> Answer {
     }
 }
 
-/// The pair, if there is one.
+/// Converts the entry, if there is one.
 pub fn pair(answer: Result<Option<(&u64, &u64)>, Refused>) -> Answer {
     match answer {
         Ok(Some((key, value))) => Answer::Pair(*key, *value),
@@ -73,10 +73,10 @@ pub fn pair(answer: Result<Option<(&u64, &u64)>, Refused>) -> Answer {
     }
 }
 
-/// What a removal answers whose closure is asked.
+/// The result of a removal whose closure decides.
 type Removal<'a> = Result<Option<(&'a u64, &'a u64)>, (&'a u64, &'a u64)>;
 
-/// The pair that was removed, if there was one, or the one that stays.
+/// Converts the entry that was removed, if there was one, or the one that stays.
 pub fn removal(answer: Result<Removal<'_>, Refused>) -> Answer {
     match answer {
         Ok(Ok(Some((key, value)))) => Answer::Pair(*key, *value),
@@ -86,7 +86,7 @@ pub fn removal(answer: Result<Removal<'_>, Refused>) -> Answer {
     }
 }
 
-/// The value that was stored, or the one that stays and the one that comes back.
+/// Converts the value that was stored, or the one that stays and the one that is returned.
 pub fn tried(answer: Result<Result<&u64, OccupiedError<'_, u64>>, Refused>) -> Answer {
     match answer {
         Ok(Ok(value)) => Answer::Number(*value),
@@ -98,7 +98,7 @@ pub fn tried(answer: Result<Result<&u64, OccupiedError<'_, u64>>, Refused>) -> A
     }
 }
 
-/// The value that was made and stored, or the one that stays.
+/// Converts the value that was made and stored, or the one that stays.
 pub fn made(answer: Result<Result<&u64, &u64>, Refused>) -> Answer {
     match answer {
         Ok(Ok(value)) => Answer::Number(*value),
@@ -107,7 +107,7 @@ pub fn made(answer: Result<Result<&u64, &u64>, Refused>) -> Answer {
     }
 }
 
-/// What a compute did.
+/// Converts the result of a compute.
 pub fn computed(answer: Result<Compute<'_, u64, u64, u64>, Refused>) -> Answer {
     match answer {
         Ok(Compute::Inserted(key, value)) => Answer::Inserted(*key, *value),

@@ -1,16 +1,16 @@
-// What the threads of a map tell each other.
+// The state that the threads of a test share beside the map.
 use crate::crowd::{Crowd, Job};
 use crate::threads::{EACH, KEYS};
 use papaya_testing::crossing::Crossing;
 use std::alloc::Global;
 use std::sync::atomic::{AtomicBool, AtomicU64, Ordering};
 
-/// What the threads of a map tell each other.
+/// The state that the threads of a test share beside the map.
 #[derive(Drop)]
 pub struct Board {
-    /// A thread is through.
+    /// Whether a thread is through.
     pub is_done: AtomicBool,
-    /// Where they meet, and where the closure of a call waits.
+    /// The point where threads meet, and where the closure of a call waits.
     pub crossing: Crossing,
     /// How often each value was taken out.
     pub taken: Vec<AtomicU64>,
@@ -18,7 +18,7 @@ pub struct Board {
     pub drawn: Vec<AtomicU64>,
 }
 
-/// So many counts, if there is memory for them.
+/// Returns this many counts of 0, if there is memory for them.
 fn zeros(alloc: Global, many: u64) -> Option<Vec<AtomicU64>> {
     let mut counts = Vec::new(alloc);
     for _ in 0..many {
@@ -28,7 +28,7 @@ fn zeros(alloc: Global, many: u64) -> Option<Vec<AtomicU64>> {
 }
 
 impl Board {
-    /// One for so many threads, of which a closure waits for so many.
+    /// Returns a board for this many threads, of which a closure waits for `others`.
     pub fn new(alloc: Global, threads: u64, others: u64) -> Board {
         Board {
             is_done: AtomicBool::new(false),
@@ -38,7 +38,7 @@ impl Board {
         }
     }
 
-    /// One for a crowd, if there is memory for it.
+    /// Returns a board for a crowd, if there is memory for it.
     pub fn of(alloc: Global, crowd: Crowd) -> Option<Board> {
         let (threads, others) = crowd.size();
         let mut board = Board::new(alloc, threads, others);
@@ -49,12 +49,12 @@ impl Board {
         Some(board)
     }
 
-    /// A thread begins.
+    /// Records that a thread begins.
     pub fn begins(&self, job: Job) -> bool {
         self.crossing.begins(!matches!(job, Job::Stuck(_, _)))
     }
 
-    /// A thread has ended.
+    /// Records that a thread has ended.
     pub fn ends(&self) {
         self.is_done.store(true, Ordering::SeqCst);
         self.crossing.ends();

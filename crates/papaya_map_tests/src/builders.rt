@@ -1,4 +1,4 @@
-// What builders and constructors make, and what they refuse.
+// The maps that builders and constructors make, and the settings that they refuse.
 use crate::answers::Answer::{Absent, Number, Refused as No};
 use crate::expect::is;
 use crate::numbers::Numbers;
@@ -16,30 +16,30 @@ use std::process::Abort;
 use std::sync::{Arc, Wait};
 use std::test::Fail;
 
-/// What a builder is asked for.
+/// The settings of a builder.
 #[derive(Clone, Copy)]
 pub enum Asked {
     Nothing,
     Capacity(usize),
     Shards(usize),
     Mode(ResizeMode),
-    /// Of this number.
+    /// A collector of this number.
     Collector(u64),
-    /// On the pairs that are logged.
+    /// A limit on the entries that are stored.
     Limit(u64),
-    /// Each part.
+    /// Each setting.
     All,
 }
 
-/// What the builders of the tests build.
+/// The builder of the tests.
 type Builder = HashMapBuilder<u64, u64, Times>;
 
-/// A builder in which small keys have places of their own.
+/// Returns a builder of maps in which small keys have places of their own.
 fn builder() -> Builder {
     HashMap::builder().hasher(APART)
 }
 
-/// One that is asked for each part.
+/// Returns a builder with each setting.
 fn whole() -> Builder {
     builder()
         .collector(Collector::new(3))
@@ -49,7 +49,7 @@ fn whole() -> Builder {
         .pair_limit(100)
 }
 
-/// One that is asked for this.
+/// Returns a builder with this setting.
 fn asking(asked: Asked) -> Builder {
     match asked {
         Asked::Nothing => builder(),
@@ -62,12 +62,12 @@ fn asking(asked: Asked) -> Builder {
     }
 }
 
-/// What it builds.
+/// Builds a map with this setting.
 pub fn built<R: Wait>(rt: &R, alloc: Global, asked: Asked) -> Result<Numbers, Refused> {
     asking(asked).build(rt, alloc)
 }
 
-/// A map that shares this collector.
+/// Builds a map that shares this collector.
 pub fn sharing<R: Wait>(
     rt: &R,
     alloc: Global,
@@ -76,7 +76,7 @@ pub fn sharing<R: Wait>(
     builder().shared_collector(collector).build(rt, alloc)
 }
 
-/// The maps are not made, and this is why.
+/// Checks that the maps are not made, for these reasons.
 fn refuses<R: Wait + Abort, M: Shared + Drop>(
     rt: &R,
     alloc: Global,
@@ -87,7 +87,7 @@ fn refuses<R: Wait + Abort, M: Shared + Drop>(
     }
 }
 
-/// What is past a limit.
+/// Settings past a limit.
 const PAST: [(Making, Refused); 4] = [
     (
         Making::Built(Asked::Mode(ResizeMode::Incremental(0))),
@@ -109,7 +109,7 @@ fn what_is_past_a_limit_is_not_built(rt: HostRuntime) {
     refuses::<_, Numbers>(&rt, rt.alloc(), &PAST);
 }
 
-/// Maps for too many pairs.
+/// Maps for too many entries.
 const TOO_LARGE: [(Making, Refused); 2] = [
     (Making::Capacity(0x1_0000_0000), Refused::Capacity),
     (Making::Capacity(3_221_225_473), Refused::Capacity),
@@ -120,14 +120,14 @@ fn a_map_for_too_many_pairs_is_not_made(rt: HostRuntime) {
     refuses::<_, Numbers>(&rt, rt.alloc(), &TOO_LARGE);
 }
 
-/// An empty map stores a pair.
+/// Stores an entry in an empty map.
 const STORES: Script = &[
     (Len, Number(0)),
     (Insert(1, 10), Absent),
     (Get(1), Number(10)),
 ];
 
-/// Maps over any number of shards to the limit.
+/// Maps with numbers of shards up to the limit.
 const SHARDS: [Making; 3] = [
     Making::Built(Asked::Shards(0)),
     Making::Built(Asked::Shards(3)),
@@ -154,7 +154,7 @@ fn a_map_is_made_with_a_hasher(rt: HostRuntime) -> Result<(), Fail> {
     runs::<_, Numbers>(&rt, rt.alloc(), &[Making::Hasher], &[Calls(STORES)])
 }
 
-/// A map takes the guards of a collector of its number, and refuses those of another.
+/// A call by which a map accepts guards of its collector's number, and refuses others.
 const TAKES: Script = &[(Get(1), Absent)];
 
 const REFUSES: Script = &[(Get(1), No(Refused::WrongGuard))];
@@ -172,7 +172,7 @@ fn a_guard_is_known_by_its_collector(rt: HostRuntime) -> Result<(), Fail> {
     )
 }
 
-/// A map shares a collector, whose guards it takes.
+/// Checks that a map shares a collector, whose guards it accepts.
 fn shares<R: Wait + Abort, M: Shared + Drop>(rt: &R, alloc: Global) -> Result<(), Fail> {
     let collector = Arc::new(alloc, Collector::new(5)).expect(rt, "memory");
     let map: M = M::sharing(rt, alloc, Arc::try_clone(&collector)?)?;
@@ -186,13 +186,13 @@ fn maps_may_share_a_collector(rt: HostRuntime) -> Result<(), Fail> {
     shares::<_, Numbers>(&rt, rt.alloc())
 }
 
-/// The slots of a map for one caller that is built, or why it is not.
+/// Returns the slots of a map built for one caller, or its refusal.
 fn slots_for(alloc: Global, asked: Asked) -> Result<usize, Refused> {
     let map = asking(asked).build_seq(alloc)?;
     Ok(map.slots())
 }
 
-/// What is asked for, and the slots that a map for one caller has then.
+/// Settings, and the slots of a map for one caller built with them.
 const SLOTS: [(Asked, Result<usize, Refused>); 4] = [
     (Asked::Nothing, Ok(0)),
     (Asked::Limit(0), Ok(0)),
@@ -210,7 +210,7 @@ fn a_map_for_one_caller_is_built(rt: HostRuntime) {
     }
 }
 
-/// A builder shows its capacity, its collector's number and its mode.
+/// Checks that a builder shows its capacity, its collector's number and its mode.
 #[test]
 fn a_builder_is_shown(rt: HostRuntime) -> Result<(), Fail> {
     let text = format!(in rt.alloc(); "{:?}", builder().capacity(6).collector(Collector::new(2)))?;

@@ -1,4 +1,4 @@
-// Computes and removals by one caller, and what each shows its closure.
+// Computes and removals by one caller, and the arguments of their closures.
 use crate::answers::Answer::{
     Aborted, Absent, Inserted, Is, Kept, Number, Pair, Refused, Removed, Saw, Updated,
 };
@@ -10,8 +10,7 @@ use crate::steps::Step::{Compute, Get, Insert, IsEmpty, Len, RemoveIf, Seen};
 use papaya_words::probe::Refused::RemoveNothing;
 use std::test::Fail;
 
-/// A removal by a compute is refused where there is no pair, and an abort is answered with what it
-/// was given.
+/// A removal by a compute fails if there is no entry, and an abort returns its argument.
 const CHANGES_NOTHING: [Turn; 1] = [Calls(&[
     (Compute(1, Says::Remove), Refused(RemoveNothing)),
     (Len, Number(0)),
@@ -27,7 +26,7 @@ fn a_compute_has_nothing_to_remove(rt: HostRuntime) -> Result<(), Fail> {
     runs::<_, Numbers>(&rt, rt.alloc(), &MODES, &CHANGES_NOTHING)
 }
 
-/// What the closures of a line of computes are shown.
+/// The arguments of the closures of some computes in a row.
 const COMPUTES: [Turn; 1] = [Calls(&[
     (Compute(7, Says::Leave(0)), Aborted(0)),
     (Seen, Saw(1, 0, None)),
@@ -47,13 +46,13 @@ const COMPUTES: [Turn; 1] = [Calls(&[
     (IsEmpty, Is(true)),
 ])];
 
-/// Where nobody else acts, a closure is called once, whatever it answers.
+/// Checks that a closure is called once, whatever it returns, if no other thread acts.
 #[test]
 fn a_closure_is_called_once(rt: HostRuntime) -> Result<(), Fail> {
     runs::<_, Numbers>(&rt, rt.alloc(), &MODES, &COMPUTES)
 }
 
-/// Of two keys the first is shown and removed.
+/// Calls the closure for the first of two keys, and removes it.
 const REMOVALS: [Turn; 1] = [Calls(&[
     (Insert(7, 70), Absent),
     (Insert(8, 80), Absent),
@@ -70,7 +69,8 @@ const REMOVALS: [Turn; 1] = [Calls(&[
     (IsEmpty, Is(false)),
 ])];
 
-/// Where nobody else acts, a closure is shown the stored pair, once, and nothing for an absent key.
+/// Checks that a closure is called once with the stored entry, and not for an absent key, if no
+/// other thread acts.
 #[test]
 fn a_closure_is_shown_the_pair_once(rt: HostRuntime) -> Result<(), Fail> {
     runs::<_, Numbers>(&rt, rt.alloc(), &MODES, &REMOVALS)

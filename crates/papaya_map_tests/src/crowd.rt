@@ -1,4 +1,4 @@
-// What the threads of the tests do with a map, and how they are started.
+// The jobs of the tests' threads on a map, and how the threads are started.
 use crate::answers::Answer;
 use crate::board::Board;
 use crate::held::looks_anew;
@@ -12,28 +12,28 @@ use std::sync::Wait;
 use std::sync::atomic::Ordering;
 use std::thread::{Threads, join};
 
-/// What a thread does with a map. It says whether all was as it should be.
+/// A thread's job on a map. It returns whether everything was as expected.
 #[derive(Clone, Copy)]
 pub enum Job {
     /// Stores this value at each key below 64.
     Store(u64),
     /// Inserts the absent keys of a range, each with itself.
     Insert(u64, u64),
-    /// Does so, each with a new pass.
+    /// Inserts the absent keys of a range, each with itself and with a new pass.
     Grow(u64, u64),
-    /// Does so, where some of them may be refused at the map's limit.
+    /// Inserts the absent keys of a range; some may be refused at the map's limit.
     FillUp(u64, u64),
-    /// Stores each key below this one anew, with itself, 20 times.
+    /// Stores each key below this one again, with itself, 20 times.
     Rewrite(u64),
     /// Inserts and removes the absent keys of a range, one after another, 20 times.
     ComeAndGo(u64, u64),
-    /// Makes room for so many pairs more, and then for twice as many, so many times in all.
+    /// Reserves room for this many more, then for twice as many, this many times in all.
     Reserve(usize, u64),
-    /// Looks whether the keys below this one have themselves as values.
+    /// Checks that the keys below this one have themselves as values.
     Has(u64),
-    /// Does so this many times.
+    /// Checks so this many times.
     HasOften(u64, u64),
-    /// Does so, each time with a new pass, until the other thread is done, and once more.
+    /// Checks so with new passes until the other thread is done, and once more.
     Read(u64),
     /// Adds 1 to each of four values 250 times: by computes, or by updates.
     Add,
@@ -42,27 +42,27 @@ pub enum Job {
     ReadThenStore,
     /// Adds 1 to each of 64 values, by updates. Each is one or two more than its key then.
     Update,
-    /// Walks over the map, and meets each key below this one once, 20 times.
+    /// Iterates over the map, and meets each key below this one once, 20 times.
     Walk(u64),
     /// Inserts, reads and removes the same keys as other threads, under this number.
     Churn(u64),
-    /// Stores values at the same keys as other threads, each the next one of its key, and tells
-    /// what they took the place of, or does not.
+    /// Stores values at the same keys as other threads, each the next one of its key. It counts the
+    /// replaced values, or does not.
     Draw(bool),
-    /// Takes out what threads have left that did one of the two.
+    /// Takes out what threads of one of the two jobs have left.
     TakeLeft,
-    /// Makes a call whose closure lets the other thread replace the pair (1, 10) that it was shown.
-    /// The closure is then shown (1, 20), and the call answers so.
+    /// Makes a call whose closure lets the other thread replace the entry (1, 10) that it is called
+    /// with. The closure is then called with (1, 20), and the call has this result.
     Gated(Step, Answer),
-    /// Replaces that pair.
+    /// Replaces that entry.
     Replace,
-    /// Keeps the reference to the value 10 that a lookup of key 1 answered, while another thread
-    /// wears it out. Or looks it up anew.
+    /// Keeps the reference to the value 10 that a lookup of key 1 returned, while another thread
+    /// replaces it. Or looks it up again.
     Hold,
     LookAnew,
     /// Replaces that value 1000 times, and removes it.
     WearOut,
-    /// Makes a call whose closure does not come back before all other threads have ended.
+    /// Makes a call whose closure does not return before all other threads have ended.
     Stuck(Step, Answer),
 }
 
@@ -70,17 +70,17 @@ pub enum Job {
 #[derive(Clone, Copy)]
 pub enum Crowd {
     Two([Job; 2]),
-    /// No threads: the second job is done when the first one is.
+    /// No threads: the second job is done after the first one.
     Apart([Job; 2]),
     Eight([Job; 4], [Job; 4]),
-    /// Four that count what they take out, which ends with what is left.
+    /// Four threads that count what they take out; the counts end with what is left.
     Four([Job; 4]),
-    /// One makes a call whose closure does not come back before all other threads have ended.
+    /// One thread makes a call whose closure does not return before all other threads have ended.
     Stuck(Step, Answer),
 }
 
 impl Crowd {
-    /// How many threads start at once, and for how many ends a gate waits.
+    /// Returns how many threads start at once, and for how many ends a gate waits.
     pub fn size(self) -> (u64, u64) {
         match self {
             Crowd::Two(_) => (2, 0),
@@ -91,7 +91,7 @@ impl Crowd {
         }
     }
 
-    /// Is what they take out counted?
+    /// Returns whether what they take out is counted.
     pub fn counts(self) -> bool {
         matches!(self, Crowd::Four(_))
     }
@@ -107,7 +107,7 @@ fn stores<R: Wait, C: Calls>(rt: &R, map: &mut C, value: u64) -> bool {
     true
 }
 
-/// Stores each key below this one anew: was it there each time?
+/// Stores each key below this one again; returns whether it was there each time.
 fn rewrites<R: Wait, C: Calls>(rt: &R, map: &mut C, end: u64) -> bool {
     for _ in 0..20u64 {
         for key in 0..end {
@@ -119,7 +119,7 @@ fn rewrites<R: Wait, C: Calls>(rt: &R, map: &mut C, end: u64) -> bool {
     true
 }
 
-/// Inserts and removes these keys: was each absent before, and there then?
+/// Inserts and removes these keys; returns whether each was first absent, and then there.
 fn comes_and_goes<R: Wait, C: Calls>(rt: &R, map: &mut C, from: u64, end: u64) -> bool {
     for _ in 0..20u64 {
         for key in from..end {
@@ -132,7 +132,7 @@ fn comes_and_goes<R: Wait, C: Calls>(rt: &R, map: &mut C, from: u64, end: u64) -
     true
 }
 
-/// Makes room for so many more, and then for twice as many, so many times in all.
+/// Reserves room for this many more, and then for twice as many, this many times in all.
 fn reserves<R: Wait, C: Calls>(rt: &R, map: &mut C, first: usize, times: u64) -> bool {
     let mut is_done = true;
     let mut more = first;
@@ -143,7 +143,7 @@ fn reserves<R: Wait, C: Calls>(rt: &R, map: &mut C, first: usize, times: u64) ->
     is_done
 }
 
-/// Looks so often whether the keys below this one have themselves as values.
+/// Returns whether the keys below this one have themselves as values, looked up this many times.
 fn has_often<C: Calls>(map: &mut C, end: u64, times: u64) -> bool {
     for _ in 0..times {
         if !has_below(map, end, 1, 0) {
@@ -168,7 +168,7 @@ fn adds<R: Wait, C: Calls>(rt: &R, map: &mut C, computes: bool) -> bool {
     true
 }
 
-/// Reads the value of key 0, and stores the next one when all have read it.
+/// Reads the value of key 0, and stores the next one when all threads have read it.
 fn reads_then_stores<R: Wait, C: Calls>(rt: &R, map: &mut C, board: &Board) -> bool {
     match map.get(0) {
         Answer::Number(value) if board.crossing.meets(2) => {
@@ -178,7 +178,7 @@ fn reads_then_stores<R: Wait, C: Calls>(rt: &R, map: &mut C, board: &Board) -> b
     }
 }
 
-/// Adds 1 to each of 64 values: is each one or two more than the key?
+/// Adds 1 to each of 64 values; returns whether each is one or two more than the key.
 fn updates<R: Wait, C: Calls>(rt: &R, map: &mut C) -> bool {
     let gate = Gate::open();
     for key in 0..64u64 {
@@ -190,7 +190,7 @@ fn updates<R: Wait, C: Calls>(rt: &R, map: &mut C) -> bool {
     true
 }
 
-/// Walks over the map: was each of the first keys met once, each time?
+/// Iterates over the map; returns whether each of the first keys was met once, each time.
 fn walks<R: Wait, C: Calls>(rt: &R, map: &mut C, keys: u64) -> bool {
     for _ in 0..20u64 {
         match map.keys(rt, keys) {
@@ -201,17 +201,17 @@ fn walks<R: Wait, C: Calls>(rt: &R, map: &mut C, keys: u64) -> bool {
     true
 }
 
-/// Makes the call, whose closure waits at the gate: was it open in time, and did the call
-/// answer so?
+/// Makes the call, whose closure waits at the gate; returns whether the gate was open in time, and
+/// whether the call had this result.
 fn passes<R: Wait, C: Calls>(rt: &R, map: &mut C, call: Step, wanted: Answer, gate: &Gate) -> bool {
     let found = answer(rt, map, call, gate);
     let was_passed = gate.was_passed();
-    // So that the other threads end, whatever happened.
+    // Lets the other threads end, whatever happened.
     gate.reached.store(true, Ordering::SeqCst);
     was_passed && found == wanted
 }
 
-/// Makes the call: was its closure shown both pairs, and did it answer so?
+/// Makes the call; returns whether its closure was called with both entries, and its result fits.
 fn is_gated<R: Wait, C: Calls>(
     rt: &R,
     map: &mut C,
@@ -225,7 +225,7 @@ fn is_gated<R: Wait, C: Calls>(
     was_passed && is_first && seen.told() == Answer::Saw(0, 2, Some((1, 20)))
 }
 
-/// Replaces the pair once it was shown: was it there, and replaced?
+/// Replaces the entry once a closure has it; returns whether it was there, and was replaced.
 fn is_replaced<R: Wait, C: Calls>(rt: &R, map: &mut C, gate: &Gate) -> bool {
     let met = gate.turn_until(&gate.reached);
     let found = map.get(1);
@@ -234,7 +234,8 @@ fn is_replaced<R: Wait, C: Calls>(rt: &R, map: &mut C, gate: &Gate) -> bool {
     met && found == Answer::Number(10) && old == Answer::Number(10)
 }
 
-/// Replaces the value of key 1 and removes it, once another thread has it: was it there each time?
+/// Replaces the value of key 1 and removes it, once another thread has it; returns whether it was
+/// there each time.
 fn wears_out<R: Wait, C: Calls>(rt: &R, map: &mut C, gate: &Gate) -> bool {
     let mut is_there = gate.turn_until(&gate.reached);
     let mut last = 10;
@@ -264,7 +265,7 @@ fn meets<R: Wait, C: Calls>(rt: &R, map: &mut C, job: Job, board: &Board) -> boo
     }
 }
 
-/// Does a job with a pass of its own, but for reading.
+/// Does a job with a pass of its own, except reading.
 pub fn does<R: Wait, C: Calls>(rt: &R, map: &mut C, job: Job, board: &Board) -> bool {
     match job {
         Job::Store(value) => stores(rt, map, value),
@@ -282,7 +283,7 @@ pub fn does<R: Wait, C: Calls>(rt: &R, map: &mut C, job: Job, board: &Board) -> 
     }
 }
 
-/// Reads until the other thread is done, and once more: was each key found each time?
+/// Reads until the other thread is done, and once more; returns whether it always found each key.
 fn reads<R: Wait, M: Shared>(rt: &R, map: &M, end: u64, board: &Board) -> bool {
     for _ in 0..10_000_000u64 {
         let is_last = board.is_done.load(Ordering::SeqCst);
@@ -296,7 +297,7 @@ fn reads<R: Wait, M: Shared>(rt: &R, map: &M, end: u64, board: &Board) -> bool {
     false
 }
 
-/// Inserts absent keys, each with itself, by a pass of its own and a map that is pinned for it.
+/// Inserts absent keys, each with itself, by a new pass and a new pin.
 fn grows<R: Wait, M: Shared>(rt: &R, map: &M, from: u64, end: u64, board: &Board) -> bool {
     for key in from..end {
         if !map.does(rt, Job::Insert(key, key + 1), board) {
@@ -316,7 +317,7 @@ fn work<R: Wait, M: Shared>(rt: &R, map: &M, job: Job, board: &Board) -> bool {
     }
 }
 
-/// Does a job once all threads are there, and says then that it is done.
+/// Does a job once all threads are there, and then records that it is done.
 fn says<R: Wait, M: Shared>(rt: &R, map: &M, job: Job, board: &Board) -> bool {
     let began = board.begins(job);
     let did = work(rt, map, job, board);
@@ -324,7 +325,7 @@ fn says<R: Wait, M: Shared>(rt: &R, map: &M, job: Job, board: &Board) -> bool {
     began && did
 }
 
-/// Two threads do a job each.
+/// Lets two threads do a job each.
 fn two<R: Threads + Wait + Sync, M: Shared + Sync>(
     rt: &R,
     map: &M,
@@ -339,14 +340,14 @@ fn two<R: Threads + Wait + Sync, M: Shared + Sync>(
     )
 }
 
-/// One after the other.
+/// Does one job after the other.
 fn apart<R: Wait, M: Shared>(rt: &R, map: &M, board: &Board, jobs: [Job; 2]) -> (bool, bool) {
     let [first, second] = jobs;
     let did = says(rt, map, first, board);
     (did, says(rt, map, second, board))
 }
 
-/// Four threads do so.
+/// Lets four threads do a job each.
 fn four<R: Threads + Wait + Sync, M: Shared + Sync>(
     rt: &R,
     map: &M,
@@ -362,7 +363,7 @@ fn four<R: Threads + Wait + Sync, M: Shared + Sync>(
     low == (true, true) && high == (true, true)
 }
 
-/// So do eight.
+/// Lets eight threads do a job each.
 fn eight<R: Threads + Wait + Sync, M: Shared + Sync>(
     rt: &R,
     map: &M,
@@ -377,7 +378,7 @@ fn eight<R: Threads + Wait + Sync, M: Shared + Sync>(
     )
 }
 
-/// What three of seven threads do while one is stuck.
+/// Returns the jobs of three of seven threads while one is stuck.
 fn low_beside(call: Step, wanted: Answer) -> [Job; 4] {
     [
         Job::Stuck(call, wanted),
@@ -387,7 +388,7 @@ fn low_beside(call: Step, wanted: Answer) -> [Job; 4] {
     ]
 }
 
-/// What the other four do.
+/// The jobs of the other four.
 const HIGH_BESIDE: [Job; 4] = [
     Job::Insert(150, 200),
     Job::Reserve(64, 3),
@@ -395,7 +396,7 @@ const HIGH_BESIDE: [Job; 4] = [
     Job::ComeAndGo(300, 310),
 ];
 
-/// A crowd does its jobs: was all as it should be?
+/// Lets a crowd do its jobs; returns whether everything was as expected.
 pub fn gathers<R: Threads + Wait + Sync, M: Shared + Sync>(
     rt: &R,
     map: &M,

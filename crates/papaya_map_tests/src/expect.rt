@@ -1,9 +1,9 @@
-// What the tests compare with. A test is calls of this, since each assertion that stands written
-// out in one makes its proof longer.
+// The comparison of the tests. A test calls this, since each assertion that is written out in one
+// makes its proof longer.
 use std::fmt::Debug;
 use std::process::Abort;
 
-/// What was found is what is wanted.
+/// Checks that what was found is what is wanted.
 pub fn is<T: PartialEq + Debug + Drop>(rt: &impl Abort, found: T, wanted: T) {
     assert_eq!(rt; found, wanted);
 }

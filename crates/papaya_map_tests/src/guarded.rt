@@ -26,7 +26,7 @@ impl<'a, G: Guard> Guarded<'a, G> {
         }
     }
 
-    /// How many pairs a walk gives whose key is the value, and how many whose key is below it.
+    /// Counts an iterator's entries whose key is the value, and those whose key is below it.
     fn pairs<R: Wait>(&self, rt: &R) -> Result<Answer, Refused> {
         let mut same = 0u64;
         let mut less = 0u64;
@@ -37,7 +37,7 @@ impl<'a, G: Guard> Guarded<'a, G> {
         Ok(Answer::Pair(same, less))
     }
 
-    /// How many keys below this one a walk gives, and the sum of all keys.
+    /// Counts an iterator's keys below this one, and sums up all its keys.
     fn walk_keys<R: Wait>(&self, rt: &R, end: u64) -> Result<Answer, Refused> {
         let mut below = 0u64;
         let mut sum = 0u64;
@@ -48,7 +48,7 @@ impl<'a, G: Guard> Guarded<'a, G> {
         Ok(Answer::Pair(below, sum))
     }
 
-    /// The sum of the values that a walk gives.
+    /// Sums up the values of an iterator.
     fn walk_values<R: Wait>(&self, rt: &R) -> Result<Answer, Refused> {
         let mut sum = 0u64;
         for value in self.map.values(rt, self.guard)? {
@@ -57,7 +57,7 @@ impl<'a, G: Guard> Guarded<'a, G> {
         Ok(Answer::Number(sum))
     }
 
-    /// Stores the value where the key has none.
+    /// Stores the value if the key has none.
     fn stores<R: Wait>(&self, rt: &R, step: Step) -> Answer {
         match step {
             Step::TryInsert(key, to) => tried(self.map.try_insert(rt, key, to, self.guard)),
@@ -72,7 +72,7 @@ impl<'a, G: Guard> Guarded<'a, G> {
         }
     }
 
-    /// Adds 1 to the value, or stores one where the key has none.
+    /// Adds 1 to the value, or stores one if the key has none.
     fn updates<R: Wait>(&self, rt: &R, step: Step) -> Answer {
         match step {
             Step::UpdateOrInsert(key, to) => {

@@ -1,5 +1,5 @@
-// Each call that takes a guard: with one of another collector it is refused and changes nothing,
-// and with one of the map's number it answers as ever, whichever collector made it.
+// Each call with a guard: with one of another collector it fails and changes nothing. With one of
+// the map's number it works as usual, whichever collector made it.
 use crate::answers::Answer::{Absent, Done, Is, Kept, Number, Pair, Refused, Removed};
 use crate::numbers::Numbers;
 use crate::seen::Says;
@@ -15,8 +15,8 @@ use crate::steps::Step::{
 use papaya_words::probe::Refused::WrongGuard;
 use std::test::Fail;
 
-/// Each call is refused: it finds nothing, stores nothing, replaces nothing, removes nothing, walks
-/// over nothing, and makes no room.
+/// Each call fails: it finds, stores, replaces, removes and iterates over nothing, and reserves no
+/// room.
 const REFUSES: Script = &[
     (Verify, Refused(WrongGuard)),
     (Get(1), Refused(WrongGuard)),
@@ -42,15 +42,14 @@ const REFUSES: Script = &[
     (Reserve(20), Refused(WrongGuard)),
 ];
 
-/// The map has 10 at 1, and no other pair.
+/// The map has 10 at 1, and no other entry.
 const HAS_TEN: Script = &[
     (GetKeyValue(1), Pair(1, 10)),
     (GetAlone(2), Absent),
     (Len, Number(1)),
 ];
 
-/// A guard of another collector is refused by each call, and the map stays as it was. So is each of
-/// its two kinds.
+/// Each call refuses a guard of another collector, of either kind, and the map stays as it was.
 const OTHERS: [Turn; 5] = [
     Calls(&[(Insert(1, 10), Absent)]),
     Guarded(Holder::Other(7), REFUSES),
@@ -64,7 +63,7 @@ fn a_guard_of_another_collector_is_refused(rt: HostRuntime) -> Result<(), Fail> 
     runs::<_, Numbers>(&rt, rt.alloc(), &MODES, &OTHERS)
 }
 
-/// Each call is taken on a map of no pairs, and in the end all pairs go again.
+/// Each call works on an empty map, which is empty again in the end.
 const TAKES: Script = &[
     (Verify, Done),
     (Insert(1, 10), Absent),
@@ -81,7 +80,7 @@ const TAKES: Script = &[
     (UpdateOrInsert(4, 40), Number(40)),
     (UpdateOrInsertWith(4, 0), Number(41)),
     (Compute(4, Says::Remove), Removed(4, 41)),
-    // 10, 20 and 31 are walked over, which 1, 2 and 3 have.
+    // 10, 20 and 31 are found by iterating, at 1, 2 and 3.
     (Reserve(20), Done),
     (Iter, Pair(0, 3)),
     (Keys(4), Pair(3, 6)),
@@ -96,7 +95,7 @@ const TAKES: Script = &[
     (IsEmpty, Is(true)),
 ];
 
-/// Each of the map's two kinds of guard is taken, and one of another collector that has its number.
+/// Accepts each of the map's two kinds of guard, and one of another collector with its number.
 const OWN: [Turn; 3] = [
     Guarded(Holder::Map, TAKES),
     Guarded(Holder::MapOwned, TAKES),

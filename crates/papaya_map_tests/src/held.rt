@@ -1,4 +1,4 @@
-// A reference that a lookup has answered, while the pair is replaced and removed.
+// A reference that a lookup has returned, while the entry is replaced and removed.
 use crate::answers::Answer::{Absent, Number};
 use crate::crowd::Crowd::Two;
 use crate::crowd::Job::{Hold, LookAnew, WearOut};
@@ -10,7 +10,7 @@ use crate::steps::Step::{Get, Insert, Len};
 use papaya_testing::gate::{Gate, Look};
 use std::test::Fail;
 
-/// The reference that a lookup answered, and what it was of.
+/// The reference that a lookup returned, and the value that it had.
 #[derive(Drop)]
 struct Held<'a>(&'a u64);
 
@@ -20,7 +20,7 @@ impl Look for Held<'_> {
     }
 }
 
-/// What the map has of key 1.
+/// A lookup of key 1 that is made again each time.
 #[derive(Drop)]
 struct Anew<'a, C>(&'a mut C);
 
@@ -30,7 +30,7 @@ impl<C: steps::Calls> Look for Anew<'_, C> {
     }
 }
 
-/// Does the reference that a lookup answers stay as it is?
+/// Returns whether the reference that a lookup returned keeps its value.
 pub fn holds(map: &Numbers, gate: &Gate) -> bool {
     match map.pin().get(&1) {
         Some(value) => gate.stays(&mut Held(value)),
@@ -38,12 +38,12 @@ pub fn holds(map: &Numbers, gate: &Gate) -> bool {
     }
 }
 
-/// Does what the map answers stay as it is?
+/// Returns whether new lookups keep returning the same value.
 pub fn looks_anew<C: steps::Calls>(map: &mut C, gate: &Gate) -> bool {
     gate.stays(&mut Anew(map))
 }
 
-/// What a reference is of stays while another thread replaces the pair 1000 times and removes it.
+/// A reference keeps its value while another thread replaces the entry 1000 times and removes it.
 const HOLDS: [Turn; 3] = [
     Calls(&[(Insert(1, 10), Absent)]),
     Threads(Two([Hold, WearOut])),
@@ -55,7 +55,7 @@ fn a_reference_stays_as_it_is(rt: HostRuntime) -> Result<(), Fail> {
     runs::<_, Numbers>(&rt, rt.alloc(), &MODES, &HOLDS)
 }
 
-/// One that looks the key up anew does not find its value again.
+/// A thread that looks the key up again does not find the same value.
 const LOOKS_ANEW: [Turn; 2] = [
     Calls(&[(Insert(1, 10), Absent)]),
     Fails(Two([LookAnew, WearOut]), (false, true)),

@@ -1,4 +1,4 @@
-// Maps with a limit on the pairs that they log.
+// Maps with a limit on the entries that they store.
 use crate::answers::Answer::{self, Absent, Is, Number, Pair, Refused as No};
 use crate::builders::Asked;
 use crate::crowd::Crowd::Eight;
@@ -21,10 +21,10 @@ use std::process::Abort;
 use std::sync::Wait;
 use std::test::Fail;
 
-/// What a call answers at the limit.
+/// The result of a call at the limit.
 const AT_LIMIT: Answer = No(Refused::Limit);
 
-/// Maps that log three pairs at most.
+/// Maps that store three entries at most.
 const THREE: [Making; 4] = [
     Making::Built(Asked::Limit(3)),
     Making::Limited(ResizeMode::Blocking, 3),
@@ -32,7 +32,7 @@ const THREE: [Making; 4] = [
     Making::Limited(ResizeMode::Incremental(64), 3),
 ];
 
-/// Three pairs are logged, one of them in the place of another.
+/// Three entries are stored, one of them in place of another.
 const SPENDS: Script = &[
     (Insert(1, 10), Absent),
     (Insert(2, 20), Absent),
@@ -41,7 +41,7 @@ const SPENDS: Script = &[
     (Len, Number(2)),
 ];
 
-/// What needs no pair is answered then, and a removal makes no room for one.
+/// Calls that need no entry succeed then, and a removal makes no room for one.
 const IS_SPENT: Script = &[
     (GetOrInsert(1, 5), Number(11)),
     (TryInsert(2, 5), Answer::Kept(20, 5)),
@@ -52,7 +52,7 @@ const IS_SPENT: Script = &[
     (Len, Number(1)),
 ];
 
-/// One pair is left, and there is room for two more.
+/// One entry is left, and there is room for two more.
 const GOES_ON: Script = &[
     (Get(2), Number(20)),
     (Insert(3, 30), Absent),
@@ -61,7 +61,7 @@ const GOES_ON: Script = &[
     (Len, Number(3)),
 ];
 
-/// A map is filled to its limit, made anew and filled again.
+/// Fills a map to its limit, reclaims it and fills it again.
 fn spends<R: Wait + Abort, M: Shared>(rt: &R, at: usize, map: &mut M) {
     map.goes(rt, at, SPENDS);
     map.goes_with_own(rt, at, false, IS_SPENT);
@@ -69,7 +69,7 @@ fn spends<R: Wait + Abort, M: Shared>(rt: &R, at: usize, map: &mut M) {
     map.goes(rt, at, GOES_ON);
 }
 
-/// So is each of these.
+/// Fills each of these in this way.
 fn each_spends<R: Wait + Abort, M: Shared + Drop>(rt: &R, alloc: Global) -> Result<(), Refused> {
     for (at, making) in THREE.into_iter().enumerate() {
         let mut map: M = M::made(rt, alloc, making)?;
@@ -84,7 +84,7 @@ fn a_map_that_is_made_anew_counts_what_it_keeps(rt: HostRuntime) -> Result<(), F
     Ok(())
 }
 
-/// Where no pair may be logged none is stored.
+/// A map that may store no entry stores none.
 const NONE: [Turn; 1] = [Does(&[
     (Insert(1, 10), AT_LIMIT),
     (Compute(1, Says::Store(10)), AT_LIMIT),
@@ -99,8 +99,8 @@ fn a_map_that_logs_no_pair_stores_none(rt: HostRuntime) -> Result<(), Fail> {
     runs::<_, Numbers>(&rt, rt.alloc(), &[Making::Built(Asked::Limit(0))], &NONE)
 }
 
-/// Inserts absent keys, each with itself, of which some may be refused at the limit: are just the
-/// others there?
+/// Inserts absent keys, each with itself, some of which may be refused at the limit; returns
+/// whether just the others are there.
 pub fn fills_up<R: Wait, C: Calls>(rt: &R, map: &mut C, from: u64, end: u64) -> bool {
     let (mut taken, mut found) = (0u64, 0u64);
     for key in from..end {
@@ -116,7 +116,7 @@ pub fn fills_up<R: Wait, C: Calls>(rt: &R, map: &mut C, from: u64, end: u64) -> 
     taken == found
 }
 
-/// Maps that log 100 pairs at most.
+/// Maps that store 100 entries at most.
 const HUNDRED: [Making; 3] = [
     Making::Limited(ResizeMode::Blocking, 100),
     Making::Limited(ResizeMode::Incremental(1), 100),
@@ -151,7 +151,7 @@ fn threads_that_meet_the_limit_store_as_many_pairs(rt: HostRuntime) -> Result<()
     runs::<_, Numbers>(&rt, rt.alloc(), &HUNDRED, &FILL_UP)
 }
 
-/// Calls that need a pair.
+/// Calls that need an entry.
 const STORE: [Step; 4] = [
     Insert(1, 12),
     Insert(3, 30),
@@ -181,8 +181,8 @@ impl<R: Wait, C: Calls> Ready for Spent<'_, '_, R, C> {
     }
 }
 
-/// At the limit no call asks for memory, so where it would be refused that too, it is refused since
-/// the limit is met.
+/// Checks that no call at the limit requests memory. So if memory would be refused as well, the
+/// call still fails with `Refused::Limit`.
 fn asks_for_none<R: Wait + Abort>(rt: &R, alloc: Global, map: &Numbers) {
     let map = &mut Pinned::of(map);
     is(
@@ -192,7 +192,7 @@ fn asks_for_none<R: Wait + Abort>(rt: &R, alloc: Global, map: &Numbers) {
     );
 }
 
-/// So it is with each of these.
+/// Checks this for each of these maps.
 fn each_asks_for_none<R: Wait + Abort, M: Shared + Drop>(
     rt: &R,
     alloc: Global,

@@ -1,4 +1,4 @@
-// Maps of numbers, pinned: their calls by a pass, and those that take none.
+// Maps of numbers, pinned: their calls by a pass, and those without one.
 ghost use Rattle.std.specs.Prelude.{◌≡◌};
 
 use crate::answers::{Answer, computed, done, pair, removal, there, value};
@@ -26,7 +26,7 @@ pub struct Pinned<'a> {
 }
 
 impl<'a> Pinned<'a> {
-    /// By `pin`, with a new pass.
+    /// Pins a map by `pin`, with a new pass.
     pub fn of(map: &'a Numbers) -> Pinned<'a> {
         Pinned {
             map: map.pin(),
@@ -36,7 +36,7 @@ impl<'a> Pinned<'a> {
         }
     }
 
-    /// By `pin_owned`.
+    /// Pins a map by `pin_owned`.
     pub fn owned_of(map: &'a Numbers) -> Pinned<'a> {
         Pinned {
             map: map.pin_owned(),
@@ -46,19 +46,19 @@ impl<'a> Pinned<'a> {
         }
     }
 
-    /// The passes meet.
+    /// Lets the passes meet.
     fn meet(&mut self) -> Answer {
         self.map.meet(&mut self.pass, &mut self.other);
         Answer::Done
     }
 
-    /// They trade places.
+    /// Swaps the passes.
     fn swap(&mut self) -> Answer {
         swap(&mut self.pass, &mut self.other);
         Answer::Done
     }
 
-    /// How many pairs a walk gives whose key is the value, and how many whose key is below it.
+    /// Counts an iterator's entries whose key is the value, and those whose key is below it.
     fn pairs<R: Wait>(&self, rt: &R) -> Result<Answer, Refused> {
         let mut same = 0u64;
         let mut less = 0u64;
@@ -69,7 +69,7 @@ impl<'a> Pinned<'a> {
         Ok(Answer::Pair(same, less))
     }
 
-    /// How many keys below this one a walk gives, and the sum of all keys.
+    /// Counts an iterator's keys below this one, and sums up all its keys.
     fn walk_keys<R: Wait>(&self, rt: &R, end: u64) -> Result<Answer, Refused> {
         let mut below = 0u64;
         let mut sum = 0u64;
@@ -80,7 +80,7 @@ impl<'a> Pinned<'a> {
         Ok(Answer::Pair(below, sum))
     }
 
-    /// The sum of the values that a walk gives.
+    /// Sums up the values of an iterator.
     fn walk_values<R: Wait>(&self, rt: &R) -> Result<Answer, Refused> {
         let mut sum = 0u64;
         for value in self.map.values(rt)? {
@@ -90,7 +90,7 @@ impl<'a> Pinned<'a> {
     }
 }
 
-/// What was answered, also where it was refused.
+/// Returns the result, also if the call failed.
 pub fn said(answer: Result<Answer, Refused>) -> Answer {
     match answer {
         Ok(answer) => answer,

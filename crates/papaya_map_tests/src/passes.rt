@@ -1,4 +1,4 @@
-// What two passes have seen of a map is brought together.
+// Two passes that share what they have observed of a map.
 ghost use Rattle.std.specs.Prelude.{◌≡◌};
 
 use crate::answers::Answer::{self, Absent, Done, Number};
@@ -15,7 +15,7 @@ use std::sync::Wait;
 use std::test::Fail;
 use std::thread::{Threads, join};
 
-/// Two passes meet, and each has no value of the other's key, and stores its own. They meet again,
+/// Two passes meet; each finds no value of the other's key, and stores its own. They meet again,
 /// and each finds both keys.
 const MEETS: [Turn; 1] = [Calls(&[
     (Meet, Done),
@@ -39,10 +39,10 @@ fn two_passes_meet(rt: HostRuntime) -> Result<(), Fail> {
     runs::<_, Numbers>(&rt, rt.alloc(), &MODES, &MEETS)
 }
 
-/// What a thread knows that has stored a pair: what it was answered, and its pass.
+/// The result of a thread that has stored an entry, and its pass.
 type Stored = (Answer, Pass<u64, u64, Times>);
 
-/// Stores a pair by a pass of its own.
+/// Stores an entry by a pass of its own.
 fn stored<R: Wait>(rt: &R, map: &Numbers, key: u64, to: u64) -> Stored
     ensures { result.1.book ≡ map.now.book }
 {
@@ -51,7 +51,7 @@ fn stored<R: Wait>(rt: &R, map: &Numbers, key: u64, to: u64) -> Stored
     (old, pass)
 }
 
-/// How many of the pairs are (1, 10), and how many (2, 20).
+/// How many of the entries are (1, 10), and how many (2, 20).
 #[derive(Clone, Copy)]
 struct Given {
     first: u64,
@@ -60,7 +60,7 @@ struct Given {
 }
 
 impl Given {
-    /// None yet.
+    /// Returns counts of 0.
     fn nothing() -> Given {
         Given {
             first: 0,
@@ -69,7 +69,7 @@ impl Given {
         }
     }
 
-    /// A walk gives this.
+    /// Counts an entry of an iterator.
     fn give(&mut self, key: u64, value: u64) {
         match (key, value) {
             (1, 10) => self.first = self.first.wrapping_add(1),
@@ -78,13 +78,13 @@ impl Given {
         }
     }
 
-    /// Was each of the two given once, and nothing else?
+    /// Returns whether each of the two was returned once, and nothing else.
     fn is_both(self) -> bool {
         (self.first, self.second, self.other) == (1, 1, 0)
     }
 }
 
-/// What a walk gives by a pass.
+/// Counts the entries of an iterator by a pass.
 fn walked<R: Wait>(
     rt: &R,
     map: &Numbers,
@@ -100,7 +100,7 @@ fn walked<R: Wait>(
     Ok(given)
 }
 
-/// Does a pass find both pairs, by lookups and by a walk?
+/// Returns whether a pass finds both entries, by lookups and by an iterator.
 fn finds_both<R: Wait>(rt: &R, map: &Numbers, mut pass: Pass<u64, u64, Times>) -> bool
     requires { pass.book ≡ map.now.book }
 {
@@ -113,7 +113,8 @@ fn finds_both<R: Wait>(rt: &R, map: &Numbers, mut pass: Pass<u64, u64, Times>) -
     first == Number(10) && second == Number(20) && is_walked
 }
 
-/// Two threads store a pair each by a pass, and the passes meet: does each then find both?
+/// Lets two threads store an entry each by a pass, and lets the passes meet; returns whether each
+/// then finds both.
 pub fn meets<R: Threads + Wait + Sync>(rt: &R, map: &Numbers) -> bool {
     let ((one, mut first), (other, mut second)) = join(
         rt,
@@ -125,13 +126,13 @@ pub fn meets<R: Threads + Wait + Sync>(rt: &R, map: &Numbers) -> bool {
     finds_both(rt, map, first) && finds_both(rt, map, second) && is_new
 }
 
-/// What a thread stored, the pass of another thread finds when the two passes have met.
+/// Checks that a pass finds what another thread stored, once the two passes have met.
 #[test]
 fn passes_of_two_threads_meet(rt: HostRuntime) -> Result<(), Fail> {
     runs::<_, Numbers>(&rt, rt.alloc(), &MODES, &[Meets])
 }
 
-/// What walks may give, and whether it is just the two pairs.
+/// Lists of entries, and whether each is just the two entries.
 const GIVEN: [(&[(u64, u64)], bool); 6] = [
     (&[], false),
     (&[(1, 10)], false),
@@ -141,7 +142,7 @@ const GIVEN: [(&[(u64, u64)], bool); 6] = [
     (&[(1, 10), (2, 20), (3, 30)], false),
 ];
 
-/// A walk that gives nothing, or less or more than both pairs, is found out.
+/// Checks that the test notices an iterator that returns less or more than both entries.
 #[test]
 fn a_walk_that_gives_nothing_is_found_out(rt: HostRuntime) {
     for (pairs, wanted) in GIVEN {

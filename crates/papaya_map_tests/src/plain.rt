@@ -1,4 +1,4 @@
-// The calls of a pinned map that take no pass.
+// The calls of a pinned map without a pass.
 use crate::answers::Answer::{Absent, Is, Number, Pair};
 use crate::numbers::Numbers;
 use crate::shared::Turn::{self, Calls};
@@ -8,8 +8,8 @@ use crate::steps::Step::{
 };
 use std::test::Fail;
 
-/// Stores 9 at 1, puts 10 and then 11 in its place, and looks for 1 and for 2. 1 is removed, and
-/// comes and goes once more.
+/// Stores 9 at 1, replaces it by 10 and then by 11, and looks up 1 and 2. 1 is removed, and
+/// inserted and removed once more.
 const CALLS: [Turn; 1] = [Calls(&[
     (GetAlone(1), Absent),
     (InsertAlone(1, 9), Absent),

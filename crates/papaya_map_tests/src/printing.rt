@@ -1,5 +1,4 @@
-// What a map with one pair and its walks print, and a map with two. Which pair comes first is
-// left open.
+// The text that maps of one and of two entries print, and iterators. Either entry may come first.
 use crate::answers::Answer::Absent;
 use crate::board::Board;
 use crate::crowd::Job;
@@ -13,38 +12,38 @@ use std::process::Abort;
 use std::sync::Wait;
 use std::test::Fail;
 
-/// What is printed.
+/// The object that is printed.
 #[derive(Clone, Copy)]
 pub enum What {
     Map,
     Pinned,
-    /// A walk, before anything is given.
+    /// An iterator, before it returned anything.
     Pairs,
     Keys,
     Values,
-    /// A walk when one value is given.
+    /// An iterator that has returned one value.
     ValuesLeft,
 }
 
-/// A pinned map prints this.
+/// Prints a pinned map.
 fn print_pinned(alloc: Global, map: &Numbers) -> Option<String> {
     let pinned = map.pin();
     format!(in alloc; "{pinned:?}").ok()
 }
 
-/// Its walk prints this.
+/// Prints its iterator.
 fn print_pairs<R: Wait>(rt: &R, alloc: Global, map: &Numbers) -> Option<String> {
     let pairs = map.pin().iter(rt).ok()?;
     format!(in alloc; "{pairs:?}").ok()
 }
 
-/// The walk of its keys prints this.
+/// Prints the iterator over its keys.
 fn print_keys<R: Wait>(rt: &R, alloc: Global, map: &Numbers) -> Option<String> {
     let keys = map.pin().keys(rt).ok()?;
     format!(in alloc; "{keys:?}").ok()
 }
 
-/// The walk of its values prints this, when one is given or none.
+/// Prints the iterator over its values, after it returned one or none.
 fn print_values<R: Wait>(rt: &R, alloc: Global, map: &Numbers, is_given: bool) -> Option<String> {
     let mut values = map.pin().values(rt).ok()?;
     if is_given && values.next().is_none() {
@@ -53,7 +52,7 @@ fn print_values<R: Wait>(rt: &R, alloc: Global, map: &Numbers, is_given: bool) -
     format!(in alloc; "{values:?}").ok()
 }
 
-/// What is printed, if there is memory for it.
+/// Returns what is printed, if there is memory for it.
 pub fn printed<R: Wait>(rt: &R, alloc: Global, map: &Numbers, what: What) -> Option<String> {
     match what {
         What::Map => format!(in alloc; "{map:?}").ok(),
@@ -65,7 +64,7 @@ pub fn printed<R: Wait>(rt: &R, alloc: Global, map: &Numbers, what: What) -> Opt
     }
 }
 
-/// This is printed.
+/// Checks that this is printed.
 pub fn prints<R: Wait + Abort, M: Shared>(
     rt: &R,
     alloc: Global,
@@ -77,7 +76,7 @@ pub fn prints<R: Wait + Abort, M: Shared>(
     is(rt, text.as_str(), wanted);
 }
 
-/// The map prints one of these.
+/// Checks that the map prints one of these.
 pub fn prints_either<R: Wait + Abort, M: Shared>(
     rt: &R,
     alloc: Global,
@@ -89,7 +88,7 @@ pub fn prints_either<R: Wait + Abort, M: Shared>(
     is(rt, text.as_str() == one || text.as_str() == other, true);
 }
 
-/// How often the text has a colon.
+/// Returns the number of colons in the text.
 fn colons(text: &str) -> u64 {
     let mut found = 0u64;
     for one in text.as_bytes() {
@@ -100,7 +99,7 @@ fn colons(text: &str) -> u64 {
     found
 }
 
-/// While pairs are being moved, each is printed once.
+/// Checks that each entry is printed once while entries are being moved.
 pub fn prints_each<R: Wait + Abort, M: Shared>(rt: &R, alloc: Global, map: &M) {
     let board = Board::new(alloc, 1, 0);
     for key in 0..99u64 {
@@ -115,7 +114,7 @@ fn a_map_that_grows_prints_each_pair_once(rt: HostRuntime) -> Result<(), Fail> {
     runs::<_, Numbers>(&rt, rt.alloc(), &MODES, &[PrintEach])
 }
 
-/// No pair, and then one.
+/// Prints a map of no entry, and then of one.
 const OF_ONE: [Turn; 4] = [
     Prints(What::Map, "{}"),
     Calls(&[(Insert(42, 7), Absent)]),
@@ -128,7 +127,7 @@ fn a_map_of_one_pair_prints_it(rt: HostRuntime) -> Result<(), Fail> {
     runs::<_, Numbers>(&rt, rt.alloc(), &MODES, &OF_ONE)
 }
 
-/// Two pairs.
+/// Prints a map of two entries.
 const OF_TWO: [Turn; 2] = [
     Calls(&[(Insert(42, 0), Absent), (Insert(16, 8), Absent)]),
     PrintsEither("{42: 0, 16: 8}", "{16: 8, 42: 0}"),
@@ -139,7 +138,7 @@ fn a_map_of_two_pairs_prints_both(rt: HostRuntime) -> Result<(), Fail> {
     runs::<_, Numbers>(&rt, rt.alloc(), &MODES, &OF_TWO)
 }
 
-/// What is left of a walk.
+/// Prints the rest of an iterator.
 const WALKS: [Turn; 5] = [
     Calls(&[(Insert(42, 7), Absent)]),
     Prints(What::Pairs, "[(42, 7)]"),

@@ -1,5 +1,5 @@
-// A growth that is refused leaves the map as it was. Where the tests run with a failing allocation,
-// as by `rt try --test --fail-alloc N`, a call here meets it.
+// A refused allocation leaves the map as it was. If the tests run with a failing allocation, as by
+// `rt try --test --fail-alloc N`, a call here meets it.
 use crate::answers::Answer;
 use crate::numbers::Numbers;
 use crate::shared::{Making, Turn, runs};
@@ -9,13 +9,13 @@ use papaya_words::probe::{Refused, ResizeMode};
 use std::sync::Wait;
 use std::test::Fail;
 
-/// Has the map the keys below this one, each with ten times itself, and no other?
+/// Returns whether the map has the keys below this one, each with ten times itself, and no other.
 fn has_tens<C: Calls>(map: &mut C, end: u64) -> bool {
     has_below(map, end, 10, 0) && map.get(end) == Answer::Absent && map.len() == end
 }
 
-/// Inserts a key that is absent, and again where it was refused for want of memory: was the map as
-/// it was after a refusal?
+/// Inserts a key that is absent, and again after `Refused::Memory`; returns whether the map was
+/// unchanged after a refusal.
 pub fn stores_again<R: Wait, C: Calls>(rt: &R, map: &mut C, key: u64) -> bool {
     let value = key.wrapping_mul(10);
     match map.insert(rt, key, value) {
@@ -27,11 +27,11 @@ pub fn stores_again<R: Wait, C: Calls>(rt: &R, map: &mut C, key: u64) -> bool {
     }
 }
 
-/// So many keys of one path make a table of 32 slots grow, and in `Blocking` a longer one is
-/// given up.
+/// The number of keys of one path that make a table of 32 slots grow. In `Blocking` a longer table
+/// is given up.
 const KEYS: u64 = 70;
 
-/// Fills a map of no pairs: was it as it should be after each key?
+/// Fills an empty map; returns whether it was as expected after each key.
 pub fn fills<R: Wait, C: Calls>(rt: &R, map: &mut C) -> bool {
     for key in 0..KEYS {
         if !has_tens(map, key) || !stores_again(rt, map, key) {
@@ -41,8 +41,8 @@ pub fn fills<R: Wait, C: Calls>(rt: &R, map: &mut C) -> bool {
     has_tens(map, KEYS)
 }
 
-/// Empties a map of these keys, the highest first: was it as it should be after each? A removal
-/// takes no memory, also where it moves pairs to a table that is there.
+/// Removes these keys from a map, the highest first; returns whether it was as expected after each.
+/// A removal allocates nothing, even if it moves entries to a table that is there.
 pub fn empties<R: Wait, C: Calls>(rt: &R, map: &mut C) -> bool {
     for gone in 0..KEYS {
         let key = KEYS - 1 - gone;
@@ -53,8 +53,8 @@ pub fn empties<R: Wait, C: Calls>(rt: &R, map: &mut C) -> bool {
     true
 }
 
-/// Replaces the value 0 of key 0 again, and again: was the map as it should be, also where that
-/// was refused?
+/// Replaces the value 0 of key 0 again and again; returns whether the map was as expected, also
+/// after a refusal.
 pub fn replaces<R: Wait, C: Calls>(rt: &R, map: &mut C) -> bool {
     let mut stands = 0u64;
     for value in 1..100u64 {

@@ -9,7 +9,7 @@ use papaya_testing::times::TOGETHER;
 use papaya_words::probe::ResizeMode;
 use std::test::Fail;
 
-/// Each of 100 pairs is given once, five stay that are below 5, and none after a clear.
+/// Iterates over each of 100 entries once, retains the five below 5, and clears them.
 const SCANS: [Turn; 1] = [Calls(&[
     (InsertBelow(100), Is(true)),
     (Iter, Pair(100, 0)),
@@ -44,7 +44,7 @@ fn keys_with_one_path_are_scanned_in_each_mode(rt: HostRuntime) -> Result<(), Fa
     runs::<_, Numbers>(&rt, rt.alloc(), &ONE_PATH, &SCANS)
 }
 
-/// The even keys stay of 0 to 7, whose values are ten times as much.
+/// Retains the even keys of 0 to 7, whose values are ten times as much.
 const KEEPS_EVEN: [Turn; 1] = [Guarded(
     Holder::Map,
     &[

@@ -1,5 +1,5 @@
-// Each call by a pass and with a guard, with each request for memory refused to it in turn, at
-// stages of the growth of a map. What is told to refuse is the heap of `tests/refused.py`.
+// Each call by a pass and with a guard, with each of its requests for memory refused in turn, at
+// stages of the growth of a map. The heap of `tests/refused.py` is set to refuse.
 use crate::answers::Answer::{
     self, Aborted, Absent, Done, Inserted, Kept, Number, Pair, Removed, Updated,
 };
@@ -21,17 +21,17 @@ use std::marker::PhantomData;
 use std::process::Abort;
 use std::sync::Wait;
 
-/// A key that is there, with this value, and one that is not.
+/// A key that is present with this value, and one that is not.
 const OLD: u64 = 200;
 
 const VALUE: u64 = 5;
 
 const NEW: u64 = 201;
 
-/// A call, what it answers, and what is at the old key and at the new one then.
+/// A call, its result, and the values of the old key and of the new one afterwards.
 type Row = (Step, Answer, Answer, Answer);
 
-/// Calls that a pass takes or a guard. What a walk answers is below.
+/// Calls with a pass or a guard. The results of iterators are below.
 const EITHER: [Row; 15] = [
     (Insert(NEW, 7), Absent, Number(VALUE), Number(7)),
     (Insert(OLD, 7), Number(VALUE), Number(7), Absent),
@@ -75,7 +75,7 @@ const EITHER: [Row; 15] = [
     (Values, Done, Number(VALUE), Absent),
 ];
 
-/// Calls that take a guard alone.
+/// Calls with a guard only.
 const GUARDED: [Row; 12] = [
     (TryInsert(NEW, 7), Number(7), Number(VALUE), Number(7)),
     (TryInsert(OLD, 7), Kept(VALUE, 7), Number(VALUE), Absent),
@@ -106,8 +106,8 @@ const GUARDED: [Row; 12] = [
     (UpdateOrInsertWith(OLD, 7), Number(6), Number(6), Absent),
 ];
 
-/// What a call answers on a map that has the keys below this one, each with itself, and the
-/// old one.
+/// Returns the result of a call on a map that has the keys below this one, each with itself, and
+/// the old one.
 fn wanted(row: Row, keys: u64) -> Answer {
     let sum = keys.wrapping_mul(keys.saturating_sub(1)) / 2;
     match row.0 {
@@ -118,14 +118,15 @@ fn wanted(row: Row, keys: u64) -> Answer {
     }
 }
 
-/// Has the map the keys below this one, these at the old and the new one, and no other?
+/// Returns whether the map has the keys below this one, these values at the old and the new key,
+/// and no other.
 fn is_as<C: Calls>(map: &mut C, keys: u64, old: Answer, new: Answer) -> bool {
     let two = u64::from(old != Absent).wrapping_add(u64::from(new != Absent));
     let is_there = map.get(OLD) == old && map.get(NEW) == new;
     is_there && has_below(map, keys, 1, 0) && map.len() == keys.wrapping_add(two)
 }
 
-/// A map and the call that it is ready for.
+/// A map, and the call that it is ready for.
 #[derive(Drop)]
 struct OnKey<'r, 'm, R, C> {
     rt: &'r R,
@@ -151,7 +152,7 @@ impl<R: Wait, C: Calls> Ready for OnKey<'_, '_, R, C> {
     }
 }
 
-/// A call, and how many keys a map has before it.
+/// A call, and the number of keys that a map has before it.
 #[derive(Clone, Copy)]
 pub struct Start {
     keys: u64,
@@ -173,14 +174,14 @@ pub fn tries_on<R: Wait, C: Calls>(
     tries(alloc, &mut OnKey { rt, map, keys, row }, number)
 }
 
-/// How a call is made.
+/// The way in which a call is made.
 #[derive(Clone, Copy)]
 pub enum Way {
     ByPass,
     WithGuard,
 }
 
-/// A call of new maps.
+/// A call on new maps.
 #[derive(Drop)]
 struct Growing<'r, R, M> {
     rt: &'r R,
@@ -199,11 +200,11 @@ impl<R: Wait, M: Shared + Drop> Trial for Growing<'_, R, M> {
     }
 }
 
-/// So many keys of one path are there beside the old one. A table is full at the next key or not,
-/// is being copied, and with 64 in all one is given up in `Blocking`.
+/// The number of keys of one path beside the old key. A table is full at the next key or not, or is
+/// being copied; with 64 in all one is given up in `Blocking`.
 const STAGES: [u64; 9] = [0, 24, 25, 26, 47, 62, 63, 64, 66];
 
-/// No call of these fails at a stage.
+/// Checks that no call of these fails at a stage.
 fn each_stage<R: Wait + Abort, M: Shared + Drop>(
     rt: &R,
     alloc: Global,
@@ -224,7 +225,7 @@ fn each_stage<R: Wait + Abort, M: Shared + Drop>(
     }
 }
 
-/// None does in any mode.
+/// Checks this in each mode.
 fn each_mode<R: Wait + Abort, M: Shared + Drop>(rt: &R, alloc: Global, way: Way, rows: &[Row]) {
     for mode in [
         ResizeMode::Blocking,

@@ -1,12 +1,12 @@
-// What closures are shown, and what they answer.
+// The arguments of closures, and what they return.
 use crate::answers::Answer;
 use papaya_call::answers::Operation;
 use papaya_testing::gate::Gate;
 
-/// What the closure of a call was shown.
+/// The arguments that the closure of a call was called with.
 #[derive(Clone, Copy)]
 pub struct Seen {
-    /// How often that there is no pair, and how often one.
+    /// How often it was called with `None`, and how often with an entry.
     pub nones: u64,
     pub pairs: u64,
     pub first: Option<(u64, u64)>,
@@ -14,7 +14,7 @@ pub struct Seen {
 }
 
 impl Seen {
-    /// Nothing yet.
+    /// Returns a record without calls.
     pub fn nothing() -> Seen {
         Seen {
             nones: 0,
@@ -24,7 +24,7 @@ impl Seen {
         }
     }
 
-    /// The closure is shown this, and waits at the gate.
+    /// Records that the closure is called with this, and waits at the gate.
     pub fn see(&mut self, shown: Option<(u64, u64)>, gate: &Gate) {
         gate.wait();
         if shown.is_none() {
@@ -38,17 +38,17 @@ impl Seen {
         }
     }
 
-    /// The same as an answer.
+    /// Returns the record as an answer.
     pub fn told(&self) -> Answer {
         Answer::Saw(self.nones, self.pairs, self.last)
     }
 }
 
-/// What the closure of a compute answers.
+/// What the closure of a compute returns.
 #[derive(Clone, Copy)]
 pub enum Says {
     Store(u64),
-    /// The value after the one that is shown, and 1 where there is none.
+    /// The value after the one that it is called with, or 1 if there is none.
     Next,
     Remove,
     /// Ends with this number.
@@ -56,7 +56,7 @@ pub enum Says {
 }
 
 impl Says {
-    /// The operation that it is.
+    /// Returns the operation.
     pub fn on(self, shown: Option<(u64, u64)>) -> Operation<u64, u64> {
         match (self, shown) {
             (Says::Store(value), _) => Operation::Insert(value),
@@ -68,7 +68,7 @@ impl Says {
     }
 }
 
-/// A pair that is shown, as numbers.
+/// Returns an entry as numbers.
 pub fn numbers_of(shown: Option<(&u64, &u64)>) -> Option<(u64, u64)> {
     match shown {
         Some((key, value)) => Some((*key, *value)),
@@ -76,18 +76,18 @@ pub fn numbers_of(shown: Option<(&u64, &u64)>) -> Option<(u64, u64)> {
     }
 }
 
-/// The value after one.
+/// Returns the value after this one.
 pub fn next(value: &u64) -> u64 {
     value.wrapping_add(1)
 }
 
-/// The same by a closure that waits at the gate.
+/// Returns the value after this one, from a closure that waits at the gate.
 pub fn next_at(gate: &Gate, value: &u64) -> u64 {
     gate.wait();
     next(value)
 }
 
-/// The closure of a compute is shown this, and answers so.
+/// Calls the closure of a compute with this, which returns so.
 pub fn operation(
     says: Says,
     seen: &mut Seen,
@@ -99,7 +99,7 @@ pub fn operation(
     says.on(shown)
 }
 
-/// The closure of a removal is shown this, and agrees or not.
+/// Calls the closure of a removal with this, which returns `says`.
 pub fn agrees(says: bool, seen: &mut Seen, gate: &Gate, key: &u64, value: &u64) -> bool {
     seen.see(Some((*key, *value)), gate);
     says

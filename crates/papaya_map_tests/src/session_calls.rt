@@ -15,12 +15,12 @@ type Numbers = HashMap<u64, u64>;
 
 type NumbersSession<'a> = Session<'a, u64, u64>;
 
-/// What was found is what is wanted.
+/// Checks that what was found is what is wanted.
 fn is<T: PartialEq + Debug + Drop>(rt: &impl Abort, found: T, wanted: T) {
     assert_eq!(rt; found, wanted);
 }
 
-/// Key 1 has the value 10 and then 11.
+/// Stores the value 10 and then 11 at key 1.
 fn stores<R: Wait + Abort>(rt: &R, session: &mut NumbersSession<'_>) {
     is(rt, session.insert(rt, 1, 10), Ok(None));
     is(rt, session.insert(rt, 1, 11), Ok(Some(&10)));
@@ -29,7 +29,7 @@ fn stores<R: Wait + Abort>(rt: &R, session: &mut NumbersSession<'_>) {
     is(rt, session.contains_key(&2), false);
 }
 
-/// Only a removal that agrees to 11 removes key 1.
+/// Removes key 1 only by a removal that agrees to 11.
 fn removes<R: Wait + Abort>(rt: &R, session: &mut NumbersSession<'_>) {
     let kept = session.remove_if(rt, &1, |_, value| *value == 10);
     is(rt, kept, Ok(Err((&1, &11))));
@@ -37,7 +37,7 @@ fn removes<R: Wait + Abort>(rt: &R, session: &mut NumbersSession<'_>) {
     is(rt, session.contains_key(&1), false);
 }
 
-/// The keys and the values that a walk gives, summed.
+/// Returns the sums of an iterator's keys and values.
 fn walked<R: Wait>(rt: &R, session: &mut NumbersSession<'_>) -> Result<(u64, u64), Refused> {
     let mut keys = 0u64;
     let mut values = 0u64;
@@ -48,7 +48,7 @@ fn walked<R: Wait>(rt: &R, session: &mut NumbersSession<'_>) -> Result<(u64, u64
     Ok((keys, values))
 }
 
-/// Of the keys 2 and 3 a retain leaves 2, and a clear none.
+/// Retains 2 of the keys 2 and 3, and then clears the map.
 fn scans<R: Wait + Abort>(rt: &R, session: &mut NumbersSession<'_>) {
     is(rt, session.reserve(rt, 100), Ok(()));
     is(rt, session.insert(rt, 2, 20), Ok(None));
@@ -59,8 +59,7 @@ fn scans<R: Wait + Abort>(rt: &R, session: &mut NumbersSession<'_>) {
     is(rt, walked(rt, session), Ok((0, 0)));
 }
 
-/// Key 5 has the value 50, which no further value takes the place of; key 6 has a value of
-/// a closure.
+/// Stores the value 50 at key 5, which no further value replaces, and a closure's value at key 6.
 fn stores_where_absent<R: Wait + Abort>(rt: &R, session: &mut NumbersSession<'_>) {
     let occupied = OccupiedError {
         current: &50,
@@ -73,7 +72,7 @@ fn stores_where_absent<R: Wait + Abort>(rt: &R, session: &mut NumbersSession<'_>
     is(rt, session.get_or_insert_with(rt, 6, || 61), Ok(&60));
 }
 
-/// Counts at key 5 go on from what is there, and one at key 7 begins.
+/// Counts on from the value of key 5, and begins to count at key 7.
 fn updates<R: Wait + Abort>(rt: &R, session: &mut NumbersSession<'_>) {
     is(
         rt,
@@ -87,7 +86,7 @@ fn updates<R: Wait + Abort>(rt: &R, session: &mut NumbersSession<'_>) {
     is(rt, begun, Ok(&1));
 }
 
-/// Takes a pair away, and ends with 9 where there is none.
+/// Removes an entry, and aborts with 9 if there is none.
 fn taken(shown: Option<(&u64, &u64)>) -> Operation<u64, u64> {
     match shown {
         Some(_) => Operation::Remove,
@@ -95,7 +94,7 @@ fn taken(shown: Option<(&u64, &u64)>) -> Operation<u64, u64> {
     }
 }
 
-/// A compute takes key 7 away, and then there is none.
+/// Removes key 7 by a compute, after which there is none.
 fn computes<R: Wait + Abort>(rt: &R, session: &mut NumbersSession<'_>) {
     let removed = session.compute(rt, 7, |shown| taken(shown));
     is(rt, removed, Ok(Compute::Removed(&7, &1)));
@@ -103,7 +102,7 @@ fn computes<R: Wait + Abort>(rt: &R, session: &mut NumbersSession<'_>) {
     is(rt, aborted, Ok(Compute::Aborted(9)));
 }
 
-/// What one session stored, another one that it has met finds.
+/// Checks that a session finds what another one stored that it has met.
 fn meets<R: Wait + Abort>(rt: &R, map: &Numbers) {
     let mut first = Session::new(map);
     let mut second = Session::new(map);
@@ -133,8 +132,8 @@ fn each_compute_of_a_session(rt: HostRuntime) -> Result<(), Fail> {
     Ok(())
 }
 
-/// Stores 100 values at a key of the thread's own. Did it read each back, and replace it by
-/// the next?
+/// Stores 100 values at a key of the thread's own; returns whether it read each back, and replaced
+/// it by the next.
 fn reads_own_writes<R: Wait>(rt: &R, map: &Numbers, key: u64) -> bool {
     let mut session = Session::new(map);
     for value in 0..100u64 {
@@ -148,7 +147,7 @@ fn reads_own_writes<R: Wait>(rt: &R, map: &Numbers, key: u64) -> bool {
     true
 }
 
-/// Two threads at a time, on one map.
+/// Lets two threads at a time read on one map.
 fn both_read<R: Threads + Wait + Sync + Abort>(rt: &R, map: &Numbers) {
     let both = join(
         rt,

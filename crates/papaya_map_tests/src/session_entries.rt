@@ -1,5 +1,5 @@
-// What a session returns of the whole map: the map itself, its count, its keys and its values. And a
-// removed pair.
+// A session's calls on the whole map: the map itself, its count, its keys and its values. And a
+// removed entry.
 use papaya_map::map::HashMap;
 use papaya_map::session::Session;
 use papaya_words::probe::Refused;
@@ -9,7 +9,7 @@ use std::test::Fail;
 
 type NumbersSession<'a> = Session<'a, u64, u64>;
 
-/// The keys summed, and the values.
+/// Returns the sum of the keys, and that of the values.
 fn sums<R: Wait>(rt: &R, session: &mut NumbersSession<'_>) -> Result<(u64, u64), Refused> {
     let mut sums = (0u64, 0u64);
     for key in session.keys(rt)? {
@@ -21,7 +21,7 @@ fn sums<R: Wait>(rt: &R, session: &mut NumbersSession<'_>) -> Result<(u64, u64),
     Ok(sums)
 }
 
-/// Stores two pairs, and removes one.
+/// Stores two entries, and removes one.
 fn comes_and_goes<R: Wait + Abort>(rt: &R, session: &mut NumbersSession<'_>) {
     assert!(rt; session.is_empty());
     assert_eq!(rt; session.insert(rt, 1, 10), Ok(None));

@@ -1,4 +1,4 @@
-// How many pairs a session says that the map holds.
+// The number of entries that the map holds, as a session returns it.
 use papaya_map::map::HashMap;
 use papaya_map::session::Session;
 use std::test::Fail;

@@ -1,5 +1,5 @@
 // The tests of maps: how one is made, and what is done with it in turn. Functions are generic over
-// the map, so that each is proved once, and with no map's destructor to look into.
+// the map, so that each is proved once, without a map's destructor.
 use crate::board::Board;
 use crate::builders::{Asked, built, sharing};
 use crate::crowd::{Crowd, Job, does, gathers};
@@ -23,18 +23,18 @@ use std::sync::{Arc, Wait};
 use std::test::Fail;
 use std::thread::Threads;
 
-/// How a map is made.
+/// The way in which a map is made.
 #[derive(Clone, Copy)]
 pub enum Making {
-    /// In this mode, for so many pairs, with this hasher.
+    /// In this mode, for this many entries, with this hasher.
     Parts(ResizeMode, usize, Times),
-    /// In this mode, for so many logged pairs at most.
+    /// In this mode, for this many stored entries at most.
     Limited(ResizeMode, u64),
-    /// With a hasher alone.
+    /// With a hasher only.
     Hasher,
-    /// For so many pairs, with a hasher.
+    /// For this many entries, with a hasher.
     Capacity(usize),
-    /// By a builder that is asked for this.
+    /// By a builder with this setting.
     Built(Asked),
 }
 
@@ -45,31 +45,31 @@ pub const MODES: [Making; 3] = [
     Making::Parts(ResizeMode::Incremental(64), 0, APART),
 ];
 
-/// Whose guard the calls take.
+/// The owner of the guard that the calls take.
 #[derive(Clone, Copy)]
 pub enum Holder {
-    /// The map's own.
+    /// The map itself.
     Map,
     MapOwned,
-    /// One of a collector of this number.
+    /// A collector of this number.
     Other(u64),
     OtherOwned(u64),
 }
 
-/// What is done with a map.
+/// A step of a test on a map.
 #[derive(Clone, Copy)]
 pub enum Turn {
     /// Calls on the pinned map.
     Calls(Script),
     /// Calls with a guard.
     Guarded(Holder, Script),
-    /// Threads do their jobs, and find all as it should be.
+    /// Threads do their jobs, and find everything as expected.
     Threads(Crowd),
-    /// They do not: this is what the two halves say.
+    /// Threads do their jobs, and these are the results of the two halves.
     Fails(Crowd, (bool, bool)),
-    /// What two passes have seen is brought together.
+    /// Two passes share what they have observed.
     Meets,
-    /// This is printed, or the map prints one of two texts, or each pair once while it grows.
+    /// This is printed, or the map prints one of two texts, or each entry once while it grows.
     Prints(What, &'static str),
     PrintsEither(&'static str, &'static str),
     PrintEach,
@@ -79,19 +79,19 @@ pub enum Turn {
 pub trait Shared: Sized {
     fn made<R: Wait>(rt: &R, alloc: Global, making: Making) -> Result<Self, Refused>;
 
-    /// One that shares a collector.
+    /// Returns a map that shares a collector.
     fn sharing<R: Wait>(rt: &R, alloc: Global, by: Arc<Collector>) -> Result<Self, Refused>;
 
-    /// What is printed, if there is memory for it.
+    /// Returns what is printed, if there is memory for it.
     fn printed<R: Wait>(&self, rt: &R, alloc: Global, what: What) -> Option<String>;
 
-    /// The calls of a script answer so on the pinned map.
+    /// Checks that the calls of a script have these results on the pinned map.
     fn goes<R: Wait + Abort>(&self, rt: &R, at: usize, script: Script);
 
-    /// So they do with a guard of the map's.
+    /// Checks the same with a guard of the map's.
     fn goes_with_own<R: Wait + Abort>(&self, rt: &R, at: usize, is_owned: bool, script: Script);
 
-    /// So they do with a guard of this collector.
+    /// Checks the same with a guard of this collector.
     fn goes_with<R: Wait + Abort>(
         &self,
         rt: &R,
@@ -101,19 +101,19 @@ pub trait Shared: Sized {
         script: Script,
     );
 
-    /// A thread does a job.
+    /// Lets a thread do a job.
     fn does<R: Wait>(&self, rt: &R, job: Job, board: &Board) -> bool;
 
-    /// A thread keeps the reference that a lookup answered.
+    /// Lets a thread keep the reference that a lookup returned.
     fn holds(&self, gate: &Gate) -> bool;
 
-    /// The map itself.
+    /// Returns the map itself.
     fn numbers(&self) -> &Numbers;
 
-    /// By `reclaim`.
+    /// Reclaims the map.
     fn made_anew<R: Wait>(&mut self, rt: &R) -> Result<(), Refused>;
 
-    /// The map is filled, and a call is made with the request of this number refused.
+    /// Fills the map, and makes a call with the request of this number refused.
     fn tries<R: Wait>(
         &self,
         rt: &R,
@@ -212,7 +212,7 @@ impl Shared for Numbers {
     }
 }
 
-/// The calls of a script answer so with a guard.
+/// Checks that the calls of a script have these results with a guard.
 fn goes_guarded<R: Wait + Abort, M: Shared>(
     rt: &R,
     at: usize,
@@ -230,7 +230,7 @@ fn goes_guarded<R: Wait + Abort, M: Shared>(
     }
 }
 
-/// Threads do a job each, and say so.
+/// Lets threads do a job each, and checks their results.
 fn crowds<R: Threads + Wait + Sync + Abort, M: Shared + Sync>(
     rt: &R,
     alloc: Global,
@@ -242,7 +242,7 @@ fn crowds<R: Threads + Wait + Sync + Abort, M: Shared + Sync>(
     is(rt, gathers(rt, map, &board, crowd), wanted);
 }
 
-/// Takes a turn on a map.
+/// Takes a step on a map.
 fn takes<R: Threads + Wait + Sync + Abort, M: Shared + Sync>(
     rt: &R,
     alloc: Global,
@@ -262,7 +262,7 @@ fn takes<R: Threads + Wait + Sync + Abort, M: Shared + Sync>(
     }
 }
 
-/// A map, also where memory was refused for it at first.
+/// Makes a map, also if memory was refused for it at first.
 fn made<R: Wait, M: Shared>(rt: &R, alloc: Global, making: Making) -> Result<M, Refused> {
     match M::made(rt, alloc, making) {
         Err(Refused::Memory) => M::made(rt, alloc, making),
@@ -270,7 +270,7 @@ fn made<R: Wait, M: Shared>(rt: &R, alloc: Global, making: Making) -> Result<M, 
     }
 }
 
-/// Makes the maps one after another, and takes each turn on each.
+/// Makes the maps one after another, and takes each step on each.
 fn runs_on<R: Threads + Wait + Sync + Abort, M: Shared + Sync + Drop>(
     rt: &R,
     alloc: Global,
@@ -286,7 +286,7 @@ fn runs_on<R: Threads + Wait + Sync + Abort, M: Shared + Sync + Drop>(
     Ok(())
 }
 
-/// So a test runs.
+/// Runs a test.
 pub fn runs<R: Threads + Wait + Sync + Abort, M: Shared + Sync + Drop>(
     rt: &R,
     alloc: Global,

@@ -1,4 +1,4 @@
-// How much a map says that it holds: pairs in its arena, and slots of its root table.
+// The sizes that a map returns: entries in its arena, and slots of its root table.
 use crate::expect::is;
 use papaya_map::map::HashMap;
 use papaya_words::probe::{Refused, ResizeMode};
@@ -19,7 +19,7 @@ fn stores_five<R: Wait>(rt: &R, map: &Numbers) -> Result<(), Refused> {
     Ok(())
 }
 
-/// The map holds so many pairs, in a table of so many slots, and moves none.
+/// Checks that the map holds this many entries, in a table of this many slots, and moves none.
 fn holds(rt: &impl Abort, map: &Numbers, stored: usize, slots: usize) {
     is(rt, (map.stored(), map.slots()), (stored, slots));
     is(rt, (map.pin().stored(), map.pin().slots()), (stored, slots));

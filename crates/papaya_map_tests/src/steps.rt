@@ -1,4 +1,4 @@
-// Calls of maps as values, and what makes them.
+// Calls of maps as values, and the code that makes them.
 use crate::answers::Answer;
 use crate::refused::{empties, fills, replaces, stores_again};
 use crate::seen::{Says, Seen};
@@ -6,7 +6,7 @@ use papaya_testing::gate::Gate;
 use std::process::Abort;
 use std::sync::Wait;
 
-/// Which pairs stay in a retain.
+/// The entries that a retain keeps.
 #[derive(Clone, Copy)]
 pub enum Keeps {
     ValuesBelow(u64),
@@ -15,7 +15,7 @@ pub enum Keeps {
 }
 
 impl Keeps {
-    /// Does this pair stay?
+    /// Returns whether this entry stays.
     pub fn has(self, key: u64, value: u64) -> bool {
         match self {
             Keeps::ValuesBelow(end) => value < end,
@@ -24,14 +24,14 @@ impl Keeps {
         }
     }
 
-    /// The same by a closure that waits at the gate.
+    /// Returns the same from a closure that waits at the gate.
     pub fn at(self, gate: &Gate, key: u64, value: u64) -> bool {
         gate.wait();
         self.has(key, value)
     }
 }
 
-/// A call of a map, or some of one kind.
+/// A call of a map, or several calls of one kind.
 #[derive(Clone, Copy)]
 pub enum Step {
     Get(u64),
@@ -39,47 +39,47 @@ pub enum Step {
     Insert(u64, u64),
     Remove(u64),
     RemoveEntry(u64),
-    /// With a closure that agrees, or does not.
+    /// With a closure that returns this.
     RemoveIf(u64, bool),
     /// Adds 1 to the value.
     Update(u64),
     Compute(u64, Says),
-    /// What the last closure of a removal or a compute was shown.
+    /// The arguments of the last closure of a removal or a compute.
     Seen,
     Reserve(usize),
     Retain(Keeps),
     Clear,
-    /// How many pairs a walk gives whose key is the value, and how many whose key is below it.
+    /// Counts an iterator's entries whose key is the value, and those whose key is below it.
     Iter,
-    /// How many keys below this one a walk gives, and the sum of all keys.
+    /// Counts an iterator's keys below this one, and sums up all its keys.
     Keys(u64),
-    /// The sum of the values that a walk gives.
+    /// Sums up the values of an iterator.
     Values,
     Len,
     IsEmpty,
-    /// Inserts the keys below this one, each with itself. Were all absent?
+    /// Inserts the keys below this one, each with itself, and returns whether all were absent.
     InsertBelow(u64),
-    /// Have the keys below the first number their value: so many times themselves, and so
-    /// much more?
+    /// Returns whether the keys below the first number have their value: this many times
+    /// themselves, and this much more.
     HasBelow(u64, u64, u64),
-    /// Has each key below this one the value 0 or 1?
+    /// Returns whether each key below this one has the value 0 or 1.
     HasEither(u64),
-    /// Of a map that is refused memory: see there.
+    /// A call of a map that is refused memory: see the function.
     StoresAgain(u64),
     Fills,
     Empties,
     Replaces,
-    // The calls of a pinned map that take no pass, where there is one that does.
+    // The calls of a pinned map without a pass, for which there is one with a pass.
     GetAlone(u64),
     InsertAlone(u64, u64),
     RemoveAlone(u64),
     LenOfMap,
-    /// The two passes of a pinned map meet, or trade places: calls are by the first of them.
+    /// The two passes of a pinned map meet, or are swapped: calls are by the first of them.
     Meet,
     Swap,
     /// Adds 1 to the value of the first, or stores the second there.
     UpdateOrInsert(u64, u64),
-    // Those that are made with a guard alone.
+    // Calls with a guard only.
     Verify,
     GetKeyValue(u64),
     TryInsert(u64, u64),
@@ -89,10 +89,10 @@ pub enum Step {
     UpdateOrInsertWith(u64, u64),
 }
 
-/// Calls, each with what it answers.
+/// Calls, each with its result.
 pub type Script = &'static [(Step, Answer)];
 
-/// A map whose calls answer in this crate's words.
+/// A map whose calls return this crate's answers.
 pub trait Calls {
     fn get(&mut self, key: u64) -> Answer;
 
@@ -110,7 +110,7 @@ pub trait Calls {
 
     fn compute<R: Wait>(&mut self, rt: &R, key: u64, says: Says, gate: &Gate) -> Answer;
 
-    /// What the last closure of a removal or a compute was shown.
+    /// Returns the arguments of the last closure of a removal or a compute.
     fn seen(&self) -> Seen;
 
     fn reserve<R: Wait>(&mut self, rt: &R, more: usize) -> Answer;
@@ -129,11 +129,11 @@ pub trait Calls {
 
     fn is_empty(&self) -> bool;
 
-    /// A call that maps take in one way alone, pinned or with a guard.
+    /// Makes a call that maps have in one form only, pinned or with a guard.
     fn other<R: Wait>(&mut self, rt: &R, step: Step) -> Answer;
 }
 
-/// Inserts these keys, each with itself. Were all absent?
+/// Inserts these keys, each with itself, and returns whether all were absent.
 pub fn inserts<R: Wait, C: Calls>(rt: &R, map: &mut C, from: u64, end: u64) -> bool {
     for key in from..end {
         if map.insert(rt, key, key) != Answer::Absent {
@@ -143,7 +143,8 @@ pub fn inserts<R: Wait, C: Calls>(rt: &R, map: &mut C, from: u64, end: u64) -> b
     true
 }
 
-/// Have the keys below this one their value: so many times themselves, and so much more?
+/// Returns whether the keys below this one have their value: this many times themselves, and this
+/// much more.
 pub fn has_below<C: Calls>(map: &mut C, end: u64, times: u64, more: u64) -> bool {
     for key in 0..end {
         let value = key.wrapping_mul(times).wrapping_add(more);
@@ -154,7 +155,7 @@ pub fn has_below<C: Calls>(map: &mut C, end: u64, times: u64, more: u64) -> bool
     true
 }
 
-/// Has each key below this one the value 0 or 1?
+/// Returns whether each key below this one has the value 0 or 1.
 fn has_either<C: Calls>(map: &mut C, end: u64) -> bool {
     for key in 0..end {
         match map.get(key) {
@@ -165,7 +166,7 @@ fn has_either<C: Calls>(map: &mut C, end: u64) -> bool {
     true
 }
 
-/// What a call answers that changes nothing.
+/// Returns the result of a call that changes nothing.
 fn asked<R: Wait, C: Calls>(rt: &R, map: &mut C, step: Step) -> Answer {
     match step {
         Step::Get(key) => map.get(key),
@@ -182,7 +183,7 @@ fn asked<R: Wait, C: Calls>(rt: &R, map: &mut C, step: Step) -> Answer {
     }
 }
 
-/// What some calls of one kind came to.
+/// Returns the result of several calls of one kind.
 fn came_to<R: Wait, C: Calls>(rt: &R, map: &mut C, step: Step) -> Answer {
     match step {
         Step::InsertBelow(end) => Answer::Is(inserts(rt, map, 0, end)),
@@ -194,7 +195,7 @@ fn came_to<R: Wait, C: Calls>(rt: &R, map: &mut C, step: Step) -> Answer {
     }
 }
 
-/// What a call answers. Its closure waits at this gate.
+/// Returns the result of a call whose closure waits at this gate.
 pub fn answer<R: Wait, C: Calls>(rt: &R, map: &mut C, step: Step, gate: &Gate) -> Answer {
     match step {
         Step::Insert(key, value) => map.insert(rt, key, value),
@@ -210,12 +211,13 @@ pub fn answer<R: Wait, C: Calls>(rt: &R, map: &mut C, step: Step, gate: &Gate) -
     }
 }
 
-/// A step answers what is wanted.
+/// Checks that a step has the wanted result.
 pub fn answers(rt: &impl Abort, at: usize, step: usize, found: Answer, wanted: Answer) {
     assert!(rt; found == wanted, "map {at}, step {step}");
 }
 
-/// The calls of a script answer so. The map is the one of this number in its test.
+/// Checks that the calls of a script have these results. The map is the one of this number in its
+/// test.
 pub fn goes<R: Wait + Abort, C: Calls>(rt: &R, at: usize, map: &mut C, script: &[(Step, Answer)]) {
     let gate = Gate::open();
     for (step, &(call, wanted)) in script.iter().enumerate() {

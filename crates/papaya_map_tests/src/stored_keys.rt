@@ -1,5 +1,5 @@
-// The key that a lookup answers is the stored one. The keys here are equal where their numbers are,
-// so that a label tells apart which of them was stored.
+// The key that a lookup returns is the stored one. The keys here are equal if their numbers are, so
+// that a label tells which of them was stored.
 ghost use Rattle.std.specs.Prelude.{◌≡◌, ◌==◌};
 ghost use Rattle.std.proofs.Common.{ap};
 ghost use Rattle.std.specs.Cmp.{nat_eq_equiv, on_equiv, partial_equiv_from_equiv, unsigned_Decides};
@@ -19,7 +19,7 @@ use std::process::Abort;
 use std::sync::Wait;
 use std::test::Fail;
 
-/// A number with a label that no comparison looks at.
+/// A number with a label that comparisons ignore.
 #[derive(Clone, Copy)]
 struct Labelled {
     number: u64,
@@ -50,12 +50,12 @@ impl Hash for Labelled {
     }
 }
 
-/// Key 7 with this label.
+/// Returns key 7 with this label.
 fn seven(label: u64) -> Labelled {
     Labelled { number: 7, label }
 }
 
-/// Which key was stored, by its label, and its value.
+/// Returns which key was stored, by its label, and its value.
 fn shown(answer: Result<Option<(&Labelled, &u64)>, Refused>) -> Answer {
     match answer {
         Ok(Some((key, value))) => Pair(key.label, *value),
@@ -113,8 +113,9 @@ impl Labels for HashMap<Labelled, u64, Times> {
     }
 }
 
-/// An insertion that replaces a value leaves the key that is stored. One after a removal stores its
-/// own. A new pass finds the same, and a guard of the map, but none of another collector.
+/// Checks that an insertion that replaces a value keeps the stored key, and that one after a
+/// removal stores its own. A new pass finds the same, and a guard of the map, but none of another
+/// collector.
 fn finds_the_stored<R: Wait + Abort, L: Labels>(rt: &R, map: &L) {
     answers(rt, 0, 0, map.get(), Absent);
     answers(rt, 0, 1, map.insert(rt, 1, 10), Absent);
@@ -136,7 +137,7 @@ fn finds_the_stored<R: Wait + Abort, L: Labels>(rt: &R, map: &L) {
     );
 }
 
-/// Of a new map.
+/// Checks this on a new map.
 fn finds_of_new<R: Wait + Abort, L: Labels + Drop>(rt: &R, alloc: Global) -> Result<(), Refused> {
     let map: L = L::made(rt, alloc)?;
     finds_the_stored(rt, &map);

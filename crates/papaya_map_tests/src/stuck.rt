@@ -1,5 +1,5 @@
-// A call whose closure does not come back while other threads need the map. They look keys up,
-// store, replace and remove, make the table grow, and walk. They wait for nobody.
+// A call whose closure does not return while other threads need the map. They look keys up, store,
+// replace and remove, make the table grow, and iterate. They never wait.
 use crate::answers::Answer::{Aborted, Absent, Done, Inserted, Is, Number, Pair, Updated};
 use crate::crowd::Crowd::{Apart, Stuck};
 use crate::crowd::Job;
@@ -17,7 +17,7 @@ use std::test::Fail;
 /// Six keys, and a hundred that two threads insert meanwhile, with themselves as values.
 const BEFORE: Turn = Calls(&[(InsertBelow(6), Is(true))]);
 
-/// A compute is shown what took the place of its pair, and adds to it.
+/// A compute is called with what replaced its entry, and adds to it.
 const IN_A_COMPUTE: [Turn; 3] = [
     BEFORE,
     Threads(Stuck(Compute(1, Says::Next), Updated(1, 2))),
@@ -33,7 +33,7 @@ fn a_compute_is_stuck(rt: HostRuntime) -> Result<(), Fail> {
     runs::<_, Numbers>(&rt, rt.alloc(), &FOR_SIX, &IN_A_COMPUTE)
 }
 
-/// So is one that was shown that there is no pair.
+/// The same for a compute that was called with `None`.
 const BEFORE_A_PAIR: [Turn; 3] = [
     BEFORE,
     Threads(Stuck(Compute(5000, Says::Store(7)), Inserted(5000, 7))),
@@ -49,7 +49,7 @@ fn a_compute_without_a_pair_is_stuck(rt: HostRuntime) -> Result<(), Fail> {
     runs::<_, Numbers>(&rt, rt.alloc(), &FOR_SIX, &BEFORE_A_PAIR)
 }
 
-/// A removal is shown what took the place of its pair, and removes that.
+/// A removal is called with what replaced its entry, and removes that.
 const IN_A_REMOVAL: [Turn; 3] = [
     BEFORE,
     Threads(Stuck(RemoveIf(1, true), Pair(1, 1))),
@@ -65,7 +65,7 @@ fn a_removal_is_stuck(rt: HostRuntime) -> Result<(), Fail> {
     runs::<_, Numbers>(&rt, rt.alloc(), &FOR_SIX, &IN_A_REMOVAL)
 }
 
-/// An update adds to what took the place of its value.
+/// An update adds to what replaced its value.
 const IN_AN_UPDATE: [Turn; 3] = [
     BEFORE,
     Threads(Stuck(Update(1), Number(2))),
@@ -81,8 +81,8 @@ fn an_update_is_stuck(rt: HostRuntime) -> Result<(), Fail> {
     runs::<_, Numbers>(&rt, rt.alloc(), &FOR_SIX, &IN_AN_UPDATE)
 }
 
-/// A retain goes on with what is there then, and is shown what took the place of its pair. Which of
-/// the keys that came meanwhile it is shown, depends on the table in which it goes on.
+/// A retain continues with what is there then, and is called with what replaced its entry. It
+/// depends on the table in which it continues which of the new keys it is called with.
 const IN_A_RETAIN: [Turn; 3] = [
     BEFORE,
     Threads(Stuck(Retain(EvenKeys), Done)),
@@ -99,7 +99,7 @@ fn a_retain_is_stuck(rt: HostRuntime) -> Result<(), Fail> {
     runs::<_, Numbers>(&rt, rt.alloc(), &FOR_SIX, &IN_A_RETAIN)
 }
 
-/// Where the others come when the call has ended, its closure goes on too early.
+/// If the others run after the call has ended, its closure continues too early.
 const ONE_AFTER_THE_OTHER: [Turn; 2] = [
     BEFORE,
     Fails(

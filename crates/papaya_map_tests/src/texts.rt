@@ -1,4 +1,4 @@
-// A map of texts, with the hasher that maps have where none is named.
+// A map of texts, with the hasher that maps have by default.
 use crate::answers::Answer::{self, Absent, Number};
 use crate::answers::value;
 use crate::steps::answers;
@@ -15,12 +15,12 @@ use std::test::Fail;
 trait Texts: Sized {
     fn made<R: Wait>(rt: &R, alloc: Global) -> Result<Self, Refused>;
 
-    /// Each call is by a pass of its own.
+    /// Inserts by a pass of its own, as each call does.
     fn insert<R: Wait>(&self, rt: &R, alloc: Global, key: &str, to: u64) -> Answer;
 
     fn get(&self, key: &str) -> Answer;
 
-    /// By a key of its own.
+    /// Looks up an owned key.
     fn get_owned(&self, alloc: Global, key: &str) -> Answer;
 
     fn remove<R: Wait>(&self, rt: &R, key: &str) -> Answer;
@@ -28,7 +28,7 @@ trait Texts: Sized {
     fn count(&self) -> u64;
 }
 
-/// Where there is no memory for a text.
+/// The result if there is no memory for a text.
 const NO_MEMORY: Answer = Answer::Refused(Refused::Memory);
 
 impl Texts for HashMap<String, u64, BuildHasherDefault<FoldHasher>> {
@@ -68,8 +68,8 @@ impl Texts for HashMap<String, u64, BuildHasherDefault<FoldHasher>> {
     }
 }
 
-/// Two texts are stored, the first of them is removed, and a text that is not there is not. The
-/// second one is found by a key of its own.
+/// Stores two texts, removes the first, and fails to remove one that is not there. The second one
+/// is found by an owned key.
 fn keeps_blue<R: Wait + Abort, T: Texts>(rt: &R, alloc: Global, map: &T) {
     answers(rt, 0, 0, map.insert(rt, alloc, "red", 1), Absent);
     answers(rt, 0, 1, map.insert(rt, alloc, "blue", 2), Absent);
@@ -82,7 +82,7 @@ fn keeps_blue<R: Wait + Abort, T: Texts>(rt: &R, alloc: Global, map: &T) {
     answers(rt, 0, 8, Number(map.count()), Number(1));
 }
 
-/// Of a new map.
+/// Checks this on a new map.
 fn keeps_of_new<R: Wait + Abort, T: Texts + Drop>(rt: &R, alloc: Global) -> Result<(), Refused> {
     let map: T = T::made(rt, alloc)?;
     keeps_blue(rt, alloc, &map);

@@ -16,15 +16,16 @@ pub const KEYS: u64 = 16;
 
 const ROUNDS: u64 = 256;
 
-/// Four threads store so many values at each key, from 0 on.
+/// The number of values, from 0 on, that four threads store at each key.
 pub const EACH: u64 = 1024;
 
-/// The value that a thread stores at each key in a round. No two stores at a key have the same.
+/// Returns the value that a thread stores at each key in a round. No two stores at a key have the
+/// same value.
 fn value_of(thread: u64, round: u64) -> u64 {
     thread.wrapping_mul(ROUNDS).wrapping_add(round)
 }
 
-/// Is what was answered none, or a value that some thread stores?
+/// Returns whether the result is none, or a value that some thread stores.
 fn is_legal(answer: Answer) -> bool {
     match answer {
         Answer::Absent => true,
@@ -33,7 +34,7 @@ fn is_legal(answer: Answer) -> bool {
     }
 }
 
-/// Counts what was taken out at a key: is it legal?
+/// Counts what was taken out at a key; returns whether it is legal.
 fn take(taken: &[AtomicU64], key: u64, answer: Answer) -> bool {
     if let Answer::Number(value) = answer {
         let place = key.wrapping_mul(EACH).wrapping_add(value);
@@ -44,7 +45,8 @@ fn take(taken: &[AtomicU64], key: u64, answer: Answer) -> bool {
     is_legal(answer)
 }
 
-/// Inserts and reads a key, and removes it in three rounds of four: was all that was found legal?
+/// Inserts and reads a key, and removes it in three rounds of four; returns whether all that was
+/// found is legal.
 fn turn<R: Wait, C: Calls>(rt: &R, map: &mut C, taken: &[AtomicU64], key: u64, value: u64) -> bool {
     let is_old = take(taken, key, map.insert(rt, key, value));
     let is_seen = is_legal(map.get(key));
@@ -72,8 +74,7 @@ pub fn churn<R: Wait, C: Calls>(rt: &R, map: &mut C, board: &Board, thread: u64)
     true
 }
 
-/// Stores the next value of each key in each round. What it took the place of is counted, if it
-/// is told.
+/// Stores the next value of each key in each round. Counts what it replaced, if `tells` is true.
 pub fn draw<R: Wait, C: Calls>(rt: &R, map: &mut C, board: &Board, tells: bool) -> bool {
     for _ in 0..ROUNDS {
         for (key, next) in board.drawn.iter().enumerate() {
@@ -87,7 +88,7 @@ pub fn draw<R: Wait, C: Calls>(rt: &R, map: &mut C, board: &Board, tells: bool) 
     true
 }
 
-/// Was each value taken out once?
+/// Returns whether each value was taken out once.
 fn took_each_once(taken: &[AtomicU64]) -> bool {
     for count in taken {
         if count.load(Ordering::SeqCst) != 1 {
@@ -97,8 +98,8 @@ fn took_each_once(taken: &[AtomicU64]) -> bool {
     true
 }
 
-/// Takes out the values that are left: were they so many as were counted, and was each value taken
-/// out once then?
+/// Takes out the values that are left; returns whether they are as many as were counted, and each
+/// value was then taken out once.
 pub fn take_left<C: Calls>(map: &mut C, taken: &[AtomicU64]) -> bool {
     let mut left = 0u64;
     for key in 0..KEYS {
@@ -111,7 +112,7 @@ pub fn take_left<C: Calls>(map: &mut C, taken: &[AtomicU64]) -> bool {
     map.len() == left && took_each_once(taken)
 }
 
-/// Each value is taken out once or is left, and none is lost or taken twice.
+/// Checks that each value is taken out once or is left, and none is lost or taken twice.
 #[test]
 fn each_value_is_taken_out_once(rt: HostRuntime) -> Result<(), Fail> {
     runs::<_, Numbers>(
@@ -122,14 +123,14 @@ fn each_value_is_taken_out_once(rt: HostRuntime) -> Result<(), Fail> {
     )
 }
 
-/// Four threads make 256 insertions at each of 16 keys. The values of a key are drawn from one
-/// counter. What was replaced and what is there last are 0 to 1023, each once.
+/// Checks 256 insertions of each of four threads at each of 16 keys. The values of a key are drawn
+/// from one counter. The replaced values and the last ones are 0 to 1023, each once.
 #[test]
 fn each_value_is_replaced_once(rt: HostRuntime) -> Result<(), Fail> {
     runs::<_, Numbers>(&rt, rt.alloc(), &MODES, &[Threads(Four([Draw(true); 4]))])
 }
 
-/// Where one thread does not tell what it has replaced, that is found out.
+/// Checks that the test notices a thread that does not count what it has replaced.
 #[test]
 fn a_value_that_nobody_tells_of_is_missed(rt: HostRuntime) -> Result<(), Fail> {
     runs::<_, Numbers>(

@@ -1,4 +1,4 @@
-//! The maps and sets that the workloads are run on.
+//! The maps and sets on which the workloads are run.
 use crate::collections::{Collection, Shared, all, run, run_in_threads};
 use crate::idle::Idle;
 use crate::{entered, rivals, seq, shared};
@@ -10,7 +10,7 @@ use std::sync::{Mutex, RwLock, Wait};
 use std::thread::Threads;
 use std::time::Instant;
 
-/// What a workload is run on.
+/// The object on which a workload is run.
 #[derive(Clone, Copy)]
 pub enum Backend {
     /// None: the loop alone.
@@ -19,25 +19,25 @@ pub enum Backend {
     Seq,
     /// The shared map, pinned by one thread.
     Shared,
-    /// The same, by several threads.
+    /// The shared map, pinned by several threads.
     Threads,
     /// The shared map, by a session of one thread.
     Session,
     /// The shared map, pinned by one thread for each call.
     PinACall,
-    /// The shared map that is reclaimed between, which one thread enters for each call.
+    /// The shared map that is reclaimed in between, which one thread enters for each call.
     Entered,
-    /// The same, by several threads.
+    /// The shared map that is reclaimed in between, which several threads enter for each call.
     EnteredThreads,
     /// The kit's hash map.
     Std,
-    /// That behind a lock of readers and a writer, by one thread.
+    /// The kit's map behind a readers-writer lock, by one thread.
     RwLock,
-    /// The same, by several threads.
+    /// The kit's map behind a readers-writer lock, by several threads.
     RwLockThreads,
-    /// That behind a mutex, by one thread.
+    /// The kit's map behind a mutex, by one thread.
     Mutex,
-    /// The same, by several threads.
+    /// The kit's map behind a mutex, by several threads.
     MutexThreads,
     /// The set for one caller.
     SeqSet,
@@ -45,7 +45,7 @@ pub enum Backend {
     Set,
 }
 
-/// What a run of a plan gave: how long its rounds took, and the sum of their answers.
+/// The result of a run of a plan: how long its rounds took, and the sum of its results.
 #[derive(Clone, Copy)]
 pub struct Measure {
     pub nanoseconds: u128,
@@ -75,7 +75,7 @@ impl Backend {
     /// The sets, which are run behind the maps.
     pub const SETS: &'static [Backend] = &[Backend::SeqSet, Backend::Set];
 
-    /// The name in what is printed.
+    /// Returns the name in what is printed.
     pub fn name(self) -> &'static str {
         match self {
             Backend::Loop => "loop",
@@ -96,7 +96,7 @@ impl Backend {
         }
     }
 
-    /// Is this workload run on it?
+    /// Returns whether this workload is run on it.
     pub fn does(self, workload: Workload) -> bool {
         match workload {
             // a set has no values
@@ -113,7 +113,7 @@ impl Backend {
                     | Backend::Entered
                     | Backend::EnteredThreads
             ),
-            // a walk is one thread's, and needs one pin
+            // an iteration is one thread's, and needs one pin
             Workload::Iterate => matches!(
                 self,
                 Backend::Seq
@@ -123,7 +123,7 @@ impl Backend {
                     | Backend::SeqSet
                     | Backend::Set
             ),
-            // only a map that is reclaimed between is entered
+            // only a map that is reclaimed in between is entered
             Workload::Enter => matches!(
                 self,
                 Backend::Loop | Backend::Entered | Backend::EnteredThreads
@@ -132,7 +132,7 @@ impl Backend {
         }
     }
 
-    /// Makes the maps or sets of a plan, and then measures its rounds alone.
+    /// Makes the maps or sets of a plan, and then measures only its rounds.
     pub fn measure<R: Clock + Threads + Wait + Sync>(
         self,
         rt: &R,
@@ -159,7 +159,7 @@ impl Backend {
     }
 }
 
-/// The measure of collections by one thread.
+/// Measures collections by one thread.
 fn by_one<R: Clock + Wait, C: Collection>(
     rt: &R,
     alloc: Global,
@@ -171,7 +171,7 @@ fn by_one<R: Clock + Wait, C: Collection>(
     ended(rt, start, sum)
 }
 
-/// The measure of collections by several threads.
+/// Measures collections by several threads.
 fn by_several<R: Clock + Threads + Wait + Sync, C: Collection + Shared + Sync>(
     rt: &R,
     alloc: Global,
@@ -183,18 +183,18 @@ fn by_several<R: Clock + Threads + Wait + Sync, C: Collection + Shared + Sync>(
     ended(rt, start, sum)
 }
 
-/// The moment.
+/// Returns the current time.
 pub(crate) fn now<R: Clock>(rt: &R) -> Result<Instant, Failure> {
     Instant::now(rt).map_err(|_| Failure::Clock)
 }
 
-/// The nanoseconds since this moment.
+/// Returns the nanoseconds since this time.
 pub(crate) fn elapsed<R: Clock>(rt: &R, start: Instant) -> Result<u128, Failure> {
     let elapsed = start.elapsed(rt).map_err(|_| Failure::Clock)?;
     Ok(elapsed.as_nanos())
 }
 
-/// The measure of a run that began at `start` and has ended with this sum.
+/// Returns the measure of a run that began at `start` and has ended with this sum.
 fn ended<R: Clock>(rt: &R, start: Instant, sum: Result<u64, Failure>) -> Result<Measure, Failure> {
     Ok(Measure {
         nanoseconds: elapsed(rt, start)?,

@@ -1,4 +1,4 @@
-//! The maps and sets that are measured, whatever they are.
+//! The common interface of the maps and sets that are measured.
 use crate::steps::Work;
 use papaya_plan::plan::{Part, Plan, THREADS};
 use papaya_shell::failure::Failure;
@@ -8,42 +8,42 @@ use std::sync::Wait;
 use std::thread;
 use std::thread::Threads;
 
-/// A map, a set, or a lock round a map.
+/// A map, a set, or a lock around a map.
 pub(crate) trait Collection: Drop {
-    /// An empty one, with room for so many keys.
+    /// Returns an empty one, with room for this many keys.
     fn empty<R: Wait>(rt: &R, alloc: Global, capacity: usize) -> Result<Self, Failure>;
 
-    /// Does the work of the one thread that has it.
+    /// Does the work of the one thread that owns it.
     fn alone<R: Wait>(&mut self, rt: &R, work: Work) -> Result<u64, Failure>;
 }
 
 /// A map that grows in either resize mode.
 pub(crate) trait Growing: Collection {
-    /// An empty one, which makes its first table at its first insertion.
+    /// Returns an empty one, which makes its first table at its first insertion.
     fn empty_in<R: Wait>(rt: &R, alloc: Global, mode: ResizeMode) -> Result<Self, Failure>;
 }
 
-/// A map that threads share, and that is pinned anew for each of these calls.
+/// A map that threads share, and that is pinned again for each of these calls.
 pub(crate) trait Pinned: Growing {
     fn put_in_once<R: Wait>(&self, rt: &R, key: u64, value: u64) -> Result<u64, Failure>;
 
     fn look_up_once<R: Wait>(&self, rt: &R, key: u64) -> u64;
 }
 
-/// One that threads share.
+/// A collection that threads share.
 pub(crate) trait Shared {
     /// Does the work of one of the threads.
     fn beside<R: Wait>(&self, rt: &R, work: Work) -> Result<u64, Failure>;
 }
 
-/// A collection as it is before the first round.
+/// Returns a collection as it is before the first round.
 fn made<R: Wait, C: Collection>(rt: &R, alloc: Global, plan: Plan) -> Result<C, Failure> {
     let mut made = C::empty(rt, alloc, plan.capacity())?;
     made.alone(rt, Work::Fill(plan.filled()))?;
     Ok(made)
 }
 
-/// The collections of a plan.
+/// Returns the collections of a plan.
 pub(crate) fn all<R: Wait, C: Collection>(
     rt: &R,
     alloc: Global,
@@ -57,7 +57,7 @@ pub(crate) fn all<R: Wait, C: Collection>(
     Ok(all)
 }
 
-/// The rounds of all by one thread: the sum of what their steps answer.
+/// Runs the rounds of all by one thread; returns the sum of their steps' results.
 pub(crate) fn run<R: Wait, C: Collection>(
     rt: &R,
     all: &mut [C],
@@ -71,7 +71,7 @@ pub(crate) fn run<R: Wait, C: Collection>(
     Ok(sum)
 }
 
-/// The part of one thread in the rounds of all: the sum of what its steps answer.
+/// Runs the part of one thread in the rounds of all; returns the sum of its steps' results.
 fn run_part<R: Wait, C: Shared>(rt: &R, all: &[C], plan: Plan, part: Part) -> Result<u64, Failure> {
     let mut sum: u64 = 0;
     for one in all {
@@ -80,7 +80,7 @@ fn run_part<R: Wait, C: Shared>(rt: &R, all: &[C], plan: Plan, part: Part) -> Re
     Ok(sum)
 }
 
-/// The rounds of all by several threads, each at its part of the keys.
+/// Runs the rounds of all by several threads, each on its part of the keys.
 pub(crate) fn run_in_threads<R: Threads + Wait + Sync, C: Shared + Sync>(
     rt: &R,
     alloc: Global,

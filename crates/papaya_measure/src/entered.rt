@@ -1,4 +1,4 @@
-//! The shared map that is reclaimed between, which a thread enters for each call.
+//! The shared map that is reclaimed in between, which a thread enters for each call.
 use crate::collections::{Collection, Pinned, Shared};
 use crate::shared;
 use crate::steps::{Target, Work};

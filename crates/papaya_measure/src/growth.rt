@@ -1,4 +1,4 @@
-//! The map for one caller while it grows: what its insertions take, and the greatest of them.
+//! The map for one caller while it grows: the time of its insertions, and of the longest of them.
 use crate::backends::{elapsed, now};
 use crate::collections::Growing;
 use crate::lines::print_line;
@@ -12,18 +12,18 @@ use std::io::Write;
 use std::rt::Clock;
 use std::sync::Wait;
 
-/// What the insertions took that made a map grow.
+/// The time of the insertions that made a map grow.
 #[derive(Drop)]
 struct Growth {
-    /// All of them, with the looks at the clock between.
+    /// The time of all insertions, including the readings of the clock in between.
     nanoseconds: u128,
-    /// The one that took longest.
+    /// The time of the longest insertion.
     greatest: u128,
-    /// The slots at the end.
+    /// The number of slots at the end.
     slots: usize,
 }
 
-/// Inserts so many keys, and looks at the clock round each: what the greatest took.
+/// Inserts this many keys, and reads the clock before and after each; returns the longest time.
 fn fill<R: Clock + Wait>(rt: &R, map: &mut Map, keys: u32) -> Result<u128, Failure> {
     let mut greatest: u128 = 0;
     for number in 0..u64::from(keys) {
@@ -34,7 +34,7 @@ fn fill<R: Clock + Wait>(rt: &R, map: &mut Map, keys: u32) -> Result<u128, Failu
     Ok(greatest)
 }
 
-/// Inserts so many keys into an empty map of this mode, and looks at the clock round each.
+/// Inserts this many keys into an empty map of this mode, and reads the clock around each.
 fn grow<R: Clock + Wait>(
     rt: &R,
     alloc: Global,
@@ -51,7 +51,7 @@ fn grow<R: Clock + Wait>(
     })
 }
 
-/// The name of growth in this mode, in what is printed.
+/// Returns the name of growth in this mode, in what is printed.
 pub(crate) fn name_of(mode: ResizeMode) -> &'static str {
     match mode {
         ResizeMode::Incremental(_) => "grow-incremental",
@@ -59,8 +59,8 @@ pub(crate) fn name_of(mode: ResizeMode) -> &'static str {
     }
 }
 
-/// Prints a line for a map that grows by so many keys: their number, the time of all insertions,
-/// that of the greatest, and the slots at the end.
+/// Prints a line for a map that grows by this many keys: their number, the time of all insertions,
+/// that of the longest, and the slots at the end.
 pub fn time_growth<R: Clock + Wait, W: Write>(
     rt: &R,
     alloc: Global,

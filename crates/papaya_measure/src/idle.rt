@@ -1,4 +1,4 @@
-//! The loop of the workloads alone: what it takes is no map's.
+//! The loop of the workloads alone, whose time is no map's.
 use crate::collections::Collection;
 use crate::steps::{Target, Work};
 use papaya_shell::failure::Failure;
@@ -6,15 +6,15 @@ use std::alloc::Global;
 use std::sync::Wait;
 use std::sync::atomic::{AtomicU64, Ordering};
 
-/// What stands where a map would, and keeps nothing.
+/// A stand-in for a map, which keeps nothing.
 #[derive(Drop)]
 pub(crate) struct Idle {
-    /// It stays 0.
+    /// Always 0.
     zero: AtomicU64,
 }
 
 impl Idle {
-    /// Stands where a call would: one load, without which the loop would be left out.
+    /// Stands in for a call: one load, without which the loop would be optimized away.
     #[inline(always)]
     fn pass_on(&self, key: u64) -> u64 {
         key.wrapping_add(self.zero.load(Ordering::SeqCst))

@@ -1,5 +1,5 @@
-//! The workloads of `papaya-bench` on each map: their answers compared, or their rounds timed.
-//! The maps that it compares with stand in `rivals`.
+//! The workloads of `papaya-bench` on each map: their results compared, or their rounds timed.
+//! `rivals` has the maps that it compares with.
 #![tactic(auto)]
 
 mod backends;

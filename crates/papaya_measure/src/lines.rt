@@ -3,7 +3,7 @@ use papaya_shell::failure::Failure;
 use std::io;
 use std::io::Write;
 
-/// Prints a line at once: what was done, at which of the maps, of how many keys, and numbers.
+/// Prints a line at once: the action, the map, the number of keys, and numbers.
 pub(crate) fn print_line<W: Write>(
     done: &str,
     backend: &str,
@@ -19,7 +19,7 @@ pub(crate) fn print_line<W: Write>(
     written(output.flush())
 }
 
-/// What was written, or the failure of the writer.
+/// Converts the result of a write into the failure of the writer.
 pub(crate) fn written(write: io::Result<()>) -> Result<(), Failure> {
     match write {
         Ok(()) => Ok(()),

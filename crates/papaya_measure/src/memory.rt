@@ -1,13 +1,13 @@
-//! What the process holds of memory.
+//! The memory of the process.
 use papaya_shell::failure::Failure;
 use std::fs::File;
 use std::io::Read;
 use std::rt::Files;
 
-/// How many bytes a page has.
+/// The bytes of a page.
 const PAGE: u64 = 4096;
 
-/// The bytes of the process that lie in memory, as Linux tells: whole pages.
+/// Returns the resident bytes of the process, by Linux: whole pages.
 pub(crate) fn resident<R: Files>(rt: &R) -> Result<u64, Failure> {
     let mut text = [0u8; 64];
     let mut file = File::open(rt, "/proc/self/statm").map_err(|_| Failure::Input)?;
@@ -17,7 +17,7 @@ pub(crate) fn resident<R: Files>(rt: &R) -> Result<u64, Failure> {
         .ok_or(Failure::Input)
 }
 
-/// The second number of a line: of the pages that a process has, those in memory.
+/// Returns the second number of a line: how many of a process's pages are in memory.
 fn pages_in(line: &[u8]) -> Option<u64> {
     std::str::from_utf8(line)
         .ok()?

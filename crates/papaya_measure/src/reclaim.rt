@@ -1,4 +1,4 @@
-//! Maps that are filled from empty, or with room and then reclaimed: what each of these takes.
+//! Maps that are filled from empty, or with room and then reclaimed: the time that each takes.
 use crate::backends::{Backend, elapsed, now};
 use crate::collections::{Collection, Growing};
 use crate::lines::print_line;
@@ -12,12 +12,12 @@ use std::rt::Clock;
 use std::sync::Wait;
 use std::time::Instant;
 
-/// A map that gives back what replaced and removed pairs take.
+/// A map that frees replaced and removed entries when it is reclaimed.
 pub(crate) trait Reclaimed: Collection {
     fn give_back<R: Wait>(&mut self, rt: &R) -> Result<(), Failure>;
 }
 
-/// Fills the map that was made since this moment: the nanoseconds since then.
+/// Fills the map that was made since this time; returns the nanoseconds since then.
 fn fill_since<R: Clock + Wait, C: Collection>(
     rt: &R,
     start: Instant,
@@ -29,7 +29,7 @@ fn fill_since<R: Clock + Wait, C: Collection>(
     elapsed(rt, start)
 }
 
-/// Makes a map without room, and fills it with so many keys, for which it grows.
+/// Makes a map without room, and fills it with this many keys, for which it grows.
 fn time_growing<R: Clock + Wait, C: Collection, W: Write>(
     rt: &R,
     alloc: Global,
@@ -43,7 +43,7 @@ fn time_growing<R: Clock + Wait, C: Collection, W: Write>(
     print_line("from-empty", backend.name(), keys, &numbers, output)
 }
 
-/// The same in `Blocking`.
+/// Makes a map in `Blocking` without room, and fills it in the same way.
 fn time_blocking<R: Clock + Wait, M: Growing, W: Write>(
     rt: &R,
     alloc: Global,
@@ -63,8 +63,8 @@ fn time_blocking<R: Clock + Wait, M: Growing, W: Write>(
     )
 }
 
-/// Prints lines of a map for one caller, the kit's, and a shared one: what it takes to fill each
-/// from empty with so many keys.
+/// Prints the time that it takes to fill a map from empty with this many keys: a map for one
+/// caller, the kit's, and a shared one.
 pub fn time_from_empty<R: Clock + Wait, W: Write>(
     rt: &R,
     alloc: Global,
@@ -80,8 +80,8 @@ pub fn time_from_empty<R: Clock + Wait, W: Write>(
     time_blocking::<R, shared::Map, W>(rt, alloc, Backend::Shared, keys, output)
 }
 
-/// A map, made for so many keys and filled with these keys in so many rounds, and the nanoseconds that
-/// this took.
+/// Returns a map, made for this many keys and filled with these keys in this many rounds, and the
+/// nanoseconds that this took.
 fn filled<R: Clock + Wait, M: Reclaimed>(
     rt: &R,
     alloc: Global,
@@ -96,14 +96,14 @@ fn filled<R: Clock + Wait, M: Reclaimed>(
     Ok((map, took))
 }
 
-/// The nanoseconds that it takes to reclaim a map.
+/// Returns the nanoseconds that it takes to reclaim a map.
 fn give_back<R: Clock + Wait, M: Reclaimed>(rt: &R, map: &mut M) -> Result<u128, Failure> {
     let start = now(rt)?;
     map.give_back(rt)?;
     elapsed(rt, start)
 }
 
-/// Fills a map, made for so many keys, with these keys in so many rounds. Then reclaims it.
+/// Fills a map, made for this many keys, with these keys in several rounds. Then reclaims it.
 fn time_map<R: Clock + Wait, M: Reclaimed, W: Write>(
     rt: &R,
     alloc: Global,
@@ -120,8 +120,8 @@ fn time_map<R: Clock + Wait, M: Reclaimed, W: Write>(
     print_line("reclaim", backend.name(), keys, &numbers, output)
 }
 
-/// Prints lines of a map for one caller and of a shared one, each made for so many keys: what it
-/// takes to insert them in so many rounds, and to reclaim the map then.
+/// Prints lines of a map for one caller and of a shared one, each made for this many keys. They
+/// have the time to insert these in this many rounds, and then to reclaim the map.
 pub fn time_reclaim<R: Clock + Wait, W: Write>(
     rt: &R,
     alloc: Global,

@@ -27,7 +27,7 @@ impl Target for Map {
         Ok(weight(self.remove(&key).as_ref()))
     }
 
-    /// The kit's map has no `update_or_insert`, and the key is there.
+    /// Counts up by other calls: the kit's map has no `update_or_insert`, and the key is there.
     #[inline(always)]
     fn count_up<R: Wait>(&mut self, _rt: &R, key: u64) -> Result<u64, Failure> {
         match self.get_mut(&key) {

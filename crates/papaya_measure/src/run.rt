@@ -24,35 +24,35 @@ use std::thread::Threads;
 /// The name of the program in what it prints on standard error.
 pub const PROGRAM: &str = "papaya-bench";
 
-/// How many keys a map has where answers are compared, and in how many rounds.
+/// The number of keys of a map whose results are compared, and the number of rounds.
 const CHECKED: (u32, u32) = (64, 2);
 
-/// How many keys a map has where it is timed, and in how many rounds.
+/// The number of keys of a map that is timed, and the number of rounds.
 const TIMED: [(u32, u32); 2] = [(0x1000, 64), (0x1_0000, 4)];
 
-/// In how many rounds one key is written that is alone in its map.
+/// The number of rounds in which one key is written that is alone in its map.
 const ALONE: u32 = 0x4_0000;
 
-/// How many keys a map grows by that is filled from empty.
+/// The number of keys by which a map grows that is filled from empty.
 const GROWN: u32 = 0x1_0000;
 
-/// How many keys each map grows by, where growth alone is asked for.
+/// The numbers of keys by which each map grows, if only growth is timed.
 const GROWN_TO: [u32; 3] = [0x1000, 0x1_0000, 0x10_0000];
 
-/// How many keys a map has that is reclaimed, and in how many rounds they were inserted.
+/// The number of keys of a map that is reclaimed, and the rounds in which they were inserted.
 const RECLAIMED: [(u32, u32); 2] = [(0x1_0000, 1), (1000, 1001)];
 
-/// How many operations each map does that is kept at work.
+/// The number of operations of each map that is kept at work.
 const SOAKED: u32 = 100_000_000;
 
-/// How many of the calls write then, and how many keys a map has.
+/// The share of writes of such a map, and its number of keys.
 const SOAKS: [(Writes, u32); 3] = [
     (Writes::OneInTen, 1000),
     (Writes::All, 1000),
     (Writes::OneInTen, 0x10_0000),
 ];
 
-/// Prints what the answers of a backend to one workload sum to, and answers it.
+/// Prints the sum of a backend's results in one workload, and returns it.
 fn check_backend<R: Clock + Threads + Wait + Sync, W: Write>(
     rt: &R,
     alloc: Global,
@@ -65,8 +65,8 @@ fn check_backend<R: Clock + Threads + Wait + Sync, W: Write>(
     Ok(sum)
 }
 
-/// Prints what the answers of these backends to one workload sum to, of those that do it. The sums
-/// are equal, or it fails.
+/// Prints the sums of these backends' results in one workload, of those that run it. Fails if the
+/// sums are not equal.
 fn check_workload<R: Clock + Threads + Wait + Sync, W: Write>(
     rt: &R,
     alloc: Global,
@@ -94,7 +94,7 @@ fn check_workload<R: Clock + Threads + Wait + Sync, W: Write>(
     }
 }
 
-/// Compares the backends' answers to each workload.
+/// Compares the backends' results in each workload.
 fn check<R: Clock + Threads + Wait + Sync, W: Write>(
     rt: &R,
     alloc: Global,
@@ -109,7 +109,7 @@ fn check<R: Clock + Threads + Wait + Sync, W: Write>(
     written(output.flush())
 }
 
-/// Prints a line of the time that each backend takes for one workload, if it does it.
+/// Prints the time that each backend takes for one workload, if it runs it.
 pub fn time_workload<R: Clock + Threads + Wait + Sync, W: Write>(
     rt: &R,
     alloc: Global,
@@ -168,7 +168,7 @@ fn time<R: Clock + Threads + Wait + Sync, W: Write>(
     Ok(())
 }
 
-/// Times maps that grow: that for one caller, and the shared one.
+/// Times maps that grow: the one for one caller, and the shared one.
 fn grow<R: Clock + Threads + Wait + Sync, W: Write>(
     rt: &R,
     alloc: Global,
@@ -196,7 +196,7 @@ fn reclaim<R: Clock + Wait, W: Write>(
     Ok(())
 }
 
-/// Times maps that threads keep at work for so many operations, and says what they hold.
+/// Times maps that threads keep at work for this many operations, and prints their memory.
 fn soak<R: Clock + Files + Threads + Wait + Sync, W: Write>(
     rt: &R,
     alloc: Global,
@@ -214,7 +214,7 @@ fn soak<R: Clock + Files + Threads + Wait + Sync, W: Write>(
     Ok(())
 }
 
-/// Does what the arguments ask for.
+/// Does what the arguments request.
 fn run<R: Clock + Files + Threads + Wait + Sync, W: Write>(
     rt: &R,
     alloc: Global,
@@ -234,8 +234,8 @@ fn run<R: Clock + Files + Threads + Wait + Sync, W: Write>(
     }
 }
 
-/// Runs the program on the arguments behind its name, and answers its exit status: 0, or the
-/// failure's that it has printed on `errors`.
+/// Runs the program on the arguments behind its name, and returns its exit status: 0, or that of
+/// the failure that it has printed on `errors`.
 pub fn run_on<R: Clock + Files + Threads + Wait + Sync, W: Write, E: Write>(
     rt: &R,
     alloc: Global,

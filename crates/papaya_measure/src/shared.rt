@@ -19,11 +19,11 @@ type Hasher = BuildHasherDefault<FoldHasher>;
 /// The map.
 pub(crate) type Map = HashMap<u64, u64>;
 
-/// The map, of which each thread makes a session.
+/// The map, of which each thread has a session.
 #[derive(Drop)]
 pub(crate) struct BySession(Map);
 
-/// The map, pinned anew for each call.
+/// The map, pinned again for each call.
 #[derive(Drop)]
 pub(crate) struct PinACall(Map);
 

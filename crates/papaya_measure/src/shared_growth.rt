@@ -1,5 +1,5 @@
-//! The shared map while it grows: what its insertions take, by one thread and by several, and gets
-//! beside them.
+//! The shared map while it grows: the time of its insertions, by one thread and by several, and of
+//! gets beside them.
 use crate::backends::{elapsed, now};
 use crate::collections::Pinned;
 use crate::growth::name_of;
@@ -17,13 +17,13 @@ use std::sync::atomic::{AtomicBool, AtomicU64, Ordering};
 use std::thread;
 use std::thread::Threads;
 
-/// How many threads read while one writes.
+/// The number of threads that read while one writes.
 const READERS: u64 = THREADS - 1;
 
-/// How often a writer looks at most whether the readers have begun.
+/// The most times that a writer checks whether the readers have begun.
 const LOOKS: u32 = 100_000;
 
-/// The plan whose parts the threads insert.
+/// Returns the plan whose parts the threads insert.
 fn plan_of(keys: u32) -> Plan {
     Plan {
         workload: Workload::InsertFresh,
@@ -32,8 +32,8 @@ fn plan_of(keys: u32) -> Plan {
     }
 }
 
-/// Inserts a key, and answers the nanoseconds that this took. The map is pinned for it, as a caller who
-/// inserts now and then would.
+/// Inserts a key, and returns the nanoseconds that this took. It pins the map for this, as a caller
+/// that inserts now and then would.
 #[inline(always)]
 fn insert<R: Clock + Wait, C: Pinned>(rt: &R, map: &C, number: u64) -> Result<u128, Failure> {
     let start = now(rt)?;
@@ -41,7 +41,7 @@ fn insert<R: Clock + Wait, C: Pinned>(rt: &R, map: &C, number: u64) -> Result<u1
     elapsed(rt, start)
 }
 
-/// Inserts the keys of a part, and answers the nanoseconds of each insertion.
+/// Inserts the keys of a part, and returns the nanoseconds of each insertion.
 fn insert_part<R: Clock + Wait, C: Pinned>(
     rt: &R,
     alloc: Global,
@@ -56,7 +56,7 @@ fn insert_part<R: Clock + Wait, C: Pinned>(
     Ok(times)
 }
 
-/// The times of all threads, one after the other.
+/// Joins the times of all threads, one after the other.
 fn joined(alloc: Global, parts: &[Result<Vec<u128>, Failure>]) -> Result<Vec<u128>, Failure> {
     let mut times = Vec::new(alloc);
     for part in parts {
@@ -72,8 +72,8 @@ fn joined(alloc: Global, parts: &[Result<Vec<u128>, Failure>]) -> Result<Vec<u12
     Ok(times)
 }
 
-/// Inserts so many keys by several threads, each its part, and answers the nanoseconds of
-/// each insertion.
+/// Inserts this many keys by several threads, each its part, and returns the nanoseconds of each
+/// insertion.
 fn insert_in_threads<R: Clock + Threads + Wait + Sync, C: Pinned + Sync>(
     rt: &R,
     alloc: Global,
@@ -89,7 +89,7 @@ fn insert_in_threads<R: Clock + Threads + Wait + Sync, C: Pinned + Sync>(
     joined(alloc, parts.as_slice())
 }
 
-/// The time that stands at a percentile, or 0 where there is none.
+/// Returns the time at a percentile, or 0 if there is none.
 fn at(sorted: &[u128], keys: u32, thousandths: u16) -> u128 {
     sorted
         .get(place_of(keys, thousandths))
@@ -97,7 +97,7 @@ fn at(sorted: &[u128], keys: u32, thousandths: u16) -> u128 {
         .unwrap_or(0)
 }
 
-/// Prints a line of insertions: how many, the nanoseconds of all and of the greatest one, and those
+/// Prints a line of insertions: how many, the nanoseconds of all and of the longest one, and those
 /// at p50, p99 and p99.9.
 fn print_times<W: Write>(
     mode: ResizeMode,
@@ -121,7 +121,7 @@ fn print_times<W: Write>(
     print_line(name_of(mode), backend, keys, &numbers, output)
 }
 
-/// The nanoseconds of each insertion by one thread, and of all.
+/// Returns the nanoseconds of each insertion by one thread, and of all.
 fn timed_by_one<R: Clock + Wait, C: Pinned>(
     rt: &R,
     alloc: Global,
@@ -134,7 +134,7 @@ fn timed_by_one<R: Clock + Wait, C: Pinned>(
     Ok((times, nanoseconds))
 }
 
-/// The same by several threads.
+/// Returns the nanoseconds of each insertion by several threads, and of all.
 fn timed_by_threads<R: Clock + Threads + Wait + Sync, C: Pinned + Sync>(
     rt: &R,
     alloc: Global,
@@ -147,7 +147,7 @@ fn timed_by_threads<R: Clock + Threads + Wait + Sync, C: Pinned + Sync>(
     Ok((times, nanoseconds))
 }
 
-/// The growth of a map by one thread.
+/// Measures the growth of a map by one thread.
 fn by_one<R: Clock + Wait, C: Pinned, W: Write>(
     rt: &R,
     alloc: Global,
@@ -160,7 +160,7 @@ fn by_one<R: Clock + Wait, C: Pinned, W: Write>(
     print_times(mode, "shared", keys, nanoseconds, times, output)
 }
 
-/// The growth of a map by several threads.
+/// Measures the growth of a map by several threads.
 fn by_threads<R: Clock + Threads + Wait + Sync, C: Pinned + Sync, W: Write>(
     rt: &R,
     alloc: Global,
@@ -173,25 +173,25 @@ fn by_threads<R: Clock + Threads + Wait + Sync, C: Pinned + Sync, W: Write>(
     print_times(mode, "threads", keys, nanoseconds, times, output)
 }
 
-/// What a writer and its readers tell each other.
+/// The state that a writer and its readers share.
 #[derive(Drop)]
 struct Gate {
-    /// How many readers have begun.
+    /// The number of readers that have begun.
     ready: AtomicU64,
-    /// The writer has ended.
+    /// Whether the writer has ended.
     done: AtomicBool,
 }
 
-/// What one thread did beside the others: the writer made no get.
+/// The gets of one thread beside the others; the writer makes none.
 #[derive(Clone, Copy, Drop)]
 struct Gets {
     count: u64,
-    /// The nanoseconds of the get, or of the writer's whole work, that took longest.
+    /// The nanoseconds of the longest get, or of the writer's whole work.
     greatest: u128,
 }
 
-/// Inserts all keys once the readers have begun, or have not in so many looks. It waits for none
-/// that could not be started.
+/// Inserts all keys once the readers have begun, or after that many checks. It does not wait for
+/// readers that could not be started.
 fn write<R: Clock + Wait, C: Pinned>(
     rt: &R,
     map: &C,
@@ -214,7 +214,7 @@ fn write<R: Clock + Wait, C: Pinned>(
     })
 }
 
-/// Looks keys up until the writer has ended.
+/// Looks up keys until the writer has ended.
 fn read<R: Clock + Wait, C: Pinned>(
     rt: &R,
     map: &C,
@@ -237,7 +237,7 @@ fn read<R: Clock + Wait, C: Pinned>(
     Ok(Gets { count, greatest })
 }
 
-/// The part of one thread: the first writes, and the others read.
+/// Does the part of one thread: the first writes, and the others read.
 fn write_or_read<R: Clock + Wait, C: Pinned>(
     rt: &R,
     map: &C,
@@ -253,7 +253,7 @@ fn write_or_read<R: Clock + Wait, C: Pinned>(
     written
 }
 
-/// How many gets all readers made, and the greatest of them; behind them what the writer took.
+/// Returns how many gets all readers made, the longest of them, and the writer's time.
 fn sum_of(parts: &[Result<Gets, Failure>]) -> Result<(Gets, u128), Failure> {
     let mut sum = Gets {
         count: 0,
@@ -272,7 +272,7 @@ fn sum_of(parts: &[Result<Gets, Failure>]) -> Result<(Gets, u128), Failure> {
     Ok((sum, written))
 }
 
-/// Three threads read while the fourth makes a map grow.
+/// Lets three threads read while the fourth makes a map grow.
 fn read_beside<R: Clock + Threads + Wait + Sync, C: Pinned + Sync>(
     rt: &R,
     alloc: Global,
@@ -295,7 +295,7 @@ fn read_beside<R: Clock + Threads + Wait + Sync, C: Pinned + Sync>(
 }
 
 /// Prints a line of gets beside growth: its name, the gets of three threads, the nanoseconds in
-/// which the fourth made the map grow, and those of the greatest get.
+/// which the fourth made the map grow, and those of the longest get.
 fn beside_gets<R: Clock + Threads + Wait + Sync, C: Pinned + Sync, W: Write>(
     rt: &R,
     alloc: Global,
@@ -308,7 +308,7 @@ fn beside_gets<R: Clock + Threads + Wait + Sync, C: Pinned + Sync, W: Write>(
     print_line(name_of(mode), "gets", keys, &numbers, output)
 }
 
-/// Prints the lines of a shared map that grows from empty to so many keys: by one thread, by
+/// Prints the lines of a shared map that grows from empty to this many keys: by one thread, by
 /// several, and with gets beside it.
 pub fn time_shared_growth<R: Clock + Threads + Wait + Sync, W: Write>(
     rt: &R,

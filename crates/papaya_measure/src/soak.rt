@@ -16,36 +16,36 @@ use std::sync::Wait;
 use std::thread;
 use std::thread::Threads;
 
-/// How many calls a thread makes between two looks at the clock.
+/// The number of calls of a thread between two readings of the clock.
 const BLOCK: u32 = 64;
 
-/// In how many blocks a thread asks once whether the map is to be reclaimed.
+/// The number of blocks after which a thread checks whether the map is to be reclaimed.
 const TIDY: u64 = 64;
 
-/// How many calls all threads make between two looks at what the process holds, and one of them.
+/// The number of calls of all threads between two readings of the process's memory, and of one.
 const SLICE: u32 = 1_000_000;
 
 const SHARE_OF_SLICE: u32 = SLICE / THREADS as u32;
 
-/// How many times its pairs a map stores at most before it is reclaimed.
+/// How many times its entries a map stores at most before it is reclaimed.
 const SHARE: usize = 2;
 
-/// How many pairs are copied at least to tell what it takes to reclaim a map.
+/// The least number of entries that are copied to time a reclaim.
 const COPIED: u32 = 0x4000;
 
-/// How a thread is in the map.
+/// The way in which a thread is in the map.
 #[derive(Clone, Copy)]
 enum Manner {
     /// Always, since the map is never reclaimed.
     Bare,
     /// It enters for each call.
     Enter,
-    /// It enters for a block of calls, and leaves between two of them where another waits.
+    /// It enters for a block of calls, and leaves between two of them if another thread waits.
     Refresh,
 }
 
 impl Manner {
-    /// The name in what is printed.
+    /// Returns the name in what is printed.
     fn name(self) -> &'static str {
         match self {
             Manner::Bare => "bare",
@@ -55,9 +55,9 @@ impl Manner {
     }
 }
 
-/// What a thread has of the map.
+/// A thread's access to the map.
 trait Way {
-    /// Makes the calls of a block: the sum of their answers.
+    /// Makes the calls of a block; returns the sum of their results.
     fn work<R: Wait>(
         &mut self,
         rt: &R,
@@ -66,11 +66,11 @@ trait Way {
         block: Part,
     ) -> Result<u64, Failure>;
 
-    /// Reclaims the map where it is due: was it reclaimed?
+    /// Reclaims the map if it is due; returns whether it was reclaimed.
     fn tidy<R: Wait>(&mut self, rt: &R) -> Result<bool, Failure>;
 }
 
-/// What the threads share.
+/// A collection that the threads share.
 trait Soaked: Collection {
     /// Does the work of one thread.
     fn serve<R: Clock + Wait>(
@@ -85,26 +85,26 @@ trait Soaked: Collection {
     fn give_back<R: Wait>(&mut self, rt: &R) -> Result<(), Failure>;
 }
 
-/// What a thread tells of its work, or all of them.
+/// The record of a thread's work, or of all threads'.
 #[derive(Clone, Copy, Drop)]
 struct Told {
-    /// The sum of the answers.
+    /// The sum of the results.
     sum: u64,
     /// The nanoseconds of the block that took longest.
     longest: u128,
-    /// How often the map was reclaimed.
+    /// The number of times that the map was reclaimed.
     reclaims: u64,
 }
 
 impl Told {
-    /// Nothing yet.
+    /// The empty record.
     const NONE: Told = Told {
         sum: 0,
         longest: 0,
         reclaims: 0,
     };
 
-    /// What both tell.
+    /// Returns both records as one.
     fn and(self, other: Told) -> Told {
         Told {
             sum: self.sum.wrapping_add(other.sum),
@@ -154,7 +154,7 @@ impl Way for Handle<'_, shared::Map> {
     }
 }
 
-/// The calls of a block, for each of which the map is entered.
+/// Makes the calls of a block, and enters the map for each.
 fn enter_each<R: Wait>(
     rt: &R,
     handle: &mut Handle<'_, shared::Map>,
@@ -169,7 +169,7 @@ fn enter_each<R: Wait>(
     Ok(sum)
 }
 
-/// The calls of a block, for which the map is entered once.
+/// Makes the calls of a block, and enters the map once for all.
 fn stay<R: Wait>(
     rt: &R,
     handle: &mut Handle<'_, shared::Map>,
@@ -185,7 +185,7 @@ fn stay<R: Wait>(
     Ok(sum)
 }
 
-/// The work of one thread, block by block.
+/// Does the work of one thread, block by block.
 fn serve<R: Clock + Wait, W: Way>(
     rt: &R,
     way: &mut W,
@@ -241,7 +241,7 @@ impl Soaked for entered::Map {
     }
 }
 
-/// What all threads tell of a slice.
+/// Returns the record of all threads in a slice.
 fn serve_in_threads<R: Clock + Threads + Wait + Sync, C: Soaked + Sync>(
     rt: &R,
     alloc: Global,
@@ -266,9 +266,10 @@ fn serve_in_threads<R: Clock + Threads + Wait + Sync, C: Soaked + Sync>(
     Ok(told)
 }
 
-/// The nanoseconds that it takes to reclaim a map of so many keys, in the mean of some times.
+/// Returns the mean of the nanoseconds that it takes to reclaim a map of this many keys, several
+/// times.
 fn pause_of<R: Clock + Wait, C: Soaked>(rt: &R, map: &mut C, keys: u32) -> Result<u128, Failure> {
-    // what was replaced goes first
+    // replaced entries are dropped first
     map.give_back(rt)?;
     let times = COPIED.checked_div(keys).unwrap_or(0).max(1);
     let start = now(rt)?;
@@ -278,10 +279,10 @@ fn pause_of<R: Clock + Wait, C: Soaked>(rt: &R, map: &mut C, keys: u32) -> Resul
     Ok(elapsed(rt, start)? / u128::from(times))
 }
 
-/// What a soak came to.
+/// The result of a soak.
 #[derive(Clone, Copy, Drop)]
 struct Soaking {
-    /// What its threads told.
+    /// The record of its threads.
     told: Told,
     /// The nanoseconds of all calls.
     nanoseconds: u128,
@@ -293,7 +294,8 @@ struct Soaking {
     pause: u128,
 }
 
-/// What all threads tell, slice by slice; the most that the process held meanwhile; and the nanoseconds.
+/// Returns the record of all threads, slice by slice, the most memory of the process meanwhile, and
+/// the nanoseconds.
 fn serve_slices<R: Clock + Files + Threads + Wait + Sync, C: Soaked + Sync>(
     rt: &R,
     alloc: Global,
@@ -311,7 +313,7 @@ fn serve_slices<R: Clock + Files + Threads + Wait + Sync, C: Soaked + Sync>(
     Ok((told, most, elapsed(rt, start)?))
 }
 
-/// A map of so many keys.
+/// Returns a map of this many keys.
 fn filled<R: Wait, C: Collection>(rt: &R, alloc: Global, keys: u32) -> Result<C, Failure> {
     let mut map = C::empty(rt, alloc, keys as usize)?;
     map.alone(rt, Work::Fill(keys))?;
@@ -340,9 +342,9 @@ fn keep_at_work<R: Clock + Files + Threads + Wait + Sync, C: Soaked + Sync>(
     })
 }
 
-/// Prints the line of a soak: its name, its calls and the nanoseconds that they took; the bytes that
-/// the process held more than before, at most and at the end; how often the map was reclaimed; the
-/// nanoseconds of the longest block, and those of one reclaim.
+/// Prints the line of a soak. It has its name, its calls and their nanoseconds; and the bytes that
+/// the process held more than before, at most and at the end. Then how often the map was reclaimed,
+/// the nanoseconds of the longest block, and those of one reclaim.
 fn time_manner<R: Clock + Files + Threads + Wait + Sync, C: Soaked + Sync, W: Write>(
     rt: &R,
     alloc: Global,

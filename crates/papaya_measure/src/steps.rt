@@ -1,4 +1,4 @@
-//! What one thread does at a map, a set, or a lock round a map.
+//! The work of one thread on a map, a set, or a lock around a map.
 use papaya_call::answers::Operation;
 use papaya_keys::compute::Compute;
 use papaya_plan::action::Action;
@@ -6,8 +6,8 @@ use papaya_plan::plan::{Part, Plan, Workload, key_of};
 use papaya_shell::failure::Failure;
 use std::sync::Wait;
 
-/// What calls are made at. Each makes one call, and answers the weight of what that finds.
-/// [`crate::backends::Backend::does`] says which have those that are refused here.
+/// An object on which calls are made. Each makes one call, and returns the weight of its result.
+/// [`crate::backends::Backend::does`] says which have the calls that are refused here.
 pub(crate) trait Target {
     fn look_up<R: Wait>(&mut self, rt: &R, key: u64) -> u64;
 
@@ -15,33 +15,33 @@ pub(crate) trait Target {
 
     fn take_out<R: Wait>(&mut self, rt: &R, key: u64) -> Result<u64, Failure>;
 
-    /// Counts the value of a key one up by `update_or_insert`, and answers it.
+    /// Counts the value of a key one up by `update_or_insert`, and returns it.
     fn count_up<R: Wait>(&mut self, _rt: &R, _key: u64) -> Result<u64, Failure> {
         Err(Failure::Arguments)
     }
 
-    /// Counts it one up by `compute`, and answers it.
+    /// Counts it one up by `compute`, and returns it.
     fn work_out<R: Wait>(&mut self, _rt: &R, _key: u64) -> Result<u64, Failure> {
         Err(Failure::Arguments)
     }
 
-    /// Walks over all pairs: the sum of their values, or how many keys a set has.
+    /// Iterates over all entries; returns the sum of their values, or how many keys a set has.
     fn walk<R: Wait>(&mut self, _rt: &R) -> Result<u64, Failure> {
         Err(Failure::Arguments)
     }
 
-    /// Enters the map and leaves it: 1.
+    /// Enters the map and leaves it; returns 1.
     fn pass_through<R: Wait>(&mut self, _rt: &R) -> Result<u64, Failure> {
         Err(Failure::Arguments)
     }
 }
 
-/// A count after one more.
+/// Returns the count after one more.
 pub(crate) fn one_more(count: &u64) -> u64 {
     count.wrapping_add(1)
 }
 
-/// What a compute does where it is shown this: it counts one up.
+/// Returns a compute's operation for this argument: it counts one up.
 pub(crate) fn counted_up(shown: Option<(&u64, &u64)>) -> Operation<u64, ()> {
     match shown {
         Some((_, count)) => Operation::Insert(one_more(count)),
@@ -49,7 +49,7 @@ pub(crate) fn counted_up(shown: Option<(&u64, &u64)>) -> Operation<u64, ()> {
     }
 }
 
-/// The value that a compute has stored, or 0 where it has stored none.
+/// Returns the value that a compute has stored, or 0 if it has stored none.
 pub(crate) fn stored(computed: Compute<'_, u64, u64, ()>) -> u64 {
     match computed {
         Compute::Inserted(_, value) => *value,
@@ -58,17 +58,17 @@ pub(crate) fn stored(computed: Compute<'_, u64, u64, ()>) -> u64 {
     }
 }
 
-/// What one thread is to do.
+/// The work of one thread.
 #[derive(Clone, Copy)]
 pub(crate) enum Work {
-    /// Put in the keys of so many numbers, each with its number.
+    /// Inserts the keys of this many numbers, each with its number.
     Fill(u32),
-    /// Make the steps of a part in the rounds of a plan.
+    /// Makes the steps of a part in the rounds of a plan.
     Rounds(Plan, Part),
 }
 
 impl Work {
-    /// Does it: the sum of what the calls answer.
+    /// Does the work; returns the sum of the calls' results.
     pub(crate) fn at<R: Wait, T: Target>(self, rt: &R, target: &mut T) -> Result<u64, Failure> {
         match self {
             Work::Fill(keys) => fill(rt, target, keys),
@@ -107,7 +107,7 @@ fn rounds<R: Wait, T: Target>(
     Ok(sum)
 }
 
-/// One step: what it answers.
+/// Makes one step; returns its result.
 #[inline(always)]
 pub(crate) fn step<R: Wait, T: Target>(
     rt: &R,
@@ -125,8 +125,8 @@ pub(crate) fn step<R: Wait, T: Target>(
     }
 }
 
-/// Rounds in which each key's value is counted up. They stand apart, as walks do, so that the loop
-/// of other rounds takes what it would without them.
+/// Runs rounds in which each key's value is counted up. They are apart, as iterations are, so that
+/// the loop of other rounds is as fast as without them.
 #[inline(never)]
 fn counts<R: Wait, T: Target>(
     rt: &R,
@@ -149,7 +149,7 @@ fn counts<R: Wait, T: Target>(
     Ok(sum)
 }
 
-/// Rounds that are walks, which one thread makes.
+/// Runs rounds that are iterations, which one thread makes.
 #[inline(never)]
 fn walks<R: Wait, T: Target>(rt: &R, target: &mut T, plan: Plan) -> Result<u64, Failure> {
     let mut sum: u64 = 0;
@@ -160,7 +160,7 @@ fn walks<R: Wait, T: Target>(rt: &R, target: &mut T, plan: Plan) -> Result<u64, 
     Ok(sum)
 }
 
-/// Rounds in which no call is made.
+/// Runs rounds in which no call is made.
 #[inline(never)]
 fn entries<R: Wait, T: Target>(
     rt: &R,

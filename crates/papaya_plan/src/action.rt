@@ -1,14 +1,14 @@
-//! What one step does.
+//! The action of one step.
 ghost use Rattle.std.specs.Prelude.{◌≡◌, ◌≢◌, ◌+◌, ◌%◌, ◌^◌};
 ghost use Rattle.papaya_plan.specs.declared.plan.Workload.TheVariants as workload;
 ghost use Rattle.papaya_plan.specs.declared.action.Action.TheVariants.{Get, Insert, Renew};
 
 use crate::plan::{Plan, Workload};
 
-/// Of a mixed round, one number in so many is inserted.
+/// The share of insertions in a mixed round: one number in ten.
 pub(crate) const MIXED: u64 = 10;
 
-/// What one step does, at the key of a number.
+/// The action of one step, at the key of a number.
 #[derive(Clone, Copy)]
 pub enum Action {
     /// Looks the key up.
@@ -20,7 +20,7 @@ pub enum Action {
 }
 
 impl Plan {
-    /// What the step at the key of this number does in this round, by whichever call.
+    /// Returns the action of the step at the key of this number in this round, by whichever call.
     #[inline(always)]
     pub fn action_at(self, number: u64, round: u32) -> Action
         ensures hit { self.workload ≡ workload.GetHit → result ≡ Get number }
@@ -59,7 +59,7 @@ impl Plan {
     }
 }
 
-/// The value of a key that has been inserted anew in each round up to this one.
+/// Returns the value of a key that was inserted again in each round up to this one.
 #[inline(always)]
 fn value_after(number: u64, round: u32) -> u64
     ensures { result ≡ (number + (round + 1)) % 2 ^ 64 }

@@ -1,10 +1,10 @@
-//! Sums of answers, by which the backends are compared.
+//! Sums of results, by which the backends are compared.
 ghost use Rattle.std.specs.Prelude.{◌≡◌, All, MatchOption, MatchResult};
 ghost use Rattle.papaya_shell.specs.declared.failure.Failure.TheVariants as Failure;
 
 use papaya_shell::failure::Failure;
 
-/// What an answer adds to a sum: the value, or 1 where there is none.
+/// Returns what a result adds to a sum: the value, or 1 if there is none.
 #[inline(always)]
 pub fn weight(answer: Option<&u64>) -> u64
     ensures { MatchOption answer.entry (result ≡ 1) (λ value. result ≡ value.now) }

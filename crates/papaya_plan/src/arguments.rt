@@ -3,10 +3,10 @@ ghost use Rattle.std.specs.Prelude.{◌≡◌, ℕ, [], ◌∷◌, map, string_b
 ghost use Rattle.papaya_plan.specs.declared.arguments.Task.{Task};
 ghost use Rattle.papaya_plan.specs.Arguments.{AskFor, WritesCount};
 
-/// What the program is to do.
+/// The task of the program.
 #[derive(Clone, Copy)]
 pub enum Task {
-    /// Compare the backends' answers on small maps: no argument.
+    /// Compare the backends' results on small maps: no argument.
     Check,
     /// Time the workloads: the argument `time`.
     Time,
@@ -14,19 +14,19 @@ pub enum Task {
     Grow,
     /// Time maps that are filled and reclaimed: the argument `reclaim`.
     Reclaim,
-    /// Keep maps at work for as many operations as the argument behind `soak` says, or as a soak
-    /// has where there is none.
+    /// Keep maps at work for as many operations as the argument behind `soak` says, or for the
+    /// default number.
     Soak(Option<u32>),
 }
 
-/// The number that a word writes, within 32 bits.
+/// Returns the number that a word denotes, within 32 bits.
 fn count_of(word: &str) -> Option<u32>
     ensures { MatchOption result ((n : ℕ) → ¬ (WritesCount word.now n)) (WritesCount word.now) }
 {
     word.parse().ok()
 }
 
-/// The task of one word.
+/// Returns the task of one word.
 fn task_of(word: &str) -> Option<Task>
     ensures { MatchOption result ((task : Task) → ¬ (AskFor (word.now ∷ []) task))
         (AskFor (word.now ∷ [])) }
@@ -40,7 +40,7 @@ fn task_of(word: &str) -> Option<Task>
     }
 }
 
-/// The task of a word and a number behind it.
+/// Returns the task of a word and a number behind it.
 fn counted_task_of(word: &str, count: &str) -> Option<Task>
     ensures { MatchOption result ((task : Task) → ¬ (AskFor (word.now ∷ count.now ∷ []) task))
         (AskFor (word.now ∷ count.now ∷ [])) }
@@ -52,7 +52,7 @@ fn counted_task_of(word: &str, count: &str) -> Option<Task>
 }
 
 impl Task {
-    /// The task of the arguments behind the program's name, or None where they are bad.
+    /// Returns the task of the arguments behind the program's name, or `None` if they are bad.
     pub fn from_words(words: &[String]) -> Option<Task>
         ensures { MatchOption result ((task : Task) → ¬ (AskFor (map string_bytes words.now) task))
             (AskFor (map string_bytes words.now)) }

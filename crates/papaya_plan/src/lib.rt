@@ -1,5 +1,5 @@
-//! What the maps are timed at: workloads, the plans of their rounds and what each step does, soaks,
-//! the sums by which answers are compared, and the program's arguments.
+//! The benchmarks' plans: workloads, the plans of their rounds and the action of each step, soaks,
+//! the sums by which results are compared, and the program's arguments.
 #![tactic(auto)]
 
 pub mod action;

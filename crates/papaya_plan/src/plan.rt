@@ -1,13 +1,13 @@
-//! What is done to the maps, and how often.
+//! The work that is done on the maps, and how often.
 ghost use Rattle.std.specs.Prelude.{◌≡◌, ◌≢◌, cond, ◌+◌, ◌*◌, ◌/◌, ◌%◌, ◌^◌, ◌<◌, ◌≤◌, ◌-◌, min};
 ghost use Rattle.std.specs.Int.{IsPowerOfTwo};
 ghost use Rattle.papaya_plan.specs.declared.plan.Workload.TheVariants.{InsertFresh};
 ghost use Rattle.papaya_plan.specs.Plan.{uses_up};
 
-/// How many threads work at once, where there are several.
+/// The number of threads that work at once, if there are several.
 pub const THREADS: u64 = 4;
 
-/// What the steps of a round do to a map.
+/// The work of a round's steps on a map.
 #[derive(Clone, Copy)]
 pub enum Workload {
     /// Looks up a key that the map has.
@@ -26,7 +26,7 @@ pub enum Workload {
     UpdateOrInsert,
     /// Counts a key that it has one up, by `compute`.
     Compute,
-    /// Finds all keys that it has, by a walk in each round.
+    /// Finds all keys that it has, by an iteration in each round.
     Iterate,
     /// Enters the map and leaves it, and makes no call.
     Enter,
@@ -47,7 +47,7 @@ impl Workload {
         Workload::Enter,
     ];
 
-    /// The name in what is printed.
+    /// Returns the name in what is printed.
     pub fn name(self) -> &'static str {
         match self {
             Workload::GetHit => "get-hit",
@@ -64,7 +64,7 @@ impl Workload {
     }
 }
 
-/// A workload, and over how many keys how often. One round is a step at each key.
+/// A workload, the number of keys, and the number of rounds. One round is a step at each key.
 #[derive(Clone, Copy)]
 pub struct Plan {
     pub workload: Workload,
@@ -74,20 +74,20 @@ pub struct Plan {
 }
 
 impl Plan {
-    /// How many maps are made, and how many rounds each of them has. Where a round takes away what
-    /// a further round needs, each round has a map of its own.
+    /// Returns how many maps are made, and how many rounds each of them has. If a round uses up
+    /// what a further round needs, each round has a map of its own.
     pub fn maps(self) -> (u32, u32)
         ensures each { result ≡ cond (uses_up self.workload) (self.rounds, 1) (1, self.rounds) }
         ensures all { result.0 * result.1 ≡ self.rounds }
     {
         match self.workload {
-            // A removed pair keeps its slot.
+            // A removed entry keeps its slot.
             Workload::InsertFresh | Workload::RemoveInsert => (self.rounds, 1),
             _ => (1, self.rounds),
         }
     }
 
-    /// How many pairs a map has before the first round.
+    /// Returns how many entries a map has before the first round.
     pub fn filled(self) -> u32
         ensures none { self.workload ≡ InsertFresh → result ≡ 0 }
         ensures all { self.workload ≢ InsertFresh → result ≡ self.keys }
@@ -98,7 +98,7 @@ impl Plan {
         }
     }
 
-    /// For how many pairs a map is made, so that no table grows in a round.
+    /// Returns the capacity with which a map is made, so that no table grows in a round.
     pub fn capacity(self) -> usize
         ensures { self.keys ≤ result }
     {
@@ -108,15 +108,15 @@ impl Plan {
         }
     }
 
-    /// How many steps are made in all rounds.
+    /// Returns the number of steps of all rounds.
     pub fn steps(self) -> u64
         ensures { result ≡ self.keys * self.rounds }
     {
         u64::from(self.keys) * u64::from(self.rounds)
     }
 
-    /// The number of the key whose turn it is, in an order in which neighbours are far apart. By
-    /// `back`, each number below `keys` has one turn in a round.
+    /// Returns the number of the key whose turn it is, in an order in which neighbours are far
+    /// apart. By `back`, each number below `keys` has one turn in a round.
     #[inline(always)]
     pub fn number_at(self, turn: u64) -> u64
         ensures value { IsPowerOfTwo self.keys → result ≡ (turn * 2654435761) % self.keys }
@@ -127,7 +127,7 @@ impl Plan {
     }
 }
 
-/// The key of a number. By `back`, different numbers have different keys.
+/// Returns the key of a number. By `back`, different numbers have different keys.
 #[inline(always)]
 pub fn key_of(number: u64) -> u64
     ensures value { result ≡ (number * 3787392781) % 2 ^ 64 }
@@ -144,7 +144,7 @@ pub struct Part {
 }
 
 impl Part {
-    /// All of so many turns.
+    /// Returns a part with all of this many turns.
     pub fn whole(turns: u32) -> Part
         ensures { (result.start ≡ 0) × (result.end ≡ turns) }
     {
@@ -154,7 +154,7 @@ impl Part {
         }
     }
 
-    /// The part of this number of as many as there are threads. They follow one another.
+    /// Returns the part of this number, of as many as there are threads. They follow one another.
     pub fn of_thread(turns: u32, thread: u32) -> Part
         ensures { (result.start ≡ turns * thread / THREADS)
             × (result.end ≡ turns * (thread + 1) / THREADS) }
@@ -167,7 +167,7 @@ impl Part {
         }
     }
 
-    /// How many blocks it has, each of so many turns. The last may have fewer.
+    /// Returns the number of blocks of this many turns that it has. The last may have fewer.
     pub fn blocks(self, turns: u32) -> u64
         requires { 0 < turns }
         ensures { (self.end ≤ self.start + result * turns)
@@ -178,7 +178,7 @@ impl Part {
             .div_ceil(u64::from(turns))
     }
 
-    /// The block of this number, of so many turns.
+    /// Returns the block of this number, of this many turns.
     pub fn block(self, turns: u32, number: u64) -> Part
         ensures { (result.start ≡ min (self.start + number * turns) self.end)
             × (result.end ≡ min (self.start + (number + 1) * turns) self.end) }

@@ -1,11 +1,11 @@
-//! What threads do that keep a map at work.
+//! The work of threads that keep a map busy.
 ghost use Rattle.std.specs.Prelude.{◌≡◌, ◌≢◌, ◌*◌, ◌/◌, ◌%◌, ◌^◌, ◌<◌};
 ghost use Rattle.papaya_plan.specs.declared.soak.Writes.TheVariants.{OneInTen, All};
 ghost use Rattle.papaya_plan.specs.declared.action.Action.TheVariants.{Get, Insert};
 
 use crate::action::{Action, MIXED};
 
-/// How many of the calls write.
+/// The share of calls that write.
 #[derive(Clone, Copy)]
 pub enum Writes {
     OneInTen,
@@ -21,7 +21,7 @@ pub struct Soak {
 }
 
 impl Soak {
-    /// The name in what is printed.
+    /// Returns the name in what is printed.
     pub fn name(self) -> &'static str {
         match self.writes {
             Writes::OneInTen => "soak-mixed",
@@ -29,8 +29,8 @@ impl Soak {
         }
     }
 
-    /// The number of the key whose turn it is, below `keys`, in an order in which neighbours are
-    /// far apart.
+    /// Returns the number of the key whose turn it is, below `keys`, in an order in which
+    /// neighbours are far apart.
     #[inline(always)]
     pub fn number_at(self, turn: u64) -> u64
         ensures value { result ≡ (turn * 2654435761) % 2 ^ 32 * self.keys / 2 ^ 32 }
@@ -40,7 +40,7 @@ impl Soak {
         spread * u64::from(self.keys) / 0x1_0000_0000
     }
 
-    /// What is done in this turn.
+    /// Returns the action of this turn.
     #[inline(always)]
     pub fn action_at(self, turn: u64) -> Action
         ensures read { self.writes ≡ OneInTen → turn % 10 ≢ 0

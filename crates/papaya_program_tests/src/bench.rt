@@ -1,4 +1,4 @@
-// What `papaya-bench` prints, and what no clause says of failures.
+// The output of `papaya-bench`, and its failures, of which no clause says anything.
 use papaya_measure::growth::time_growth;
 use papaya_measure::reclaim::{time_from_empty, time_reclaim};
 use papaya_measure::run::{run_on, time_workload};
@@ -16,11 +16,11 @@ use std::sync::Wait;
 use std::test::Fail;
 use std::thread::Threads;
 
-/// Two rounds at 64 keys. The values are the keys' numbers, which sum to 2016; what is not there
-/// counts 1; and the second round of replacements finds each value 1 greater, that of mixed steps
-/// the seven values at multiples of ten. Of a set each yes counts 1: 57 keys are looked up by mixed
-/// steps. What a count or a compute answers is 1 more in the first round, and 2 in the second. To
-/// enter a map and make no call counts 1.
+/// Two rounds at 64 keys. The values are the keys' numbers, which sum to 2016, and an absent key
+/// counts 1. The second round of replacements finds each value 1 greater, that of mixed steps the
+/// seven values at multiples of ten. In a set each key found counts 1: mixed steps look up 57 keys.
+/// The result of a count or a compute is 1 more in the first round, and 2 in the second. To enter a
+/// map and make no call counts 1.
 const CHECKED: &str = "\
 get-hit: seq 4032 shared 4032 threads 4032 session 4032 pin-a-call 4032 \
     entered 4032 entered-threads 4032 \
@@ -69,7 +69,7 @@ fn has_ended<A: Abort>(rt: &A, found: u8, wanted: u8) {
     assert_eq!(rt; found, wanted);
 }
 
-/// Asserts that a run with these arguments prints this and says that, and its exit status.
+/// Asserts what a run with these arguments prints on both outputs, and its exit status.
 fn comes_to<R: Clock + Files + Threads + Wait + Sync + Abort>(
     rt: &R,
     alloc: Global,
@@ -89,7 +89,7 @@ fn the_backends_agree(rt: HostRuntime) {
     comes_to(&rt, rt.alloc(), &[], (CHECKED, "", 0));
 }
 
-/// What a run with bad arguments comes to.
+/// The result of a run with bad arguments.
 const REFUSED: (&str, &str, u8) = ("", "papaya-bench: bad arguments\n", 2);
 
 #[test]
@@ -122,7 +122,7 @@ fn is<A: Abort, T: PartialEq + Debug + Drop>(rt: &A, found: T, wanted: T) {
     assert_eq!(rt; found, wanted);
 }
 
-/// Asserts that a part of a line is as wanted: a number where that is #.
+/// Asserts that a part of a line is as wanted: a number if that is #.
 fn is_part<A: Abort>(rt: &A, found: &str, wanted: &str) -> Result<(), Fail> {
     if wanted == "#" {
         let _number = found.parse::<u64>()?;
@@ -153,7 +153,7 @@ fn are_lines<A: Abort>(rt: &A, printed: &[u8], wanted: &[&str]) -> Result<(), Fa
     Ok(())
 }
 
-/// The number that stands at this place of a line, both counted from 0.
+/// Returns the number at this place of a line, both counted from 0.
 fn number(printed: &[u8], line: usize, place: usize) -> Result<u64, Fail> {
     let text = std::str::from_utf8(printed)?
         .lines()
@@ -163,7 +163,7 @@ fn number(printed: &[u8], line: usize, place: usize) -> Result<u64, Fail> {
     Ok(part.parse::<u64>()?)
 }
 
-/// Asserts that of these places of a line none has a greater number than the next.
+/// Asserts that the numbers at these places of a line never decrease.
 fn rises<A: Abort>(rt: &A, printed: &[u8], line: usize, places: &[usize]) -> Result<(), Fail> {
     let mut least = 0;
     for place in places {
@@ -195,8 +195,8 @@ fn prints_lines<R: Clock + Threads + Wait + Sync + Abort>(
     are_lines(rt, printed.as_slice(), lines)
 }
 
-/// The lines of 24 steps: a name, these steps, a time, and a sum. Each of 8 values in 3 rounds sums to
-/// 84. Of a set each yes counts 1, and of the loop alone the keys that belong to 84.
+/// The lines of 24 steps: a name, these steps, a time, and a sum. Each of 8 values in 3 rounds sums
+/// to 84. In a set each key found counts 1, and in the loop alone the keys that belong to 84.
 const GETS: [&str; 15] = [
     "get-hit/loop/8 24 # 318140993604",
     "get-hit/seq/8 24 # 84",
@@ -228,8 +228,8 @@ fn lines_of_time(rt: HostRuntime) -> Result<(), Fail> {
     prints_lines(&rt, rt.alloc(), Workload::Enter, &ENTRIES)
 }
 
-/// Asserts that a growth prints a line of these parts: a name, 40 keys, two times of which the second
-/// is that of one insertion, and 64 slots.
+/// Asserts that a growth prints a line of these parts: a name, 40 keys, two times of which the
+/// second is that of one insertion, and 64 slots.
 fn prints_growth<R: Clock + Wait + Abort>(
     rt: &R,
     alloc: Global,
@@ -257,8 +257,8 @@ fn lines_of_growth(rt: HostRuntime) -> Result<(), Fail> {
     Ok(())
 }
 
-/// The lines of insertions by one thread and by several: a name, 40 keys, the time of all, and of
-/// single ones the greatest and three percentiles. And one of gets.
+/// The lines of insertions by one thread and by several, and one of gets. Each has a name, 40 keys,
+/// the time of all insertions, and of single ones the longest and three percentiles.
 const SHARED_GROWTH: [&str; 3] = [
     "grow-blocking/shared/40 40 # # # # #",
     "grow-blocking/threads/40 40 # # # # #",
@@ -273,13 +273,13 @@ fn lines_of_shared_growth(rt: HostRuntime) -> Result<(), Fail> {
     is(&rt, timed.is_ok(), true);
     are_lines(&rt, printed.as_slice(), &SHARED_GROWTH)?;
     for line in 0..2 {
-        // Of 40 times the 40th stands at p99 and at p99.9, and is the greatest.
+        // The 40th of 40 times is at p99 and at p99.9, and is the longest.
         rises(&rt, printed.as_slice(), line, &[4, 5, 6, 3, 6, 5])?;
     }
     Ok(())
 }
 
-/// The lines of maps that are filled: a name, how many pairs were stored, and a time.
+/// The lines of maps that are filled: a name, how many entries were stored, and a time.
 const FILLING: [&str; 7] = [
     "from-empty/seq/40 40 #",
     "from-empty/shared/40 40 #",
@@ -301,7 +301,7 @@ fn lines_of_filling(rt: HostRuntime) -> Result<(), Fail> {
     are_lines(&rt, printed.as_slice(), &FILLING)
 }
 
-/// The same of maps that are filled in rounds, and then reclaimed.
+/// The lines of maps that are filled in rounds, and then reclaimed.
 const RECLAIMING: [&str; 4] = [
     "fill/seq/40 120 #",
     "reclaim/seq/40 40 #",
@@ -320,8 +320,8 @@ fn lines_of_reclaiming(rt: HostRuntime) -> Result<(), Fail> {
     are_lines(&rt, printed.as_slice(), &RECLAIMING)
 }
 
-/// Asserts that a soak of 40 keys prints these lines, in which the bytes at the end are not more than
-/// those at most.
+/// Asserts that a soak of 40 keys prints these lines, in which the bytes at the end are not more
+/// than those at most.
 fn prints_soak<R: Clock + Files + Threads + Wait + Sync + Abort>(
     rt: &R,
     alloc: Global,
@@ -342,8 +342,8 @@ fn prints_soak<R: Clock + Files + Threads + Wait + Sync + Abort>(
     Ok(())
 }
 
-/// The lines of soaks: a name, 1000 operations, a time, bytes at most and at the end, how often the
-/// map was reclaimed, and two times. So few operations store too few pairs for a reclaim.
+/// The lines of soaks: a name, 1000 operations, a time, bytes at most and at the end, the number of
+/// reclaims, and two times. These operations store too few entries for a reclaim.
 const MIXED: [&str; 3] = [
     "soak-mixed/enter/40 1000 # # # 0 # #",
     "soak-mixed/refresh/40 1000 # # # 0 # #",
@@ -381,7 +381,7 @@ fn fails_after<R: Clock + Files + Threads + Wait + Sync + Abort>(
 
 #[test]
 fn faults_of_the_output(rt: HostRuntime) {
-    // The first write fails, one in the middle of a line, and one of the last line.
+    // Fails at the first write, at one in the middle of a line, and at one of the last line.
     for room in [0, 20, CHECKED.len() - 1] {
         fails_after(&rt, rt.alloc(), &CHECKED[..room]);
     }

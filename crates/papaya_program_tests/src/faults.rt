@@ -7,13 +7,13 @@ use std::test::Fail;
 /// A schedule, which prints three lines.
 const FIRST: &[u8] = b"begin 0 i 1 10\nbegin 1 g 1\nfinish 1\nfinish 0\nbegin 1 g 1\nfinish 1\n";
 
-/// The backends that have their lines done one by one.
+/// The backends that perform their lines one by one.
 const BACKENDS: [&str; 2] = ["seq inc:64 id", "shared inc:64 id"];
 
 #[test]
 fn faults_of_the_input(rt: HostRuntime) -> Result<(), Fail> {
-    // What was printed stays. The line that the fault cuts off is not done, whatever it has said so
-    // far, and none behind a bad line is read.
+    // The printed text stays. The line that the fault cuts off is not performed, whatever it says
+    // so far, and no line behind a bad one is read.
     let cases = [
         Case::cut(b"", ""),
         Case::cut(b"i 1 10\ng 1\ng 1", "none\nsome 10\n"),
@@ -28,7 +28,7 @@ fn faults_of_the_input(rt: HostRuntime) -> Result<(), Fail> {
             expect_cut(&rt, rt.alloc(), args, case)?;
         }
     }
-    // A schedule is not run then, also behind a bad line.
+    // A schedule is not run then, even behind a bad line.
     let scripts: [&[u8]; 3] = [b"", FIRST, b"x\nbegin 0 g 1\nfin"];
     for script in scripts {
         expect_cut(&rt, rt.alloc(), "core inc:64 id", Case::cut(script, ""))?;
@@ -36,7 +36,7 @@ fn faults_of_the_input(rt: HostRuntime) -> Result<(), Fail> {
     Ok(())
 }
 
-/// Bad arguments are told before anything is read.
+/// Checks that bad arguments are reported before anything is read.
 #[test]
 fn bad_arguments_read_nothing(rt: HostRuntime) -> Result<(), Fail> {
     let mut source = Source {
@@ -53,7 +53,7 @@ fn bad_arguments_read_nothing(rt: HostRuntime) -> Result<(), Fail> {
 
 #[test]
 fn faults_of_the_output(rt: HostRuntime) -> Result<(), Fail> {
-    // The first write fails, one in the middle of a line, and one of a later line.
+    // Fails at the first write, at one in the middle of a line, and at one of a later line.
     for args in BACKENDS {
         for kept in ["", "no", "none\nsome "] {
             expect_full(&rt, rt.alloc(), args, b"i 1 10\ng 1\nx\n", kept)?;

@@ -1,5 +1,6 @@
-//! Tests of the programs. `papaya-run` on readers and writers that fail, of which no clause says all;
-//! what it prints stands in the runs of the repository's shell tests. And `papaya-bench`.
+//! Tests of the programs: of `papaya-run` on readers and writers that fail, which clauses do not
+//! cover in full, and of `papaya-bench`. The repository's shell tests have what `papaya-run`
+//! prints.
 #![tactic(auto)]
 
 #[cfg(test)]

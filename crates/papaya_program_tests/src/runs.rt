@@ -1,4 +1,4 @@
-// Runs of `papaya-run` on texts, and what they must print.
+// Runs of `papaya-run` on texts, and the expected output.
 use papaya_backends::run::run_on;
 use papaya_shell::fakes::{Sink, Source, words};
 use std::alloc::Global;
@@ -16,7 +16,7 @@ pub(crate) struct Case<'a> {
 }
 
 impl<'a> Case<'a> {
-    /// A run that ends at a bad line.
+    /// Returns a run that ends at a bad line.
     pub(crate) fn bad(script: &'a [u8], output: &'a str, errors: &'a str) -> Case<'a> {
         Case {
             script,
@@ -26,7 +26,7 @@ impl<'a> Case<'a> {
         }
     }
 
-    /// A run whose input fails.
+    /// Returns a run whose input fails.
     pub(crate) fn cut(script: &'a [u8], output: &'a str) -> Case<'a> {
         Case {
             script,
@@ -51,7 +51,7 @@ pub(crate) fn has_ended<A: Abort>(rt: &A, found: u8, wanted: u8, script: &[u8]) 
     assert_eq!(rt; found, wanted, "in {script:?}");
 }
 
-/// Asserts what a run with these arguments does whose reader fails at its end.
+/// Asserts what a run with these arguments does if its reader fails at its end.
 pub(crate) fn expect_cut<A: Abort + Wait>(
     rt: &A,
     alloc: Global,
@@ -80,7 +80,7 @@ pub(crate) fn expect_cut<A: Abort + Wait>(
     Ok(())
 }
 
-/// Asserts that a run fails whose writer has room for these bytes alone.
+/// Asserts that a run fails if its writer has room for these bytes only.
 pub(crate) fn expect_full<A: Abort + Wait>(
     rt: &A,
     alloc: Global,

@@ -1,8 +1,8 @@
 //! Maps and sets that give back memory while threads go on.
 //!
-//! A map keeps each entry that was replaced or removed until it is reclaimed, and to reclaim it takes
-//! `&mut`. [`reclaiming::Reclaiming`] lends a map to any number of threads, and reclaims it as soon as
-//! each of them has come back once.
+//! A map keeps each entry that was replaced or removed until it is reclaimed, and reclaiming takes
+//! `&mut`. [`reclaiming::Reclaiming`] lends a map to any number of threads, and reclaims it as soon
+//! as each of them has come back once.
 //!
 //! ```
 //! let users: ReclaimingMap<u64, u64> = Reclaiming::new(alloc, HashMap::new(rt, alloc)?)?;

@@ -1,4 +1,4 @@
-//! What can be reclaimed.
+//! Collections that can be reclaimed.
 ghost use Rattle.std.specs.Prelude.{◌≡◌, IfErr, IfOk};
 ghost use Rattle.papaya_map.specs.Fixed.{HasFirstTable, HasSettingsOf};
 
@@ -8,19 +8,19 @@ use papaya_words::probe::Refused;
 use std::hash::{BuildHasher, Hash};
 use std::sync::Wait;
 
-/// A collection that holds more than its entries, and can be built again from clones of these.
+/// A collection that holds more than its entries, and can be rebuilt from clones of these.
 pub trait Reclaim {
     // The second has the settings of the first, a clone of its hasher, and a first table for them.
     ghost keeps: { Self → Self → Type 0 };
 
-    /// Returns how many entries were counted.
+    /// Returns the number of entries counted.
     fn entries(&self) -> usize;
 
-    /// Returns how many entries its arena holds, those that were replaced or removed included.
+    /// Returns the number of entries in its arena, including those replaced or removed.
     fn stored(&self) -> usize;
 
-    /// Builds the collection again from clones of its entries, and frees all else. On an error it
-    /// is as it was.
+    /// Rebuilds the collection from clones of its entries, and frees all else. If it fails, the
+    /// collection is as it was.
     fn reclaim<R: Wait>(&mut self, rt: &R) -> Result<(), Refused>
         ensures ok { IfOk result (λ _. keeps self.old self.new) }
         ensures err { IfErr result (λ _. self.new ≡ self.old) };

@@ -1,4 +1,4 @@
-//! A map or set that threads enter and leave, and that is reclaimed between.
+//! A map or set that threads enter and leave, and that is reclaimed in between.
 ghost use Rattle.std.specs.Prelude.{◌≡◌, IfErr};
 
 use crate::reclaim::Reclaim;
@@ -19,21 +19,20 @@ pub type ReclaimingMap<K, V, S = BuildHasherDefault<FoldHasher>> = Reclaiming<Ha
 /// A set that threads share for months: a [`Reclaiming`] of a set.
 pub type ReclaimingSet<K, S = BuildHasherDefault<FoldHasher>> = Reclaiming<HashSet<K, S>>;
 
-/// [`Handle::reclaim_if`] reclaims nothing while no more entries than these are stored, so that a
-/// map of few entries is not built again all the time. For two numbers they take 192 KiB.
+/// The number of stored entries up to which [`Handle::reclaim_if`] reclaims nothing, so that a map
+/// of few entries is not rebuilt all the time. Entries of two numbers take 192 KiB then.
 pub const LEAST_STORED: usize = 8192;
 
-/// A map or set that gives back memory while threads go on. 0.2.5 frees what was replaced by a
-/// collector, which runs beside the calls; here a thread asks for it, by [`Handle::reclaim`] or
+/// A map or set that gives back memory while threads go on. In 0.2.5 a collector frees replaced
+/// entries beside the calls; here a thread requests it, by [`Handle::reclaim`] or
 /// [`Handle::reclaim_if`].
 ///
-/// Each thread makes a [`Handle`], and enters by it for one call or for many. Nobody who enters
-/// waits for another one who did. Whoever reclaims waits until each guard that is out has come
-/// back once, and holds new ones off until it is done. That pause is as long as it takes to copy
-/// the entries.
+/// Each thread makes a [`Handle`], and enters by it for one call or for many. Threads that enter
+/// never wait for each other. A thread that reclaims waits until each current guard has come back
+/// once, and holds new ones off until it is done. The pause lasts as long as copying the entries.
 ///
-/// It is a lock of the kit's, in eight places on cache lines of their own: entering writes to one
-/// of them, and reclaiming takes all eight.
+/// It is one of the kit's locks, in eight places on cache lines of their own: entering writes to
+/// one of them, and reclaiming takes all eight.
 #[derive(Drop)]
 pub struct Reclaiming<M> {
     lock: ShardedLock<M>,
@@ -42,8 +41,8 @@ pub struct Reclaiming<M> {
 }
 
 impl<M: Reclaim + Drop> Reclaiming<M> {
-    /// Takes a map or set that was made as ever, with all its settings: hasher, resize mode,
-    /// capacity, shards and limit stay whenever it is reclaimed.
+    /// Takes a map or set that was made in the usual way. All its settings stay whenever it is
+    /// reclaimed: hasher, resize mode, capacity, shards and limit.
     ///
     /// # Errors
     /// `Refused::Memory` if there is no memory for the lock; the map is dropped then.
@@ -60,7 +59,7 @@ impl<M: Reclaim + Drop> Reclaiming<M> {
         })
     }
 
-    /// Returns a thread's way to the map. Each thread makes one, once: handles take the eight
+    /// Returns a thread's handle to the map. Each thread makes one, once: handles take the eight
     /// places of the lock in turn, so that up to eight threads write to cache lines of their own.
     pub fn handle(&self) -> Handle<'_, M> {
         Handle {
@@ -69,8 +68,8 @@ impl<M: Reclaim + Drop> Reclaiming<M> {
         }
     }
 
-    /// Waits until no guard is out, and keeps new ones off for as long as the guard is kept that it
-    /// returns.
+    /// Waits until there are no guards, and returns a guard that keeps new ones off while it is
+    /// kept.
     fn alone<R: Wait>(&self, rt: &R) -> ShardedLockWriteGuard<'_, M> {
         let waiting: &AtomicU64 = &self.waiting;
         waiting.fetch_add(1, Ordering::SeqCst);
@@ -79,9 +78,9 @@ impl<M: Reclaim + Drop> Reclaiming<M> {
         map
     }
 
-    /// Returns the map or set itself, when no thread has a handle any more. `None` is there for the
-    /// kit's lock, which returns it if a writer's guard was forgotten; no guard of a writer leaves
-    /// this module, and none is forgotten here.
+    /// Returns the map or set itself, once no thread has a handle. It returns `None` only if a
+    /// writer's guard of the kit's lock was forgotten; no such guard leaves this module, and none
+    /// is forgotten here.
     pub fn into_inner(self) -> Option<M> {
         let Self {
             lock,
@@ -92,9 +91,9 @@ impl<M: Reclaim + Drop> Reclaiming<M> {
     }
 }
 
-/// One thread's way to a map or set that is reclaimed. While it has a guard out it can neither
-/// enter again nor reclaim, which the borrow checker sees to. A thread that has two handles could
-/// wait for itself, so make one a thread.
+/// One thread's access to a map or set that is reclaimed. While it has a guard it can neither enter
+/// again nor reclaim, which the borrow checker ensures. A thread with two handles could wait for
+/// itself, so make one per thread.
 #[derive(Drop)]
 pub struct Handle<'a, M> {
     shared: &'a Reclaiming<M>,
@@ -102,12 +101,12 @@ pub struct Handle<'a, M> {
 }
 
 impl<'a, M: Reclaim + Drop> Handle<'a, M> {
-    /// Enters the map: the guard lends it, for as many calls as the guard is kept for. Waits while
-    /// another thread reclaims the map, and while one waits to do so.
+    /// Enters the map: the guard lends it for any number of calls, while the guard is kept. Waits
+    /// while another thread reclaims the map or waits to do so.
     ///
-    /// A thread that keeps a guard for long calls [`Entered::refresh`] from time to time. As long
-    /// as it does not, the map cannot be reclaimed, and threads that want to enter may wait for
-    /// whoever waits to reclaim it.
+    /// A thread that keeps a guard for long calls [`Entered::refresh`] from time to time. Until it
+    /// does, the map cannot be reclaimed, and threads that want to enter may wait for one that
+    /// waits to reclaim it.
     #[inline(always)]
     pub fn enter<R: Wait>(&mut self, rt: &R) -> Entered<'_, M> {
         Entered {
@@ -117,9 +116,9 @@ impl<'a, M: Reclaim + Drop> Handle<'a, M> {
         }
     }
 
-    /// Reclaims the map: waits until each guard that is out has come back once, copies the entries
-    /// into a new map, and frees all that the old one held. Threads that come and go all the time
-    /// cannot hold it off; one that never comes back does.
+    /// Reclaims the map: waits until each current guard has come back once, copies the entries into
+    /// a new map, and frees all that the old one held. Threads that come and go all the time cannot
+    /// hold it off; a thread that never comes back does.
     ///
     /// # Errors
     /// As `reclaim` of the map itself: `Refused::Memory` if there is no memory for both maps, or an
@@ -128,8 +127,8 @@ impl<'a, M: Reclaim + Drop> Handle<'a, M> {
         self.shared.alone(rt).reclaim(rt)
     }
 
-    /// Reclaims the map if no guard is out, and else returns `false` at once: for a thread that must
-    /// not wait, or that may have another handle's guard.
+    /// Reclaims the map if there are no guards, and otherwise returns `false` at once. It is for a
+    /// thread that must not wait, or that may have another handle's guard.
     ///
     /// # Errors
     /// As [`Handle::reclaim`].
@@ -144,12 +143,12 @@ impl<'a, M: Reclaim + Drop> Handle<'a, M> {
     }
 
     /// Reclaims the map if it stores more than `share` times its entries, and more than
-    /// [`LEAST_STORED`]. With a share of 2 it does so as soon as more than half of what is stored
-    /// was replaced or removed, and so copies an entry for each replacement; with a share of 4 it
-    /// copies one for three. Returns whether this thread reclaimed it: where several find it due,
-    /// one does.
+    /// [`LEAST_STORED`]. With a share of 2 it does so once more than half of the stored entries
+    /// were replaced or removed, and so copies an entry for each replacement. With a share of 4 it
+    /// copies one for three. Returns whether this thread reclaimed it: if several find it due, one
+    /// does.
     ///
-    /// It costs some hundred instructions where nothing is due, so call it once in some thousand
+    /// It costs a few hundred instructions if nothing is due, so call it once in some thousand
     /// changes, or from time to time.
     ///
     /// # Errors
@@ -167,14 +166,14 @@ impl<'a, M: Reclaim + Drop> Handle<'a, M> {
     }
 }
 
-/// Does the map store more than `share` times its entries?
+/// Returns whether the map stores more than `share` times its entries.
 fn is_due<M: Reclaim>(map: &M, share: usize) -> bool {
     let stored = map.stored();
     stored > LEAST_STORED && stored > map.entries().saturating_mul(share)
 }
 
 /// A map or set that a thread has entered. It derefs to the map, so `entered.pin()` and
-/// `Session::new(&entered)` work as ever, and no session, pinned map or reference to an entry
+/// `Session::new(&entered)` work as usual, and no session, pinned map or reference to an entry
 /// outlives it.
 #[derive(Drop)]
 pub struct Entered<'a, M> {
@@ -195,9 +194,9 @@ impl<'a, M> Deref for Entered<'a, M> {
 }
 
 impl<'a, M: Reclaim + Drop> Entered<'a, M> {
-    /// Leaves the map and enters it again if a thread waits to reclaim it, and else does nothing:
-    /// for a thread that stays in, between two requests. It costs one load of a word that seldom
-    /// changes.
+    /// Leaves the map and enters it again if a thread waits to reclaim it, and otherwise does
+    /// nothing. It is for a thread that stays in, between two requests. It costs one load of a word
+    /// that seldom changes.
     #[inline(always)]
     pub fn refresh<R: Wait>(self, rt: &R) -> Entered<'a, M> {
         let waiting: &AtomicU64 = &self.shared.waiting;

@@ -1,4 +1,4 @@
-//! The builder of a set, which asks for its parts one by one.
+//! The builder of a set, with a method for each setting.
 ghost use Rattle.std.specs.Prelude.{◌≡◌, [], IfErr, IfOk, None, Some};
 ghost use Rattle.std.specs.Arc.{arc_value};
 ghost use Rattle.papaya_words.specs.declared.limits.TheConstants.{DEFAULT_CHUNK, DEFAULT_SHARDS};
@@ -21,8 +21,8 @@ use std::hash::{BuildHasher, BuildHasherDefault, FoldHasher, Hash};
 use std::marker::{Model, PhantomData};
 use std::sync::{Arc, Wait};
 
-/// What a set is to be made of: `HashSetBuilder` of 0.2.5. Contracts see each part that was asked
-/// for. What cannot be had is refused when the set is built.
+/// The settings of a set that is to be built: `HashSetBuilder` of 0.2.5. Contracts observe each
+/// setting. A setting that is out of range is refused when the set is built.
 #[derive(Drop)]
 pub struct HashSetBuilder<K, S = BuildHasherDefault<FoldHasher>> {
     hasher: S,
@@ -50,9 +50,9 @@ impl<K, S> Model for HashSetBuilder<K, S> {
 }
 
 impl<K: Hash + Eq> HashSet<K, BuildHasherDefault<FoldHasher>> {
-    /// A builder of a set for no keys, which resizes as [`ResizeMode::default`] says, counts its
-    /// keys over [`DEFAULT_SHARDS`] shards, has no limit on the keys that it logs, and has a
-    /// collector of number 0: `builder` of 0.2.5.
+    /// Returns a builder with the default settings: `builder` of 0.2.5. The set has no initial
+    /// capacity, resizes by [`ResizeMode::default`] and counts over [`DEFAULT_SHARDS`] shards. It
+    /// has no limit on stored keys, and its collector has number 0.
     pub fn builder() -> HashSetBuilder<K, BuildHasherDefault<FoldHasher>>
         ensures collector { result.collector ≡ 0 }
         ensures capacity { result.capacity ≡ 0 }
@@ -73,7 +73,7 @@ impl<K: Hash + Eq> HashSet<K, BuildHasherDefault<FoldHasher>> {
 }
 
 impl<K, S: Drop> HashSetBuilder<K, S> {
-    /// Asks for this hasher: `hasher` of 0.2.5.
+    /// Sets the hasher: `hasher` of 0.2.5.
     pub fn hasher<T>(self, hasher: T) -> HashSetBuilder<K, T>
         ensures { result ≡ record {
           hasher = hasher;
@@ -106,7 +106,7 @@ impl<K, S: Drop> HashSetBuilder<K, S> {
 }
 
 impl<K, S> HashSetBuilder<K, S> {
-    /// Asks for this collector: `collector` of 0.2.5. Guards of its number are the set's.
+    /// Sets the collector: `collector` of 0.2.5. The set accepts guards of that collector's number.
     pub fn collector(self, collector: Collector) -> HashSetBuilder<K, S>
         ensures { result ≡ record {
           hasher = self.hasher;
@@ -120,8 +120,8 @@ impl<K, S> HashSetBuilder<K, S> {
         HashSetBuilder { collector, ..self }
     }
 
-    /// Asks for a collector that other sets and maps may have too: `shared_collector` of 0.2.5. The
-    /// set keeps its number, as a map does by
+    /// Sets a collector that other sets and maps may have too: `shared_collector` of 0.2.5. The set
+    /// keeps its number, as a map does by
     /// [`papaya_map::builder::HashMapBuilder::shared_collector`].
     pub fn shared_collector(self, collector: Arc<Collector>) -> HashSetBuilder<K, S>
         ensures { result ≡ record {
@@ -137,7 +137,7 @@ impl<K, S> HashSetBuilder<K, S> {
         self.collector(Collector::new(number))
     }
 
-    /// Asks for a first table for so many keys: `capacity` of 0.2.5.
+    /// Sets the number of keys that the first table has room for: `capacity` of 0.2.5.
     pub fn capacity(self, capacity: usize) -> HashSetBuilder<K, S>
         ensures { result ≡ record {
           hasher = self.hasher;
@@ -151,7 +151,7 @@ impl<K, S> HashSetBuilder<K, S> {
         HashSetBuilder { capacity, ..self }
     }
 
-    /// Asks for this way to resize: `resize_mode` of 0.2.5.
+    /// Sets how the set resizes: `resize_mode` of 0.2.5.
     pub fn resize_mode(self, mode: ResizeMode) -> HashSetBuilder<K, S>
         ensures { result ≡ record {
           hasher = self.hasher;
@@ -165,8 +165,8 @@ impl<K, S> HashSetBuilder<K, S> {
         HashSetBuilder { mode, ..self }
     }
 
-    /// Asks for so many shards of the count, which are rounded up to a power of two. 0.2.5 takes
-    /// their number from the machine's processors.
+    /// Sets the number of shards of the count, which is rounded up to a power of two. 0.2.5 derives
+    /// it from the number of processors.
     pub fn shards(self, shards: usize) -> HashSetBuilder<K, S>
         ensures { result ≡ record {
           hasher = self.hasher;
@@ -180,9 +180,9 @@ impl<K, S> HashSetBuilder<K, S> {
         HashSetBuilder { shards, ..self }
     }
 
-    /// Asks for a limit on the keys that the set logs, as
-    /// [`papaya_map::builder::HashMapBuilder::pair_limit`] does for a map: one that was removed
-    /// counts until `reclaim`, and so does one that was inserted where an equal one was stored.
+    /// Limits how many keys the set may store, as
+    /// [`papaya_map::builder::HashMapBuilder::pair_limit`] does for a map. A removed key counts
+    /// until `reclaim`, and so does one that was inserted while an equal one was stored.
     pub fn pair_limit(self, keys: u64) -> HashSetBuilder<K, S>
         ensures { result ≡ record {
           hasher = self.hasher;
@@ -200,7 +200,7 @@ impl<K, S> HashSetBuilder<K, S> {
     }
 }
 
-/// Asks a map's builder that was asked for no limit for this one, if there is one.
+/// Sets this limit, if there is one, in a map's builder that has none.
 fn limited<K, S>(builder: HashMapBuilder<K, (), S>, limit: Option<u64>) -> HashMapBuilder<K, (), S>
     requires { builder.limit ≡ None }
     ensures { result ≡ record {
@@ -219,7 +219,10 @@ fn limited<K, S>(builder: HashMapBuilder<K, (), S>, limit: Option<u64>) -> HashM
 }
 
 impl<K: Hash + Eq + Drop, S: BuildHasher + Drop> HashSetBuilder<K, S> {
-    /// The set: `build` of 0.2.5. Refused as [`HashSet::with_parts`].
+    /// Builds the set: `build` of 0.2.5.
+    ///
+    /// # Errors
+    /// As [`HashSet::with_parts`].
     pub fn build<R: Wait>(self, rt: &R, alloc: Global) -> Result<HashSet<K, S>, Refused>
         ensures ok { IfOk result (λ set. IsAllowed self.mode self.capacity self.shards) }
         ensures made { IfOk result (IsFor self.mode self.capacity self.shards self.limit) }
@@ -246,8 +249,11 @@ impl<K: Hash + Eq + Drop, S: BuildHasher + Drop> HashSetBuilder<K, S> {
         Ok(HashSet { map })
     }
 
-    /// A set of the same parts for one caller, which has no need of a collector; 0.2.5 has none
-    /// such. Refused as [`seq::HashSet::with_parts`].
+    /// Builds a set of the same settings for one caller; it needs no collector. 0.2.5 has no such
+    /// set.
+    ///
+    /// # Errors
+    /// As [`seq::HashSet::with_parts`].
     pub fn build_seq(self, alloc: Global) -> Result<seq::HashSet<K, S>, Refused>
         ensures ok { IfOk result (λ set. IsAllowed self.mode self.capacity self.shards
             × IsNewLimited {A = Unit {0}} self.mode self.capacity self.shards self.hasher self.limit

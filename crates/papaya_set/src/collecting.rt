@@ -13,12 +13,13 @@ use std::alloc::Global;
 use std::hash::{BuildHasher, BuildHasherDefault, FoldHasher, Hash};
 
 impl<K: Hash + Eq + Drop, S: BuildHasher> HashSet<K, S> {
-    /// Stores keys in the order in which they come: what the trait `Extend` does in 0.2.5. Of
-    /// two equal keys the earlier one stays. No room is made ahead, so for no keys nothing is
-    /// done at all.
+    /// Inserts the keys of an iterator in its order: the trait `Extend` of 0.2.5. The earlier one
+    /// of two equal keys stays. No room is reserved ahead, so an empty iterator changes nothing at
+    /// all.
     ///
-    /// Refused as [`HashSet::insert`] is for a key. The keys before it are in the set then, and
-    /// those after it were not asked for.
+    /// # Errors
+    /// As [`HashSet::insert`] for a key. The keys before it are in the set then, and those after it
+    /// are not taken from the iterator.
     pub fn extend<U: IntoIterator<Item = K>>(&mut self, iter: U) -> Result<(), Refused>
     where
         U::IntoIter: Drop,
@@ -38,8 +39,10 @@ impl<K: Hash + Eq + Drop, S: BuildHasher> HashSet<K, S> {
 }
 
 impl<K: Hash + Eq + Copy + Drop, S: BuildHasher> HashSet<K, S> {
-    /// [`HashSet::extend`] by keys that are lent and copied: what the trait `Extend` of such keys
-    /// does in 0.2.5.
+    /// Inserts keys that are passed by reference and copied: `Extend<&K>` of 0.2.5.
+    ///
+    /// # Errors
+    /// As [`HashSet::extend`].
     pub fn extend_ref<'a, U: IntoIterator<Item = &'a K>>(&mut self, iter: U) -> Result<(), Refused>
     where
         K: 'a,
@@ -60,10 +63,11 @@ impl<K: Hash + Eq + Copy + Drop, S: BuildHasher> HashSet<K, S> {
 }
 
 impl<K: Hash + Eq + Drop, S: BuildHasher + Default + Drop> HashSet<K, S> {
-    /// A set of these keys: what the trait `FromIterator` makes in 0.2.5. Of two equal keys it has
-    /// the earlier one, and of no keys it has no table.
+    /// Creates a set of an iterator's keys: the trait `FromIterator` of 0.2.5. It has the earlier
+    /// one of two equal keys, and no table if there are no keys.
     ///
-    /// `Refused::Memory` where the set was not made; else refused as [`HashSet::extend`].
+    /// # Errors
+    /// `Refused::Memory` if the set is not made; otherwise as [`HashSet::extend`].
     pub fn from_iter<U: IntoIterator<Item = K>>(
         alloc: Global,
         iter: U,
@@ -89,11 +93,12 @@ impl<K: Hash + Eq + Drop, S: BuildHasher + Default + Drop> HashSet<K, S> {
 }
 
 impl<K: Hash + Eq + Drop> HashSet<K, BuildHasherDefault<FoldHasher>> {
-    /// A set of the keys of an array: what `From<[K; N]>` makes in 0.2.5. Of two equal keys it has
-    /// the earlier one.
+    /// Creates a set of an array's keys: `From<[K; N]>` of 0.2.5. It has the earlier one of two
+    /// equal keys.
     ///
-    /// `Refused::Memory` where the set was not made, or the array had no room in memory; else
-    /// refused as [`HashSet::extend`].
+    /// # Errors
+    /// `Refused::Memory` if there is no memory for the set or for the array; otherwise as
+    /// [`HashSet::extend`].
     pub fn from_array<const N: usize>(
         alloc: Global,
         keys: [K; N],

@@ -1,4 +1,4 @@
-//! Sets of clones, and sets that are compared.
+//! Sets of clones, and comparisons of sets.
 ghost use Rattle.std.specs.Prelude.{◌≡◌, ◌≢◌, ℕ, true, IfErr, IfOk, None, OnOk, length};
 ghost use Rattle.papaya_words.specs.Probe.{IsEntriesFor};
 ghost use Rattle.papaya_words.specs.declared.limits.TheConstants.{DEFAULT_CHUNK, DEFAULT_SHARDS};
@@ -17,8 +17,11 @@ use std::hash::{BuildHasher, Hash};
 use std::sync::Wait;
 
 impl<K: Hash + Eq + Clone + Drop, S: BuildHasher + Clone + Drop> seq::HashSet<K, S> {
-    /// A set of clones: what `Clone` makes in 0.2.5. It is made and refused as a map of clones by
-    /// [`papaya_seq::seq::HashMap::try_clone`]. A clone of a key has to be equal to it.
+    /// Returns a set of clones: the trait `Clone` of 0.2.5. A key's clone must be equal to it. It
+    /// works as [`papaya_seq::seq::HashMap::try_clone`] does for a map.
+    ///
+    /// # Errors
+    /// As [`papaya_seq::seq::HashMap::try_clone`].
     pub fn try_clone(&self, alloc: Global) -> Result<seq::HashSet<K, S>, Refused>
         requires { (k l : K) → K.is_clone k l → K.eq k l ≡ true }
         ensures clones { IfOk result (λ made. IsRebuilt K.eq K.is_clone (λ v w. w ≡ v) S.is_clone
@@ -37,10 +40,12 @@ impl<K: Hash + Eq + Clone + Drop, S: BuildHasher + Clone + Drop> seq::HashSet<K,
         }
     }
 
-    /// Builds the set anew from clones of its keys, and gives back the memory of all else that it
-    /// logged, as [`papaya_seq::seq::HashMap::reclaim`] does for a map. A clone of a key has to be
-    /// equal to it. Just the keys that are there count against a limit then, and it refuses nothing
-    /// here. Refused, the set is as it was.
+    /// Rebuilds the set from clones of its keys, and frees everything else that it stored, as
+    /// [`papaya_seq::seq::HashMap::reclaim`] does for a map. A key's clone must be equal to it.
+    /// Only the set's keys count against a limit then, so the call does not reach it.
+    ///
+    /// # Errors
+    /// As that `reclaim`; the set is as it was then.
     pub fn reclaim(&mut self) -> Result<(), Refused>
         requires { (k l : K) → K.is_clone k l → K.eq k l ≡ true }
         ensures clones { OnOk result (IsRebuilt K.eq K.is_clone (λ v w. w ≡ v) S.is_clone self.old
@@ -57,9 +62,11 @@ impl<K: Hash + Eq + Clone + Drop, S: BuildHasher + Clone + Drop> seq::HashSet<K,
 }
 
 impl<K: Hash + Eq, S: BuildHasher> HashSet<K, S> {
-    /// Have both sets the same keys? It is what `PartialEq` answers in 0.2.5. Where others change
-    /// one of the sets meanwhile, it may say either. Refused as
-    /// [`HashSetRef::iter`](crate::set::HashSetRef::iter) is.
+    /// Returns whether both sets have the same keys: `PartialEq` of 0.2.5. If another thread
+    /// changes one of the sets meanwhile, the result may be either.
+    ///
+    /// # Errors
+    /// As [`HashSetRef::iter`](crate::set::HashSetRef::iter).
     pub fn eq<R: Wait>(&self, rt: &R, other: &HashSet<K, S>) -> Result<bool, Refused>
         ensures { IfErr result IsMemoryOrCapacity }
     {
@@ -68,9 +75,12 @@ impl<K: Hash + Eq, S: BuildHasher> HashSet<K, S> {
 }
 
 impl<K: Hash + Eq + Clone + Drop, S: BuildHasher + Clone + Drop> HashSet<K, S> {
-    /// A set of clones of this one's keys: what the trait `Clone` makes in 0.2.5. It is made and
-    /// refused as a map of clones by [`papaya_map::map::HashMap::try_clone`]. A key that is stored
-    /// or removed meanwhile may be copied or not.
+    /// Returns a set of clones of this one's keys: the trait `Clone` of 0.2.5. A key that is stored
+    /// or removed meanwhile may be copied or not. It works as
+    /// [`papaya_map::map::HashMap::try_clone`] does for a map.
+    ///
+    /// # Errors
+    /// As [`papaya_map::map::HashMap::try_clone`].
     pub fn try_clone<R: Wait>(&self, rt: &R, alloc: Global) -> Result<HashSet<K, S>, Refused>
         ensures made { IfOk result (λ set. (keys : ℕ)
             × IsFor (ResizeMode.Incremental DEFAULT_CHUNK) keys DEFAULT_SHARDS None set) }
@@ -83,9 +93,12 @@ impl<K: Hash + Eq + Clone + Drop, S: BuildHasher + Clone + Drop> HashSet<K, S> {
         }
     }
 
-    /// Makes the set anew of clones of its keys, and gives back the memory of all that it had
-    /// before, as [`papaya_map::map::HashMap::reclaim`] does for a map. A pass or a session of
-    /// before is of no use after it. Refused, the set is as it was, and they go on.
+    /// Rebuilds the set from clones of its keys, and frees all that it had before, as
+    /// [`papaya_map::map::HashMap::reclaim`] does for a map. Earlier passes and sessions are of no
+    /// use afterwards.
+    ///
+    /// # Errors
+    /// As that `reclaim`; the set is as it was then, and passes and sessions continue.
     pub fn reclaim<R: Wait>(&mut self, rt: &R) -> Result<(), Refused>
         ensures ok { IfOk result (λ _. HasSettingsOf self.old self.new) }
         ensures hasher { IfOk result (λ _. S.is_clone self.old.begun.hasher

@@ -1,4 +1,4 @@
-//! Calls that put many keys into the set that threads share, one after the other.
+//! Calls that insert many keys into the set that threads share, one after the other.
 ghost use Rattle.std.specs.Prelude.{◌≡◌, IfErr, IfOk, None};
 ghost use Rattle.std.specs.Iterator.{IsFiniteIterable};
 ghost use Rattle.papaya_words.specs.declared.limits.TheConstants.{DEFAULT_CHUNK, DEFAULT_SHARDS};
@@ -13,12 +13,13 @@ use std::hash::{BuildHasher, BuildHasherDefault, FoldHasher, Hash};
 use std::sync::Wait;
 
 impl<K: Hash + Eq + Drop, S: BuildHasher> HashSet<K, S> {
-    /// Stores keys in the order in which they come: what the trait `Extend` does in 0.2.5. Of
-    /// two equal keys the earlier one stays. No room is made ahead, so for no keys nothing is
-    /// done at all.
+    /// Inserts the keys of an iterator in its order: the trait `Extend` of 0.2.5. The earlier one
+    /// of two equal keys stays. No room is reserved ahead, so an empty iterator changes nothing at
+    /// all.
     ///
-    /// Refused as [`HashSetRef::insert`](crate::set::HashSetRef::insert) is for a key. The keys
-    /// before it are in the set then, and those after it were not asked for.
+    /// # Errors
+    /// As [`HashSetRef::insert`](crate::set::HashSetRef::insert) for a key. The keys before it are
+    /// in the set then, and those after it are not taken from the iterator.
     pub fn extend<R: Wait, U: IntoIterator<Item = K>>(&self, rt: &R, iter: U) -> Result<(), Refused>
     where
         U::IntoIter: Drop,
@@ -37,8 +38,10 @@ impl<K: Hash + Eq + Drop, S: BuildHasher> HashSet<K, S> {
 }
 
 impl<K: Hash + Eq + Copy + Drop, S: BuildHasher> HashSet<K, S> {
-    /// [`HashSet::extend`] by keys that are lent and copied: what the trait `Extend` of such keys
-    /// does in 0.2.5.
+    /// Inserts keys that are passed by reference and copied: `Extend<&K>` of 0.2.5.
+    ///
+    /// # Errors
+    /// As [`HashSet::extend`].
     pub fn extend_ref<'a, R: Wait, U: IntoIterator<Item = &'a K>>(
         &self,
         rt: &R,
@@ -62,8 +65,11 @@ impl<K: Hash + Eq + Copy + Drop, S: BuildHasher> HashSet<K, S> {
 }
 
 impl<K: Hash + Eq + Drop, S: BuildHasher + Default + Drop> HashSet<K, S> {
-    /// A set of these keys: what the trait `FromIterator` makes in 0.2.5. Of two equal keys it has
-    /// the earlier one, and of no keys it has no table. Refused as [`HashSet::extend`].
+    /// Creates a set of an iterator's keys: the trait `FromIterator` of 0.2.5. It has the earlier
+    /// one of two equal keys, and no table if there are no keys.
+    ///
+    /// # Errors
+    /// As [`HashSet::extend`].
     pub fn from_iter<R: Wait, U: IntoIterator<Item = K>>(
         rt: &R,
         alloc: Global,
@@ -87,9 +93,11 @@ impl<K: Hash + Eq + Drop, S: BuildHasher + Default + Drop> HashSet<K, S> {
 }
 
 impl<K: Hash + Eq + Drop> HashSet<K, BuildHasherDefault<FoldHasher>> {
-    /// A set of the keys of an array: what `From<[K; N]>` makes in 0.2.5. Of two equal keys it
-    /// has the earlier one. `Refused::Memory` where the array had no room in memory; else refused
-    /// as [`HashSet::extend`].
+    /// Creates a set of an array's keys: `From<[K; N]>` of 0.2.5. It has the earlier one of two
+    /// equal keys.
+    ///
+    /// # Errors
+    /// `Refused::Memory` if there is no memory for the array, and as [`HashSet::extend`].
     pub fn from_array<R: Wait, const N: usize>(
         rt: &R,
         alloc: Global,

@@ -1,7 +1,7 @@
-//! The calls of a set that is not pinned, which take a guard. Each looks whether the guard is of
-//! the set's collector, and is then the call of that name of
-//! [`HashSetRef`](crate::set::HashSetRef), but that what it says begins with what had been seen
-//! when the set was made. With another guard it is refused, and changes nothing.
+//! The calls of a set with a guard. Each checks that the guard is of the set's collector, and then
+//! works as the call of that name of [`HashSetRef`](crate::set::HashSetRef). Its contract begins
+//! with the history observed up to the set's creation. With another guard it fails, and changes
+//! nothing.
 ghost use Rattle.std.specs.Prelude.{◌≡◌, [], true, Ok, Err, IfErr, IfOk, is_ok};
 ghost use Rattle.std.specs.Borrow.{sem};
 ghost use denote.Struct.Field.{unit-field};
@@ -28,22 +28,24 @@ use std::hash::{BuildHasher, Hash};
 use std::sync::Wait;
 
 impl<K: Hash + Eq, S: BuildHasher> HashSet<K, S> {
-    /// A guard of the set's collector: `guard` of 0.2.5.
+    /// Returns a guard of the set's collector: `guard` of 0.2.5.
     pub fn guard(&self) -> LocalGuard<'_>
         ensures { result.collector ≡ self.now.collector }
     {
         self.map.guard()
     }
 
-    /// A guard that may go to another thread: `owned_guard` of 0.2.5.
+    /// Returns a guard that may be sent to another thread: `owned_guard` of 0.2.5.
     pub fn owned_guard(&self) -> OwnedGuard<'_>
         ensures { result.collector ≡ self.now.collector }
     {
         self.map.owned_guard()
     }
 
-    /// Is the guard of the set's collector? `Refused::WrongGuard` where it is not. In 0.2.5 a call
-    /// with such a guard panics.
+    /// Checks that the guard is of the set's collector. In 0.2.5 a call with another guard panics.
+    ///
+    /// # Errors
+    /// `Refused::WrongGuard` if it is not.
     #[inline]
     pub fn verify<G: Guard>(&self, guard: &G) -> Result<(), Refused>
         ensures right { G.collector_number guard.now ≡ self.now.collector → result ≡ Ok tt }
@@ -53,7 +55,7 @@ impl<K: Hash + Eq, S: BuildHasher> HashSet<K, S> {
         self.map.verify(guard)
     }
 
-    /// A refusal, with what had been seen when the set was made.
+    /// Returns a refusal, with the history observed up to the set's creation.
     #[inline(always)]
     fn tell_refused<B>(&self, refused: Refused) -> Saying<Result<B, Refused>, K, (), S>
         ensures answer { result.answer ≡ Err refused }
@@ -65,7 +67,7 @@ impl<K: Hash + Eq, S: BuildHasher> HashSet<K, S> {
         pass.tell(Err(refused))
     }
 
-    /// The same, with what was seen.
+    /// Performs [`HashSet::contains`], and returns the observed history as well.
     #[inline(always)]
     fn contains_told<Q: Equivalent<K>, G: Guard>(
         &self,
@@ -90,8 +92,11 @@ impl<K: Hash + Eq, S: BuildHasher> HashSet<K, S> {
         pass.tell(Ok(found))
     }
 
-    /// Is the key in the set? `contains` of 0.2.5. It waits for nobody, and takes no lock and no
-    /// memory. `Refused::WrongGuard` alone.
+    /// Returns whether the key is in the set: `contains` of 0.2.5. It never waits, locks or
+    /// allocates.
+    ///
+    /// # Errors
+    /// `Refused::WrongGuard` if the guard is of another collector.
     #[inline]
     pub fn contains<Q: Equivalent<K>, G: Guard>(&self, key: &Q, guard: &G) -> Result<bool, Refused>
         ensures* own { sem 𝓛 (of_its_history (EventOf K.row unit-field.row S.row).coded.code
@@ -107,7 +112,7 @@ impl<K: Hash + Eq, S: BuildHasher> HashSet<K, S> {
         answer
     }
 
-    /// The same, with what was seen.
+    /// Performs [`HashSet::get`], and returns the observed history as well.
     #[inline(always)]
     fn get_told<'g, Q: Equivalent<K>, G: Guard>(
         &'g self,
@@ -134,8 +139,11 @@ impl<K: Hash + Eq, S: BuildHasher> HashSet<K, S> {
         }
     }
 
-    /// The stored key that is equal to this one: `get` of 0.2.5. As [`HashSet::contains`], it waits
-    /// for nobody. `Refused::WrongGuard` alone.
+    /// Returns the stored key that is equal to this one: `get` of 0.2.5. As [`HashSet::contains`],
+    /// it never waits.
+    ///
+    /// # Errors
+    /// `Refused::WrongGuard` if the guard is of another collector.
     #[inline]
     pub fn get<'g, Q: Equivalent<K>, G: Guard>(
         &'g self,
@@ -155,7 +163,7 @@ impl<K: Hash + Eq, S: BuildHasher> HashSet<K, S> {
         answer
     }
 
-    /// The same, with what was seen.
+    /// Performs [`HashSet::remove`], and returns the observed history as well.
     #[inline(always)]
     fn remove_told<R: Wait, Q: Equivalent<K>, G: Guard>(
         &self,
@@ -183,8 +191,10 @@ impl<K: Hash + Eq, S: BuildHasher> HashSet<K, S> {
         }
     }
 
-    /// Removes a key, and answers whether it was there: `remove` of 0.2.5. Refused for a wrong
-    /// guard, and as [`HashSetRef::remove`](crate::set::HashSetRef::remove).
+    /// Removes a key, and returns whether it was present: `remove` of 0.2.5.
+    ///
+    /// # Errors
+    /// `Refused::WrongGuard`, and as [`HashSetRef::remove`](crate::set::HashSetRef::remove).
     pub fn remove<R: Wait, Q: Equivalent<K>, G: Guard>(
         &self,
         rt: &R,
@@ -206,8 +216,10 @@ impl<K: Hash + Eq, S: BuildHasher> HashSet<K, S> {
         answer
     }
 
-    /// Makes room for so many keys more than the set counts: `reserve` of 0.2.5. Refused for a
-    /// wrong guard, and as [`HashSetRef::reserve`](crate::set::HashSetRef::reserve).
+    /// Reserves room for `additional` more keys than the set counts: `reserve` of 0.2.5.
+    ///
+    /// # Errors
+    /// `Refused::WrongGuard`, and as [`HashSetRef::reserve`](crate::set::HashSetRef::reserve).
     pub fn reserve<R: Wait, G: Guard>(
         &self,
         rt: &R,
@@ -222,7 +234,7 @@ impl<K: Hash + Eq, S: BuildHasher> HashSet<K, S> {
         self.map.reserve(rt, additional, guard)
     }
 
-    /// The same, with what was seen.
+    /// Performs [`HashSet::clear`], and returns the observed history as well.
     #[inline(always)]
     fn clear_told<R: Wait, G: Guard>(
         &self,
@@ -247,8 +259,10 @@ impl<K: Hash + Eq, S: BuildHasher> HashSet<K, S> {
         session.tell(answer)
     }
 
-    /// Removes the keys that the set has: `clear` of 0.2.5. Refused for a wrong guard, and
-    /// as [`HashSetRef::clear`](crate::set::HashSetRef::clear).
+    /// Removes all keys that the set has: `clear` of 0.2.5.
+    ///
+    /// # Errors
+    /// `Refused::WrongGuard`, and as [`HashSetRef::clear`](crate::set::HashSetRef::clear).
     pub fn clear<R: Wait, G: Guard>(&self, rt: &R, guard: &G) -> Result<(), Refused>
         ensures* own { sem 𝓛 (of_its_history (EventOf K.row unit-field.row S.row).coded.code
             (rule_of ⟦<Law<K, (), S> as Rule<Event<K, (), S>, Named<K, ()>>>⟧) (unpinned self.now)
@@ -262,7 +276,7 @@ impl<K: Hash + Eq, S: BuildHasher> HashSet<K, S> {
         answer
     }
 
-    /// The same, with what was seen.
+    /// Performs [`HashSet::retain`], and returns the observed history as well.
     #[inline(always)]
     fn retain_told<R: Wait, F: FnMut(&K) -> bool, G: Guard>(
         &self,
@@ -290,9 +304,10 @@ impl<K: Hash + Eq, S: BuildHasher> HashSet<K, S> {
         session.tell(answer)
     }
 
-    /// Removes the keys for which the closure, which is shown each, answers false: `retain` of
-    /// 0.2.5. Refused for a wrong guard, and as
-    /// [`HashSetRef::retain`](crate::set::HashSetRef::retain).
+    /// Removes the keys for which the closure returns `false`: `retain` of 0.2.5.
+    ///
+    /// # Errors
+    /// `Refused::WrongGuard`, and as [`HashSetRef::retain`](crate::set::HashSetRef::retain).
     pub fn retain<R: Wait, F: FnMut(&K) -> bool, G: Guard>(
         &self,
         rt: &R,
@@ -316,8 +331,10 @@ impl<K: Hash + Eq, S: BuildHasher> HashSet<K, S> {
         answer
     }
 
-    /// The keys of the set, one by one: `iter` of 0.2.5. Refused for a wrong guard, and
-    /// as [`HashSetRef::iter`](crate::set::HashSetRef::iter).
+    /// Returns an iterator over the keys: `iter` of 0.2.5.
+    ///
+    /// # Errors
+    /// `Refused::WrongGuard`, and as [`HashSetRef::iter`](crate::set::HashSetRef::iter).
     pub fn iter<'g, R: Wait, G: Guard>(
         &'g self,
         rt: &R,
@@ -334,7 +351,7 @@ impl<K: Hash + Eq, S: BuildHasher> HashSet<K, S> {
 }
 
 impl<K: Hash + Eq + Drop, S: BuildHasher> HashSet<K, S> {
-    /// The same, with what was seen.
+    /// Performs [`HashSet::insert`], and returns the observed history as well.
     #[inline(always)]
     fn insert_told<R: Wait, G: Guard>(
         &self,
@@ -362,9 +379,11 @@ impl<K: Hash + Eq + Drop, S: BuildHasher> HashSet<K, S> {
         }
     }
 
-    /// Stores a key, and answers whether it was absent: `insert` of 0.2.5. As its
-    /// text says, an equal key that is stored stays. Refused for a wrong guard, and
-    /// as [`HashSetRef::insert`](crate::set::HashSetRef::insert).
+    /// Inserts a key, and returns whether it was absent: `insert` of 0.2.5. As there, an equal key
+    /// that is stored stays.
+    ///
+    /// # Errors
+    /// `Refused::WrongGuard`, and as [`HashSetRef::insert`](crate::set::HashSetRef::insert).
     pub fn insert<R: Wait, G: Guard>(&self, rt: &R, key: K, guard: &G) -> Result<bool, Refused>
         ensures* own { sem 𝓛 (of_its_history (EventOf K.row unit-field.row S.row).coded.code
             (rule_of ⟦<Law<K, (), S> as Rule<Event<K, (), S>, Named<K, ()>>>⟧) (unpinned self.now)

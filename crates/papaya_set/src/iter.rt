@@ -1,4 +1,4 @@
-//! Walks of the set that threads share.
+//! Iterators over the set that threads share.
 ghost use Rattle.std.specs.Prelude.{◌≡◌};
 ghost use Rattle.std.specs.Iterator.{at_most};
 ghost use Rattle.papaya_scan.specs.Walked.{GivesKey};
@@ -7,8 +7,8 @@ use papaya_scan::walk::Keys;
 use std::hash::{BuildHasher, Hash};
 use std::marker::Model;
 
-/// The keys of a set, slot by slot of the root as it was taken: `set::Iter` of 0.2.5. Contracts see
-/// the history that was seen as the walk began, and the one that is seen by now.
+/// An iterator over a set's keys, slot by slot of the root as it was taken: `set::Iter` of 0.2.5.
+/// Contracts observe the history at its start, and the one observed so far.
 #[derive(Drop)]
 pub struct Iter<'a, K: Hash + Eq, S: BuildHasher> {
     pub(crate) keys: Keys<'a, K, (), S>,
@@ -23,7 +23,7 @@ impl<'a, K: Hash + Eq, S: BuildHasher> Model for Iter<'a, K, S> {
 }
 
 impl<'a, K: Hash + Eq, S: BuildHasher> Iter<'a, K, S> {
-    /// The walk of a set over the keys of its map.
+    /// Returns the iterator of a set over the keys of its map.
     pub(crate) fn of(keys: Keys<'a, K, (), S>) -> Iter<'a, K, S>
         ensures { result ≡ keys.entry.pairs }
     {
@@ -38,7 +38,7 @@ impl<'a, K: Hash + Eq, S: BuildHasher> Iterator for Iter<'a, K, S> {
 
     ghost remaining = { λ it. at_most it.left };
 
-    /// It loads words and nothing else: it waits for nobody, and takes no lock and no memory.
+    /// Returns the next key. It only loads words: it never waits, locks or allocates.
     #[inline(always)]
     fn next(&mut self) -> Option<&'a K> {
         self.keys.next()

@@ -1,8 +1,8 @@
 //! Sets: maps of keys to unit values.
 //!
-//! [`set`] has the set that threads share, [`pinned`] its calls, and [`guarded`] those that take a
-//! guard; [`builder`] asks for its parts one by one. [`seq`] is the set for one caller. Each call
-//! passes on to the map's.
+//! [`set`] has the set that threads share, [`pinned`] its calls, and [`guarded`] those with a
+//! guard; [`builder`] has its builder. [`seq`] is the set for one caller. Each call passes on to
+//! the map's.
 #![tactic(auto)]
 
 pub mod builder;

@@ -1,6 +1,6 @@
-//! The calls of a set that is pinned. Each makes a pass for itself, which has seen what had been
-//! seen when the set was pinned, and what it says is so of that very set's own history since. For
-//! calls whose histories go on from one to the next take [`HashSet::map`] and its calls by a pass.
+//! The calls of a pinned set. Each creates a pass that has observed the history up to the pin, and
+//! its result is of that very set's own history since. For calls whose histories continue from one
+//! to the next use [`HashSet::map`] and its calls by a pass.
 ghost use Rattle.std.specs.Prelude.{◌≡◌, [], IfErr, IfOk};
 ghost use Rattle.std.specs.Borrow.{sem};
 ghost use denote.Struct.Field.{unit-field};
@@ -27,29 +27,29 @@ use std::hash::{BuildHasher, Hash};
 use std::sync::Wait;
 
 impl<'a, K: Hash + Eq, S: BuildHasher> HashSetRef<'a, K, S> {
-    /// The set that was pinned: `set` of 0.2.5.
+    /// Returns the set that was pinned: `set` of 0.2.5.
     pub fn set(&self) -> &'a HashSet<K, S>
         ensures { result.now ≡ self.now.map }
     {
         self.set
     }
 
-    /// How many keys were counted. A change is counted a step after it was made.
+    /// Returns the number of keys counted. A change is counted one step after it is made.
     pub fn len(&self) -> usize {
         self.set.len()
     }
 
-    /// Were no keys counted?
+    /// Returns whether no keys are counted.
     pub fn is_empty(&self) -> bool {
         self.set.is_empty()
     }
 
-    /// Returns how many keys the arena holds, as [`HashSet::stored`] counts them.
+    /// Returns the number of keys in the arena, as [`HashSet::stored`] counts them.
     pub fn stored(&self) -> usize {
         self.set.stored()
     }
 
-    /// Returns how many slots the root table has, and 0 if there is none yet.
+    /// Returns the number of slots of the root table, or 0 if there is none yet.
     pub fn slots(&self) -> usize {
         self.keys.slots()
     }
@@ -59,7 +59,7 @@ impl<'a, K: Hash + Eq, S: BuildHasher> HashSetRef<'a, K, S> {
         self.keys.resizing()
     }
 
-    /// The same, with what was seen.
+    /// Performs [`HashSetRef::contains`], and returns the observed history as well.
     #[inline(always)]
     fn contains_told<Q: Equivalent<K>>(&self, key: &Q) -> Saying<bool, K, (), S>
         ensures book { result.book ≡ self.now.map.book }
@@ -73,8 +73,8 @@ impl<'a, K: Hash + Eq, S: BuildHasher> HashSetRef<'a, K, S> {
         pass.tell(answer)
     }
 
-    /// Is the key in the set? `contains` of 0.2.5. It waits for nobody, and takes no lock and
-    /// no memory.
+    /// Returns whether the key is in the set: `contains` of 0.2.5. It never waits, locks or
+    /// allocates.
     #[inline]
     pub fn contains<Q: Equivalent<K>>(&self, key: &Q) -> bool
         ensures* own { sem 𝓛 (of_its_history (EventOf K.row unit-field.row S.row).coded.code
@@ -86,7 +86,7 @@ impl<'a, K: Hash + Eq, S: BuildHasher> HashSetRef<'a, K, S> {
         answer
     }
 
-    /// The same, with what was seen.
+    /// Performs [`HashSetRef::get`], and returns the observed history as well.
     #[inline(always)]
     fn get_told<Q: Equivalent<K>>(&self, key: &Q) -> Saying<Option<&'a K>, K, (), S>
         ensures book { result.book ≡ self.now.map.book }
@@ -102,8 +102,8 @@ impl<'a, K: Hash + Eq, S: BuildHasher> HashSetRef<'a, K, S> {
         }
     }
 
-    /// The stored key that is equal to this one: `get` of 0.2.5. As [`HashSetRef::contains`], it
-    /// waits for nobody.
+    /// Returns the stored key that is equal to this one: `get` of 0.2.5. It never waits, as
+    /// [`HashSetRef::contains`].
     #[inline]
     pub fn get<Q: Equivalent<K>>(&self, key: &Q) -> Option<&'a K>
         ensures* own { sem 𝓛 (of_its_history (EventOf K.row unit-field.row S.row).coded.code
@@ -115,7 +115,7 @@ impl<'a, K: Hash + Eq, S: BuildHasher> HashSetRef<'a, K, S> {
         answer
     }
 
-    /// The same, with what was seen.
+    /// Performs [`HashSetRef::remove`], and returns the observed history as well.
     #[inline(always)]
     fn remove_told<R: Wait, Q: Equivalent<K>>(
         &self,
@@ -136,10 +136,11 @@ impl<'a, K: Hash + Eq, S: BuildHasher> HashSetRef<'a, K, S> {
         }
     }
 
-    /// Removes a key, and answers whether it was there: `remove` of 0.2.5.
+    /// Removes a key, and returns whether it was present: `remove` of 0.2.5.
     ///
-    /// A removal makes nothing for itself. But where it helps to copy the table it may be refused
-    /// as [`HashSetRef::insert`] is, and then it changes nothing.
+    /// # Errors
+    /// A removal allocates nothing for itself. If it helps to copy the table, it may fail with
+    /// `Refused::Memory` or `Capacity`, and then changes nothing.
     pub fn remove<R: Wait, Q: Equivalent<K>>(&self, rt: &R, key: &Q) -> Result<bool, Refused>
         ensures* own { sem 𝓛 (of_its_history (EventOf K.row unit-field.row S.row).coded.code
             (rule_of ⟦<Law<K, (), S> as Rule<Event<K, (), S>, Named<K, ()>>>⟧) self.now K.eq
@@ -151,18 +152,19 @@ impl<'a, K: Hash + Eq, S: BuildHasher> HashSetRef<'a, K, S> {
         answer
     }
 
-    /// Makes room for so many keys more than the set counts: `reserve` of 0.2.5. No key of the
-    /// set changes.
+    /// Reserves room for `additional` more keys than the set counts: `reserve` of 0.2.5. No key of
+    /// the set changes.
     ///
-    /// `Refused::Memory` where a growth was refused, and `Refused::Capacity` where there is no room
-    /// for such a table. 0.2.5 panics or aborts there.
+    /// # Errors
+    /// `Refused::Memory` if an allocation fails, and `Refused::Capacity` if there is no room for
+    /// such a table. 0.2.5 panics or aborts there.
     pub fn reserve<R: Wait>(&self, rt: &R, additional: usize) -> Result<(), Refused>
         ensures { IfErr result IsMemoryOrCapacity }
     {
         self.keys.reserve(rt, additional)
     }
 
-    /// The same, with what was seen.
+    /// Performs [`HashSetRef::clear`], and returns the observed history as well.
     #[inline(always)]
     fn clear_told<R: Wait>(&self, rt: &R) -> Saying<Result<(), Refused>, K, (), S>
         ensures book { result.book ≡ self.now.map.book }
@@ -177,8 +179,11 @@ impl<'a, K: Hash + Eq, S: BuildHasher> HashSetRef<'a, K, S> {
         session.tell(answer)
     }
 
-    /// Removes the keys that the set has: `clear` of 0.2.5. A key that is stored meanwhile may
-    /// stay. Refused as [`HashSetRef::retain`] is.
+    /// Removes all keys that the set has: `clear` of 0.2.5. A key that is stored meanwhile may
+    /// stay.
+    ///
+    /// # Errors
+    /// As [`HashSetRef::retain`].
     pub fn clear<R: Wait>(&self, rt: &R) -> Result<(), Refused>
         ensures* own { sem 𝓛 (of_its_history (EventOf K.row unit-field.row S.row).coded.code
             (rule_of ⟦<Law<K, (), S> as Rule<Event<K, (), S>, Named<K, ()>>>⟧) self.now K.eq
@@ -189,7 +194,7 @@ impl<'a, K: Hash + Eq, S: BuildHasher> HashSetRef<'a, K, S> {
         answer
     }
 
-    /// The same, with what was seen.
+    /// Performs [`HashSetRef::retain`], and returns the observed history as well.
     #[inline(always)]
     fn retain_told<R: Wait, F: FnMut(&K) -> bool>(
         &self,
@@ -209,13 +214,14 @@ impl<'a, K: Hash + Eq, S: BuildHasher> HashSetRef<'a, K, S> {
         session.tell(answer)
     }
 
-    /// Removes the keys for which the closure, which is shown each, answers false: `retain` of
-    /// 0.2.5. The closure is shown a key again where another call replaced it meanwhile, or where
-    /// all is copied.
+    /// Removes the keys for which the closure returns `false`: `retain` of 0.2.5. The closure is
+    /// called for each key. It is called for a key again if another call replaced it meanwhile, or
+    /// if everything is copied.
     ///
-    /// Where it meets a copier's work it copies what is left to copy, and may be refused a table
-    /// then: `Refused::Memory` where a growth was refused, and `Refused::Capacity` where there is
-    /// no room. What was removed stays so.
+    /// # Errors
+    /// If the call meets a copy under way, it copies what is left to copy, and may need a table.
+    /// Then it fails with `Refused::Memory` if an allocation fails, and with `Refused::Capacity` if
+    /// there is no room. Removed keys stay removed.
     pub fn retain<R: Wait, F: FnMut(&K) -> bool>(&self, rt: &R, stays: F) -> Result<(), Refused>
         requires { F.IsAlwaysCallable stays }
         ensures* own { sem 𝓛 (of_its_history (EventOf K.row unit-field.row S.row).coded.code
@@ -230,11 +236,14 @@ impl<'a, K: Hash + Eq, S: BuildHasher> HashSetRef<'a, K, S> {
         answer
     }
 
-    /// The keys of the set, one by one: `iter` of 0.2.5. A key that is stored or removed meanwhile
-    /// may be given or not.
+    /// Returns an iterator over the keys: `iter` of 0.2.5. A key that is stored or removed
+    /// meanwhile may be returned or not.
     ///
-    /// With `Blocking` it takes the root as it is. Else it copies first what is left to copy, and
-    /// may be refused as [`HashSetRef::retain`] is.
+    /// With `ResizeMode::Blocking` the iterator takes the root as it is. Otherwise the call first
+    /// copies what is left to copy.
+    ///
+    /// # Errors
+    /// `Refused::Memory` or `Capacity`, as [`HashSetRef::retain`], if that copy needs a table.
     pub fn iter<R: Wait>(&self, rt: &R) -> Result<Iter<'a, K, S>, Refused>
         ensures began { IfOk result (λ keys. keys.began ≡ []) }
         ensures refused { IfErr result IsMemoryOrCapacity }
@@ -244,7 +253,7 @@ impl<'a, K: Hash + Eq, S: BuildHasher> HashSetRef<'a, K, S> {
 }
 
 impl<'a, K: Hash + Eq + Drop, S: BuildHasher> HashSetRef<'a, K, S> {
-    /// The same, with what was seen.
+    /// Performs [`HashSetRef::insert`], and returns the observed history as well.
     #[inline(always)]
     fn insert_told<R: Wait>(&self, rt: &R, key: K) -> Saying<Result<bool, Refused>, K, (), S>
         ensures book { result.book ≡ self.now.map.book }
@@ -261,13 +270,14 @@ impl<'a, K: Hash + Eq + Drop, S: BuildHasher> HashSetRef<'a, K, S> {
         }
     }
 
-    /// Stores a key, and answers whether it was absent: `insert` of 0.2.5. As its text says, an
-    /// equal key that is stored stays. Of threads that store equal keys at once just one is
-    /// answered true.
+    /// Inserts a key, and returns whether it was absent: `insert` of 0.2.5. As there, an equal key
+    /// that is stored stays. If several threads insert equal keys at once, only one call returns
+    /// true.
     ///
-    /// `Refused::Memory` where a growth was refused. `Refused::Capacity` where a log is full, or a
-    /// next table would be too long. `Refused::Limit` where the set has a limit on keys, and as
-    /// many were logged, or were about to be. Refused, it changes nothing.
+    /// # Errors
+    /// `Refused::Memory` if an allocation fails. `Refused::Capacity` if an arena is full or a next
+    /// table would be too long. `Refused::Limit` if the set has a limit on keys, and as many are
+    /// stored or about to be. The call changes nothing then.
     pub fn insert<R: Wait>(&self, rt: &R, key: K) -> Result<bool, Refused>
         ensures* own { sem 𝓛 (of_its_history (EventOf K.row unit-field.row S.row).coded.code
             (rule_of ⟦<Law<K, (), S> as Rule<Event<K, (), S>, Named<K, ()>>>⟧) self.now K.eq

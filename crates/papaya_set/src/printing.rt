@@ -1,4 +1,4 @@
-//! What `Debug` prints of sets and of their walks, as of those of 0.2.5.
+//! `Debug` of sets and of their iterators prints as in 0.2.5.
 use crate::iter::Iter;
 use crate::seq;
 use crate::set::{HashSet, HashSetRef};
@@ -16,7 +16,7 @@ impl<K: Hash + Eq + fmt::Debug, S: BuildHasher> fmt::Debug for seq::HashSet<K, S
 }
 
 impl<K: Hash + Eq + fmt::Debug, S: BuildHasher> fmt::Debug for HashSet<K, S> {
-    /// It waits for nobody, takes no lock and no memory, and copies nothing.
+    /// Prints the keys. It never waits, locks or allocates, and copies no table.
     fn fmt<W: fmt::Write>(&self, f: &mut fmt::Formatter<W>) -> fmt::Result {
         self.map.print_keys(f)
     }
@@ -29,7 +29,7 @@ impl<'a, K: Hash + Eq + fmt::Debug, S: BuildHasher> fmt::Debug for HashSetRef<'a
 }
 
 impl<'a, K: Hash + Eq + fmt::Debug, S: BuildHasher> fmt::Debug for Iter<'a, K, S> {
-    /// The keys that are left.
+    /// Prints the keys that are left.
     fn fmt<W: fmt::Write>(&self, f: &mut fmt::Formatter<W>) -> fmt::Result {
         let mut out = f.debug_list();
         for key in self.keys.again() {

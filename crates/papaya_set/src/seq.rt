@@ -22,9 +22,9 @@ use std::marker::Model;
 /// A hash set for one caller: `papaya::HashSet` for where a `&mut` will do, as
 /// [`papaya_seq::seq::HashMap`] is for the map.
 ///
-/// Contracts see it as the map of its keys to unit values, so its clauses are the map's. A key that
-/// was removed stays in the log, and so does what an insertion of an equal key logged, until
-/// [`HashSet::reclaim`], or until the set is dropped.
+/// Contracts observe it as the map of its keys to unit values, so its clauses are the map's. The
+/// arena keeps removed keys, and keys that were inserted while an equal one was stored, until
+/// [`HashSet::reclaim`] or until the set is dropped.
 #[derive(Drop)]
 pub struct HashSet<K: Hash + Eq, S: BuildHasher = BuildHasherDefault<FoldHasher>> {
     pub(crate) map: HashMap<K, (), S>,
@@ -39,7 +39,10 @@ impl<K: Hash + Eq, S: BuildHasher> Model for HashSet<K, S> {
 }
 
 impl<K: Hash + Eq + Drop, S: BuildHasher + Drop> HashSet<K, S> {
-    /// A set of all its parts, as [`HashMap::with_parts`] makes a map, and refused as that is.
+    /// Creates a set from all its settings.
+    ///
+    /// # Errors
+    /// As [`HashMap::with_parts`].
     pub fn with_parts(
         alloc: Global,
         mode: ResizeMode,
@@ -58,7 +61,10 @@ impl<K: Hash + Eq + Drop, S: BuildHasher + Drop> HashSet<K, S> {
         })
     }
 
-    /// A set for so many keys, with this hasher: `with_capacity_and_hasher` of 0.2.5.
+    /// Creates a set for `capacity` keys with this hasher: `with_capacity_and_hasher` of 0.2.5.
+    ///
+    /// # Errors
+    /// As [`HashSet::with_parts`].
     pub fn with_capacity_and_hasher(
         alloc: Global,
         capacity: usize,
@@ -76,7 +82,10 @@ impl<K: Hash + Eq + Drop, S: BuildHasher + Drop> HashSet<K, S> {
         })
     }
 
-    /// A set with this hasher: `with_hasher` of 0.2.5. The first change makes its first table.
+    /// Creates a set with this hasher: `with_hasher` of 0.2.5. The first change makes a table.
+    ///
+    /// # Errors
+    /// `Refused::Memory` if an allocation fails.
     pub fn with_hasher(alloc: Global, hasher: S) -> Result<HashSet<K, S>, Refused>
         ensures ok { IfOk result (λ set. IsNew {A = Unit {0}}
             (ResizeMode.Incremental DEFAULT_CHUNK) 0 1 hasher (core_of set)) }
@@ -90,8 +99,11 @@ impl<K: Hash + Eq + Drop, S: BuildHasher + Drop> HashSet<K, S> {
 }
 
 impl<K: Hash + Eq + Drop> HashSet<K, BuildHasherDefault<FoldHasher>> {
-    /// A set that makes its first table at its first change: `new` of 0.2.5, but for the hasher,
-    /// which is the same in each run.
+    /// Creates a set that makes its first table at its first change: `new` of 0.2.5, but with a
+    /// hasher that is the same in each run.
+    ///
+    /// # Errors
+    /// `Refused::Memory` if an allocation fails.
     pub fn new(alloc: Global) -> Result<HashSet<K, BuildHasherDefault<FoldHasher>>, Refused>
         ensures new { IfOk result (λ set. IsNew {A = Unit {0}}
             (ResizeMode.Incremental DEFAULT_CHUNK) 0 1 set.store.hasher (core_of set)) }
@@ -104,7 +116,10 @@ impl<K: Hash + Eq + Drop> HashSet<K, BuildHasherDefault<FoldHasher>> {
         })
     }
 
-    /// A set for so many keys: `with_capacity` of 0.2.5.
+    /// Creates a set for `capacity` keys: `with_capacity` of 0.2.5.
+    ///
+    /// # Errors
+    /// As [`HashSet::with_parts`].
     pub fn with_capacity(
         alloc: Global,
         capacity: usize,
@@ -121,7 +136,10 @@ impl<K: Hash + Eq + Drop> HashSet<K, BuildHasherDefault<FoldHasher>> {
         })
     }
 
-    /// The same as [`HashSet::new`]: what the trait `Default` gives in 0.2.5.
+    /// Creates a set as [`HashSet::new`] does: the trait `Default` of 0.2.5.
+    ///
+    /// # Errors
+    /// `Refused::Memory` if an allocation fails.
     pub fn default(alloc: Global) -> Result<HashSet<K, BuildHasherDefault<FoldHasher>>, Refused>
         ensures new { IfOk result (λ set. IsNew {A = Unit {0}}
             (ResizeMode.Incremental DEFAULT_CHUNK) 0 1 set.store.hasher (core_of set)) }
@@ -134,15 +152,15 @@ impl<K: Hash + Eq + Drop> HashSet<K, BuildHasherDefault<FoldHasher>> {
 }
 
 impl<K: Hash + Eq, S: BuildHasher> HashSet<K, S> {
-    /// The map of the set's keys to unit values. It tells what a set does not, as how many slots
-    /// the root table has, and whether keys are being moved to a further one.
+    /// Returns the map of the set's keys to unit values. It has calls that the set lacks, such as
+    /// for the number of slots of the root table and for a copy under way.
     pub fn map(&self) -> &HashMap<K, (), S>
         ensures { result.now ≡ self.now }
     {
         &self.map
     }
 
-    /// How many keys the set has.
+    /// Returns the number of keys in the set.
     pub fn len(&self) -> usize
         ensures count { result ≡ length (content K.eq self.now.store) }
         ensures apart { AreApart K.eq (λ p. p.key) (content K.eq self.now.store) }
@@ -150,7 +168,7 @@ impl<K: Hash + Eq, S: BuildHasher> HashSet<K, S> {
         self.map.len()
     }
 
-    /// Has the set no key?
+    /// Returns whether the set has no keys.
     pub fn is_empty(&self) -> bool
         ensures { MatchBool result (content K.eq self.now.store ≡ [])
             (content K.eq self.now.store ≢ []) }
@@ -158,7 +176,7 @@ impl<K: Hash + Eq, S: BuildHasher> HashSet<K, S> {
         self.map.is_empty()
     }
 
-    /// Is the key in the set? `contains` of 0.2.5. It takes no memory and is never refused.
+    /// Returns whether the key is in the set: `contains` of 0.2.5. It never allocates or fails.
     pub fn contains<Q: Equivalent<K>>(&self, key: &Q) -> bool
         ensures map { (k : _) → Q.matches key.now k ≡ true
             → result ≡ is_some (key_in K.eq self.now.store k) }
@@ -169,8 +187,8 @@ impl<K: Hash + Eq, S: BuildHasher> HashSet<K, S> {
         self.map.contains_key(key)
     }
 
-    /// The stored key that is equal to this one: `get` of 0.2.5. It takes no memory and is
-    /// never refused.
+    /// Returns the stored key that is equal to this one: `get` of 0.2.5. It never allocates or
+    /// fails.
     pub fn get<Q: Equivalent<K>>(&self, key: &Q) -> Option<&K>
         ensures map { (k : _) → Q.matches key.now k ≡ true
             → option_map (λ stored. stored.now) result ≡ key_in K.eq self.now.store k }
@@ -184,8 +202,8 @@ impl<K: Hash + Eq, S: BuildHasher> HashSet<K, S> {
         }
     }
 
-    /// Have both sets the same keys? It is what `PartialEq` answers in 0.2.5. It takes no memory
-    /// and is never refused.
+    /// Returns whether both sets have the same keys: `PartialEq` of 0.2.5. It never allocates or
+    /// fails.
     pub fn eq(&self, other: &HashSet<K, S>) -> bool
         ensures { IsTrue result ↔ (HaveSameKeys K.eq self.now.store other.now.store) }
     {
@@ -194,19 +212,22 @@ impl<K: Hash + Eq, S: BuildHasher> HashSet<K, S> {
 }
 
 impl<K: Hash + Eq + Drop, S: BuildHasher> HashSet<K, S> {
-    /// Stores a key, and answers whether it was absent: `insert` of 0.2.5. As its text says, an
-    /// equal key that is stored stays.
+    /// Inserts a key, and returns whether it was absent: `insert` of 0.2.5. As there, an equal key
+    /// that is stored stays.
     ///
-    /// Refused as [`HashMap::insert`]. The set is as it was then, and the key is dropped, at once
-    /// or with the set.
+    /// # Errors
+    /// As [`HashMap::insert`]. The set is as it was then, and the key is dropped, at once or with
+    /// the set.
     pub fn insert(&mut self, key: K) -> Result<bool, Refused>
         ensures { IsPut K.eq key tt self.old result self.new }
     {
         self.map.put(key, ())
     }
 
-    /// Removes a key, and answers whether it was there: `remove` of 0.2.5. Refused as
-    /// [`HashMap::remove`], so only while keys are being moved to a next table.
+    /// Removes a key, and returns whether it was present: `remove` of 0.2.5.
+    ///
+    /// # Errors
+    /// As [`HashMap::remove`], so only while keys are being moved to a next table.
     pub fn remove<Q: Equivalent<K>>(&mut self, key: &Q) -> Result<bool, Refused>
         ensures taken { IsTaken K.eq (Q.matches key.now) self.old result self.new }
         ensures never { next_of self.old.store ≡ 0 → IsOk result }
@@ -218,8 +239,10 @@ impl<K: Hash + Eq + Drop, S: BuildHasher> HashSet<K, S> {
         Ok(was)
     }
 
-    /// Makes room ahead for so many more keys: `reserve` of 0.2.5. No key of the set changes.
-    /// Refused as [`HashMap::reserve`].
+    /// Reserves room for `additional` more keys: `reserve` of 0.2.5. No key of the set changes.
+    ///
+    /// # Errors
+    /// As [`HashMap::reserve`].
     pub fn reserve(&mut self, additional: usize) -> Result<(), Refused>
         ensures ok { OnOk result (HasRoomFor K.eq self.old.store additional self.new.store) }
         ensures err { IfErr result (λ e. IsReserveCause K.eq self.old additional e self.new) }
@@ -231,8 +254,10 @@ impl<K: Hash + Eq + Drop, S: BuildHasher> HashSet<K, S> {
         self.map.reserve(additional)
     }
 
-    /// Removes all keys: `clear` of 0.2.5. The root keeps its slots. Refused as [`HashMap::clear`];
-    /// no key was removed then.
+    /// Removes all keys: `clear` of 0.2.5. The root keeps its slots.
+    ///
+    /// # Errors
+    /// As [`HashMap::clear`]; no key was removed then.
     pub fn clear(&mut self) -> Result<(), Refused>
         ensures ok { OnOk result (content K.eq self.new.store ≡ []) }
         ensures last { OnOk result (next_of self.new.store ≡ 0) }
@@ -245,9 +270,11 @@ impl<K: Hash + Eq + Drop, S: BuildHasher> HashSet<K, S> {
         self.map.clear()
     }
 
-    /// Keeps the keys which the closure, when it is shown each of them once, answers true for, and
-    /// removes the others: `retain` of 0.2.5. Refused as [`HashMap::retain`]; no key was shown or
-    /// removed then.
+    /// Removes the keys for which the closure returns `false`: `retain` of 0.2.5. The closure is
+    /// called once for each key.
+    ///
+    /// # Errors
+    /// As [`HashMap::retain`]; the closure was not called and no key was removed then.
     pub fn retain<F: FnMut(&K) -> bool>(&mut self, mut agrees: F) -> Result<(), Refused>
         requires { F.IsAlwaysCallable agrees }
         ensures ok { OnOk result (AreKept F.FnMut K.eq agrees self.old.store self.new.store) }

@@ -13,9 +13,9 @@ use std::sync::Wait;
 
 /// A set that threads share: `HashSet` of 0.2.5.
 ///
-/// Contracts see it as the map of its keys to unit values, and of that what is fixed when it is
-/// made, so its clauses are the map's. A key that was removed stays in the log, and so does what an
-/// insertion of an equal key logged, until [`HashSet::reclaim`], or until the set is dropped.
+/// Contracts observe it as the map of its keys to unit values, and of that what is fixed when it is
+/// made, so its clauses are the map's. The arena keeps removed keys, and keys inserted while an
+/// equal one was stored, until [`HashSet::reclaim`] or until the set is dropped.
 #[derive(Drop)]
 pub struct HashSet<K: Hash + Eq, S: BuildHasher = BuildHasherDefault<FoldHasher>> {
     pub(crate) map: HashMap<K, (), S>,
@@ -29,9 +29,9 @@ impl<K: Hash + Eq, S: BuildHasher> Model for HashSet<K, S> {
     ghost view = { λ s. s.map };
 }
 
-/// A set, as calls take it: `HashSetRef` of 0.2.5, but for the guard, which it needs none of. What
-/// it answers stays for as long as the set does. Contracts see what they see of the set, and what
-/// had been seen of its history when it was pinned.
+/// A pinned set, on which calls are made: `HashSetRef` of 0.2.5, but without a guard. References
+/// that it returns live as long as the set. Contracts observe what they observe of the set, and the
+/// history that had been observed at the pin.
 #[derive(Drop)]
 pub struct HashSetRef<'a, K: Hash + Eq, S: BuildHasher> {
     pub(crate) set: &'a HashSet<K, S>,
@@ -48,8 +48,11 @@ impl<'a, K: Hash + Eq, S: BuildHasher> Model for HashSetRef<'a, K, S> {
 }
 
 impl<K: Hash + Eq + Drop, S: BuildHasher + Drop> HashSet<K, S> {
-    /// A set of all its parts, as [`HashMap::with_parts`] makes a map, and refused as that is. Its
-    /// collector has number 0.
+    /// Creates a set from all its settings. Its collector has number 0. It works as
+    /// [`HashMap::with_parts`] does for a map.
+    ///
+    /// # Errors
+    /// As [`HashMap::with_parts`].
     pub fn with_parts<R: Wait>(
         rt: &R,
         alloc: Global,
@@ -70,9 +73,12 @@ impl<K: Hash + Eq + Drop, S: BuildHasher + Drop> HashSet<K, S> {
         })
     }
 
-    /// A set for so many keys, with this hasher: `with_capacity_and_hasher` of 0.2.5. It resizes as
-    /// [`ResizeMode::default`] says, and counts its keys over
-    /// [`papaya_words::limits::DEFAULT_SHARDS`] shards. Refused as [`HashSet::with_parts`].
+    /// Creates a set for `capacity` keys with this hasher: `with_capacity_and_hasher` of 0.2.5. It
+    /// resizes by [`ResizeMode::default`], and counts over [`papaya_words::limits::DEFAULT_SHARDS`]
+    /// shards.
+    ///
+    /// # Errors
+    /// As [`HashSet::with_parts`].
     pub fn with_capacity_and_hasher<R: Wait>(
         rt: &R,
         alloc: Global,
@@ -93,7 +99,10 @@ impl<K: Hash + Eq + Drop, S: BuildHasher + Drop> HashSet<K, S> {
         })
     }
 
-    /// A set with this hasher: `with_hasher` of 0.2.5. The first change makes its first table.
+    /// Creates a set with this hasher: `with_hasher` of 0.2.5. The first change makes a table.
+    ///
+    /// # Errors
+    /// `Refused::Memory` if an allocation fails.
     pub fn with_hasher<R: Wait>(rt: &R, alloc: Global, hasher: S) -> Result<HashSet<K, S>, Refused>
         ensures made { IfOk result (IsFor (ResizeMode.Incremental DEFAULT_CHUNK) 0
             DEFAULT_SHARDS None) }
@@ -107,8 +116,11 @@ impl<K: Hash + Eq + Drop, S: BuildHasher + Drop> HashSet<K, S> {
 }
 
 impl<K: Hash + Eq + Drop> HashSet<K, BuildHasherDefault<FoldHasher>> {
-    /// A set that makes its first table at its first change: `new` of 0.2.5, but for the hasher,
-    /// which is the same in each run.
+    /// Creates a set that makes its first table at its first change: `new` of 0.2.5, but with a
+    /// hasher that is the same in each run.
+    ///
+    /// # Errors
+    /// `Refused::Memory` if an allocation fails.
     pub fn new<R: Wait>(
         rt: &R,
         alloc: Global,
@@ -122,7 +134,10 @@ impl<K: Hash + Eq + Drop> HashSet<K, BuildHasherDefault<FoldHasher>> {
         })
     }
 
-    /// A set for so many keys: `with_capacity` of 0.2.5. Refused as [`HashSet::with_parts`].
+    /// Creates a set for `capacity` keys: `with_capacity` of 0.2.5.
+    ///
+    /// # Errors
+    /// As [`HashSet::with_parts`].
     pub fn with_capacity<R: Wait>(
         rt: &R,
         alloc: Global,
@@ -141,7 +156,10 @@ impl<K: Hash + Eq + Drop> HashSet<K, BuildHasherDefault<FoldHasher>> {
         })
     }
 
-    /// The same as [`HashSet::new`]: what the trait `Default` gives in 0.2.5.
+    /// Creates a set as [`HashSet::new`] does: the trait `Default` of 0.2.5.
+    ///
+    /// # Errors
+    /// `Refused::Memory` if an allocation fails.
     pub fn default<R: Wait>(
         rt: &R,
         alloc: Global,
@@ -155,8 +173,8 @@ impl<K: Hash + Eq + Drop> HashSet<K, BuildHasherDefault<FoldHasher>> {
 }
 
 impl<K: Hash + Eq, S: BuildHasher> HashSet<K, S> {
-    /// The map of the set's keys to unit values. It has what a set has not: passes and the calls by
-    /// them, computes, and removals that ask a closure.
+    /// Returns the map of the set's keys to unit values. It has calls that the set lacks: passes
+    /// and the calls by them, computes, and removals whose closure decides.
     ///
     /// ```
     /// let before = set.map().pin().insert_as(rt, key, (), &mut pass)?;
@@ -167,7 +185,7 @@ impl<K: Hash + Eq, S: BuildHasher> HashSet<K, S> {
         &self.map
     }
 
-    /// The set, as calls take it: `pin` of 0.2.5. It writes no word.
+    /// Pins the set, and returns a reference for its calls: `pin` of 0.2.5. It writes no word.
     #[inline]
     pub fn pin(&self) -> HashSetRef<'_, K, S>
         ensures { result.map ≡ self.now }
@@ -178,31 +196,31 @@ impl<K: Hash + Eq, S: BuildHasher> HashSet<K, S> {
         }
     }
 
-    /// The same as [`HashSet::pin`]: `pin_owned` of 0.2.5, whose reference may go to another
-    /// thread. Here each may, as it holds no guard.
+    /// Pins the set as [`HashSet::pin`] does: `pin_owned` of 0.2.5, whose reference may be sent to
+    /// another thread. Here every pinned set may, as it holds no guard.
     pub fn pin_owned(&self) -> HashSetRef<'_, K, S>
         ensures { result.map ≡ self.now }
     {
         self.pin()
     }
 
-    /// How many keys were counted: `len` of 0.2.5. A change is counted a step after it was made.
+    /// Returns the number of keys counted: `len` of 0.2.5. A change is counted one step after it.
     pub fn len(&self) -> usize {
         self.map.len()
     }
 
-    /// Were no keys counted?
+    /// Returns whether no keys are counted.
     pub fn is_empty(&self) -> bool {
         self.map.is_empty()
     }
 
-    /// Returns how many keys the arena holds, also those that were removed or inserted again, as
+    /// Returns the number of keys in the arena, including those removed or inserted again, as
     /// [`HashMap::stored`] counts them.
     pub fn stored(&self) -> usize {
         self.map.stored()
     }
 
-    /// Returns how many slots the root table has, and 0 if there is none yet.
+    /// Returns the number of slots of the root table, or 0 if there is none yet.
     pub fn slots(&self) -> usize {
         self.map.slots()
     }

@@ -1,4 +1,4 @@
-//! Walks of a set: each key once.
+//! Iterators over a set, which return each key once.
 ghost use Rattle.std.specs.Prelude.{◌≡◌};
 ghost use Rattle.std.specs.Iterator.{YieldsFirstRef, item_count};
 ghost use Rattle.papaya_set.specs.Sets.{keys_of};
@@ -9,7 +9,7 @@ use std::hash::{BuildHasher, Hash};
 use std::marker::Model;
 
 impl<K: Hash + Eq, S: BuildHasher> HashSet<K, S> {
-    /// The keys of the set, each once. It takes no memory, copies nothing and is never refused.
+    /// Returns an iterator over the keys, each once. It never allocates, copies or fails.
     pub fn iter(&self) -> Iter<'_, K, S>
         ensures { result ≡ keys_of K.eq self.now.store }
     {
@@ -31,7 +31,7 @@ impl<'a, K: Hash + Eq, S: BuildHasher> IntoIterator for &'a HashSet<K, S> {
     }
 }
 
-/// The keys of a set, seen as the list of those that are left.
+/// The keys of a set that an iterator has left, which contracts observe as a list.
 #[derive(Drop)]
 pub struct Iter<'a, K: Hash + Eq, S: BuildHasher> {
     keys: Keys<'a, K, (), S>,

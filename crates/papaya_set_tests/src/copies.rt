@@ -1,4 +1,4 @@
-// Sets of clones of a set's keys, sets that are made anew, and what the shared ones print.
+// Sets of clones of a set's keys, sets that are reclaimed, and what the shared ones print.
 use crate::expect::{is, prints};
 use crate::labels::{Keys, Labelled, any, key};
 use papaya_set::seq::HashSet;
@@ -8,16 +8,16 @@ use std::process::Abort;
 use std::sync::Wait;
 use std::test::Fail;
 
-/// The sets for one caller.
+/// The set for one caller.
 type Alone = HashSet<u64>;
 
-/// The copy has all keys of the set, which are so many.
+/// Checks that the copy has all keys of the set: those below `end`.
 fn is_whole(rt: &impl Abort, set: &Alone, copy: &Alone, end: u64) {
     is(rt, (copy.len() as u64, set.eq(copy)), (end, true));
 }
 
-/// A copy of a set for one caller has its keys, and is as before where it takes a further one,
-/// loses it and is made anew.
+/// Checks that a copy of a set for one caller has its keys, and that the set is unchanged if the
+/// copy takes another key, loses it and is reclaimed.
 fn stands_alone(rt: &impl Abort, set: &Alone, copy: &mut Alone, end: u64) {
     is_whole(rt, set, copy, end);
     is(rt, copy.insert(end), Ok(true));
@@ -34,19 +34,19 @@ fn copies_alone(rt: &impl Abort, alloc: Global, end: u64) -> Result<(), Fail> {
     Ok(())
 }
 
-/// A set that threads share, of these keys.
+/// Returns a set that threads share, of these keys.
 fn made<R: Wait>(rt: &R, alloc: Global, keys: &[Labelled]) -> Result<Keys, Refused> {
     let set = Keys::new(rt, alloc)?;
     set.extend_ref(rt, keys)?;
     Ok(set)
 }
 
-/// This set has so many keys, and it is equal to the other one or not.
+/// Checks that this set has this many keys, and whether it is equal to the other one.
 fn has<R: Wait + Abort>(rt: &R, set: &Keys, other: &Keys, keys: usize, is_equal: bool) {
     is(rt, (set.len(), set.eq(rt, other)), (keys, Ok(is_equal)));
 }
 
-/// So does a copy of a set that threads share.
+/// Checks the same for a copy of a set that threads share.
 fn stands_apart<R: Wait + Abort>(rt: &R, set: &Keys, copy: &mut Keys, keys: usize) {
     has(rt, copy, set, keys, true);
     is(rt, copy.pin().insert(rt, any(9)), Ok(true));
@@ -72,7 +72,7 @@ fn a_copy_stands_alone(rt: HostRuntime) -> Result<(), Fail> {
     copies_shared(&rt, alloc, &[any(1), any(2)])
 }
 
-/// A walk over a set of one key prints what it has not given yet.
+/// Checks that an iterator over a set of one key prints what it has not returned yet.
 fn prints_its_rest<R: Wait + Abort>(rt: &R, alloc: Global, set: &Keys) -> Result<(), Fail> {
     let mut keys = set.pin().iter(rt)?;
     prints(rt, alloc, &keys, "[Labelled { number: 7, label: 'x' }]")?;
@@ -80,7 +80,7 @@ fn prints_its_rest<R: Wait + Abort>(rt: &R, alloc: Global, set: &Keys) -> Result
     prints(rt, alloc, &keys, "[]")
 }
 
-/// An empty set prints none, and then one.
+/// Checks that an empty set prints no key, and then one.
 fn prints_its_keys<R: Wait + Abort>(rt: &R, alloc: Global, set: &Keys) -> Result<(), Fail> {
     prints(rt, alloc, set, "{}")?;
     is(rt, set.pin().insert(rt, key(7, 'x')), Ok(true));

@@ -1,4 +1,4 @@
-// Keys that are equal where their numbers are. A label tells which of them is stored.
+// Keys that are equal if their numbers are. A label tells which of them is stored.
 ghost use Rattle.std.specs.Prelude.{◌≡◌, ◌==◌};
 ghost use Rattle.std.proofs.Common.{ap};
 ghost use Rattle.std.specs.Cmp.{nat_eq_equiv, on_equiv, partial_equiv_from_equiv, unsigned_Decides};
@@ -10,7 +10,7 @@ use std::alloc::Global;
 use std::hash::{BuildHasherDefault, FoldHasher, Hash, Hasher};
 use std::sync::Wait;
 
-/// A number with a label that no comparison looks at.
+/// A number with a label that comparisons ignore.
 #[derive(Clone, Copy, Debug)]
 pub struct Labelled {
     pub number: u64,
@@ -41,29 +41,29 @@ impl Hash for Labelled {
     }
 }
 
-/// A set of such keys that threads share, and one that is pinned.
+/// A set of such keys that threads share.
 pub type Keys = HashSet<Labelled>;
 
 pub type Pinned<'a> = HashSetRef<'a, Labelled, BuildHasherDefault<FoldHasher>>;
 
-/// A key of this number and label.
+/// Returns a key of this number and label.
 pub fn key(number: u64, label: char) -> Labelled {
     Labelled { number, label }
 }
 
-/// The same with no label to speak of.
+/// Returns a key of this number, with a label that does not matter.
 pub fn any(number: u64) -> Labelled {
     key(number, '?')
 }
 
-/// How the sets of the tests resize.
+/// The resize modes of the tests.
 pub const MODES: [ResizeMode; 3] = [
     ResizeMode::Blocking,
     ResizeMode::Incremental(1),
     ResizeMode::Incremental(64),
 ];
 
-/// A set that resizes so, with a table of 8 slots.
+/// Returns a set of this mode, with a table of 8 slots.
 pub fn made<R: Wait>(rt: &R, alloc: Global, mode: ResizeMode) -> Result<Keys, Refused> {
     HashSet::with_parts(rt, alloc, mode, 6, 4, BuildHasherDefault::new(), None)
 }

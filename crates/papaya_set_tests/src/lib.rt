@@ -1,5 +1,5 @@
-//! The tests of sets: of the one for one caller, and of the one that threads share. And those of sets
-//! and maps that are reclaimed while threads go on.
+//! The tests of sets: of the one for one caller, and of the one that threads share. It also has the
+//! tests of sets and maps that are reclaimed while threads go on.
 #![tactic(auto)]
 
 #[cfg(test)]

@@ -11,19 +11,19 @@ use std::sync::atomic::Ordering;
 use std::test::Fail;
 use std::thread::{Threads, join, map_indices};
 
-/// What a thread does with a set. It says whether all was as it should be.
+/// A thread's job on a set. It returns whether everything was as expected.
 #[derive(Clone, Copy)]
 enum Job {
-    /// Retains by a closure that waits at the gate, and agrees from so many calls on.
+    /// Retains by a closure that waits at the gate, and returns true from this call on.
     Retain(u64),
-    /// Stores 7 once more, with another label, once a closure is shown it.
+    /// Stores 7 once more, with another label, while a closure is called with it.
     Replace,
-    /// Keeps the reference to the key 7 that a lookup answered, or looks it up anew.
+    /// Keeps the reference to the key 7 that a lookup returned, or looks it up again.
     Hold,
     LookAnew,
     /// Replaces that key 1000 times and removes it, once another thread has it.
     WearOut,
-    /// Looks for the keys below 6, 20 times.
+    /// Looks up the keys below 6, 20 times.
     Has,
     /// Stores each of them once more, 20 times.
     Rewrite,
@@ -31,13 +31,13 @@ enum Job {
     Insert(u64, u64),
     /// Inserts and removes the absent keys of a range, one after another, 20 times.
     ComeAndGo(u64, u64),
-    /// Makes room three times.
+    /// Reserves room three times.
     Reserve,
-    /// Walks over the set, and meets each key below 6 once, 20 times.
+    /// Iterates over the set, and meets each key below 6 once, 20 times.
     Walk,
 }
 
-/// The label of the stored key 7.
+/// Returns the label of the stored key 7.
 fn label(set: &Keys) -> Option<char> {
     match set.pin().get(&any(7)) {
         Some(key) => Some(key.label),
@@ -45,8 +45,8 @@ fn label(set: &Keys) -> Option<char> {
     }
 }
 
-/// Retains by a closure that waits at the gate, and agrees from so many calls on: was it open
-/// in time?
+/// Retains by a closure that waits at the gate, and returns true from this call on; returns whether
+/// the gate was open in time.
 fn retains<R: Wait>(rt: &R, set: &Keys, from: u64, gate: &Gate) -> Result<bool, Refused> {
     let pinned = set.pin();
     let mut calls = 0u64;
@@ -56,13 +56,13 @@ fn retains<R: Wait>(rt: &R, set: &Keys, from: u64, gate: &Gate) -> Result<bool, 
         calls >= from
     });
     let was_passed = gate.was_passed();
-    // So that the other threads end, whatever happened.
+    // Lets the other threads end, whatever happened.
     gate.reached.store(true, Ordering::SeqCst);
     retained?;
     Ok(was_passed)
 }
 
-/// Replaces key 7 once it was shown: was it there, and replaced?
+/// Replaces key 7 once a closure has it; returns whether it was there, and was replaced.
 fn replaces<R: Wait>(rt: &R, set: &Keys, gate: &Gate) -> Result<bool, Refused> {
     let met = gate.turn_until(&gate.reached);
     let was_there = label(set) == Some('x');
@@ -71,7 +71,7 @@ fn replaces<R: Wait>(rt: &R, set: &Keys, gate: &Gate) -> Result<bool, Refused> {
     Ok(!is_new? && met && was_there)
 }
 
-/// The reference that a lookup answered.
+/// The reference that a lookup returned.
 #[derive(Drop)]
 struct Held<'a>(&'a Labelled);
 
@@ -81,7 +81,7 @@ impl Look for Held<'_> {
     }
 }
 
-/// What the set has.
+/// A lookup that is made again each time.
 #[derive(Drop)]
 struct Anew<'a>(&'a Keys);
 
@@ -91,7 +91,7 @@ impl Look for Anew<'_> {
     }
 }
 
-/// Does the reference that a lookup answers stay as it is?
+/// Returns whether the reference that a lookup returned keeps its value.
 fn holds(set: &Keys, gate: &Gate) -> bool {
     match set.pin().get(&any(7)) {
         Some(key) => gate.stays(&mut Held(key)),
@@ -99,7 +99,7 @@ fn holds(set: &Keys, gate: &Gate) -> bool {
     }
 }
 
-/// Replaces key 7 and removes it: was it there each time?
+/// Replaces key 7 and removes it; returns whether it was there each time.
 fn replaces_often<R: Wait>(rt: &R, set: &Keys) -> Result<bool, Refused> {
     for _ in 0..1000u64 {
         if set.pin().insert(rt, key(7, 'y'))? {
@@ -109,7 +109,7 @@ fn replaces_often<R: Wait>(rt: &R, set: &Keys) -> Result<bool, Refused> {
     set.pin().remove(rt, &any(7))
 }
 
-/// Does so once another thread has it.
+/// Does so once another thread has the key.
 fn wears_out<R: Wait>(rt: &R, set: &Keys, gate: &Gate) -> Result<bool, Refused> {
     let met = gate.turn_until(&gate.reached);
     let was_there = replaces_often(rt, set);
@@ -117,7 +117,7 @@ fn wears_out<R: Wait>(rt: &R, set: &Keys, gate: &Gate) -> Result<bool, Refused> 
     Ok(was_there? && met)
 }
 
-/// Is each key below 6 there, each time?
+/// Returns whether each key below 6 is there, each time.
 fn has(set: &Keys) -> bool {
     for at in 0..120u64 {
         if !set.pin().contains(&any(at % 6)) {
@@ -127,7 +127,7 @@ fn has(set: &Keys) -> bool {
     true
 }
 
-/// Was each key below 6 there, and replaced, each time?
+/// Returns whether each key below 6 was there, and was replaced, each time.
 fn rewrites<R: Wait>(rt: &R, set: &Keys) -> Result<bool, Refused> {
     for at in 0..120u64 {
         if set.pin().insert(rt, key(at % 6, 'y'))? {
@@ -137,7 +137,7 @@ fn rewrites<R: Wait>(rt: &R, set: &Keys) -> Result<bool, Refused> {
     Ok(true)
 }
 
-/// Inserts these keys: was each absent?
+/// Inserts these keys; returns whether each was absent.
 fn inserts<R: Wait>(rt: &R, set: &Keys, from: u64, end: u64) -> Result<bool, Refused> {
     for number in from..end {
         if !set.pin().insert(rt, any(number))? {
@@ -147,7 +147,7 @@ fn inserts<R: Wait>(rt: &R, set: &Keys, from: u64, end: u64) -> Result<bool, Ref
     Ok(true)
 }
 
-/// Removes these keys: was each there?
+/// Removes these keys; returns whether each was there.
 fn removes<R: Wait>(rt: &R, set: &Keys, from: u64, end: u64) -> Result<bool, Refused> {
     for number in from..end {
         if !set.pin().remove(rt, &any(number))? {
@@ -157,7 +157,7 @@ fn removes<R: Wait>(rt: &R, set: &Keys, from: u64, end: u64) -> Result<bool, Ref
     Ok(true)
 }
 
-/// Inserts and removes these keys: was each absent before, and there then?
+/// Inserts and removes these keys; returns whether each was first absent, and then there.
 fn comes_and_goes<R: Wait>(rt: &R, set: &Keys, from: u64, end: u64) -> Result<bool, Refused> {
     for _ in 0..20u64 {
         if !inserts(rt, set, from, end)? || !removes(rt, set, from, end)? {
@@ -167,7 +167,7 @@ fn comes_and_goes<R: Wait>(rt: &R, set: &Keys, from: u64, end: u64) -> Result<bo
     Ok(true)
 }
 
-/// Makes room for so many keys more, one number after another.
+/// Reserves room for several numbers of keys, one after another.
 fn reserves<R: Wait>(rt: &R, set: &Keys) -> Result<bool, Refused> {
     for more in [64, 128, 256] {
         set.pin().reserve(rt, more)?;
@@ -175,7 +175,7 @@ fn reserves<R: Wait>(rt: &R, set: &Keys) -> Result<bool, Refused> {
     Ok(true)
 }
 
-/// How many keys below 6 a walk gives.
+/// Returns how many keys below 6 an iterator returns.
 fn walked<R: Wait>(rt: &R, set: &Keys) -> Result<u64, Refused> {
     let mut below = 0u64;
     for key in set.pin().iter(rt)? {
@@ -184,7 +184,7 @@ fn walked<R: Wait>(rt: &R, set: &Keys) -> Result<u64, Refused> {
     Ok(below)
 }
 
-/// Was each of them met once, each time?
+/// Returns whether each of them was met once, each time.
 fn walks<R: Wait>(rt: &R, set: &Keys) -> Result<bool, Refused> {
     for _ in 0..20u64 {
         if walked(rt, set)? != 6 {
@@ -194,7 +194,7 @@ fn walks<R: Wait>(rt: &R, set: &Keys) -> Result<bool, Refused> {
     Ok(true)
 }
 
-/// Does a job that is done beside others.
+/// Does one of the jobs that are done beside others.
 fn works<R: Wait>(rt: &R, set: &Keys, job: Job) -> Result<bool, Refused> {
     match job {
         Job::Rewrite => rewrites(rt, set),
@@ -218,7 +218,7 @@ fn does<R: Wait>(rt: &R, set: &Keys, job: Job, gate: &Gate) -> Result<bool, Refu
     }
 }
 
-/// Does a job once all threads are there, and says then that it is done.
+/// Does a job once all threads are there, and then records that it is done.
 fn says<R: Wait>(rt: &R, set: &Keys, job: Job, crossing: &Crossing) -> bool {
     let began = crossing.begins(!matches!(job, Job::Retain(_)));
     let did = does(rt, set, job, &crossing.gate);
@@ -226,7 +226,7 @@ fn says<R: Wait>(rt: &R, set: &Keys, job: Job, crossing: &Crossing) -> bool {
     began && did == Ok(true)
 }
 
-/// Two threads do a job each.
+/// Lets two threads do a job each.
 fn both<R: Threads + Wait + Sync>(rt: &R, set: &Keys, first: Job, second: Job) -> (bool, bool) {
     let crossing = Crossing::new(2, 0);
     join(
@@ -236,14 +236,14 @@ fn both<R: Threads + Wait + Sync>(rt: &R, set: &Keys, first: Job, second: Job) -
     )
 }
 
-/// One job is done after the other.
+/// Does one job after the other.
 fn apart<R: Wait>(rt: &R, set: &Keys, first: Job, second: Job) -> (bool, bool) {
     let crossing = Crossing::new(1, 0);
     let did = says(rt, set, first, &crossing);
     (did, says(rt, set, second, &crossing))
 }
 
-/// What eight threads do of which the first one is stuck.
+/// The jobs of eight threads, the first of which is stuck.
 const BESIDE: [Job; 8] = [
     Job::Retain(2),
     Job::Has,
@@ -255,7 +255,7 @@ const BESIDE: [Job; 8] = [
     Job::ComeAndGo(300, 310),
 ];
 
-/// They do so: was all as it should be?
+/// Lets the threads do these jobs; returns whether everything was as expected.
 fn beside<R: Threads + Wait + Sync>(rt: &R, alloc: Global, set: &Keys) -> Result<bool, Fail> {
     let crossing = Crossing::new(8, 7);
     let did = map_indices(
@@ -267,15 +267,15 @@ fn beside<R: Threads + Wait + Sync>(rt: &R, alloc: Global, set: &Keys) -> Result
     Ok(did.iter().all(|did| *did))
 }
 
-/// A set with the key 7, labelled x.
+/// Returns a set with the key 7, labelled x.
 fn with_seven<R: Wait>(rt: &R, alloc: Global, mode: ResizeMode) -> Result<Keys, Refused> {
     let set = made(rt, alloc, mode)?;
     set.pin().insert(rt, key(7, 'x'))?;
     Ok(set)
 }
 
-/// A closure is shown a key whose pair is replaced before it answers, and then the key once more,
-/// which stays as it was stored. What is left is what the closure answers of that.
+/// Checks what is left if a key's entry is replaced before the closure returns. The closure is
+/// called with the key once more, as it was stored, and its last result decides.
 fn overlaps<R: Threads + Wait + Sync + Abort>(rt: &R, set: &Keys, from: u64, left: Option<char>) {
     let did = both(rt, set, Job::Retain(from), Job::Replace);
     is(rt, (did, label(set)), ((true, true), left));
@@ -291,7 +291,7 @@ fn a_retain_shows_a_key_that_was_replaced_once_more(rt: HostRuntime) -> Result<(
     Ok(())
 }
 
-/// Calls that do not overlap do not pass the gate.
+/// Checks that calls which do not overlap do not pass the gate.
 #[test]
 fn one_call_after_the_other_is_found_out(rt: HostRuntime) -> Result<(), Fail> {
     for mode in MODES {
@@ -302,8 +302,8 @@ fn one_call_after_the_other_is_found_out(rt: HostRuntime) -> Result<(), Fail> {
     Ok(())
 }
 
-/// A reference stays as it is while another thread replaces its key 1000 times and removes it.
-/// One that looks the key up anew does not find it again.
+/// Checks that a reference keeps its value while another thread replaces its key 1000 times and
+/// removes it. A thread that looks the key up again does not find it.
 #[test]
 fn a_reference_stays_as_it_is(rt: HostRuntime) -> Result<(), Fail> {
     for mode in MODES {
@@ -315,9 +315,10 @@ fn a_reference_stays_as_it_is(rt: HostRuntime) -> Result<(), Fail> {
     Ok(())
 }
 
-/// While a closure of a retain does not come back, seven threads look keys up, store, replace and
-/// remove them, make the table grow, and walk. They wait for nobody. The keys below 6 stay, since
-/// the one that it would not keep was replaced meanwhile, and is shown to it once more.
+/// Checks that seven threads never wait while a retain's closure does not return. They look up,
+/// store, replace and remove keys, make the table grow, and iterate. The keys below 6 stay: the one
+/// that the closure would not keep was replaced meanwhile, and the closure is called with it once
+/// more.
 fn is_stuck<R: Threads + Wait + Sync + Abort>(
     rt: &R,
     alloc: Global,

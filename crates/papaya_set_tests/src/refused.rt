@@ -1,5 +1,5 @@
-// A growth that is refused leaves the set as it was. Where the tests run with a failing allocation,
-// as by `rt try --test --fail-alloc N`, a call here meets it.
+// A refused allocation leaves the set as it was. If the tests run with a failing allocation, as by
+// `rt try --test --fail-alloc N`, a call here meets it.
 use crate::expect::is_at;
 use papaya_set::seq::HashSet;
 use papaya_testing::times::{TOGETHER, Times};
@@ -9,7 +9,7 @@ use std::test::Fail;
 
 type Keys = HashSet<u64, Times>;
 
-/// A set, also where memory was refused for it at first.
+/// Returns a set, also if memory was refused for it at first.
 fn made(alloc: Global) -> Result<Keys, Refused> {
     match HashSet::with_hasher(alloc, TOGETHER) {
         Err(Refused::Memory) => HashSet::with_hasher(alloc, TOGETHER),
@@ -17,7 +17,7 @@ fn made(alloc: Global) -> Result<Keys, Refused> {
     }
 }
 
-/// Has the set the keys below this one, and no other?
+/// Returns whether the set has the keys below this one, and no other.
 fn has_below(set: &Keys, end: u64) -> bool {
     for key in 0..end {
         if !set.contains(&key) {
@@ -27,8 +27,7 @@ fn has_below(set: &Keys, end: u64) -> bool {
     set.len() as u64 == end
 }
 
-/// Inserts a new key, and again where it was refused for want of memory: was the set as it
-/// should be?
+/// Inserts a new key, and again after `Refused::Memory`; returns whether the set was as expected.
 fn insert_again(set: &mut Keys, key: u64) -> Result<bool, Refused> {
     match set.insert(key) {
         Err(Refused::Memory) => {

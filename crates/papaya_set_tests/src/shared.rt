@@ -1,5 +1,4 @@
-// Each call of the set that threads share, once and with ample memory: what it answers by
-// one caller.
+// Each call of the set that threads share, once and with ample memory: its result for one caller.
 use crate::expect::is;
 use crate::labels::{Keys, Labelled, Pinned, any, key};
 use papaya_keys::guard::Collector;
@@ -11,7 +10,7 @@ use std::process::Abort;
 use std::sync::Wait;
 use std::test::Fail;
 
-/// Which key is stored, by its label.
+/// Returns which key is stored, by its label.
 fn label_of(key: Option<&Labelled>) -> Option<char> {
     match key {
         Some(key) => Some(key.label),
@@ -19,7 +18,7 @@ fn label_of(key: Option<&Labelled>) -> Option<char> {
     }
 }
 
-/// The key that is stored stays where an equal one comes.
+/// Checks that the stored key stays if an equal one is inserted.
 fn stores<R: Wait + Abort>(rt: &R, set: &Pinned<'_>) {
     is(rt, set.insert(rt, key(7, 'x')), Ok(true));
     is(rt, set.insert(rt, key(7, 'y')), Ok(false));
@@ -32,7 +31,7 @@ fn stores<R: Wait + Abort>(rt: &R, set: &Pinned<'_>) {
     is(rt, (set.len(), set.is_empty()), (1, false));
 }
 
-/// A key goes once.
+/// Checks that a key is removed once.
 fn removes<R: Wait + Abort>(rt: &R, set: &Pinned<'_>) {
     is(rt, set.remove(rt, &any(7)), Ok(true));
     is(rt, set.remove(rt, &any(7)), Ok(false));
@@ -40,7 +39,7 @@ fn removes<R: Wait + Abort>(rt: &R, set: &Pinned<'_>) {
     is(rt, set.set().is_empty(), true);
 }
 
-/// The sum of the numbers that a walk gives.
+/// Returns the sum of an iterator's numbers.
 fn sum<R: Wait>(rt: &R, set: &Keys) -> Result<u64, Refused> {
     let mut sum = 0u64;
     for key in set.pin().iter(rt)? {
@@ -49,7 +48,7 @@ fn sum<R: Wait>(rt: &R, set: &Keys) -> Result<u64, Refused> {
     Ok(sum)
 }
 
-/// Many keys come, some go, and then all.
+/// Inserts many keys, removes some, and then all.
 fn scans<R: Wait + Abort>(rt: &R, set: &Keys) {
     let pinned = set.pin_owned();
     is(rt, pinned.reserve(rt, 5), Ok(()));
@@ -71,7 +70,7 @@ fn a_pinned_set_answers(rt: HostRuntime) -> Result<(), Fail> {
     Ok(())
 }
 
-/// How many keys a set has that was made, or why none was made.
+/// Returns how many keys a new set has, or why none was made.
 fn len(made: Result<Keys, Refused>) -> Result<usize, Refused> {
     match made {
         Ok(set) => Ok(set.len()),
@@ -79,7 +78,7 @@ fn len(made: Result<Keys, Refused>) -> Result<usize, Refused> {
     }
 }
 
-/// The label of key 7 in a set that was made.
+/// Returns the label of key 7 in a new set.
 fn label_in(made: Result<Keys, Refused>) -> Option<char> {
     match made {
         Ok(set) => label_of(set.pin().get(&any(7))),
@@ -87,7 +86,7 @@ fn label_in(made: Result<Keys, Refused>) -> Option<char> {
     }
 }
 
-/// A set that its constructor makes empty.
+/// Returns an empty set, made by the constructor of this number.
 fn made<R: Wait>(rt: &R, alloc: Global, by: u64) -> Result<Keys, Refused> {
     let mode = ResizeMode::Blocking;
     match by {
@@ -116,7 +115,7 @@ fn sets_are_made(rt: HostRuntime) {
     is(&rt, len(HashSet::from_array(&rt, alloc, keys)), Ok(2));
 }
 
-/// Of equal keys the earlier one stays.
+/// Checks that the earlier of equal keys stays.
 #[test]
 fn a_set_is_made_of_the_first_of_equal_keys(rt: HostRuntime) {
     let alloc = rt.alloc();
@@ -133,7 +132,7 @@ fn a_set_is_made_of_the_first_of_equal_keys(rt: HostRuntime) {
     );
 }
 
-/// A set that logs two keys at most, of which one was stored twice.
+/// Uses up a set that stores two keys at most, one of which was inserted twice.
 fn spends<R: Wait + Abort>(rt: &R, set: &Pinned<'_>) {
     is(rt, set.insert(rt, any(1)), Ok(true));
     is(rt, set.insert(rt, any(1)), Ok(false));
@@ -154,7 +153,7 @@ fn a_set_meets_its_limit(rt: HostRuntime) -> Result<(), Fail> {
     Ok(())
 }
 
-/// A builder shows its capacity, its collector's number and its mode.
+/// Checks that a builder shows its capacity, its collector's number and its mode.
 #[test]
 fn a_builder_of_sets_prints(rt: HostRuntime) -> Result<(), Fail> {
     let builder = Keys::builder().capacity(6).collector(Collector::new(2));

@@ -1,11 +1,11 @@
-// How much a set that threads share says that it holds: keys in its arena, and slots of its table.
+// The sizes that a shared set returns: keys in its arena, and slots of its table.
 use crate::expect::is;
 use crate::labels::{Keys, any};
 use papaya_set::set::HashSet;
 use std::process::Abort;
 use std::test::Fail;
 
-/// The set holds so many keys, in a table of so many slots, and moves none.
+/// Checks that the set holds this many keys, in a table of this many slots, and moves none.
 fn holds(rt: &impl Abort, set: &Keys, stored: usize, slots: usize) {
     is(rt, (set.stored(), set.slots()), (stored, slots));
     is(rt, (set.pin().stored(), set.pin().slots()), (stored, slots));

@@ -1,4 +1,4 @@
-// Threads that store and remove the same keys: of each just one of them is told so.
+// Threads that store and remove the same keys: for each key one thread's call returns true.
 use crate::expect::is;
 use crate::labels::{Keys, MODES, any, made};
 use papaya_testing::crossing::Crossing;
@@ -8,7 +8,7 @@ use std::sync::Wait;
 use std::test::Fail;
 use std::thread::{Threads, join};
 
-/// What a thread calls for each key.
+/// The call that a thread makes for each key.
 #[derive(Clone, Copy)]
 enum Call {
     Insert,
@@ -16,7 +16,7 @@ enum Call {
     Contains,
 }
 
-/// Calls it for one key.
+/// Makes the call for one key.
 fn answer<R: Wait>(rt: &R, set: &Keys, call: Call, number: u64) -> Result<bool, Refused> {
     match call {
         Call::Insert => set.pin().insert(rt, any(number)),
@@ -25,8 +25,8 @@ fn answer<R: Wait>(rt: &R, set: &Keys, call: Call, number: u64) -> Result<bool, 
     }
 }
 
-/// Calls it for 64 keys once both threads are there: for which was the answer true, with a bit
-/// for each?
+/// Makes the call for 64 keys once both threads are there; returns for which it returned true, as a
+/// bit for each.
 fn told<R: Wait>(rt: &R, set: &Keys, call: Call, crossing: &Crossing) -> Result<u64, Refused> {
     crossing.meets(1);
     let mut yes = 0u64;
@@ -40,7 +40,7 @@ fn told<R: Wait>(rt: &R, set: &Keys, call: Call, crossing: &Crossing) -> Result<
     Ok(yes)
 }
 
-/// Two threads do so at once: was the answer true once for each key?
+/// Lets two threads do so at once; returns whether the call returned true once for each key.
 fn is_told_once<R: Threads + Wait + Sync>(rt: &R, set: &Keys, call: Call) -> Result<bool, Refused> {
     let crossing = Crossing::new(2, 0);
     let (first, second) = join(
@@ -52,7 +52,8 @@ fn is_told_once<R: Threads + Wait + Sync>(rt: &R, set: &Keys, call: Call) -> Res
     Ok((first & second, first | second) == (0, u64::MAX))
 }
 
-/// Two threads store the keys, and two remove them. Two that only look are told of each key twice.
+/// Lets two threads store the keys, and two remove them. For two that only look, both calls return
+/// true for each key.
 fn share<R: Threads + Wait + Sync + Abort>(rt: &R, set: &Keys) {
     is(rt, is_told_once(rt, set, Call::Insert), Ok(true));
     is(rt, set.len(), 64);

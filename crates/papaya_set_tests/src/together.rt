@@ -7,13 +7,13 @@ use std::test::Fail;
 
 type Keys = HashSet<u64>;
 
-/// Both sets are equal or not, each to the other.
+/// Checks whether both sets are equal, each to the other.
 fn compare(rt: &impl Abort, one: &Keys, other: &Keys, wanted: bool) {
     is(rt, one.eq(other), wanted);
     is(rt, other.eq(one), wanted);
 }
 
-/// The set has so many keys and slots.
+/// Checks that the set has this many keys and slots.
 fn has(rt: &impl Abort, set: &Keys, keys: usize, slots: usize) {
     is(rt, (set.len(), set.map().slots()), (keys, slots));
 }
@@ -32,7 +32,7 @@ fn sets_are_made_of_keys(rt: HostRuntime) -> Result<(), Fail> {
     Ok(())
 }
 
-/// A set of these keys.
+/// Returns a set of these keys.
 fn made(alloc: Global, keys: &[u64]) -> Result<Keys, Fail> {
     let mut set = HashSet::default(alloc)?;
     set.extend_ref(keys)?;
@@ -59,7 +59,7 @@ fn sets_of_equal_keys_are_equal(rt: HostRuntime) -> Result<(), Fail> {
     Ok(())
 }
 
-/// The set prints 42 and 16, in some order.
+/// Checks that the set prints 42 and 16, in some order.
 fn prints_both(rt: &impl Abort, alloc: Global, set: &Keys) -> Result<(), Fail> {
     let text = format!(in alloc; "{set:?}")?;
     let is_so = text.as_str() == "{42, 16}" || text.as_str() == "{16, 42}";
@@ -67,7 +67,7 @@ fn prints_both(rt: &impl Abort, alloc: Global, set: &Keys) -> Result<(), Fail> {
     Ok(())
 }
 
-/// An empty set prints the keys that it takes.
+/// Checks that an empty set prints the keys that it is given.
 fn prints_its_keys(rt: &impl Abort, alloc: Global, set: &mut Keys) -> Result<(), Fail> {
     prints(rt, alloc, set, "{}")?;
     is(rt, set.insert(42), Ok(true));

@@ -1,4 +1,4 @@
-//! Why a program ends with another status than 0.
+//! The failures of a program, which end it with another status than 0.
 ghost use Rattle.std.specs.Prelude.{◌≡◌};
 ghost use Rattle.papaya_shell.specs.Failure.{exit_status, status_of, without_memory};
 
@@ -7,7 +7,8 @@ use std::alloc::{AllocError, AllocFailed};
 use std::io::Write;
 use thiserror::Error;
 
-/// Why a run ended early. Its text is what the program prints on standard error, behind its name.
+/// The reason for which a run ended early. The program prints its text on standard error, behind
+/// its name.
 #[derive(Clone, Copy, Debug, Error)]
 pub enum Failure {
     /// The arguments are not of the documented form.
@@ -16,10 +17,10 @@ pub enum Failure {
     /// The line of this number, counted from 1, is of bad form, or not for its caller at that time.
     #[error("line {0}: bad command")]
     Line(u64),
-    /// A map could not be made or refused a run, or the program itself got no memory.
+    /// A map could not be made, a call failed, or the program itself got no memory.
     #[error("refused {} {refused}", .0.number(), refused = .0)]
     Refused(#[from] Refused),
-    /// The backends gave different answers at one workload.
+    /// The backends had different results at one workload.
     #[error("answers differ")]
     Disagreement,
     /// The clock failed.
@@ -50,7 +51,7 @@ impl<T: Drop> From<AllocFailed<T>> for Failure {
 }
 
 impl Failure {
-    /// The exit status.
+    /// Returns the exit status.
     pub fn status(self) -> u8
         ensures { result ≡ status_of self }
     {
@@ -64,18 +65,18 @@ impl Failure {
         }
     }
 
-    /// Prints the failure behind the program's name and answers the exit status, also where the
+    /// Prints the failure behind the program's name and returns the exit status, even if the
     /// printing fails.
     pub fn report<E: Write>(self, program: &str, errors: &mut E) -> u8
         ensures { result ≡ status_of self }
     {
-        // There is no other place to report a failure of standard error to.
+        // A failure of standard error can be reported nowhere else.
         let _ = writeln!(errors, "{program}: {self}");
         self.status()
     }
 }
 
-/// The exit status of a run, which reports its failure.
+/// Returns the exit status of a run, and reports its failure.
 pub fn ended<E: Write>(run: Result<(), Failure>, program: &str, errors: &mut E) -> u8
     ensures { result ≡ exit_status run }
 {

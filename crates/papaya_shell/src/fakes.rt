@@ -3,11 +3,11 @@ use std::alloc::{AllocError, Global};
 use std::io;
 use std::io::{Read, Write};
 
-/// A reader that gives a few bytes at a time, and may fail when it has given all of them.
+/// A reader that returns a few bytes at a time, and may fail after all of them.
 #[derive(Drop)]
 pub struct Source<'a> {
     pub text: &'a [u8],
-    /// How many bytes it gives at most.
+    /// The most bytes that it returns at a time.
     pub step: usize,
     pub fails: bool,
 }
@@ -24,7 +24,7 @@ impl Read for Source<'_> {
     }
 }
 
-/// A writer that fails when it has taken so many bytes.
+/// A writer that fails after it has taken this many bytes.
 #[derive(Drop)]
 pub struct Sink {
     pub text: Vec<u8>,
@@ -47,7 +47,7 @@ impl Write for Sink {
     }
 }
 
-/// The words of a text, which stand apart by one space.
+/// Returns the words of a text, which are separated by one space.
 pub fn words(alloc: Global, text: &str) -> Result<Vec<String>, AllocError> {
     let mut words = Vec::new(alloc);
     for word in text.split(' ') {

@@ -1,4 +1,4 @@
-//! What the programs have alike: why they end early and by which status, the words that they are
+//! The common part of the programs: why they end early and by which status, the words that they are
 //! started with, and readers and writers for their tests.
 #![tactic(auto)]
 

@@ -1,7 +1,7 @@
 //! A cache with a limit, for one owner: the texts of pages, by their numbers. It has two
-//! generations, and a page that is put in goes to the young one. When that is full, the pages that
-//! were replaced in it are freed by `reclaim`, where they are half of it. Else it becomes the elder
-//! one, whose pages are dropped.
+//! generations, and a page that is put in goes to the young one. When that is full, `reclaim` frees
+//! the pages that were replaced in it, if they are half of it. Otherwise it becomes the elder one,
+//! whose pages are dropped.
 ghost use Rattle.std.specs.Prelude.{◌≡◌, ◌≢◌, ◌⊎◌, ◌+◌, ◌<◌, ◌≤◌, None, Some};
 ghost use Rattle.std.specs.Prelude.{IfOk, IsErr, OnOk, option_map, string_bytes};
 ghost use Rattle.papaya_uses.specs.Cache.{StaysOrGoes, stored_in, text_of};
@@ -18,7 +18,7 @@ pub struct Cache {
     alloc: Global,
     young: HashMap<u64, String>,
     elder: HashMap<u64, String>,
-    // how many pages the young one has stored at most, those that were replaced included
+    // at most this many pages are stored in the young one, including those that were replaced
     stored: usize,
     limit: usize,
 }
@@ -41,7 +41,7 @@ impl Model for Cache {
 }
 
 impl Cache {
-    /// A cache in which each of the two generations stores so many pages at most.
+    /// Returns a cache in which each of the two generations stores at most `limit` pages.
     pub fn new(alloc: Global, limit: usize) -> Result<Cache, Refused>
         requires { 0 < limit }
         ensures empty { IfOk result (λ cache. (page : _) → text_of cache page ≡ None) }
@@ -56,7 +56,7 @@ impl Cache {
         })
     }
 
-    /// The text of a page: the one that was put in last, where it was not dropped since.
+    /// Returns the text of a page: the one that was put in last, unless it was dropped since.
     pub fn get(&self, page: u64) -> Option<&str>
         ensures { option_map (λ text. text.now) result ≡ text_of self.now page }
     {
@@ -69,10 +69,10 @@ impl Cache {
         }
     }
 
-    /// Puts the text of a page in. Each other page stays, but for those of the elder generation
-    /// alone, where the young one is full. No more pages are stored than twice the limit, those
-    /// that were replaced included. Refused, the page itself has the text that it had, or was
-    /// dropped so.
+    /// Puts the text of a page in. Each other page stays, except those of the elder generation
+    /// alone if the young one is full. The cache stores at most twice the limit of pages, including
+    /// those that were replaced. If the call fails, the page itself has the text that it had, or
+    /// was dropped in this way.
     pub fn put(&mut self, page: u64, text: String) -> Result<(), Refused>
         ensures there { OnOk result (text_of self.new page ≡ Some (string_bytes text)) }
         ensures others { (other : _) → (other ≢ page) ⊎ IsErr result

@@ -1,4 +1,4 @@
-//! A registry of counters: threads add to them, and each sum is made in one step.
+//! A registry of counters: threads add to them, and each addition is one step.
 ghost use Rattle.std.specs.Prelude.{◌≡◌, IfOk, option_map};
 ghost use mathlib.Core.List.{IsPrefix};
 ghost use Rattle.papaya_uses.specs.Counters.{HasAdded, next_count};
@@ -10,8 +10,8 @@ use std::sync::Wait;
 /// The counters, by their numbers. A thread makes its session by `Session::new(&counters)`.
 pub type Counters = HashMap<u64, u64, BuildHasherDefault<FoldHasher>>;
 
-/// Adds to a counter, which begins at 0, and answers its new value. The closure may run again,
-/// where another thread was first to change the counter; only its last sum is stored.
+/// Adds to a counter, which begins at 0, and returns its new value. The closure may run again if
+/// another thread was first to change the counter; only its last sum is stored.
 pub fn add<R: Wait>(
     rt: &R,
     counters: &mut Session<'_, u64, u64>,

@@ -1,9 +1,9 @@
 //! How often each page was read: threads count on one map, each by a session of its own.
 //!
-//! What is only asked goes by plain calls: a pinned map has them, and the thread keeps nothing of
-//! its own. What such a call says is so of some legal history, which the caller is not shown. To
-//! prove that what was stored is found, or what a retain left, take a session, as [`hit`] and
-//! [`crate::sessions`] do.
+//! Functions that only read use plain calls: a pinned map has them, and the thread keeps no state
+//! of its own. Their contracts state a result for some legal history, which the caller does not
+//! observe. To prove that a lookup finds what was stored, or what a retain left, use a session, as
+//! [`hit`] and [`crate::sessions`] do.
 ghost use Rattle.std.specs.Prelude.{◌≡◌, IfErr, IfOk};
 ghost use mathlib.Core.List.{IsPrefix};
 ghost use Rattle.papaya.specs.Threads.{IsMemoryOrCapacity, IsWriteRefusal};
@@ -14,11 +14,11 @@ use papaya::{HashMap, Refused, Session};
 use std::hash::{BuildHasherDefault, FoldHasher};
 use std::sync::Wait;
 
-/// How often each page was read, by their numbers.
+/// The number of reads of each page, by the pages' numbers.
 pub type Hits = HashMap<u64, u64, BuildHasherDefault<FoldHasher>>;
 
-/// Counts a read of a page, and answers how often it was read by then. No read is lost where
-/// threads count at once: the count goes up from just the one that it replaces.
+/// Counts a read of a page, and returns how often it was read so far. No read is lost if threads
+/// count at once: the count goes up from just the one that it replaces.
 pub fn hit<R: Wait>(rt: &R, hits: &mut Session<'_, u64, u64>, page: u64) -> Result<u64, Refused>
     ensures seen { IsPrefix hits.old.history hits.new.history }
     ensures counted { IfOk result (HasCounted page hits.old.history hits.new.history) }
@@ -29,23 +29,23 @@ pub fn hit<R: Wait>(rt: &R, hits: &mut Session<'_, u64, u64>, page: u64) -> Resu
     Ok(*count)
 }
 
-/// How often a page was read, if it was. It waits for nobody.
+/// Returns how often a page was read, if it was. It never waits.
 pub fn reads(hits: &Hits, page: u64) -> Option<u64>
     ensures { IsCountOf page result }
 {
     hits.pin().get(&page).copied()
 }
 
-/// Forgets the pages that were read less often than this. Refused, it may have forgotten some
-/// of them.
+/// Removes the pages that were read less often than this. If it fails, it may have removed some of
+/// them.
 pub fn forget_below<R: Wait>(rt: &R, hits: &Hits, least: u64) -> Result<(), Refused>
     ensures { IfErr result IsMemoryOrCapacity }
 {
     hits.pin().retain(rt, |_, count| *count >= least)
 }
 
-/// The reads of all pages, up to the greatest number of 64 bits. Those that are counted meanwhile
-/// may be in it or not.
+/// Returns the reads of all pages, up to the greatest number of 64 bits. Reads that are counted
+/// meanwhile may be included or not.
 pub fn total<R: Wait>(rt: &R, hits: &Hits) -> Result<u64, Refused>
     ensures { IfErr result IsMemoryOrCapacity }
 {

@@ -1,4 +1,4 @@
-//! Texts by numbers: each text is stored once, and gets a number that it keeps. Threads share it.
+//! An interner of texts: each text is stored once, and keeps its number. Threads share it.
 ghost use Rattle.std.specs.Prelude.{◌≡◌, IfErr, None};
 ghost use Rattle.papaya.specs.Threads.{IsMemoryOrCapacity};
 
@@ -19,7 +19,7 @@ pub struct Interner {
 }
 
 impl Interner {
-    /// An interner without texts.
+    /// Returns an interner without texts.
     pub fn new<R: Wait>(rt: &R, alloc: Global) -> Result<Interner, Refused> {
         Ok(Interner {
             numbers: HashMap::new(rt, alloc)?,
@@ -28,7 +28,7 @@ impl Interner {
         })
     }
 
-    /// The number of a text, which gets one where it has none. Where threads bring one text at
+    /// Returns the number of a text, which gets one if it has none. If threads pass in one text at
     /// once, all get the number of the first; a number that another has drawn for it stays unused.
     #[tactic(auto, using(crate::proofs::LimitLemmas::unlimited))]
     pub fn number<R: Wait>(&self, rt: &R, alloc: Global, text: &str) -> Result<u64, Refused>
@@ -56,7 +56,7 @@ impl Interner {
         }
     }
 
-    /// The text of a number that [`Interner::number`] has answered.
+    /// Returns the text of a number that [`Interner::number`] has returned.
     pub fn text(&self, number: u64) -> Option<&str> {
         match Session::new(&self.texts).get(&number) {
             Some(text) => Some(text.as_str()),

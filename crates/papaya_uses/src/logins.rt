@@ -1,5 +1,5 @@
-//! Who is logged in, for a server that runs for months: threads share a table of logins, each of
-//! which ends at a time, and a sweep gives back the memory of those that ended.
+//! The logins of a server that runs for months. Threads share a table of logins, each of which ends
+//! at a time, and a sweep frees the memory of those that ended.
 ghost use Rattle.std.specs.Prelude.{◌≡◌, ◌<◌, IfOk, IfSome, nat_lt};
 ghost use mathlib.Core.List.{IsPrefix};
 ghost use Rattle.papaya_uses.specs.Logins.{AreEndedGone};
@@ -20,10 +20,10 @@ pub struct Login {
 /// The login of each token, as a session of a guard takes it.
 pub type Table = HashMap<u64, Login, BuildHasherDefault<FoldHasher>>;
 
-/// A thread's way to the logins. Each thread makes one, `logins.handle()`.
+/// A thread's handle to the logins. Each thread makes one, `logins.handle()`.
 pub type Desk<'a> = Handle<'a, Table>;
 
-/// An empty table of logins, which threads share.
+/// Returns an empty table of logins, which threads share.
 pub fn logins<R: Wait>(rt: &R, alloc: Global) -> Result<ReclaimingMap<u64, Login>, Refused> {
     Reclaiming::new(alloc, Table::new(rt, alloc)?)
 }
@@ -49,7 +49,7 @@ pub fn login_of<R: Wait>(rt: &R, desk: &mut Desk<'_>, token: u64, now: u64) -> O
     }
 }
 
-/// Drops the logins that have ended by now.
+/// Removes the logins that have ended by now.
 pub fn drop_ended<R: Wait>(
     rt: &R,
     logins: &mut Session<'_, u64, Login>,
@@ -66,8 +66,8 @@ pub fn drop_ended<R: Wait>(
     )
 }
 
-/// Drops the logins that have ended by now, and reclaims the table if more than half of what it
-/// stores is of no use. A thread of the server calls it from time to time. Was it reclaimed?
+/// Removes the logins that have ended by now, and reclaims the table if more than half of what it
+/// stores is of no use; returns whether it did. A thread of the server calls it from time to time.
 pub fn sweep<R: Wait>(rt: &R, desk: &mut Desk<'_>, now: u64) -> Result<bool, Refused> {
     drop_ended(rt, &mut Session::new(&desk.enter(rt)), now)?;
     desk.reclaim_if(rt, 2)

@@ -1,6 +1,6 @@
 //! A registry of metrics: a counter for each name, to which threads add at once. A name gets its
-//! counter once. An addition is one atomic step on that counter: no pair of the map is replaced, so
-//! none is left in the logs.
+//! counter once. An addition is one atomic step on that counter: it replaces no entry of the map,
+//! so none is left in its arena.
 ghost use Rattle.std.specs.Prelude.{IfErr};
 ghost use mathlib.Core.List.{IsPrefix};
 ghost use Rattle.papaya.specs.Threads.{IsWriteRefusal};
@@ -14,8 +14,8 @@ use std::sync::atomic::{AtomicU64, Ordering};
 /// The counters, by their names. A thread makes its session by `Session::new(&metrics)`.
 pub type Metrics = HashMap<String, AtomicU64, BuildHasherDefault<FoldHasher>>;
 
-/// Adds to the counter of a name, which begins at 0, and answers what it was before. A name that
-/// has a counter is not copied, and its counter waits for nobody.
+/// Adds to the counter of a name, which begins at 0, and returns its old value. If the name has a
+/// counter, the name is not copied, and the call never waits.
 #[tactic(auto, using(crate::proofs::MetricLemmas::seen_on))]
 pub fn add<R: Wait>(
     rt: &R,
@@ -39,7 +39,7 @@ pub fn add<R: Wait>(
     }
 }
 
-/// What the counter of a name has, if there is one. It waits for nobody.
+/// Returns the value of a name's counter, if there is one. It never waits.
 pub fn read(metrics: &mut Session<'_, String, AtomicU64>, name: &str) -> Option<u64>
     ensures { IsPrefix metrics.old.history metrics.new.history }
 {

@@ -1,5 +1,5 @@
-//! A cache of pages for a server that runs for months: threads share it, and it stores no more pages
-//! at a time than its limit, those that were replaced or dropped included.
+//! A cache of pages for a server that runs for months. Threads share it, and it stores at most as
+//! many pages as its limit, including those that were replaced or dropped.
 
 use papaya::reclaiming::Handle;
 use papaya::{HashMap, Reclaiming, ReclaimingMap, Refused};
@@ -17,13 +17,13 @@ pub struct Page {
 /// The pages by their numbers, as a guard lends them.
 pub type Table = HashMap<u64, Page, BuildHasherDefault<FoldHasher>>;
 
-/// A thread's way to the cache. Each thread makes one, `pages.handle()`.
+/// A thread's handle to the cache. Each thread makes one, `pages.handle()`.
 pub type Reader<'a> = Handle<'a, Table>;
 
-/// A page that was put in so many seconds ago is dropped when the cache is full.
+/// The age in seconds at which a page is dropped when the cache is full.
 pub const KEPT: u64 = 600;
 
-/// An empty cache that stores so many pages at a time.
+/// Returns an empty cache that stores this many pages at a time.
 pub fn pages<R: Wait>(
     rt: &R,
     alloc: Global,
@@ -33,8 +33,8 @@ pub fn pages<R: Wait>(
     Reclaiming::new(alloc, map)
 }
 
-/// Returns a copy of a page's text, if the cache has the page. `Refused::Memory` if there is no
-/// memory for the copy.
+/// Returns a copy of a page's text, if the cache has the page. Fails with `Refused::Memory` if
+/// there is no memory for the copy.
 pub fn text_of<R: Wait>(
     rt: &R,
     reader: &mut Reader<'_>,
@@ -91,7 +91,7 @@ fn drop_old<R: Wait>(rt: &R, cache: &Table, now: u64) -> Result<(), Refused> {
     Ok(())
 }
 
-/// Drops pages, and gives back their room.
+/// Drops pages, and frees their memory.
 fn make_room<R: Wait>(rt: &R, reader: &mut Reader<'_>, now: u64) -> Result<(), Refused> {
     drop_old(rt, &reader.enter(rt), now)?;
     reader.reclaim(rt)

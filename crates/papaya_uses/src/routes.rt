@@ -1,5 +1,5 @@
-//! A table of routes: many threads look paths up, and now and then one adds a route or turns it
-//! elsewhere. A path is looked up as a text, with no copy of it.
+//! A table of routes: many threads look up paths, and now and then one adds a route or changes it.
+//! A path is looked up as a text, without a copy of it.
 ghost use Rattle.std.specs.Prelude.{IfErr, IfOk};
 ghost use mathlib.Core.List.{IsPrefix};
 ghost use Rattle.papaya.specs.Threads.{IsWriteRefusal};
@@ -12,7 +12,7 @@ use std::sync::Wait;
 /// The number of each path's handler. A thread makes its session by `Session::new(&routes)`.
 pub type Routes = HashMap<String, u64, BuildHasherDefault<FoldHasher>>;
 
-/// The handler of a path. It waits for nobody.
+/// Returns the handler of a path. It never waits.
 pub fn handler(routes: &mut Session<'_, String, u64>, path: &str) -> Option<u64>
     ensures seen { IsPrefix routes.old.history routes.new.history }
     ensures led { IsLedBetween path.now routes.old.history routes.new.history result }
@@ -20,8 +20,8 @@ pub fn handler(routes: &mut Session<'_, String, u64>, path: &str) -> Option<u64>
     routes.get(&TextKey(path)).copied()
 }
 
-/// Leads a path to a handler, and answers which one it had. Threads that look it up meanwhile get
-/// the one or the other.
+/// Sets the handler of a path, and returns the old one. Threads that look it up meanwhile get
+/// either.
 pub fn lead<R: Wait>(
     rt: &R,
     routes: &mut Session<'_, String, u64>,

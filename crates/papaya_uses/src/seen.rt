@@ -1,6 +1,6 @@
-//! Which items were met before: threads that work on one list of items leave out what another has
-//! met. A set that threads share has the items. Each thread goes to it by a session of the set's
-//! map, so that what one was told can be set beside what another was.
+//! The items that were met before: threads that work on one list of items skip those that another
+//! has met. A set that threads share has the items. Each thread accesses it by a session of the
+//! set's map, so that the results of two threads can be compared.
 ghost use Rattle.std.specs.Prelude.{◌≡◌, ◌==◌, ◌⊎◌, ℕ, [], true, IfErr, IfOk};
 ghost use mathlib.Core.List.{IsPrefix};
 ghost use Rattle.papaya.specs.Threads.{IsLegalHistory, IsMemoryOrCapacity, IsWriteRefusal, key_of};
@@ -14,7 +14,7 @@ use std::sync::Wait;
 /// The items that were met, by their numbers.
 pub type Items = HashSet<u64, BuildHasherDefault<FoldHasher>>;
 
-/// One thread's way to the items, with what the thread has seen of them.
+/// One thread's access to the items, with the history that the thread has observed.
 #[derive(Drop)]
 pub struct Finder<'a> {
     items: Session<'a, u64, ()>,
@@ -32,7 +32,7 @@ impl<'a> Model for Finder<'a> {
 }
 
 impl<'a> Finder<'a> {
-    /// A finder of the thread's own.
+    /// Returns a finder of the thread's own.
     pub fn new(items: &'a Items) -> Finder<'a>
         ensures map { result.map ≡ items.now }
         ensures new { result.history ≡ [] }
@@ -42,8 +42,8 @@ impl<'a> Finder<'a> {
         }
     }
 
-    /// Notes that an item was met, and answers whether it is new: true for just one of the threads
-    /// that meet it.
+    /// Records that an item was met, and returns whether it is new: true for just one of the
+    /// threads that meet it.
     pub fn meet<R: Wait>(&mut self, rt: &R, item: u64) -> Result<bool, Refused>
         ensures map { self.new.map ≡ self.old.map }
         ensures seen { IsPrefix self.old.history self.new.history }
@@ -56,7 +56,7 @@ impl<'a> Finder<'a> {
         }
     }
 
-    /// Forgets an item, so that it is new once more. Was it there?
+    /// Forgets an item, so that it is new again; returns whether it was there.
     pub fn forget<R: Wait>(&mut self, rt: &R, item: u64) -> Result<bool, Refused>
         ensures map { self.new.map ≡ self.old.map }
         ensures seen { IsPrefix self.old.history self.new.history }
@@ -68,8 +68,8 @@ impl<'a> Finder<'a> {
         }
     }
 
-    /// Tells each of two finders what the other has seen. What either was told stands in one
-    /// history then, of which [`told_once`] speaks.
+    /// Shares what two finders have observed. Afterwards the results of both are in one history,
+    /// which [`told_once`] is about.
     pub fn compare(&mut self, other: &mut Finder<'_>)
         requires { other.old.map.book ≡ self.old.map.book }
         ensures one { self.new.history ≡ other.new.history }
@@ -80,9 +80,9 @@ impl<'a> Finder<'a> {
     }
 }
 
-/// An item was new to two finders at moments of one history, as that is which both have seen after
-/// [`Finder::compare`]. Then it was one moment, or the item was forgotten between the two. So of
-/// threads that meet an item which nobody forgets, just one is told that it is new.
+/// States a law on two finders that found one item to be new, in one history (as both observe after
+/// [`Finder::compare`]). Either that was at one point in time, or the item was forgotten in
+/// between. So if no thread forgets an item, it is new to just one of the threads that meet it.
 ///
 /// The function does nothing: its contract is the law.
 pub fn told_once()

@@ -1,4 +1,4 @@
-//! Who is signed in: a table that threads share, from tokens to users.
+//! The users who are signed in: a table that threads share, from tokens to users.
 ghost use Rattle.std.specs.Prelude.{◌≡◌, ◌==◌, IfOk};
 ghost use mathlib.Core.List.{IsPrefix};
 ghost use Rattle.papaya_uses.specs.Sessions.{IsSignedIn, IsSignedOut, IsUserBetween};
@@ -10,7 +10,7 @@ use std::sync::Wait;
 /// The user of each token. A thread's desk is a session of it, `Session::new(&users)`.
 pub type Users = HashMap<u64, u64, BuildHasherDefault<FoldHasher>>;
 
-/// Gives the token to a user, and answers who had it.
+/// Gives the token to a user, and returns its previous user.
 pub fn sign_in<R: Wait>(
     rt: &R,
     desk: &mut Session<'_, u64, u64>,
@@ -24,7 +24,7 @@ pub fn sign_in<R: Wait>(
     Ok(before.copied())
 }
 
-/// The user of a token. It waits for nobody.
+/// Returns the user of a token. It never waits.
 pub fn user_of(desk: &mut Session<'_, u64, u64>, token: u64) -> Option<u64>
     ensures seen { IsPrefix desk.old.history desk.new.history }
     ensures answered { IsUserBetween token desk.old.history desk.new.history result }
@@ -32,7 +32,7 @@ pub fn user_of(desk: &mut Session<'_, u64, u64>, token: u64) -> Option<u64>
     desk.get(&token).copied()
 }
 
-/// Takes the token from this user; one that another user has by now stays. Was it taken?
+/// Removes the token of this user; returns whether it did. A token that another user has now stays.
 pub fn sign_out<R: Wait>(
     rt: &R,
     desk: &mut Session<'_, u64, u64>,

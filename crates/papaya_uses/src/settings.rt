@@ -10,7 +10,7 @@ use std::sync::Wait;
 /// `Session::new(&settings)`.
 pub type Settings = HashMap<u64, u64, BuildHasherDefault<FoldHasher>>;
 
-/// Gives a setting a value, and reads it back: at a moment after this thread's own change.
+/// Gives a setting a value, and reads it back: at some point after this thread's own change.
 pub fn set_and_read<R: Wait>(
     rt: &R,
     settings: &mut Session<'_, u64, u64>,

@@ -1,4 +1,4 @@
-//! How often each word stands in a text: the map for one caller.
+//! The number of times that each word occurs in a text: the map for one caller.
 ghost use Rattle.std.specs.Prelude.{◌≡◌, ◌+◌, ◌-◌, ◌^◌, min, IfOk};
 ghost use Rattle.std.specs.List.{count_by};
 ghost use Rattle.papaya_uses.specs.Words.{count_in};
@@ -8,7 +8,7 @@ use papaya::seq::HashMap;
 use std::alloc::Global;
 use std::hash::Hash;
 
-/// The count after one more.
+/// Returns the count after one more.
 pub(crate) fn one_more(count: &u64) -> u64
     ensures { result ≡ min (count.now + 1) (2 ^ 64 - 1) }
 {

@@ -1,10 +1,10 @@
-// The cache, in which each generation stores four pages: what stays, and what is dropped.
+// The cache, in which each generation stores four pages: which pages stay, and which are dropped.
 use papaya_uses::cache::Cache;
 use std::alloc::Global;
 use std::process::Abort;
 use std::test::Fail;
 
-/// A cache into which these pages were put, in their order.
+/// Returns a cache into which these pages were put, in their order.
 fn filled(alloc: Global, pages: &[(u64, &str)]) -> Result<Cache, Fail> {
     let mut cache = Cache::new(alloc, 4)?;
     for (page, text) in pages {
@@ -13,14 +13,14 @@ fn filled(alloc: Global, pages: &[(u64, &str)]) -> Result<Cache, Fail> {
     Ok(cache)
 }
 
-/// A further page is put.
+/// Puts a further page in.
 fn puts(alloc: Global, cache: &mut Cache, page: u64, text: &str) -> Result<(), Fail> {
     let text = text.to_string(alloc)?;
     cache.put(page, text)?;
     Ok(())
 }
 
-/// The cache has these texts of these pages, or none.
+/// Checks that the cache has these texts of these pages, or none.
 fn has(rt: &impl Abort, cache: &Cache, wanted: &[(u64, Option<&str>)]) {
     for (page, text) in wanted {
         assert_eq!(rt; cache.get(*page), *text, "of {page}");

@@ -1,4 +1,4 @@
-// Each enum that the facade shows, matched by the facade's names alone.
+// Each enum that the facade exports, matched only by the facade's names.
 use crate::expect::is;
 use papaya::raw::chain::{self, CopyAsk, Phase, Resize, ResizerState, Scan, ScanAsk, ScannerState};
 use papaya::raw::{Answer, Ask, At, Kind, OpKind, Probed, Search, State, StepKind, Task, Word};
@@ -7,7 +7,7 @@ use papaya::seq::{Computed, Outcome};
 use papaya::{Compute, Operation, Refused, ResizeMode};
 use std::test::Fail;
 
-/// The code of a word's kind.
+/// Returns the code of a word's kind.
 fn code_of(kind: Kind) -> u64 {
     match kind {
         Kind::Empty => 0,
@@ -19,7 +19,7 @@ fn code_of(kind: Kind) -> u64 {
     }
 }
 
-/// The table that a place is of; 0 for a place of the map.
+/// Returns the table that a place is of, or 0 for a place of the map.
 fn table_of(at: At) -> u64 {
     match at {
         At::Root | At::Made => 0,
@@ -27,7 +27,7 @@ fn table_of(at: At) -> u64 {
     }
 }
 
-/// Whether an exchange of this kind changes the map.
+/// Returns whether an exchange of this kind changes the map.
 fn changes_map(kind: StepKind) -> bool {
     match kind {
         StepKind::Claim | StepKind::Replace | StepKind::Bury => true,
@@ -44,7 +44,7 @@ fn changes_map(kind: StepKind) -> bool {
     }
 }
 
-/// What a closure answers, as the machine of its call is told it.
+/// Returns a closure's operation, as it is passed on to the machine of its call.
 fn kind_of(operation: &Operation<u64, u64>) -> OpKind {
     match operation {
         Operation::Insert(_) => OpKind::Insert,
@@ -53,7 +53,7 @@ fn kind_of(operation: &Operation<u64, u64>) -> OpKind {
     }
 }
 
-/// What a closure's call ends with, where it ends without a change.
+/// Returns what a closure ends its call with, if it ends without a change.
 fn aborted_with(kind: OpKind) -> Option<u64> {
     match kind {
         OpKind::Insert | OpKind::Remove => None,
@@ -61,7 +61,7 @@ fn aborted_with(kind: OpKind) -> Option<u64> {
     }
 }
 
-/// Whether a call on a table asks for memory.
+/// Returns whether a call on a table requests memory.
 fn makes(ask: Ask) -> bool {
     match ask {
         Ask::MakeKey | Ask::MakeValue | Ask::MakePair | Ask::MakePairOf(_) => true,
@@ -74,7 +74,7 @@ fn makes(ask: Ask) -> bool {
     }
 }
 
-/// Whether a copier asks for memory.
+/// Returns whether a copier requests memory.
 fn copier_makes(ask: CopyAsk) -> bool {
     match ask {
         CopyAsk::MakeTable { len, .. } => len > 0,
@@ -84,7 +84,7 @@ fn copier_makes(ask: CopyAsk) -> bool {
     }
 }
 
-/// Whether a call over any number of tables asks for memory.
+/// Returns whether a call over any number of tables requests memory.
 fn chain_makes(ask: chain::Ask) -> bool {
     match ask {
         chain::Ask::Call(ask) => makes(ask),
@@ -92,7 +92,7 @@ fn chain_makes(ask: chain::Ask) -> bool {
     }
 }
 
-/// The pair that a scan shows or gives.
+/// Returns the pair that a scan shows or gives.
 fn scanned(ask: ScanAsk) -> Option<u64> {
     match ask {
         ScanAsk::Show(pair) | ScanAsk::Given(pair) => Some(pair),
@@ -100,7 +100,7 @@ fn scanned(ask: ScanAsk) -> Option<u64> {
     }
 }
 
-/// Why what was asked for was refused.
+/// Returns why a request was refused.
 fn refused_by(answer: Answer) -> Option<Refused> {
     match answer {
         Answer::Refused(refused) => Some(refused),
@@ -109,7 +109,7 @@ fn refused_by(answer: Answer) -> Option<Refused> {
     }
 }
 
-/// The same over any number of tables.
+/// Returns the same over any number of tables.
 fn chain_refused_by(answer: chain::Answer) -> Option<Refused> {
     match answer {
         chain::Answer::Call(answer) => refused_by(answer),
@@ -117,7 +117,7 @@ fn chain_refused_by(answer: chain::Answer) -> Option<Refused> {
     }
 }
 
-/// What a machine on one table does.
+/// Returns the task of a machine on one table.
 fn task_of<K, V, A>(call: &Call<K, V, A>) -> Option<Task> {
     match call {
         Call::Get(_) => Some(Task::Get),
@@ -129,7 +129,7 @@ fn task_of<K, V, A>(call: &Call<K, V, A>) -> Option<Task> {
     }
 }
 
-/// Whether a task may change the map.
+/// Returns whether a task may change the map.
 fn is_change(task: Task) -> bool {
     match task {
         Task::Get => false,
@@ -138,7 +138,7 @@ fn is_change(task: Task) -> bool {
     }
 }
 
-/// The pair that a reply names first.
+/// Returns the pair that a reply names first.
 fn first_pair(reply: Reply) -> Option<u64> {
     match reply {
         Reply::Found(pair) | Reply::Inserted(pair) | Reply::Occupied(pair) => Some(pair),
@@ -148,7 +148,7 @@ fn first_pair(reply: Reply) -> Option<u64> {
     }
 }
 
-/// Whether an event changed the map.
+/// Returns whether an event changed the map.
 fn is_changed(event: Event) -> bool {
     match event {
         Event::Changed(kind, _, _) | Event::Moved(kind) => changes_map(kind),
@@ -159,14 +159,14 @@ fn is_changed(event: Event) -> bool {
     }
 }
 
-/// The caller of a turn.
+/// Returns the caller of a turn.
 fn caller_of<K, V, A>(turn: &Turn<K, V, A>) -> usize {
     match turn {
         Turn::Begin(caller, _) | Turn::Step(caller, _) | Turn::Finish(caller, _) => *caller,
     }
 }
 
-/// How many pairs a call's end tells.
+/// Returns how many pairs the outcome of a call names.
 fn told(outcome: &Outcome) -> usize {
     match outcome {
         Outcome::Replied(reply) => usize::from(first_pair(*reply).is_some()),
@@ -174,7 +174,7 @@ fn told(outcome: &Outcome) -> usize {
     }
 }
 
-/// The new value that a compute stored.
+/// Returns the new value that a compute stored.
 fn stored(computed: &Compute<'_, u64, u64, u64>) -> Option<u64> {
     match computed {
         Compute::Inserted(_, value)
@@ -186,7 +186,7 @@ fn stored(computed: &Compute<'_, u64, u64, u64>) -> Option<u64> {
     }
 }
 
-/// The number of the pair that a compute stored.
+/// Returns the number of the pair that a compute stored.
 fn stored_pair(computed: Computed<u64, u64>) -> Option<u64> {
     match computed {
         Computed::Inserted(pair) | Computed::Updated { new: pair, .. } => Some(pair),
@@ -194,7 +194,7 @@ fn stored_pair(computed: Computed<u64, u64>) -> Option<u64> {
     }
 }
 
-/// How many slots a changing call copies.
+/// Returns how many slots a changing call copies.
 fn chunk(mode: ResizeMode) -> Option<usize> {
     match mode {
         ResizeMode::Incremental(chunk) => Some(chunk),
@@ -202,7 +202,7 @@ fn chunk(mode: ResizeMode) -> Option<usize> {
     }
 }
 
-/// Why a call on one table has not replied yet: `None` where it has.
+/// Returns why a call on one table has not replied yet, or `None` if it has.
 fn waits_for(state: State) -> Option<&'static str> {
     match state {
         State::Searching(search) => Some(search_waits_for(search)),
@@ -211,7 +211,7 @@ fn waits_for(state: State) -> Option<&'static str> {
     }
 }
 
-/// What a search is to be told.
+/// Returns what a search waits for.
 fn search_waits_for(search: Search) -> &'static str {
     match search {
         Search::Sizing(_) => "a size",
@@ -221,7 +221,7 @@ fn search_waits_for(search: Search) -> &'static str {
     }
 }
 
-/// Whether a search is over.
+/// Returns whether a search is over.
 fn is_over(probed: Probed) -> bool {
     match probed {
         Probed::On(_) => false,
@@ -229,7 +229,7 @@ fn is_over(probed: Probed) -> bool {
     }
 }
 
-/// Whether a call makes or copies tables.
+/// Returns whether a call makes or copies tables.
 fn resizes(phase: Phase) -> bool {
     match phase {
         Phase::Calling => false,
@@ -237,7 +237,7 @@ fn resizes(phase: Phase) -> bool {
     }
 }
 
-/// For how many pairs more there is to be room.
+/// Returns for how many more pairs room is reserved.
 fn more(resize: Resize) -> usize {
     match resize {
         Resize::Chunk | Resize::CopyAll => 0,
@@ -245,7 +245,7 @@ fn more(resize: Resize) -> usize {
     }
 }
 
-/// Whether a scan may take pairs out.
+/// Returns whether a scan may remove pairs.
 fn takes_out(scan: Scan) -> bool {
     match scan {
         Scan::Clear | Scan::Retain => true,
@@ -253,7 +253,7 @@ fn takes_out(scan: Scan) -> bool {
     }
 }
 
-/// Whether a resize begins.
+/// Returns whether a resize begins.
 fn begins(state: ResizerState) -> bool {
     match state {
         ResizerState::AtRoot => true,
@@ -261,7 +261,7 @@ fn begins(state: ResizerState) -> bool {
     }
 }
 
-/// Whether a scan is done.
+/// Returns whether a scan is done.
 fn is_done(state: ScannerState) -> bool {
     match state {
         ScannerState::Done => true,

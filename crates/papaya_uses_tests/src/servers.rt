@@ -1,4 +1,4 @@
-// What a server does for months: logins that end, and a cache that is full.
+// The work of a server over months: logins that end, and a cache that is full.
 use crate::expect::is;
 use papaya::Refused;
 use papaya_uses::logins::{Desk, Login, log_in, login_of, logins, sweep};
@@ -24,12 +24,12 @@ fn all_log_in(rt: &impl Wait, desk: &mut Desk<'_>, tokens: u64) -> Result<(), Re
     Ok(())
 }
 
-/// Is somebody logged in by this token now?
+/// Returns whether a user is logged in by this token now.
 fn is_in(rt: &impl Wait, desk: &mut Desk<'_>, token: u64, now: u64) -> bool {
     login_of(rt, desk, token, now).is_some()
 }
 
-/// Logins come, end, and are swept.
+/// Checks that logins come, end, and are swept.
 fn come_and_end(rt: &(impl Abort + Wait), desk: &mut Desk<'_>) {
     is(rt, all_log_in(rt, desk, 9000), Ok(()));
     is(rt, is_in(rt, desk, 5, 5), false);
@@ -48,7 +48,7 @@ fn logins_end_and_give_back_memory(rt: HostRuntime) -> Result<(), Fail> {
     Ok(())
 }
 
-/// Puts a page in, so many seconds after the server was started.
+/// Puts a page in, this many seconds after the server was started.
 fn puts(
     rt: &impl Wait,
     alloc: Global,
@@ -61,7 +61,7 @@ fn puts(
     Ok(())
 }
 
-/// The cache has each of these pages, or has it not.
+/// Checks for each of these pages whether the cache has it.
 fn has(
     rt: &(impl Abort + Wait),
     reader: &mut Reader<'_>,
@@ -74,8 +74,8 @@ fn has(
     Ok(())
 }
 
-/// A hundred pages fill the cache, the later ones so many seconds after those before, and a
-/// further page is put in. The cache has these pages then.
+/// Checks which pages the cache has after a hundred pages fill it, the later ones this many seconds
+/// after those before, and a further page is put in.
 fn makes_room(
     rt: &(impl Abort + Wait),
     alloc: Global,

@@ -10,7 +10,7 @@ use std::sync::Wait;
 use std::test::Fail;
 use std::thread::{Threads, join};
 
-/// A thread adds to one metric so often, and once to another.
+/// Adds this many times to one metric, and once to another, by one thread.
 fn adds(rt: &impl Wait, alloc: Global, metrics: &Metrics, times: u64) -> Result<u64, Refused> {
     let mut session = Session::new(metrics);
     for _ in 0..times {
@@ -19,7 +19,7 @@ fn adds(rt: &impl Wait, alloc: Global, metrics: &Metrics, times: u64) -> Result<
     add(rt, alloc, &mut session, "threads", 1)
 }
 
-/// Two threads at a time.
+/// Lets two threads add at a time.
 fn both_add(rt: &(impl Threads + Wait + Sync + Abort), alloc: Global, metrics: &Metrics) {
     let both = join(
         rt,
@@ -39,7 +39,7 @@ fn no_addition_to_a_metric_is_lost(rt: HostRuntime) -> Result<(), Fail> {
     Ok(())
 }
 
-/// A thread asks for the numbers of three texts: their sum.
+/// Gets the numbers of three texts by one thread; returns their sum.
 fn numbers(rt: &impl Wait, alloc: Global, interner: &Interner) -> Result<u64, Refused> {
     let mut sum = 0u64;
     for text in ["red", "green", "blue"] {
@@ -48,7 +48,7 @@ fn numbers(rt: &impl Wait, alloc: Global, interner: &Interner) -> Result<u64, Re
     Ok(sum)
 }
 
-/// Two threads get the same numbers.
+/// Checks that two threads get the same numbers.
 fn both_ask(rt: &(impl Threads + Wait + Sync + Abort), alloc: Global, interner: &Interner) {
     let (first, second) = join(
         rt,
@@ -68,7 +68,7 @@ fn a_text_has_one_number(rt: HostRuntime) -> Result<(), Fail> {
     Ok(())
 }
 
-/// A path leads to this handler, and led to that before.
+/// Sets a path's handler to this one, and checks the previous one.
 fn leads(
     rt: &(impl Wait + Abort),
     alloc: Global,

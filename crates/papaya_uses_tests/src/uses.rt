@@ -13,7 +13,7 @@ use std::sync::Wait;
 use std::test::Fail;
 use std::thread::{Threads, join};
 
-/// The word stands so often in the text.
+/// Checks that the word occurs this many times in the text.
 fn stands(rt: &impl Abort, counts: &HashMap<&'static str, u64>, word: &'static str, times: u64) {
     assert_eq!(rt; counts.get(&word).copied().unwrap_or(0), times, "of {word}");
 }
@@ -28,7 +28,7 @@ fn words_are_counted(rt: HostRuntime) -> Result<(), Fail> {
     Ok(())
 }
 
-/// The token has this user.
+/// Checks that the token has this user.
 fn has(rt: &impl Abort, desk: &mut Session<'_, u64, u64>, token: u64, user: Option<u64>) {
     assert_eq!(rt; user_of(desk, token), user, "of {token}");
 }
@@ -42,7 +42,7 @@ fn comes_and_goes(rt: &impl Wait, users: &Users, user: u64) -> Result<bool, Refu
     sign_out(rt, &mut desk, second, user)
 }
 
-/// Two threads at a time.
+/// Lets two threads do so at a time.
 fn both_come(
     rt: &(impl Threads + Wait + Sync),
     users: &Users,
@@ -83,7 +83,7 @@ fn a_setting_is_read_back(rt: HostRuntime) -> Result<(), Fail> {
     Ok(())
 }
 
-/// Adds 1 to a counter so often.
+/// Adds 1 to a counter this many times.
 fn adds(rt: &impl Wait, counters: &Counters, times: u64) -> Result<u64, Refused> {
     let mut session = Session::new(counters);
     for _ in 0..times {
@@ -92,7 +92,7 @@ fn adds(rt: &impl Wait, counters: &Counters, times: u64) -> Result<u64, Refused>
     add(rt, &mut session, 5, 0)
 }
 
-/// Two threads at a time.
+/// Lets two threads add at a time.
 fn both_add(
     rt: &(impl Threads + Wait + Sync),
     counters: &Counters,
@@ -108,7 +108,8 @@ fn no_addition_is_lost(rt: HostRuntime) -> Result<(), Fail> {
     Ok(())
 }
 
-/// A thread reads a page of its own ten times, and page 1 in between. Was no call refused?
+/// Reads a page of the thread's own ten times, and page 1 in between; returns whether no call
+/// failed.
 fn reads_pages(rt: &impl Wait, hits: &Hits, own: u64) -> bool {
     let mut session = Session::new(hits);
     for _ in 0..10u64 {
@@ -119,7 +120,7 @@ fn reads_pages(rt: &impl Wait, hits: &Hits, own: u64) -> bool {
     true
 }
 
-/// Two threads read pages, and one of them is forgotten.
+/// Lets two threads read pages, and removes one of them.
 fn counts_hits(rt: &(impl Threads + Wait + Sync + Abort), hits: &Hits) {
     let both = join(rt, || reads_pages(rt, hits, 2), || reads_pages(rt, hits, 3));
     is(rt, both, (true, true));
@@ -138,7 +139,7 @@ fn threads_count_hits(rt: HostRuntime) -> Result<(), Fail> {
     Ok(())
 }
 
-/// Meets eight items by a finder: how many of them were new?
+/// Meets eight items by a finder; returns how many of them were new.
 fn meets(rt: &impl Wait, items: &Items) -> Result<u64, Refused> {
     let mut finder = Finder::new(items);
     let mut new = 0u64;
@@ -150,13 +151,13 @@ fn meets(rt: &impl Wait, items: &Items) -> Result<u64, Refused> {
     Ok(new)
 }
 
-/// Two threads meet them: how many were new to one of them?
+/// Lets two threads meet them; returns how many were new to one of them.
 fn both_meet(rt: &(impl Threads + Wait + Sync), items: &Items) -> Result<u64, Refused> {
     let (first, second) = join(rt, || meets(rt, items), || meets(rt, items));
     Ok(first?.wrapping_add(second?))
 }
 
-/// Two threads meet them, and then one is forgotten.
+/// Lets two threads meet them, and then forgets one.
 fn finds(rt: &(impl Threads + Wait + Sync + Abort), items: &Items) {
     is(rt, both_meet(rt, items), Ok(8));
     let mut finder = Finder::new(items);

@@ -9,7 +9,7 @@ use std::sync::Wait;
 use std::thread::{Threads, map_chunks};
 use std::{io, thread};
 
-/// How many pieces of each article there are.
+/// The number of pieces of each article.
 type Stock = HashMap<u64, u64, RandomState>;
 
 /// The articles that were delivered, each with its pieces.
@@ -24,7 +24,7 @@ const DELIVERIES: [(u64, u64); 8] = [
     (3, 2),
 ];
 
-/// Books some deliveries, as one thread does.
+/// Books some deliveries, by one thread.
 fn book(rt: &impl Wait, stock: &Stock, deliveries: &[(u64, u64)]) -> Result<(), Refused> {
     let mut session = Session::new(stock);
     for (article, pieces) in deliveries {
@@ -57,7 +57,7 @@ fn book_all(
     Ok(())
 }
 
-/// Sells pieces of an article, one by one, as one thread does.
+/// Sells pieces of an article, one by one, by one thread.
 fn sell(rt: &impl Wait, stock: &Stock, article: u64, pieces: u64) -> Result<(), Refused> {
     let mut session = Session::new(stock);
     for _ in 0..pieces {
@@ -78,7 +78,7 @@ fn sell_by_two(rt: &(impl Threads + Wait + Sync), stock: &Stock) -> Result<(), R
     })
 }
 
-/// How many pieces of article 1 are left after all of that.
+/// Returns how many pieces of article 1 are left after all of that.
 fn left_of(
     rt: &(impl Threads + Wait + Sync),
     alloc: Global,

@@ -1,5 +1,5 @@
 //! `unique-lines`: reads lines, and prints each different one once, in the order of their bytes.
-//! Four threads bring the lines into one set.
+//! Four threads insert the lines into one set.
 #![tactic(auto)]
 
 use papaya::{HashSet, Refused, TextKey};
@@ -12,10 +12,10 @@ use std::process::ExitCode;
 use std::sync::Wait;
 use std::thread::{Threads, map_chunks};
 
-/// The lines that were met.
+/// The lines that were read.
 type Lines = HashSet<String, BuildHasherDefault<FoldHasher>>;
 
-/// Brings some lines in, as one thread does. A line that is there is not copied.
+/// Inserts some lines, by one thread. A line that is present is not copied.
 fn bring(rt: &impl Wait, alloc: Global, lines: &Lines, part: &[&str]) -> Result<(), Refused> {
     for line in part {
         if !lines.pin().contains(&TextKey(line)) {
@@ -28,7 +28,7 @@ fn bring(rt: &impl Wait, alloc: Global, lines: &Lines, part: &[&str]) -> Result<
     Ok(())
 }
 
-/// Brings all lines in by four threads.
+/// Inserts all lines by four threads.
 fn bring_all(
     rt: &(impl Threads + Wait + Sync),
     alloc: Global,
@@ -49,7 +49,7 @@ fn bring_all(
     Ok(())
 }
 
-/// The lines of the set in the order of their bytes.
+/// Returns the lines of the set in the order of their bytes.
 fn in_order<'a>(rt: &impl Wait, alloc: Global, lines: &'a Lines) -> Result<Vec<&'a str>, Failure> {
     let mut found = Vec::new(alloc);
     for line in lines.pin().iter(rt)? {
@@ -59,7 +59,7 @@ fn in_order<'a>(rt: &impl Wait, alloc: Global, lines: &'a Lines) -> Result<Vec<&
     Ok(found)
 }
 
-/// The whole program, over any reader.
+/// Runs the whole program, over any reader.
 fn run<R: Threads + Wait + Sync + Print, I: Read + Drop>(
     rt: &R,
     alloc: Global,

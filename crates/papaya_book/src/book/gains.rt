@@ -1,4 +1,4 @@
-//! The pairs that the words of slots name, as steps on such words gain them.
+//! The pairs that the words of slots name, which steps on such words gain.
 ghost use Rattle.std.specs.Prelude.{◌≡◌, Some};
 ghost use Rattle.papaya_words.specs.Word.{pair_of};
 ghost use Rattle.papaya_book.specs.Calls.{IsPairOf, NamesPair};
@@ -11,7 +11,7 @@ use papaya_log::token::token;
 use papaya_words::word::{Kind, Word};
 use std::hash::{BuildHasher, Hash};
 
-/// The token of the pair that a slot's word names.
+/// Returns the token of the pair that a slot's word names.
 #[inline(always)]
 pub fn named_pair<K: Hash + Eq, V, S: BuildHasher>(
     found: u64,
@@ -24,7 +24,7 @@ pub fn named_pair<K: Hash + Eq, V, S: BuildHasher>(
     token(known, Word(found).pair() as usize)
 }
 
-/// The token of the pair that a slot's word names, if it names one.
+/// Returns the token of the pair that a slot's word names, if it names one.
 #[inline(always)]
 pub fn pair_in<K: Hash + Eq, V, S: BuildHasher>(
     found: u64,

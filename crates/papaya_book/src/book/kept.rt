@@ -7,9 +7,9 @@ use crate::table::Table;
 use std::hash::{BuildHasher, Hash};
 use std::marker::Model;
 
-/// The root's number and its table, as they were loaded once, and what was seen then. Tables stay
-/// where they are, and a number is that of one table, so whoever loads the number again has the
-/// table. Contracts see which book it is of.
+/// The root's number and its table, as they were loaded once, with the history observed then.
+/// Tables stay where they are, and a number belongs to one table. So a caller that loads the same
+/// number again has its table. Contracts observe which book it is of.
 #[derive(Drop)]
 pub struct KeptRoot<'a, K: Hash + Eq, V, S: BuildHasher> {
     pub(crate) number: u64,
@@ -31,7 +31,7 @@ impl<'a, K: Hash + Eq, V, S: BuildHasher> Model for KeptRoot<'a, K, V, S> {
 }
 
 impl<'a, K: Hash + Eq, V, S: BuildHasher> KeptRoot<'a, K, V, S> {
-    /// The same.
+    /// Returns a copy.
     #[inline(always)]
     pub fn again(&self) -> KeptRoot<'a, K, V, S>
         ensures { result ≡ self.now }
@@ -45,7 +45,7 @@ impl<'a, K: Hash + Eq, V, S: BuildHasher> KeptRoot<'a, K, V, S> {
 }
 
 impl<K: Hash + Eq, V, S: BuildHasher> Book<K, V, S> {
-    /// The root as it is now, to be kept.
+    /// Loads the root, so that the caller can keep it.
     #[inline]
     pub fn keep_root<'a>(&'a self) -> KeptRoot<'a, K, V, S>
         ensures { result ≡ self.now.begun.book }

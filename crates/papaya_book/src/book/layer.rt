@@ -32,7 +32,7 @@ use std::hash::{BuildHasher, Hash};
 use std::sync::{Mutex, Wait};
 
 impl<K: Hash + Eq, V, S: BuildHasher> Book<K, V, S> {
-    /// The words of a new table's chunks: the next ones of the row.
+    /// Returns the words of a new table's chunks: the next ones of the row.
     fn words(
         room: Vec<Cell<K, V, S>>,
         len: usize,
@@ -53,7 +53,7 @@ impl<K: Hash + Eq, V, S: BuildHasher> Book<K, V, S> {
         Ok(words)
     }
 
-    /// Gives fresh slots the next words of the row.
+    /// Gives the next words of the row to fresh slots.
     fn give_words(slots: &mut Vec<Slot<K, V, S>>, row: &mut Pens, sight: &Seen<K, V, S>)
         requires fresh { AreFresh slots.old.items }
         requires left { length slots.old.items ≤ row.old.left }
@@ -67,8 +67,8 @@ impl<K: Hash + Eq, V, S: BuildHasher> Book<K, V, S> {
         }
     }
 
-    /// A table of so many slots, all Empty, to which a table of so many chunks is copied, with the
-    /// pen of its seal. It draws its words once there are slots for them; those of `room` first.
+    /// Makes a table of `Empty` slots, to which a table of this many chunks is copied, with the pen
+    /// of its seal. It draws its words once it has the slots; those of `room` come first.
     pub(crate) fn lay_table<R: Wait>(
         &self,
         rt: &R,
@@ -110,7 +110,7 @@ impl<K: Hash + Eq, V, S: BuildHasher> Book<K, V, S> {
         Some((table, seal))
     }
 
-    /// What tells that the log of tables gave this number.
+    /// Returns the evidence that the arena of tables gave this number.
     fn gave_table(&self, table: &Pushed<Table<K, V, S>>) -> OwnSteps<CapacityCause>
         requires { Shows self.now.parts.tables table.now }
         ensures { result.done ≡ numbers.Table table.now.index ∷ [] }
@@ -119,10 +119,10 @@ impl<K: Hash + Eq, V, S: BuildHasher> Book<K, V, S> {
         OwnSteps::only(&number)
     }
 
-    /// The table, in the log of tables.
+    /// Stores the table in the arena of tables.
     ///
-    /// `Refused::Memory` where a growth was refused, and `Refused::Capacity` where the number that
-    /// the log gave it would pass [`MAX_TABLES`]: then `given` tells that number.
+    /// Fails with `Refused::Memory` if an allocation fails, and with `Refused::Capacity` if the
+    /// arena gives a number that passes [`MAX_TABLES`]: then `given` records that number.
     pub(crate) fn log_table<R: Wait>(
         &self,
         rt: &R,
@@ -146,8 +146,8 @@ impl<K: Hash + Eq, V, S: BuildHasher> Book<K, V, S> {
         Ok(logged)
     }
 
-    /// One atomic exchange: the table becomes the root, if there is none. The number found, and
-    /// what gains the table that was first.
+    /// Makes the table the root if there is none, in one atomic exchange. Returns the number found,
+    /// and the gain of the table that was first.
     pub(crate) fn open(
         &self,
         table: &Pushed<Table<K, V, S>>,
@@ -173,12 +173,12 @@ impl<K: Hash + Eq, V, S: BuildHasher> Book<K, V, S> {
         self.bring(&self.root, &laying, 0, number, seal, sight)
     }
 
-    /// Makes the first table of a new map, for so many pairs, and opens it. What is seen then: the
-    /// table has come.
+    /// Makes the first table of a new map, for this many pairs, and opens it. Returns the observed
+    /// history, in which the table has come.
     ///
-    /// `Refused::Memory` where a growth was refused. The same where the table got a number past its
-    /// limit, or another one was opened first: a new map's is neither so, though no clause of its
-    /// logs tells it.
+    /// Fails with `Refused::Memory` if an allocation fails. It also does if the table gets a number
+    /// past its limit, or another table was opened first. Neither occurs for a new map, though no
+    /// clause states it.
     pub fn open_first<R: Wait>(
         &self,
         rt: &R,

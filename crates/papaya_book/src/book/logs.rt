@@ -14,8 +14,8 @@ use std::hash::{BuildHasher, Hash};
 use std::sync::Wait;
 
 impl<K: Hash + Eq + Drop, V: Drop, S: BuildHasher + Drop> Parts<K, V, S> {
-    /// The hasher, and two logs that hold nothing. The arena of pairs will begin with room for
-    /// `capacity`, and may have no more pairs than `limit`.
+    /// Returns the hasher with two empty arenas. The arena of pairs will begin with room for
+    /// `capacity`, and may hold no more pairs than `limit`.
     pub fn new(
         alloc: Global,
         mode: ResizeMode,
@@ -38,7 +38,7 @@ impl<K: Hash + Eq + Drop, V: Drop, S: BuildHasher + Drop> Parts<K, V, S> {
 }
 
 impl<K: Hash + Eq, V, S: BuildHasher> Book<K, V, S> {
-    /// The book of a new map.
+    /// Returns the book of a new map.
     pub fn opened<R: Wait>(rt: &R, parts: Parts<K, V, S>) -> Book<K, V, S>
         requires { IsChunked parts.mode }
         ensures { result.parts ≡ parts }
@@ -53,7 +53,7 @@ impl<K: Hash + Eq, V, S: BuildHasher> Book<K, V, S> {
         unreachable!()
     }
 
-    /// What one has seen who saw the book opened, and no more: no exchange.
+    /// Returns the history of a caller that has observed only the opening of the book: no exchange.
     pub fn unseen(&self) -> Seen<K, V, S>
         ensures book { result.book ≡ self.now.begun.book }
         ensures log { result.log ≡ Begin (begun_of self.now.parts) ∷ [] }
@@ -61,7 +61,7 @@ impl<K: Hash + Eq, V, S: BuildHasher> Book<K, V, S> {
         self.origin.again()
     }
 
-    /// A new pass. What it has seen begins what every other has seen.
+    /// Returns a new history: a prefix of every other caller's.
     pub fn pass(&self) -> Seen<K, V, S>
         ensures { result ≡ self.now.begun }
     {

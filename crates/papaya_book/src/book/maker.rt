@@ -1,9 +1,9 @@
 //! Making a book, and the words of its tables.
 //!
-//! A book opens with a row of words, which hold 0. Whoever makes a table draws as many as it needs,
-//! all by one exchange of the makers' word, which counts them. The same exchange adds one word
-//! more, the table's seal, which says whether the table was given up. Its pen is kept until the
-//! exchange that opens or links the table. The log says for which seal a word was dealt, so no two
+//! A book opens with a row of words that hold 0. A maker of a table draws as many as it needs, all
+//! by one exchange of the makers' word, which counts them. The same exchange adds one more word,
+//! the table's seal, which says whether the table was given up. Its pen is kept until the exchange
+//! that opens or links the table. The log records the seal for which each word was dealt, so no two
 //! tables that have come share a word.
 ghost use Rattle.papaya_book.specs.Books.{Brings, CanBring, IsIn, IsLeft, Seals};
 ghost use Rattle.std.specs.Prelude.{◌≡◌, ◌≢◌, ◌+◌, ◌-◌, ◌<◌, ◌==◌, false, Some, IfOk, IfErr, IfSome};
@@ -28,12 +28,12 @@ use logbook::{Pen, Pens, Word};
 use std::hash::{BuildHasher, Hash};
 use std::sync::Wait;
 
-/// How many words of tables a map makes in its life. It would take a century to write them all.
+/// The number of words that a map can give to tables. Writing them all would take a century.
 const ROW_LEN: u64 = 1 << 62;
 
 impl<K: Hash + Eq, V, S: BuildHasher> Book<K, V, S> {
-    /// A new book. The parts come back where it got another name first, which no thread could
-    /// give it.
+    /// Returns a new book. Returns the parts if the book got another name first, which no thread
+    /// could give it.
     pub fn begin(parts: Parts<K, V, S>) -> Result<Book<K, V, S>, Parts<K, V, S>>
         requires { IsChunked parts.mode }
         ensures ok { IfOk result (λ book. book.parts ≡ parts) }
@@ -69,8 +69,8 @@ impl<K: Hash + Eq, V, S: BuildHasher> Book<K, V, S> {
         })
     }
 
-    /// The seal of a new table, with the pen that the table's opening takes, and the rights to make
-    /// so many words, which are of the row. There are none where the row has fewer left.
+    /// Returns the seal of a new table, with the pen that its opening takes, and the rights to make
+    /// this many words of the row. Returns `None` if the row has fewer left.
     pub(crate) fn deal<R: Wait>(
         &self,
         rt: &R,
@@ -107,7 +107,7 @@ impl<K: Hash + Eq, V, S: BuildHasher> Book<K, V, S> {
         unreachable!()
     }
 
-    /// The next word of the row. It holds 0.
+    /// Returns the next word of the row. It holds 0.
     pub(crate) fn word(row: &mut Pens) -> Cell<K, V, S>
         requires { 0 < row.old.left }
         ensures word { result ≡ word_named row.old.book row.old.next }
@@ -118,8 +118,8 @@ impl<K: Hash + Eq, V, S: BuildHasher> Book<K, V, S> {
         Word::tracked(0, &mut pen)
     }
 
-    /// One atomic exchange with which a table comes, which is opened or linked by it: the word
-    /// found there. It takes the pen of the table's seal, unless it is lost.
+    /// Opens or links a table in one atomic exchange; returns the word found. It takes the pen of
+    /// the table's seal, unless the exchange is lost.
     pub fn bring(
         &self,
         word: &Cell<K, V, S>,

@@ -1,4 +1,4 @@
-//! Pairs in the arena of pairs: what they hold, and logging what callers put into a map.
+//! Pairs in the arena of pairs: what they hold, and storing what callers put into a map.
 ghost use Rattle.papaya_book.specs.Books.{IsIn, IsLoggedAs};
 ghost use Rattle.std.specs.Prelude.{◌≡◌, ◌<◌, ◌^◌, None, Some, IfErr, IfOk};
 ghost use Rattle.boxcar.specs.Table.{Shows, id_at};
@@ -14,14 +14,14 @@ use papaya_log::token::Pushed;
 use std::hash::{BuildHasher, Hash};
 use std::sync::Wait;
 
-/// A key of a pair that is to be logged: brought with the pair, or that of a logged pair.
+/// A key of a pair that is to be stored: passed in with the pair, or that of a stored pair.
 #[derive(Drop)]
 pub enum KeyPart<K, V> {
     Own(K),
     Of(Stored<K, V>),
 }
 
-/// A value of a pair that is to be logged: brought with the pair, or that of a logged pair.
+/// A value of a pair that is to be stored: passed in with the pair, or that of a stored pair.
 #[derive(Drop)]
 pub enum ValuePart<K, V> {
     Own(V),
@@ -35,7 +35,7 @@ impl<K: Hash + Eq, V, S: BuildHasher> Book<K, V, S> {
         self.parts.pairs.stored()
     }
 
-    /// The pair that a token shows.
+    /// Returns the pair that a token is for.
     pub fn pair<'a>(&'a self, stored: &Stored<K, V>) -> &'a Pair<K, V>
         requires { IsIn self.now (PairNamed stored.now) }
         ensures { result.now ≡ stored.now.value }
@@ -43,8 +43,8 @@ impl<K: Hash + Eq, V, S: BuildHasher> Book<K, V, S> {
         self.parts.pairs.value(stored)
     }
 
-    /// Its key and its value. The first two kinds, of a fresh pair and of one that took another's
-    /// place, are told apart by a test each, and the rare ones out of line.
+    /// Returns the pair's key and value. Fresh pairs and pairs that replaced another are told apart
+    /// by a test each; the rare kinds are handled out of line.
     #[inline(always)]
     pub fn entry<'a>(&'a self, pair: &'a Pair<K, V>) -> (&'a K, &'a V)
         requires key { IsKeyIn self.now.parts.pairs pair.now.key }
@@ -59,7 +59,7 @@ impl<K: Hash + Eq, V, S: BuildHasher> Book<K, V, S> {
         }
     }
 
-    /// The same for the first two kinds alone, so that a loop that asks for them calls nothing.
+    /// Returns the same for the first two kinds alone, so that a loop that uses it makes no call.
     #[inline(always)]
     pub fn near_entry<'a>(&'a self, pair: &'a Pair<K, V>) -> Option<(&'a K, &'a V)>
         requires key { IsKeyIn self.now.parts.pairs pair.now.key }
@@ -73,7 +73,7 @@ impl<K: Hash + Eq, V, S: BuildHasher> Book<K, V, S> {
         }
     }
 
-    /// Its key.
+    /// Returns the pair's key.
     #[inline(always)]
     pub fn key<'a>(&'a self, pair: &'a Pair<K, V>) -> &'a K
         requires { IsKeyIn self.now.parts.pairs pair.now.key }
@@ -86,7 +86,7 @@ impl<K: Hash + Eq, V, S: BuildHasher> Book<K, V, S> {
         }
     }
 
-    /// Its value.
+    /// Returns the pair's value.
     #[inline(always)]
     pub fn value<'a>(&'a self, pair: &'a Pair<K, V>) -> &'a V
         requires { IsValueIn self.now.parts.pairs pair.now }
@@ -99,7 +99,7 @@ impl<K: Hash + Eq, V, S: BuildHasher> Book<K, V, S> {
         }
     }
 
-    /// The key of the pair that brought it.
+    /// Returns the key of the pair that brought it.
     #[inline(always)]
     fn key_of_first<'a>(&'a self, first: &'a Pushed<Shown<K, V>>) -> &'a K
         requires in_log { first.now.row ≡ id_at self.now.parts.pairs.buckets first.now.bucket }
@@ -109,7 +109,7 @@ impl<K: Hash + Eq, V, S: BuildHasher> Book<K, V, S> {
         self.parts.pairs.value(&first_of(first)).brought_key()
     }
 
-    /// Its key, whatever kind of pair it is.
+    /// Returns the pair's key, whatever kind of pair it is.
     #[cold]
     #[inline(never)]
     fn key_apart<'a>(&'a self, pair: &'a Pair<K, V>) -> &'a K
@@ -128,7 +128,7 @@ impl<K: Hash + Eq, V, S: BuildHasher> Book<K, V, S> {
         }
     }
 
-    /// Its value, whatever kind of pair it is.
+    /// Returns the pair's value, whatever kind of pair it is.
     #[cold]
     #[inline(never)]
     fn value_apart<'a>(&'a self, pair: &'a Pair<K, V>) -> &'a V
@@ -147,7 +147,7 @@ impl<K: Hash + Eq, V, S: BuildHasher> Book<K, V, S> {
         }
     }
 
-    /// The pair that brought the key of a logged pair.
+    /// Returns the pair that brought the key of a stored pair.
     #[inline(always)]
     fn key_first(&self, stored: &Stored<K, V>, pair: &Pair<K, V>) -> Pushed<Shown<K, V>>
         requires shown { Shows self.now.parts.pairs stored.now }
@@ -169,7 +169,7 @@ impl<K: Hash + Eq, V, S: BuildHasher> Book<K, V, S> {
         }
     }
 
-    /// The pair that brought the value of a logged pair.
+    /// Returns the pair that brought the value of a stored pair.
     fn value_first(&self, stored: &Stored<K, V>) -> Pushed<Shown<K, V>>
         requires shown { Shows self.now.parts.pairs stored.now }
         requires value { IsValueIn self.now.parts.pairs stored.now.value }
@@ -191,8 +191,8 @@ impl<K: Hash + Eq, V, S: BuildHasher> Book<K, V, S> {
 }
 
 impl<K: Hash + Eq + Drop, V: Drop, S: BuildHasher> Book<K, V, S> {
-    /// A pair of a key and a value that are handed in, logged where a lane of the arena has a slot at
-    /// hand. Both come back where it has none. Any number names a lane to begin with.
+    /// Stores a pair of this key and value if a lane of the arena has a free slot, and else returns
+    /// both. Any number names a lane to begin with.
     #[inline(always)]
     pub fn log_fresh(&self, lane: u64, key: K, value: V) -> Result<Stored<K, V>, (K, V)>
         ensures ok { IfOk result (IsLoggedAs self.now key value) }
@@ -205,8 +205,8 @@ impl<K: Hash + Eq + Drop, V: Drop, S: BuildHasher> Book<K, V, S> {
         }
     }
 
-    /// A pair with the key of a logged pair, logged where a lane of the arena has a slot at hand. The
-    /// value comes back where it has none.
+    /// Stores a pair with the key of a stored pair if a lane of the arena has a free slot, and else
+    /// returns the value.
     #[inline(always)]
     pub fn log_renewed(
         &self,
@@ -228,7 +228,7 @@ impl<K: Hash + Eq + Drop, V: Drop, S: BuildHasher> Book<K, V, S> {
         }
     }
 
-    /// What is held, logged. It comes back where there is no memory.
+    /// Stores what is held, or returns it if memory runs out.
     fn log<R: Wait>(&self, rt: &R, lane: u64, held: Held<K, V>) -> Result<Stored<K, V>, Pair<K, V>>
         requires brought { IsBrought held }
         ensures ok { IfOk result (λ p. Shows self.now.parts.pairs p × (p.value ≡ pair_held held)) }
@@ -238,7 +238,7 @@ impl<K: Hash + Eq + Drop, V: Drop, S: BuildHasher> Book<K, V, S> {
         self.parts.pairs.push_shown(rt, lane, Pair { held })
     }
 
-    /// The pair of this key and this value, logged. Both come back where there is no memory.
+    /// Stores the pair of this key and value, or returns both if memory runs out.
     pub fn log_pair<R: Wait>(
         &self,
         rt: &R,

@@ -1,4 +1,4 @@
-//! What a map's book is opened with.
+//! The parts of a map that its book is opened with.
 use crate::rule::entry::Event;
 use crate::rule::pair::Pair;
 use crate::table::Table;
@@ -7,8 +7,8 @@ use papaya_log::log::Log;
 use papaya_words::probe::ResizeMode;
 use std::hash::{BuildHasher, Hash};
 
-/// The hasher, how the map resizes, how many pairs it may log, where there is a limit, and the logs
-/// of pairs and of tables. A pair or a table stays where it was logged.
+/// The hasher, the resize mode, the limit on pairs if there is one, and the arenas of pairs and of
+/// tables. A pair or a table stays where it was stored.
 #[derive(Drop)]
 pub struct Parts<K: Hash + Eq, V, S: BuildHasher> {
     pub hasher: S,
@@ -18,7 +18,7 @@ pub struct Parts<K: Hash + Eq, V, S: BuildHasher> {
     pub tables: boxcar::Vec<Table<K, V, S>>,
 }
 
-/// The first log says what the book was opened with.
+/// The first log has what the book was opened with.
 pub struct First;
 
 impl<K: Hash + Eq, V, S: BuildHasher> Opening<Parts<K, V, S>, Event<K, V, S>> for First {

@@ -1,7 +1,7 @@
-//! What the book's log says.
+//! The entries of the book's log.
 //!
-//! No code builds an entry: the log is seen by contracts alone. Its types are those of the tokens
-//! and logs that the rule of the book speaks of.
+//! No code builds an entry: only contracts observe the log. Its types are those of the tokens and
+//! arenas that the rule of the book is about.
 ghost use Rattle.logbook.specs.Pages.{Book, book_coded};
 ghost use Rattle.papaya_book.specs.Sheets.{Sheet as SheetOf, sheet_coded};
 
@@ -18,8 +18,8 @@ use std::marker::Model;
 /// and the pair.
 pub type Stored<K, V> = LoggedPair<Pair<K, V>>;
 
-/// What the log says of a table: its words' keys, and how far a search of it goes. A table's words
-/// keep to this very log, so the log can't name the table's own type.
+/// A table as the log describes it: its words' keys, and how far a search of it goes. A table's
+/// words obey the rule of this very log, so the log cannot name the table's own type.
 pub struct Sheet {
     book: Name,
     limit: u64,
@@ -47,7 +47,7 @@ impl Model for Sheet {
 /// A table as the log names it.
 pub type Laid = Pushed<Sheet>;
 
-/// Which book it is.
+/// The identity of a book.
 pub struct Name {
     number: u64,
     log: u64,
@@ -62,7 +62,7 @@ impl Model for Name {
     ghost view = { λ n. record { number = n.number; log_name = n.log; cells_name = n.cells } };
 }
 
-/// An exchange, of one of the thirteen kinds. Tables are named by number, but for one that comes.
+/// An exchange, of one of the thirteen kinds. It names tables by number, except one that comes.
 pub enum Step<K, V> {
     Open(Laid),
     Claim(u64, u64, Stored<K, V>),
@@ -86,8 +86,8 @@ pub enum Named<K, V> {
     Table(Laid),
 }
 
-/// What the book was opened with: the hasher, how the map resizes, how many pairs it may log, and
-/// the logs of pairs and of tables.
+/// The state that the book was opened with: the hasher, the resize mode, the limit on pairs, and
+/// the arenas of pairs and of tables.
 pub struct Begun<K, V, S> {
     pub hasher: S,
     pub mode: ResizeMode,
@@ -98,17 +98,17 @@ pub struct Begun<K, V, S> {
 
 /// An entry of the log.
 pub enum Event<K, V, S> {
-    /// What a load or an exchange asks for: a word, the kind of the exchange, the pair that the
+    /// The request of a load or an exchange: a word, the kind of the exchange, the pair that the
     /// call has made, and what comes with the step. No log has it.
     Wish(At, Option<StepKind>, Option<Stored<K, V>>, Named<K, V>),
-    /// What a maker of a table asks for: from this word on, so many words of the book's row. No log
+    /// The request of a table's maker: this many words of the book's row, from this one on. No log
     /// has it.
     Draw(Name, u64, u64),
     /// The book was opened.
     Begin(Begun<K, V, S>),
-    /// The book was told its own name.
+    /// The book was given its own name.
     Called(Name),
-    /// A seal was added, and so many words of the row were dealt for the table that will have it.
+    /// A seal was added, and this many words of the row were dealt for the table that will have it.
     Dealt(u64, u64),
     /// A word was exchanged.
     Stepped(Step<K, V>),

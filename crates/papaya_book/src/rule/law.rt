@@ -5,10 +5,10 @@ use papaya_hint::hint::Hinting;
 use std::hash::{BuildHasher, Hash};
 use std::marker::PhantomData;
 
-/// The rule: the log's exchanges are allowed, the words are those that they leave, each hint was
-/// one of its slot, and the book keeps the tokens of all pairs and tables that came, and the rights
-/// to make words for tables. Hints stand beside words of slots; a word of a fresh slot, which the
-/// book does not track, is 0.
+/// The rule of the book. The log's exchanges are allowed, the words are those that they leave, and
+/// each hint was one of its slot. The book keeps the tokens of all pairs and tables that came, and
+/// the rights to make words for tables. Hints are beside words of slots; a word of a fresh slot,
+/// which the book does not track, is 0.
 pub struct Law<K, V, S> {
     of: PhantomData<(K, V, S)>,
 }
@@ -45,7 +45,7 @@ impl<K: Hash + Eq, V, S: BuildHasher> Hinting<Event<K, V, S>> for Law<K, V, S> {
         S.Hasher.finish) };
 }
 
-/// The client has the token of the answer.
+/// A gain: the client has the token of what the step found.
 pub struct Found<K, V> {
     of: PhantomData<(K, V)>,
 }
@@ -61,7 +61,7 @@ impl<K, V, S> Gain<Event<K, V, S>, Named<K, V>> for Found<K, V> {
         answer };
 }
 
-/// The client has the rights to make the words that it asked for.
+/// A gain: the client has the rights to make the words that it requested.
 pub struct Drawn;
 
 impl<K, V, S> Gain<Event<K, V, S>, Named<K, V>> for Drawn {

@@ -1,5 +1,5 @@
-//! What passes between a step and the book: tokens go to the book with what comes, and whoever
-//! finds a name in a word has its token.
+//! The exchange of tokens between a step and the book. A token goes to the book with what comes,
+//! and a step that finds a name in a word gains its token.
 ghost use Rattle.std.specs.Prelude.{◌≡◌, [], ◌∷◌, None};
 ghost use Rattle.papaya_book.specs.declared.rule.entry.Named.TheVariants.{Nothing, Pair as PairNamed, Table as TableNamed};
 ghost use Rattle.papaya_book.specs.declared.rule.entry.Event.TheVariants.{Begin, Called, Draw};
@@ -19,7 +19,7 @@ use papaya_log::token::Known as KnownPair;
 use std::hash::{BuildHasher, Hash};
 use std::marker::PhantomData;
 
-/// What a thread has seen of the log.
+/// The part of the log that a thread has observed.
 pub type Seen<K, V, S> = logbook::Seen<Event<K, V, S>, Named<K, V>, Law<K, V, S>>;
 
 /// A client's update of the book.
@@ -28,7 +28,7 @@ pub type Offer<K, V, S> = logbook::Offer<Event<K, V, S>, Named<K, V>, Law<K, V, 
 /// A client's update that draws words of the row.
 pub type Drawing<K, V, S> = logbook::Offer<Event<K, V, S>, Named<K, V>, Law<K, V, S>, Drawn>;
 
-/// An update with which nothing comes. It gains the token of what the word names.
+/// Returns an update with which nothing comes. It gains the token of what the word names.
 pub fn bare<K: Hash + Eq, V, S: BuildHasher, X, M: Plain<X, Event<K, V, S>, Named<K, V>>>(
     seen: &Seen<K, V, S>,
     about: &X,
@@ -42,7 +42,7 @@ pub fn bare<K: Hash + Eq, V, S: BuildHasher, X, M: Plain<X, Event<K, V, S>, Name
     }
 }
 
-/// An update with which the pair of the token comes.
+/// Returns an update with which the pair of the token comes.
 pub fn with_pair<K: Hash + Eq, V, S: BuildHasher, X, M: Plain<X, Event<K, V, S>, Named<K, V>>>(
     seen: &Seen<K, V, S>,
     about: &X,
@@ -58,7 +58,7 @@ pub fn with_pair<K: Hash + Eq, V, S: BuildHasher, X, M: Plain<X, Event<K, V, S>,
     }
 }
 
-/// An update with which the table of the token comes.
+/// Returns an update with which the table of the token comes.
 pub fn with_table<K: Hash + Eq, V, S: BuildHasher, X, M: Plain<X, Event<K, V, S>, Named<K, V>>>(
     seen: &Seen<K, V, S>,
     about: &X,
@@ -74,7 +74,7 @@ pub fn with_table<K: Hash + Eq, V, S: BuildHasher, X, M: Plain<X, Event<K, V, S>
     }
 }
 
-/// What shows the pair that the step's word named.
+/// Returns the evidence of the pair that the step's word named.
 pub fn pair_known<K, V, S>(
     gained: Gained<Event<K, V, S>, Named<K, V>, Found<K, V>>,
 ) -> KnownPair<Pair<K, V>>
@@ -87,7 +87,7 @@ pub fn pair_known<K, V, S>(
     }
 }
 
-/// What shows the table that the step's word named.
+/// Returns the evidence of the table that the step's word named.
 pub fn table_known<K: Hash + Eq, V, S: BuildHasher>(
     gained: Gained<Event<K, V, S>, Named<K, V>, Found<K, V>>,
 ) -> Known<Table<K, V, S>>
@@ -100,7 +100,7 @@ pub fn table_known<K: Hash + Eq, V, S: BuildHasher>(
     }
 }
 
-/// An update that tells a new book its name, and gives it the row of words.
+/// Returns an update that gives a new book its name and the row of words.
 pub fn with_row<K: Hash + Eq, V, S: BuildHasher>(
     seen: &Seen<K, V, S>,
     row: &mut Pens,
@@ -114,7 +114,7 @@ pub fn with_row<K: Hash + Eq, V, S: BuildHasher>(
     }
 }
 
-/// An update that draws so many words of the row, from this one on.
+/// Returns an update that draws this many words of the row, from this one on.
 pub fn drawing<K: Hash + Eq, V, S: BuildHasher>(
     seen: &Seen<K, V, S>,
     first: u64,
@@ -128,7 +128,7 @@ pub fn drawing<K: Hash + Eq, V, S: BuildHasher>(
     }
 }
 
-/// What clients keep of the first log: nothing.
+/// Returns what clients keep of the first log: nothing.
 pub fn begin<K: Hash + Eq, V, S: BuildHasher>(
     begun: &Parts<K, V, S>,
 ) -> Start<Event<K, V, S>, Named<K, V>, Law<K, V, S>>

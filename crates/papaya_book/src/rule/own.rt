@@ -1,5 +1,5 @@
-//! What a caller did by its own steps, and what it was given. Only contracts see it: it has
-//! no bytes.
+//! The steps that a caller made itself, and the numbers that it was given. Only contracts observe
+//! them: they have no bytes.
 ghost use Rattle.std.specs.Prelude.{◌≡◌, List, [], ◌∷◌, ◌++◌};
 ghost use base.Fml.{ftrue};
 ghost use base.Stored.{coded_list};
@@ -10,14 +10,14 @@ use crate::rule::offer::Seen;
 use std::hash::{BuildHasher, Hash};
 use std::marker::{Model, PhantomData};
 
-/// A number that a map gave to a call: its log of tables to a new table, or the sum of its count.
+/// A number that a map gave to a call: its arena of tables to a new table, or the sum of its count.
 #[derive(Clone, Copy)]
 pub enum CapacityCause {
     Table(usize),
     Sum(usize),
 }
 
-/// Steps that a caller made, or what it was given, oldest first.
+/// Steps that a caller made, or numbers that it was given, oldest first.
 pub struct OwnSteps<T> {
     marker: PhantomData<T>,
     pub ghost done: { List T } by { coded_list T.code },
@@ -37,7 +37,7 @@ impl<T> Drop for OwnSteps<T> {
 }
 
 impl<T> OwnSteps<T> {
-    /// No step.
+    /// Returns an empty list of steps.
     pub fn nothing() -> OwnSteps<T>
         ensures { result.done ≡ [] }
     {
@@ -46,7 +46,7 @@ impl<T> OwnSteps<T> {
         }
     }
 
-    /// This alone. Only who may tell so calls it.
+    /// Returns a list of this alone. Only code that may vouch for it calls it.
     pub(crate) fn only(x: &T) -> OwnSteps<T>
         ensures { result.done ≡ x.now ∷ [] }
     {
@@ -55,7 +55,7 @@ impl<T> OwnSteps<T> {
         }
     }
 
-    /// The same steps.
+    /// Returns a copy of the steps.
     pub fn again(&self) -> OwnSteps<T>
         ensures { result.done ≡ self.now.done }
     {
@@ -65,7 +65,7 @@ impl<T> OwnSteps<T> {
     }
 }
 
-/// These steps, and after them the last of what was seen.
+/// Returns these steps, followed by the last one observed.
 pub fn with_last<K: Hash + Eq, V, S: BuildHasher>(
     own: &OwnSteps<Step<K, V>>,
     sight: &Seen<K, V, S>,

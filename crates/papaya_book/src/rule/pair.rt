@@ -1,9 +1,9 @@
 //! Pairs, as the arena of pairs keeps them.
 //!
-//! A pair's key lies beside its value, so that a lookup that has found the pair has its key at
-//! hand. But keys and values are logged once: a pair that replaces another has that one's key, and
-//! a call may make several pairs of one value. So a pair brings its key, or names the pair that
-//! brought it, and so with its value. No name leads to another name.
+//! A pair's key is beside its value, so that a lookup that has found the pair has its key at hand.
+//! But keys and values are stored once: a pair that replaces another has that one's key, and a call
+//! may make several pairs of one value. So a pair brings its key, or names the pair that brought
+//! it, and likewise for its value. No name refers to another name.
 ghost use Rattle.std.specs.Prelude.{◌≡◌, None, Some};
 ghost use base.Fml.{ftrue};
 ghost use Rattle.papaya_book.specs.Pairs.{Pair as PairSeen, pair_coded};
@@ -12,7 +12,7 @@ use papaya_log::row::Blank;
 use papaya_log::token::{Known, Pushed, token};
 use std::marker::{Model, PhantomData};
 
-/// What contracts see of a pair. The arena of pairs can't name the type of its own tokens.
+/// A pair as contracts observe it. The arena of pairs cannot name the type of its own tokens.
 pub struct Shown<K, V> {
     key: K,
     value: V,
@@ -30,8 +30,8 @@ impl<K, V> Model for Shown<K, V> {
     } };
 }
 
-/// What lies where no pair is logged yet. It has no bytes. Contracts see a key and a value of it, as
-/// of a pair, but both are named as lying where no log has anything.
+/// A blank, in slots where no pair is stored yet. It has no bytes. Contracts observe a key and a
+/// value of it, as of a pair, but both are named as being where no arena has anything.
 pub struct Nobody<K, V> {
     marker: PhantomData<(K, V)>,
     pub ghost key: { K },
@@ -52,7 +52,7 @@ pub(crate) enum Held<K, V> {
     Blank(Nobody<K, V>),
 }
 
-/// What lies in the arena of pairs.
+/// A pair in the arena of pairs.
 #[derive(Drop)]
 pub struct Pair<K, V> {
     pub(crate) held: Held<K, V>,
@@ -72,7 +72,7 @@ impl<K, V> Model for Pair<K, V> {
 }
 
 impl<K, V> Pair<K, V> {
-    /// The key of a pair that brought it.
+    /// Returns the key of a pair that brought it.
     pub(crate) fn brought_key(&self) -> &K
         requires { self.now.key.at ≡ None }
         ensures { result.now ≡ self.now.key.value }
@@ -84,7 +84,7 @@ impl<K, V> Pair<K, V> {
         }
     }
 
-    /// The value of a pair that brought it.
+    /// Returns the value of a pair that brought it.
     pub(crate) fn brought_value(&self) -> &V
         requires { self.now.value_at ≡ None }
         ensures { result.now ≡ self.now.value }
@@ -98,7 +98,7 @@ impl<K, V> Pair<K, V> {
 }
 
 impl<K: Drop, V: Drop> Pair<K, V> {
-    /// The key and the value of a pair that brought both.
+    /// Returns the key and the value of a pair that brought both.
     pub(crate) fn into_both(self) -> (K, V)
         requires key { self.key.at ≡ None }
         requires value { self.value_at ≡ None }
@@ -114,7 +114,7 @@ impl<K: Drop, V: Drop> Pair<K, V> {
         }
     }
 
-    /// The key of a pair that brought it.
+    /// Returns the key of a pair that brought it.
     pub(crate) fn into_key(self) -> K
         requires { self.key.at ≡ None }
         ensures { result ≡ self.key.value }
@@ -129,7 +129,7 @@ impl<K: Drop, V: Drop> Pair<K, V> {
         }
     }
 
-    /// The value of a pair that brought it.
+    /// Returns the value of a pair that brought it.
     pub(crate) fn into_value(self) -> V
         requires { self.value_at ≡ None }
         ensures { result ≡ self.value }
@@ -173,7 +173,7 @@ unsafe impl<K, V> Send for Nobody<K, V> {}
 
 unsafe impl<K, V> Sync for Nobody<K, V> {}
 
-/// What the token of a pair shows, as a pair's row can name it.
+/// Returns what the token of a pair shows, as a pair's row can name it.
 fn tell_shown<K, V>(token: &Pushed<Pair<K, V>>) -> Known<Shown<K, V>>
     ensures { result.at ≡ token.now }
 {
@@ -182,7 +182,7 @@ fn tell_shown<K, V>(token: &Pushed<Pair<K, V>>) -> Known<Shown<K, V>>
     }
 }
 
-/// The same, the other way round.
+/// Returns what such a token shows, as that of a pair: the inverse of [`tell_shown`].
 fn tell_pair<K, V>(token: &Pushed<Shown<K, V>>) -> Known<Pair<K, V>>
     ensures { result.at ≡ token.now }
 {
@@ -191,7 +191,7 @@ fn tell_pair<K, V>(token: &Pushed<Shown<K, V>>) -> Known<Pair<K, V>>
     }
 }
 
-/// The token of a pair, as another pair can hold it.
+/// Returns the token of a pair, as another pair can hold it.
 #[inline(always)]
 pub(crate) fn shown_of<K, V>(pair: &Pushed<Pair<K, V>>) -> Pushed<Shown<K, V>>
     ensures { result ≡ pair.now }
@@ -199,7 +199,7 @@ pub(crate) fn shown_of<K, V>(pair: &Pushed<Pair<K, V>>) -> Pushed<Shown<K, V>>
     token(tell_shown(pair), pair.index())
 }
 
-/// The token of the pair that brought a key or a value.
+/// Returns the token of the pair that brought a key or a value.
 #[inline(always)]
 pub(crate) fn first_of<K, V>(shown: &Pushed<Shown<K, V>>) -> Pushed<Pair<K, V>>
     ensures { result ≡ shown.now }

@@ -1,4 +1,4 @@
-//! The steps on words: what they ask for, and what they tell.
+//! The steps on words: what they request, and what they return.
 use crate::rule::entry::{Event, Named, Stored};
 use crate::table::Table;
 use boxcar::Pushed;
@@ -12,8 +12,8 @@ pub struct Sought {
     pub at: At,
 }
 
-/// An exchange with which nothing comes: the word and the kind, and the pair that a copy carries, if
-/// it carries one.
+/// An exchange with which nothing comes: the word and the kind, and the pair that a copy moves, if
+/// it moves one.
 #[derive(Clone, Copy)]
 pub struct Wish<'a, K, V> {
     pub at: At,
@@ -50,13 +50,13 @@ impl<K: Hash + Eq, V, S: BuildHasher> Play<Event<K, V, S>, Named<K, V>> for Look
         S.Hasher.finish) };
 }
 
-/// A table that has come, and is looked for by its number.
+/// A table that has come, and is looked up by its number.
 #[derive(Clone, Copy)]
 pub struct Wanted {
     pub number: u64,
 }
 
-/// A load that finds the table of a number, whatever stands there.
+/// A load that finds the table of a number, whatever the word holds.
 pub struct Fetch;
 
 impl<K, V, S> Plain<Wanted, Event<K, V, S>, Named<K, V>> for Fetch {
@@ -112,7 +112,7 @@ impl<K: Hash + Eq, V, S: BuildHasher> Play<Event<K, V, S>, Named<K, V>> for Try 
 /// A step that adds the seal of a table, and deals words of the row for it.
 pub struct Deal;
 
-/// A step that tells the book its own name.
+/// A step that gives the book its own name.
 pub struct Call;
 
 /// A step with which a table comes: it is opened or linked.

@@ -1,8 +1,8 @@
-//! Tokens of `boxcar` logs, taken apart and put together again, and the rights to make words.
+//! Tokens of `boxcar` arenas, taken apart and put together again, and the rights to make words.
 //!
-//! The rule of the book keeps what a token shows, but not a token's bytes. A token is told, what it
-//! shows goes to the book, and whoever finds the number in a word rebuilds it. The rights to make
-//! words go to the book when it is opened, and whoever draws some has them again.
+//! The rule of the book keeps what a token shows, but not a token's bytes. A step passes on what
+//! its token shows to the book, and a step that finds the number in a word rebuilds the token. The
+//! rights to make words go to the book when it is opened; drawing some returns them.
 ghost use Rattle.std.specs.Prelude.{◌≡◌, ℕ, ◌+◌, ◌^◌, ◌<◌, [], ◌∷◌};
 ghost use Rattle.logbook.specs.Pages.{Book};
 ghost use Rattle.boxcar.specs.Table.{Where, where_coded, IsAt, span};
@@ -15,7 +15,7 @@ use boxcar::Pushed;
 use logbook::{Gained, Pens};
 use std::marker::{Model, PhantomData};
 
-/// What a token of a log shows, with no bytes.
+/// The fact that a token of an arena shows, without bytes.
 pub struct Known<T> {
     pub marker: PhantomData<T>,
     pub ghost at: { Where T } by { where_coded T.code },
@@ -25,7 +25,7 @@ impl<T> Model for Known<T> {
     ghost also_owns = { λ k. stands T.row k.at };
 }
 
-/// What the token shows.
+/// Returns what the token shows.
 pub fn tell<T>(token: &Pushed<T>) -> Known<T>
     ensures { result.at ≡ token.now }
 {
@@ -34,7 +34,7 @@ pub fn tell<T>(token: &Pushed<T>) -> Known<T>
     }
 }
 
-// It lies in memory as a token of a log does.
+// It has the memory layout of an arena's token.
 #[derive(Drop)]
 struct Bytes<T> {
     index: usize,
@@ -75,7 +75,7 @@ fn bucket_len(bucket: usize) -> usize
     32 << bucket
 }
 
-// Where a log keeps the value of this index.
+// Returns where an arena keeps the value of this index.
 fn locate(index: usize) -> (usize, usize)
     requires { index + 32 < 2 ^ 63 }
     ensures { IsAt index result.0 result.1 }
@@ -85,7 +85,7 @@ fn locate(index: usize) -> (usize, usize)
     (bucket, skewed - bucket_len(bucket))
 }
 
-/// The token again, by its index.
+/// Rebuilds the token from its index.
 pub fn token<T>(known: Known<T>, index: usize) -> Pushed<T>
     requires index { index ≡ known.at.index }
     requires fits { index + 32 < 2 ^ 63 }
@@ -95,13 +95,13 @@ pub fn token<T>(known: Known<T>, index: usize) -> Pushed<T>
     rebuild(known, index, bucket, slot)
 }
 
-// It lies in memory as the rights to make words do.
+// It has the memory layout of the rights to make words.
 #[derive(Drop)]
 struct Rights {
     marker: PhantomData<()>,
 }
 
-/// The rights to make the words that were drawn.
+/// Returns the rights to make the words that were drawn.
 pub fn drawn<K, V, S>(gained: Gained<Event<K, V, S>, Named<K, V>, Drawn>) -> Pens
     requires { (b : Book) × (k : ℕ) × (n : ℕ) × (gained.about ≡ Draw b k n ∷ []) }
     ensures { gained.about ≡ Draw result.book result.next result.left ∷ [] }

@@ -1,4 +1,4 @@
-// Maps that are read of JSON, and why there is none.
+// Maps that are read from JSON, and the refusals.
 use crate::expect::is;
 use crate::json::numbers::{Numbers, digits, number};
 use papaya_json::reading::map_from_value;
@@ -14,7 +14,7 @@ use std::test::Fail;
 
 type Texts = HashMap<String, u64>;
 
-/// The map of numbers of this value.
+/// Returns the map of numbers of this value.
 pub fn numbers_of(alloc: Global, v: &Value) -> Result<Numbers, Refused> {
     map_from_value(
         alloc,
@@ -25,14 +25,14 @@ pub fn numbers_of(alloc: Global, v: &Value) -> Result<Numbers, Refused> {
     )
 }
 
-/// The map of this text's members, with their texts in lower letters.
+/// Returns the map of this text's members, with their texts in lower case.
 fn lowered(alloc: Global, text: &str) -> Result<Texts, Fail> {
     let v = Value::from_str(alloc, text)?;
     let lower = |text: &str| text.to_ascii_lowercase(alloc).ok();
     Ok(map_from_value(alloc, &v, BuildHasherDefault::new(), lower, Value::as_u64)?)
 }
 
-/// A text whose JSON is no map of numbers, for this cause.
+/// Checks that a text whose JSON is no map of numbers is refused for this reason.
 fn refuses(rt: &impl Abort, alloc: Global, text: &str, wanted: Refused) -> Result<(), Fail> {
     let v = Value::from_str(alloc, text)?;
     is(rt, numbers_of(alloc, &v).err(), Some(wanted));
@@ -61,7 +61,7 @@ fn other_shapes_and_missing_members_are_refused(rt: HostRuntime) -> Result<(), F
     Ok(())
 }
 
-/// A map of forty keys.
+/// Returns a map of forty keys.
 fn filled(alloc: Global) -> Result<Numbers, Refused> {
     let mut map: Numbers = HashMap::new(alloc)?;
     for key in 0..40u64 {
@@ -70,7 +70,7 @@ fn filled(alloc: Global) -> Result<Numbers, Refused> {
     Ok(map)
 }
 
-/// The map that is read of a map's JSON.
+/// Returns the map that is read from a map's JSON.
 fn read_back(alloc: Global, map: &Numbers) -> Result<Numbers, Refused> {
     let value = map_to_value(alloc, map, |key| digits(alloc, key), number)?;
     numbers_of(alloc, &value)

@@ -1,5 +1,5 @@
-// A growth that is refused makes nothing, and the same call then succeeds. Where the tests run with
-// a failing allocation, as by `rt try --test --fail-alloc N`, a call here meets it.
+// A refused allocation makes nothing, and the same call then succeeds. If the tests run with a
+// failing allocation, as by `rt try --test --fail-alloc N`, a call here meets it.
 use crate::expect::is;
 use crate::json::numbers::{Numbers, digits, number};
 use crate::json::reads::numbers_of;
@@ -11,8 +11,8 @@ use papaya_words::probe::Refused;
 use std::alloc::Global;
 use std::test::Fail;
 
-/// What the call answers, also where memory was refused to it or to the function that makes a text
-/// for it at first.
+/// Returns the call's result, also if memory was at first refused to it or to the function that
+/// makes a text for it.
 fn again<T: Drop, F: Fn() -> Result<T, Refused>>(call: F) -> Result<T, Refused>
     requires { F.IsAlwaysCallable call }
 {
@@ -22,10 +22,10 @@ fn again<T: Drop, F: Fn() -> Result<T, Refused>>(call: F) -> Result<T, Refused>
     }
 }
 
-/// How many keys the maps and sets have, so that their tables grow.
+/// The number of keys of the maps and sets, so that their tables grow.
 const KEYS: u64 = 40;
 
-/// A map of these keys.
+/// Returns a map of these keys.
 fn filled_map(alloc: Global) -> Result<Numbers, Refused> {
     let mut map = again(|| HashMap::new(alloc))?;
     for key in 0..KEYS {
@@ -37,7 +37,7 @@ fn filled_map(alloc: Global) -> Result<Numbers, Refused> {
     Ok(map)
 }
 
-/// A set of these keys.
+/// Returns a set of these keys.
 fn filled_set(alloc: Global) -> Result<Keys, Refused> {
     let mut set = again(|| HashSet::new(alloc))?;
     for key in 0..KEYS {
@@ -49,7 +49,7 @@ fn filled_set(alloc: Global) -> Result<Keys, Refused> {
     Ok(set)
 }
 
-/// The map that is read of a map's JSON.
+/// Returns the map that is read from a map's JSON.
 fn map_again(alloc: Global, map: &Numbers) -> Result<Numbers, Refused> {
     let value = again(|| map_to_value(alloc, map, |key| digits(alloc, key), number))?;
     again(|| numbers_of(alloc, &value))
@@ -63,7 +63,7 @@ fn refused_growth_makes_no_map(rt: HostRuntime) -> Result<(), Fail> {
     Ok(())
 }
 
-/// The set that is read of a set's JSON.
+/// Returns the set that is read from a set's JSON.
 fn set_again(alloc: Global, set: &Keys) -> Result<Keys, Refused> {
     let value = again(|| set_to_value(alloc, set, number))?;
     again(|| keys_of(alloc, &value))

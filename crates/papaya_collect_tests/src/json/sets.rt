@@ -1,4 +1,4 @@
-// Sets as JSON, and sets that are read of JSON.
+// Sets as JSON, and sets that are read from JSON.
 use crate::expect::is;
 use crate::json::numbers::number;
 use papaya_json::reading::set_from_value;
@@ -14,12 +14,12 @@ use std::test::Fail;
 /// The sets of the tests.
 pub type Keys = HashSet<u64>;
 
-/// The set of numbers of this value.
+/// Returns the set of numbers of this value.
 pub fn keys_of(alloc: Global, v: &Value) -> Result<Keys, Refused> {
     set_from_value(alloc, v, BuildHasherDefault::new(), Value::as_u64)
 }
 
-/// How many keys the set of this text has, or why there is none.
+/// Checks how many keys the set of this text has, or why there is none.
 fn reads(
     rt: &impl Abort,
     alloc: Global,
@@ -45,7 +45,7 @@ fn arrays_are_sets_of_their_items(rt: HostRuntime) -> Result<(), Fail> {
     Ok(())
 }
 
-/// A set of forty keys.
+/// Returns a set of forty keys.
 fn filled(alloc: Global) -> Result<Keys, Refused> {
     let mut set: Keys = HashSet::new(alloc)?;
     for key in 0..40u64 {
@@ -54,7 +54,7 @@ fn filled(alloc: Global) -> Result<Keys, Refused> {
     Ok(set)
 }
 
-/// The set that is read of a set's JSON.
+/// Returns the set that is read from a set's JSON.
 fn read_back(alloc: Global, set: &Keys) -> Result<Keys, Refused> {
     let value = set_to_value(alloc, set, number)?;
     keys_of(alloc, &value)
@@ -68,7 +68,7 @@ fn a_set_is_read_back(rt: HostRuntime) -> Result<(), Fail> {
     Ok(())
 }
 
-/// The text of the set's JSON is this.
+/// Checks that this is the text of the set's JSON.
 fn prints(rt: &impl Abort, alloc: Global, set: &Keys, wanted: &str) -> Result<(), Fail> {
     let value = set_to_value(alloc, set, number)?;
     is(rt, value.to_string(alloc)?.as_str(), wanted);

@@ -12,7 +12,7 @@ use std::test::Fail;
 
 type Shared = HashMap<u64, u64>;
 
-/// The map of numbers of this value.
+/// Returns the map of numbers of this value.
 fn shared_of<R: Wait>(rt: &R, alloc: Global, v: &Value) -> Result<Shared, Refused> {
     let hasher = BuildHasherDefault::new();
     shared_map_from_value(
@@ -25,7 +25,7 @@ fn shared_of<R: Wait>(rt: &R, alloc: Global, v: &Value) -> Result<Shared, Refuse
     )
 }
 
-/// The text of the JSON of the map of this text.
+/// Returns the text of the JSON of the map of this text.
 fn printed<R: Wait>(rt: &R, alloc: Global, text: &str) -> Result<String, Fail> {
     let map = shared_of(rt, alloc, &Value::from_str(alloc, text)?)?;
     let value = shared_map_to_value(rt, alloc, &map, |key| digits(alloc, key), number)?;
@@ -44,7 +44,7 @@ fn a_shared_map_is_read_back(rt: HostRuntime) -> Result<(), Fail> {
     Ok(())
 }
 
-/// Why this text is no map of numbers.
+/// Returns why this text is no map of numbers.
 fn refusal<R: Wait>(rt: &R, alloc: Global, text: &str) -> Result<Option<Refused>, Fail> {
     Ok(shared_of(rt, alloc, &Value::from_str(alloc, text)?).err())
 }
@@ -62,12 +62,12 @@ fn other_shapes_are_no_shared_maps(rt: HostRuntime) -> Result<(), Fail> {
     Ok(())
 }
 
-/// A value as a JSON number, unless it is 4.
+/// Returns a value as a JSON number, unless it is 4.
 fn no_four(value: &u64) -> Option<Value> {
     if *value == 4 { None } else { number(value) }
 }
 
-/// Why the map has no JSON with one text for all keys.
+/// Returns why the map has no JSON with one text for all keys.
 fn clash<R: Wait, W: Fn(&u64) -> Option<Value>>(
     rt: &R,
     alloc: Global,

@@ -14,24 +14,24 @@ use std::test::Fail;
 
 type Shared = HashSet<u64>;
 
-/// The set of numbers of this value.
+/// Returns the set of numbers of this value.
 fn shared_of<R: Wait>(rt: &R, alloc: Global, v: &Value) -> Result<Shared, Refused> {
     shared_set_from_value(rt, alloc, v, BuildHasherDefault::new(), Value::as_u64)
 }
 
-/// The keys of a set's JSON.
+/// Returns the keys of a set's JSON.
 fn written<R: Wait>(rt: &R, alloc: Global, set: &Shared) -> Result<Keys, Refused> {
     let value = shared_set_to_value(rt, alloc, set, number)?;
     keys_of(alloc, &value)
 }
 
-/// Has the set's JSON just the keys of this value?
+/// Returns whether the set's JSON has just the keys of this value.
 fn is_read_back<R: Wait>(rt: &R, alloc: Global, set: &Shared, v: &Value) -> Result<bool, Refused> {
     let keys = written(rt, alloc, set)?;
     Ok(keys.eq(&keys_of(alloc, v)?))
 }
 
-/// How many keys the set of this text has, and whether its JSON has just the keys of the text.
+/// Returns how many keys the set of this text has, and whether its JSON has just the same keys.
 fn read_back<R: Wait>(rt: &R, alloc: Global, text: &str) -> Result<(usize, bool), Fail> {
     let v = Value::from_str(alloc, text)?;
     let set = shared_of(rt, alloc, &v)?;
@@ -51,7 +51,7 @@ fn a_shared_set_is_read_back(rt: HostRuntime) -> Result<(), Fail> {
     Ok(())
 }
 
-/// Why this text is no set of numbers.
+/// Returns why this text is no set of numbers.
 fn refusal<R: Wait>(rt: &R, alloc: Global, text: &str) -> Result<Option<Refused>, Fail> {
     Ok(shared_of(rt, alloc, &Value::from_str(alloc, text)?).err())
 }
@@ -68,7 +68,7 @@ fn other_shapes_are_no_shared_sets(rt: HostRuntime) -> Result<(), Fail> {
     Ok(())
 }
 
-/// The set's JSON has this text, and there is none where a key has no item.
+/// Checks that the set's JSON has this text, and that there is none if a key has no item.
 fn prints<R: Wait + Abort>(rt: &R, alloc: Global, set: &Shared, wanted: &str) -> Result<(), Fail> {
     let refused = shared_set_to_value(rt, alloc, set, |_| None).err();
     is(rt, refused, Some(Refused::Item));

@@ -1,4 +1,4 @@
-// What maps are as JSON, and why there is none.
+// Maps as JSON, and the refusals.
 use crate::expect::is;
 use crate::json::numbers::{Numbers, digits, number};
 use papaya_json::writing::map_to_value;
@@ -9,19 +9,19 @@ use std::alloc::Global;
 use std::process::Abort;
 use std::test::Fail;
 
-/// A value as a JSON number, unless it is 4.
+/// Returns a value as a JSON number, unless it is 4.
 fn no_four(value: &u64) -> Option<Value> {
     if *value == 4 { None } else { number(value) }
 }
 
-/// The text of the map's JSON is this.
+/// Checks that this is the text of the map's JSON.
 fn prints(rt: &impl Abort, alloc: Global, map: &Numbers, wanted: &str) -> Result<(), Fail> {
     let value = map_to_value(alloc, map, |key| digits(alloc, key), number)?;
     is(rt, value.to_string(alloc)?.as_str(), wanted);
     Ok(())
 }
 
-/// With one text for all keys the map has no JSON, for this cause.
+/// Checks that the map has no JSON with one text for all keys, for this reason.
 fn clashes<W: Fn(&u64) -> Option<Value>>(
     rt: &impl Abort,
     alloc: Global,
@@ -35,7 +35,7 @@ fn clashes<W: Fn(&u64) -> Option<Value>>(
     is(rt, found.err(), Some(wanted));
 }
 
-/// A map of these pairs.
+/// Returns a map of these entries.
 fn map_of(alloc: Global, pairs: &[(u64, u64)]) -> Result<Numbers, Refused> {
     let mut map: Numbers = HashMap::new(alloc)?;
     for (key, value) in pairs {

@@ -1,4 +1,4 @@
-//! The calls whose closure answers what becomes of a key's pair: by a pass, without one, and by
+//! The calls whose closure returns what becomes of a key's entry: by a pass, without one, and with
 //! a guard.
 ghost use Rattle.std.specs.Prelude.{◌≡◌, Err, IsSome, Some, []};
 ghost use Rattle.std.specs.Borrow.{sem};
@@ -24,17 +24,18 @@ use std::hash::{BuildHasher, Hash};
 use std::sync::Wait;
 
 impl<'a, K: Hash + Eq + Drop, V: Drop, S: BuildHasher> HashMapRef<'a, K, V, S> {
-    /// What the closure makes of the key's pair, or of its absence: `compute` of 0.2.5. It is shown
-    /// the pair, if there is one, and answers what is stored, that the pair is removed, or that
-    /// nothing is changed.
+    /// Calls a closure with the key's entry, or `None`, and does what it returns: `compute` of
+    /// 0.2.5. The closure returns what to store, that the entry is removed, or that nothing is
+    /// changed.
     ///
-    /// The closure may be asked again, where another call was first to replace or remove the pair
-    /// that it was shown: what it answered of one pair is done to that pair alone. That there is
-    /// none it is shown once at most, since its insertion is remembered.
+    /// The closure may be called again if another call was first to replace or remove the entry:
+    /// what it returned for one entry is done to that entry alone. It is called with `None` once at
+    /// most, since its insertion is remembered.
     ///
-    /// Refused as [`HashMapRef::insert_as`], and with `Refused::RemoveNothing` where the closure
-    /// would remove and there is no pair. The pass makes one change where the answer is one, and
-    /// where it is refused or aborted none.
+    /// # Errors
+    /// As [`HashMapRef::insert_as`], and `Refused::RemoveNothing` if the closure returns a removal
+    /// and there is no entry. The pass records one change if the closure's operation changes the
+    /// map, and none if the call fails or aborts.
     pub fn compute_as<R: Wait, T: Drop, F: FnMut(Option<(&'a K, &'a V)>) -> Operation<V, T>>(
         &self,
         rt: &R,
@@ -72,9 +73,13 @@ impl<'a, K: Hash + Eq + Drop, V: Drop, S: BuildHasher> HashMapRef<'a, K, V, S> {
         computed
     }
 
-    /// What the closure makes of the key's pair, or of its absence: `compute` of 0.2.5.
+    /// Calls a closure with the key's entry, or `None`, and does what it returns: `compute` of
+    /// 0.2.5.
     ///
-    /// It shows, answers and is refused as [`HashMapRef::compute_as`] does.
+    /// Returns as [`HashMapRef::compute_as`] does.
+    ///
+    /// # Errors
+    /// As [`HashMapRef::compute_as`].
     pub fn compute<R: Wait, T: Drop, F: FnMut(Option<(&'a K, &'a V)>) -> Operation<V, T>>(
         &self,
         rt: &R,
@@ -95,8 +100,11 @@ impl<'a, K: Hash + Eq + Drop, V: Drop, S: BuildHasher> HashMapRef<'a, K, V, S> {
 }
 
 impl<K: Hash + Eq + Drop, V: Drop, S: BuildHasher> HashMap<K, V, S> {
-    /// What the closure makes of the key's pair, or of its absence: `compute` of 0.2.5. It shows
-    /// and answers as [`HashMapRef::compute_as`], and is refused as that is and for a wrong guard.
+    /// Calls a closure with the key's entry, or `None`, and does what it returns: `compute` of
+    /// 0.2.5. Returns as [`HashMapRef::compute_as`].
+    ///
+    /// # Errors
+    /// `Refused::WrongGuard`, and as [`HashMapRef::compute_as`].
     pub fn compute<
         'g,
         R: Wait,

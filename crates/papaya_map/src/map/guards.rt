@@ -1,5 +1,5 @@
-//! Guards of a map, and what a call that takes one begins with. With a guard of another collector
-//! it is refused, and changes nothing.
+//! Guards of a map, and the check that each call with a guard begins with. With a guard of another
+//! collector the call fails, and changes nothing.
 ghost use Rattle.std.specs.Prelude.{◌≡◌, Err, IfOk, Ok, [], is_ok, true};
 ghost use mathlib.Core.List.{IsPrefix};
 ghost use Rattle.papaya_lookup.specs.History.{IsLegalHistory, history_of, key_of};
@@ -11,22 +11,24 @@ use papaya_words::probe::Refused;
 use std::hash::{BuildHasher, Hash};
 
 impl<K: Hash + Eq, V, S: BuildHasher> HashMap<K, V, S> {
-    /// A guard of the map's collector: `guard` of 0.2.5.
+    /// Returns a guard of the map's collector: `guard` of 0.2.5.
     pub fn guard(&self) -> LocalGuard<'_>
         ensures { result.collector ≡ self.now.collector }
     {
         self.collector.enter()
     }
 
-    /// A guard that may go to another thread: `owned_guard` of 0.2.5.
+    /// Returns a guard that may be sent to another thread: `owned_guard` of 0.2.5.
     pub fn owned_guard(&self) -> OwnedGuard<'_>
         ensures { result.collector ≡ self.now.collector }
     {
         self.collector.enter_owned()
     }
 
-    /// Is the guard of the map's collector? `Refused::WrongGuard` where it is not. In 0.2.5 a call
-    /// with such a guard panics.
+    /// Checks that the guard is of the map's collector. In 0.2.5 a call with another guard panics.
+    ///
+    /// # Errors
+    /// `Refused::WrongGuard` if it is not.
     #[inline]
     pub fn verify<G: Guard>(&self, guard: &G) -> Result<(), Refused>
         ensures right { G.collector_number guard.now ≡ self.now.collector → result ≡ Ok tt }
@@ -40,8 +42,8 @@ impl<K: Hash + Eq, V, S: BuildHasher> HashMap<K, V, S> {
         }
     }
 
-    /// A new pass for a call by this guard: it has seen what had been seen when the map was made,
-    /// and picks the count's shard by the guard's number. Refused as [`HashMap::verify`] is.
+    /// Returns a new pass for a call with this guard. It has observed the history up to the map's
+    /// creation, and picks the count's shard by the guard's number. Fails as [`HashMap::verify`].
     #[inline(always)]
     pub(crate) fn begun_by<G: Guard>(&self, guard: &G) -> Result<Pass<K, V, S>, Refused>
         ensures book { IfOk result (λ pass. pass.book ≡ self.now.book) }
@@ -55,7 +57,7 @@ impl<K: Hash + Eq, V, S: BuildHasher> HashMap<K, V, S> {
         Ok(self.begun(Some(guard.number())))
     }
 
-    /// A refusal, with what had been seen when the map was made.
+    /// Returns a refusal, with the history observed up to the map's creation.
     #[inline(always)]
     pub(crate) fn tell_refused<B>(&self, refused: Refused) -> Saying<Result<B, Refused>, K, V, S>
         ensures answer { result.answer ≡ Err refused }

@@ -1,5 +1,5 @@
-//! The calls that store a value, whether a key has one or where it has none: by a pass, without
-//! one, and by a guard.
+//! The calls that store a value, always or only if the key has none: by a pass, without one, and
+//! with a guard.
 ghost use Rattle.std.specs.Prelude.{◌≡◌, Err, IfErr, IfOk, [], is_ok};
 ghost use Rattle.std.specs.Borrow.{sem};
 ghost use mathlib.Core.List.{IsPrefix};
@@ -24,16 +24,19 @@ use std::hash::{BuildHasher, Hash};
 use std::sync::Wait;
 
 impl<'a, K: Hash + Eq + Drop, V: Drop, S: BuildHasher> HashMapRef<'a, K, V, S> {
-    /// Stores a pair, and answers the value that its key had: `insert` of 0.2.5. As its text
-    /// says, a key that is stored stays: the one that was handed in is dropped then.
+    /// Inserts a key-value pair, and returns the key's old value, if any: `insert` of 0.2.5. As
+    /// there, a stored key stays, and the key that was passed in is dropped.
     ///
-    /// Where the key finds no place in the table, the call makes a further one, to which the pairs
-    /// are copied. `Refused::Memory` where a growth was refused. `Refused::Capacity` where the log
-    /// of pairs or that of tables is full: it gave a number past its limit, which the pass shows
-    /// then. Or where the next table would be too long, by the sum of the count that the pass shows
-    /// then and the length of a table that it has seen. `Refused::Limit` where the map has a limit
-    /// on pairs, and as many were logged, or were about to be. Refused, the pass makes no change,
-    /// and else this one.
+    /// If the table has no place for the key, the call allocates the next table, to which the
+    /// entries are copied. The pass records one change, or none if the call fails.
+    ///
+    /// # Errors
+    /// - `Refused::Memory` if an allocation fails.
+    /// - `Refused::Capacity` if the arena of entries or that of tables is full: it gave a number
+    ///   past its limit. Also if the next table would be too long, by the length of a table that
+    ///   the pass has observed and the sum of the count. Contracts then observe that number or that
+    ///   sum.
+    /// - `Refused::Limit` if the map has a limit on entries, and as many are stored or about to be.
     pub fn insert_as<R: Wait>(
         &self,
         rt: &R,
@@ -69,10 +72,11 @@ impl<'a, K: Hash + Eq + Drop, V: Drop, S: BuildHasher> HashMapRef<'a, K, V, S> {
         before
     }
 
-    /// Stores a pair, and answers the value that its key had: `insert` of 0.2.5. As its text
-    /// says, a key that is stored stays: the one that was handed in is dropped then.
+    /// Inserts a key-value pair, and returns the key's old value, if any: `insert` of 0.2.5. As
+    /// there, a stored key stays, and the key that was passed in is dropped.
     ///
-    /// Refused as [`HashMapRef::insert_as`] is, and then it changes nothing.
+    /// # Errors
+    /// `Refused::Memory`, `Capacity` or `Limit`, as [`HashMapRef::insert_as`]; no entry changes.
     pub fn insert<R: Wait>(&self, rt: &R, key: K, value: V) -> Result<Option<&'a V>, Refused>
         ensures* own { sem 𝓛 (of_its_history (EventOf K.row V.row S.row).coded.code
             (rule_of ⟦<Law<K, V, S> as Rule<Event<K, V, S>, Named<K, V>>>⟧) self.now K.eq
@@ -85,11 +89,12 @@ impl<'a, K: Hash + Eq + Drop, V: Drop, S: BuildHasher> HashMapRef<'a, K, V, S> {
         answer
     }
 
-    /// Stores a pair where the key has none, and answers its value: `try_insert` of 0.2.5.
-    /// Where the key has a value, that stays, and what was handed in is given back, or it lies
-    /// in the log.
+    /// Inserts an entry if the key is absent, and returns its value: `try_insert` of 0.2.5. If the
+    /// key is present, its value stays. The error then returns the value that was passed in, or a
+    /// reference to it in the arena.
     ///
-    /// Refused as [`HashMapRef::insert_as`] is, and then it changes nothing.
+    /// # Errors
+    /// `Refused::Memory`, `Capacity` or `Limit`, as [`HashMapRef::insert_as`]; no entry changes.
     pub fn try_insert<R: Wait>(
         &self,
         rt: &R,
@@ -107,10 +112,11 @@ impl<'a, K: Hash + Eq + Drop, V: Drop, S: BuildHasher> HashMapRef<'a, K, V, S> {
         answer
     }
 
-    /// The same with a closure that makes the value where it is to be stored, and with the value
-    /// that is there for an answer: `try_insert_with` of 0.2.5. The closure is called once at most.
+    /// Inserts a value made by a closure if the key is absent: `try_insert_with` of 0.2.5. The
+    /// error is the value that is there. The closure is called once at most.
     ///
-    /// Refused as [`HashMapRef::insert_as`] is, and then it changes nothing.
+    /// # Errors
+    /// `Refused::Memory`, `Capacity` or `Limit`, as [`HashMapRef::insert_as`]; no entry changes.
     pub fn try_insert_with<R: Wait, F: FnOnce() -> V + Drop>(
         &self,
         rt: &R,
@@ -129,9 +135,10 @@ impl<'a, K: Hash + Eq + Drop, V: Drop, S: BuildHasher> HashMapRef<'a, K, V, S> {
         answer
     }
 
-    /// The value of a key, which is stored where the key has none: `get_or_insert` of 0.2.5.
+    /// Returns the key's value, inserting this one if there is none: `get_or_insert` of 0.2.5.
     ///
-    /// Refused as [`HashMapRef::insert_as`] is, and then it changes nothing.
+    /// # Errors
+    /// `Refused::Memory`, `Capacity` or `Limit`, as [`HashMapRef::insert_as`]; no entry changes.
     pub fn get_or_insert<R: Wait>(&self, rt: &R, key: K, value: V) -> Result<&'a V, Refused>
         ensures* own { sem 𝓛 (of_its_history (EventOf K.row V.row S.row).coded.code
             (rule_of ⟦<Law<K, V, S> as Rule<Event<K, V, S>, Named<K, V>>>⟧) self.now K.eq
@@ -144,10 +151,11 @@ impl<'a, K: Hash + Eq + Drop, V: Drop, S: BuildHasher> HashMapRef<'a, K, V, S> {
         answer
     }
 
-    /// The same with a closure that makes the value where it is to be stored:
+    /// Returns the key's value, inserting one that a closure makes if there is none:
     /// `get_or_insert_with` of 0.2.5. The closure is called once at most.
     ///
-    /// Refused as [`HashMapRef::insert_as`] is, and then it changes nothing.
+    /// # Errors
+    /// `Refused::Memory`, `Capacity` or `Limit`, as [`HashMapRef::insert_as`]; no entry changes.
     pub fn get_or_insert_with<R: Wait, F: FnOnce() -> V + Drop>(
         &self,
         rt: &R,
@@ -168,8 +176,11 @@ impl<'a, K: Hash + Eq + Drop, V: Drop, S: BuildHasher> HashMapRef<'a, K, V, S> {
 }
 
 impl<K: Hash + Eq + Drop, V: Drop, S: BuildHasher> HashMap<K, V, S> {
-    /// Stores a pair, and answers the value that its key had: `insert` of 0.2.5. As its text says,
-    /// a key that is stored stays. Refused for a wrong guard, and as [`HashMapRef::insert_as`].
+    /// Inserts a key-value pair, and returns the key's old value, if any: `insert` of 0.2.5. A
+    /// stored key stays.
+    ///
+    /// # Errors
+    /// `Refused::WrongGuard`, and as [`HashMapRef::insert_as`].
     pub fn insert<'g, R: Wait, G: Guard>(
         &'g self,
         rt: &R,
@@ -191,8 +202,11 @@ impl<K: Hash + Eq + Drop, V: Drop, S: BuildHasher> HashMap<K, V, S> {
         answer
     }
 
-    /// Stores a pair where the key has none, and answers its value: `try_insert` of 0.2.5. It
-    /// answers as [`HashMapRef::try_insert`], and is refused as that is and for a wrong guard.
+    /// Inserts an entry if the key is absent: `try_insert` of 0.2.5. Returns as
+    /// [`HashMapRef::try_insert`].
+    ///
+    /// # Errors
+    /// `Refused::WrongGuard`, and as [`HashMapRef::try_insert`].
     pub fn try_insert<'g, R: Wait, G: Guard>(
         &'g self,
         rt: &R,
@@ -214,9 +228,11 @@ impl<K: Hash + Eq + Drop, V: Drop, S: BuildHasher> HashMap<K, V, S> {
         answer
     }
 
-    /// The same with a closure that makes the value where it is to be stored:
-    /// `try_insert_with` of 0.2.5. It answers as [`HashMapRef::try_insert_with`], and is
-    /// refused as [`HashMap::try_insert`].
+    /// Inserts a value made by a closure if the key is absent: `try_insert_with` of 0.2.5. Returns
+    /// as [`HashMapRef::try_insert_with`].
+    ///
+    /// # Errors
+    /// As [`HashMap::try_insert`].
     pub fn try_insert_with<'g, R: Wait, F: FnOnce() -> V + Drop, G: Guard>(
         &'g self,
         rt: &R,
@@ -239,8 +255,10 @@ impl<K: Hash + Eq + Drop, V: Drop, S: BuildHasher> HashMap<K, V, S> {
         answer
     }
 
-    /// The value of a key, which is stored where the key has none: `get_or_insert` of 0.2.5.
-    /// Refused as [`HashMap::try_insert`].
+    /// Returns the key's value, inserting this one if there is none: `get_or_insert` of 0.2.5.
+    ///
+    /// # Errors
+    /// As [`HashMap::try_insert`].
     pub fn get_or_insert<'g, R: Wait, G: Guard>(
         &'g self,
         rt: &R,
@@ -262,8 +280,11 @@ impl<K: Hash + Eq + Drop, V: Drop, S: BuildHasher> HashMap<K, V, S> {
         answer
     }
 
-    /// The same with a closure that makes the value where it is to be stored:
-    /// `get_or_insert_with` of 0.2.5. Refused as [`HashMap::try_insert`].
+    /// Returns the key's value, inserting one that a closure makes if there is none:
+    /// `get_or_insert_with` of 0.2.5.
+    ///
+    /// # Errors
+    /// As [`HashMap::try_insert`].
     pub fn get_or_insert_with<'g, R: Wait, F: FnOnce() -> V + Drop, G: Guard>(
         &'g self,
         rt: &R,

@@ -1,4 +1,4 @@
-//! Lookups: by a pass, without one, and by a guard.
+//! Lookups: by a pass, without one, and with a guard.
 ghost use Rattle.std.specs.Prelude.{◌≡◌, Err, IfOk, Option, [], is_some};
 ghost use Rattle.std.specs.Borrow.{Bor, sem};
 ghost use mathlib.Core.List.{IsPrefix};
@@ -17,8 +17,8 @@ use papaya_words::probe::Refused;
 use std::hash::{BuildHasher, Hash};
 
 impl<'a, K: Hash + Eq, V, S: BuildHasher> HashMapRef<'a, K, V, S> {
-    /// The value of a key: `get` of 0.2.5. It loads words and nothing else: it waits for nobody,
-    /// and takes no lock and no memory.
+    /// Returns the key's value, or `None` if there is none: `get` of 0.2.5. It only loads words: it
+    /// waits for no thread, takes no lock and allocates nothing.
     #[inline(always)]
     pub fn get_as<Q: Equivalent<K>>(&self, key: &Q, pass: &mut Pass<K, V, S>) -> Option<&'a V>
         requires { pass.old.book ≡ self.now.map.book }
@@ -35,7 +35,7 @@ impl<'a, K: Hash + Eq, V, S: BuildHasher> HashMapRef<'a, K, V, S> {
         found
     }
 
-    /// The value of a key: `get` of 0.2.5. It waits for nobody, and takes no lock and no memory.
+    /// Returns the key's value, if any: `get` of 0.2.5. It never waits, locks or allocates.
     #[inline(always)]
     pub fn get<Q: Equivalent<K>>(&self, key: &Q) -> Option<&'a V>
         ensures* own { sem 𝓛 (of_its_history (EventOf K.row V.row S.row).coded.code
@@ -48,8 +48,8 @@ impl<'a, K: Hash + Eq, V, S: BuildHasher> HashMapRef<'a, K, V, S> {
         answer
     }
 
-    /// The stored key and the value of a key: `get_key_value` of 0.2.5. As [`HashMapRef::get`], it
-    /// waits for nobody, and takes no lock and no memory.
+    /// Returns the stored key and its value, if any: `get_key_value` of 0.2.5. As
+    /// [`HashMapRef::get`], it never waits, locks or allocates.
     #[inline(always)]
     pub fn get_key_value<Q: Equivalent<K>>(&self, key: &Q) -> Option<(&'a K, &'a V)>
         ensures* own { sem 𝓛 (of_its_history (EventOf K.row V.row S.row).coded.code
@@ -62,7 +62,7 @@ impl<'a, K: Hash + Eq, V, S: BuildHasher> HashMapRef<'a, K, V, S> {
         answer
     }
 
-    /// Has a key a value? `contains_key` of 0.2.5. It waits for nobody, as [`HashMapRef::get`].
+    /// Returns whether the key has a value: `contains_key` of 0.2.5. It never waits.
     #[inline(always)]
     pub fn contains_key<Q: Equivalent<K>>(&self, key: &Q) -> bool
         ensures* own { sem 𝓛 (of_its_history (EventOf K.row V.row S.row).coded.code
@@ -77,8 +77,10 @@ impl<'a, K: Hash + Eq, V, S: BuildHasher> HashMapRef<'a, K, V, S> {
 }
 
 impl<K: Hash + Eq, V, S: BuildHasher> HashMap<K, V, S> {
-    /// The value of a key: `get` of 0.2.5. It waits for nobody, and takes no lock and no memory.
-    /// `Refused::WrongGuard` alone.
+    /// Returns the key's value, if any: `get` of 0.2.5. It never waits, locks or allocates.
+    ///
+    /// # Errors
+    /// `Refused::WrongGuard` if the guard is of another collector.
     #[inline]
     pub fn get<'g, Q: Equivalent<K>, G: Guard>(
         &'g self,
@@ -98,8 +100,11 @@ impl<K: Hash + Eq, V, S: BuildHasher> HashMap<K, V, S> {
         answer
     }
 
-    /// The stored key and the value of a key: `get_key_value` of 0.2.5. As [`HashMap::get`], it
-    /// waits for nobody, and takes no lock and no memory. `Refused::WrongGuard` alone.
+    /// Returns the stored key and its value, if any: `get_key_value` of 0.2.5. As [`HashMap::get`],
+    /// it never waits, locks or allocates.
+    ///
+    /// # Errors
+    /// `Refused::WrongGuard` if the guard is of another collector.
     #[inline]
     pub fn get_key_value<'g, Q: Equivalent<K>, G: Guard>(
         &'g self,
@@ -119,7 +124,10 @@ impl<K: Hash + Eq, V, S: BuildHasher> HashMap<K, V, S> {
         answer
     }
 
-    /// Has a key a value? `contains_key` of 0.2.5. `Refused::WrongGuard` alone.
+    /// Returns whether the key has a value: `contains_key` of 0.2.5.
+    ///
+    /// # Errors
+    /// `Refused::WrongGuard` if the guard is of another collector.
     #[inline]
     pub fn contains_key<Q: Equivalent<K>, G: Guard>(
         &self,

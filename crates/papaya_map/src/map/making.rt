@@ -1,4 +1,4 @@
-//! Making a map that threads share.
+//! The constructors of a map that threads share.
 ghost use Rattle.std.specs.Prelude.{◌≡◌, ◌<◌, ◌≤◌, IfErr, IfOk, None};
 ghost use Rattle.papaya_words.specs.Probe.{IsEntriesFor};
 ghost use Rattle.papaya_words.specs.declared.limits.TheConstants.{DEFAULT_CHUNK, DEFAULT_SHARDS, MAX_TABLE_LEN};
@@ -21,8 +21,8 @@ use std::alloc::Global;
 use std::hash::{BuildHasher, BuildHasherDefault, FoldHasher, Hash};
 use std::sync::Wait;
 
-/// What is seen of the book of a new map, which has its first table then, where pairs are
-/// asked for.
+/// Returns what is observed of a new map's book. It already has its first table if the capacity is
+/// not 0.
 fn first_table<R: Wait, K: Hash + Eq, V, S: BuildHasher>(
     rt: &R,
     alloc: Global,
@@ -43,8 +43,9 @@ fn first_table<R: Wait, K: Hash + Eq, V, S: BuildHasher>(
     book.open_first(rt, alloc, capacity, initial)
 }
 
-/// Returns for how many pairs `reclaim` makes the first table: for those of the map, and for no fewer
-/// than its initial capacity is for. It returns 0 for a map of no pairs that was given no capacity.
+/// Returns the number of entries for which `reclaim` sizes the first table: those of the map, and
+/// at least those that its initial capacity is for. Returns 0 if the map has no entries and was
+/// given no capacity.
 #[tactic(auto, using(crate::proofs::FirstTable::none_asked, crate::proofs::FirstTable::long_enough))]
 fn pairs_for(initial: usize, pairs: usize) -> usize
     ensures { IsForInitial initial result }
@@ -56,14 +57,15 @@ fn pairs_for(initial: usize, pairs: usize) -> usize
 }
 
 impl<K: Hash + Eq + Drop, V: Drop, S: BuildHasher + Drop> HashMap<K, V, S> {
-    /// A map of all its parts. `capacity` is for how many pairs its first table is made at once;
-    /// with 0 the first change makes one. `shards` is rounded up to a power of two. `limit` is how
-    /// many pairs it may log, those replaced or removed among them, if there is a limit. Its
-    /// collector has number 0.
+    /// Creates a map from all its settings. The first table has room for `capacity` entries; with 0
+    /// the first change creates it. `shards` is rounded up to a power of two. The map may store
+    /// `limit` entries, including those replaced or removed, if there is a limit. Its collector has
+    /// number 0.
     ///
-    /// `Refused::ZeroChunk` for chunks of no slots. `Refused::Capacity` for more shards than
-    /// [`papaya_words::limits::MAX_SHARDS`], and for a table past
-    /// [`papaya_words::limits::MAX_TABLE_LEN`]. `Refused::Memory` where a growth was refused.
+    /// # Errors
+    /// `Refused::ZeroChunk` if chunks have no slots. `Refused::Capacity` if there are more shards
+    /// than [`papaya_words::limits::MAX_SHARDS`], or the table is longer than
+    /// [`papaya_words::limits::MAX_TABLE_LEN`]. `Refused::Memory` if an allocation fails.
     pub fn with_parts<R: Wait>(
         rt: &R,
         alloc: Global,
@@ -91,7 +93,7 @@ impl<K: Hash + Eq + Drop, V: Drop, S: BuildHasher + Drop> HashMap<K, V, S> {
         )
     }
 
-    /// The same with this collector.
+    /// Creates a map as [`HashMap::with_parts`] does, with this collector.
     pub(crate) fn with_collector<R: Wait>(
         rt: &R,
         alloc: Global,
@@ -126,9 +128,11 @@ impl<K: Hash + Eq + Drop, V: Drop, S: BuildHasher + Drop> HashMap<K, V, S> {
         })
     }
 
-    /// A map for so many pairs, with this hasher: `with_capacity_and_hasher` of 0.2.5. It resizes
-    /// as [`ResizeMode::default`] says, and counts its pairs over [`DEFAULT_SHARDS`] shards.
-    /// Refused as [`HashMap::with_parts`].
+    /// Creates a map for `capacity` entries with this hasher: `with_capacity_and_hasher` of 0.2.5.
+    /// It resizes by [`ResizeMode::default`], and counts over [`DEFAULT_SHARDS`] shards.
+    ///
+    /// # Errors
+    /// As [`HashMap::with_parts`].
     pub fn with_capacity_and_hasher<R: Wait>(
         rt: &R,
         alloc: Global,
@@ -155,7 +159,10 @@ impl<K: Hash + Eq + Drop, V: Drop, S: BuildHasher + Drop> HashMap<K, V, S> {
         )
     }
 
-    /// A map with this hasher: `with_hasher` of 0.2.5. The first change makes its first table.
+    /// Creates a map with this hasher: `with_hasher` of 0.2.5. The first change makes a table.
+    ///
+    /// # Errors
+    /// `Refused::Memory` if an allocation fails.
     pub fn with_hasher<R: Wait>(
         rt: &R,
         alloc: Global,
@@ -171,10 +178,10 @@ impl<K: Hash + Eq + Drop, V: Drop, S: BuildHasher + Drop> HashMap<K, V, S> {
 }
 
 impl<K: Hash + Eq + Drop, V: Drop, S: BuildHasher + Clone + Drop> HashMap<K, V, S> {
-    /// A map of no pairs with the settings of this one: its mode, its limit, its initial capacity,
-    /// the number of its collector, a clone of its hasher, and as many shards. Its first table has
-    /// room for as many pairs as this one counts, and is no shorter than the initial capacity. It has
-    /// no table if this map has no pairs and was given no capacity.
+    /// Creates an empty map with the settings of this one: its mode, limit, initial capacity,
+    /// collector number and number of shards, and a clone of its hasher. Its first table has room
+    /// for as many entries as this one counts, and is no shorter than the initial capacity. It has
+    /// no table if this map has no entries and was given no capacity.
     pub(crate) fn anew<R: Wait>(&self, rt: &R) -> Result<HashMap<K, V, S>, Refused>
         ensures settings { IfOk result (HasSettingsOf self.now) }
         ensures hasher { IfOk result (λ map. S.is_clone self.now.begun.hasher map.begun.hasher) }
@@ -211,8 +218,11 @@ impl<K: Hash + Eq + Drop, V: Drop, S: BuildHasher + Clone + Drop> HashMap<K, V, 
 }
 
 impl<K: Hash + Eq + Drop, V: Drop> HashMap<K, V, BuildHasherDefault<FoldHasher>> {
-    /// A map that makes its first table at its first change: `new` of 0.2.5, but for the hasher,
-    /// which is the same in each run.
+    /// Creates a map that makes its first table at its first change: `new` of 0.2.5, but with a
+    /// hasher that is the same in each run.
+    ///
+    /// # Errors
+    /// `Refused::Memory` if an allocation fails.
     pub fn new<R: Wait>(
         rt: &R,
         alloc: Global,
@@ -224,9 +234,11 @@ impl<K: Hash + Eq + Drop, V: Drop> HashMap<K, V, BuildHasherDefault<FoldHasher>>
         HashMap::with_capacity(rt, alloc, 0)
     }
 
-    /// A map for so many pairs: `with_capacity` of 0.2.5. It resizes as
-    /// [`ResizeMode::default`] says, and counts its pairs over [`DEFAULT_SHARDS`] shards.
-    /// Refused as [`HashMap::with_parts`].
+    /// Creates a map for `capacity` entries: `with_capacity` of 0.2.5. It resizes by
+    /// [`ResizeMode::default`], and counts over [`DEFAULT_SHARDS`] shards.
+    ///
+    /// # Errors
+    /// As [`HashMap::with_parts`].
     pub fn with_capacity<R: Wait>(
         rt: &R,
         alloc: Global,
@@ -251,7 +263,10 @@ impl<K: Hash + Eq + Drop, V: Drop> HashMap<K, V, BuildHasherDefault<FoldHasher>>
         )
     }
 
-    /// The same as [`HashMap::new`]: what the trait `Default` gives in 0.2.5.
+    /// Creates a map as [`HashMap::new`] does: the trait `Default` of 0.2.5.
+    ///
+    /// # Errors
+    /// `Refused::Memory` if an allocation fails.
     pub fn default<R: Wait>(
         rt: &R,
         alloc: Global,

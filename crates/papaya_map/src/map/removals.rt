@@ -1,4 +1,4 @@
-//! The calls that remove a key's pair: by a pass, without one, and by a guard.
+//! The calls that remove a key's entry: by a pass, without one, and with a guard.
 ghost use Rattle.std.specs.Prelude.{◌≡◌, Err, [], true};
 ghost use Rattle.std.specs.Borrow.{sem};
 ghost use mathlib.Core.List.{IsPrefix};
@@ -21,16 +21,18 @@ use std::hash::{BuildHasher, Hash};
 use std::sync::Wait;
 
 impl<'a, K: Hash + Eq, V, S: BuildHasher> HashMapRef<'a, K, V, S> {
-    /// Removes a key's pair if the closure, which is shown it, answers true: `remove_if` of 0.2.5.
+    /// Removes a key's entry if the closure returns `true` for it: `remove_if` of 0.2.5.
     ///
-    /// `Ok(None)` where the key is absent, `Ok(Some(pair))` where that very pair was removed, and
-    /// `Err(pair)` where the closure answered false for it. The closure may be asked again, where
-    /// another call was first to replace or remove the pair that it was shown.
+    /// Returns `Ok(None)` if the key is absent, `Ok(Some(entry))` if that very entry was removed,
+    /// and `Err(entry)` if the closure returned `false` for it. The closure may be called again if
+    /// another call was first to replace or remove the entry. The pass makes one change if an entry
+    /// was removed, and otherwise none.
     ///
-    /// A removal makes nothing for itself. But where it helps to copy the table to a further one,
-    /// it may be refused as an insertion is: `Refused::Memory` where a growth was refused, and
-    /// `Refused::Capacity` where the log of tables is full or the next table would be too long.
-    /// Refused, the pass makes no change. It makes one where a pair was removed, and else none.
+    /// # Errors
+    /// A removal allocates nothing for itself, but it may help to copy the table to a next one.
+    /// Then it fails with `Refused::Memory` if an allocation fails, and with `Refused::Capacity` if
+    /// the arena of tables is full or the next table would be too long. It has changed nothing
+    /// then.
     pub fn remove_if_as<R: Wait, Q: Equivalent<K>, F: FnMut(&K, &V) -> bool>(
         &self,
         rt: &R,
@@ -66,9 +68,12 @@ impl<'a, K: Hash + Eq, V, S: BuildHasher> HashMapRef<'a, K, V, S> {
         removed
     }
 
-    /// Removes a key's pair if the closure, which is shown it, answers true: `remove_if` of 0.2.5.
+    /// Removes a key's entry if the closure returns `true` for it: `remove_if` of 0.2.5.
     ///
-    /// It answers and is refused as [`HashMapRef::remove_if_as`] is.
+    /// Returns as [`HashMapRef::remove_if_as`] does.
+    ///
+    /// # Errors
+    /// As [`HashMapRef::remove_if_as`].
     pub fn remove_if<R: Wait, Q: Equivalent<K>, F: FnMut(&K, &V) -> bool>(
         &self,
         rt: &R,
@@ -87,8 +92,10 @@ impl<'a, K: Hash + Eq, V, S: BuildHasher> HashMapRef<'a, K, V, S> {
         answer
     }
 
-    /// Removes a key's pair, and answers its value: `remove` of 0.2.5. It is refused as
-    /// [`HashMapRef::remove_if_as`] is.
+    /// Removes a key's entry, and returns its value, if any: `remove` of 0.2.5.
+    ///
+    /// # Errors
+    /// `Refused::Memory` or `Capacity`, as [`HashMapRef::remove_if_as`].
     pub fn remove_as<R: Wait, Q: Equivalent<K>>(
         &self,
         rt: &R,
@@ -121,9 +128,10 @@ impl<'a, K: Hash + Eq, V, S: BuildHasher> HashMapRef<'a, K, V, S> {
         }
     }
 
-    /// Removes a key's pair, and answers its value: `remove` of 0.2.5.
+    /// Removes a key's entry, and returns its value, if any: `remove` of 0.2.5.
     ///
-    /// Refused as [`HashMapRef::remove_if_as`] is, and then it changes nothing.
+    /// # Errors
+    /// `Refused::Memory` or `Capacity`, as [`HashMapRef::remove_if_as`]; no entry changes.
     pub fn remove<R: Wait, Q: Equivalent<K>>(
         &self,
         rt: &R,
@@ -138,9 +146,10 @@ impl<'a, K: Hash + Eq, V, S: BuildHasher> HashMapRef<'a, K, V, S> {
         answer
     }
 
-    /// Removes a key's pair, and answers it: `remove_entry` of 0.2.5.
+    /// Removes a key's entry, and returns it, if any: `remove_entry` of 0.2.5.
     ///
-    /// Refused as [`HashMapRef::remove_if_as`] is, and then it changes nothing.
+    /// # Errors
+    /// `Refused::Memory` or `Capacity`, as [`HashMapRef::remove_if_as`]; no entry changes.
     pub fn remove_entry<R: Wait, Q: Equivalent<K>>(
         &self,
         rt: &R,
@@ -158,8 +167,11 @@ impl<'a, K: Hash + Eq, V, S: BuildHasher> HashMapRef<'a, K, V, S> {
 }
 
 impl<K: Hash + Eq, V, S: BuildHasher> HashMap<K, V, S> {
-    /// Removes a key's pair if the closure, which is shown it, answers true: `remove_if` of 0.2.5.
-    /// It answers as [`HashMapRef::remove_if_as`], and is refused as [`HashMap::remove`].
+    /// Removes a key's entry if the closure returns `true` for it: `remove_if` of 0.2.5. Returns as
+    /// [`HashMapRef::remove_if_as`].
+    ///
+    /// # Errors
+    /// As [`HashMap::remove`].
     pub fn remove_if<'g, R: Wait, Q: Equivalent<K>, F: FnMut(&K, &V) -> bool, G: Guard>(
         &'g self,
         rt: &R,
@@ -183,8 +195,10 @@ impl<K: Hash + Eq, V, S: BuildHasher> HashMap<K, V, S> {
         answer
     }
 
-    /// Removes a key's pair, and answers its value: `remove` of 0.2.5. Refused for a wrong guard,
-    /// and as [`HashMapRef::remove_if_as`].
+    /// Removes a key's entry, and returns its value, if any: `remove` of 0.2.5.
+    ///
+    /// # Errors
+    /// `Refused::WrongGuard`, and as [`HashMapRef::remove_if_as`].
     pub fn remove<'g, R: Wait, Q: Equivalent<K>, G: Guard>(
         &'g self,
         rt: &R,
@@ -205,8 +219,10 @@ impl<K: Hash + Eq, V, S: BuildHasher> HashMap<K, V, S> {
         answer
     }
 
-    /// Removes a key's pair, and answers it: `remove_entry` of 0.2.5. Refused as
-    /// [`HashMap::remove`].
+    /// Removes a key's entry, and returns it, if any: `remove_entry` of 0.2.5.
+    ///
+    /// # Errors
+    /// As [`HashMap::remove`].
     pub fn remove_entry<'g, R: Wait, Q: Equivalent<K>, G: Guard>(
         &'g self,
         rt: &R,

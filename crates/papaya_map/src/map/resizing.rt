@@ -1,4 +1,4 @@
-//! The calls that make room ahead, and change no pair.
+//! The calls that reserve room, and change no entry.
 ghost use Rattle.std.specs.Prelude.{◌≡◌, Err, IfErr};
 ghost use Rattle.papaya_change.specs.Writing.{IsMemoryOrCapacity};
 
@@ -9,8 +9,10 @@ use std::hash::{BuildHasher, Hash};
 use std::sync::Wait;
 
 impl<'a, K: Hash + Eq, V, S: BuildHasher> HashMapRef<'a, K, V, S> {
-    /// Makes room for so many pairs more than the map counts: `reserve` of 0.2.5. Refused as
-    /// [`Session::reserve`](crate::session::Session::reserve) is.
+    /// Reserves room for `additional` more entries than the map counts: `reserve` of 0.2.5.
+    ///
+    /// # Errors
+    /// As [`Session::reserve`](crate::session::Session::reserve).
     pub fn reserve<R: Wait>(&self, rt: &R, additional: usize) -> Result<(), Refused>
         ensures { IfErr result (λ refused. IsMemoryOrCapacity refused) }
     {
@@ -20,8 +22,10 @@ impl<'a, K: Hash + Eq, V, S: BuildHasher> HashMapRef<'a, K, V, S> {
 }
 
 impl<K: Hash + Eq, V, S: BuildHasher> HashMap<K, V, S> {
-    /// Makes room for so many pairs more than the map counts: `reserve` of 0.2.5. Refused for a
-    /// wrong guard, and as [`HashMapRef::reserve`] is.
+    /// Reserves room for `additional` more entries than the map counts: `reserve` of 0.2.5.
+    ///
+    /// # Errors
+    /// `Refused::WrongGuard`, and as [`HashMapRef::reserve`].
     pub fn reserve<R: Wait, G: Guard>(
         &self,
         rt: &R,

@@ -1,4 +1,4 @@
-//! The calls that scan the whole map: by a pass, without one, and by a guard.
+//! The calls that scan the whole map: by a pass, without one, and with a guard.
 ghost use Rattle.std.specs.Prelude.{◌≡◌, Err, IfErr, IfOk, []};
 ghost use Rattle.std.specs.Borrow.{sem};
 ghost use mathlib.Core.List.{IsPrefix};
@@ -22,13 +22,14 @@ use std::hash::{BuildHasher, Hash};
 use std::sync::Wait;
 
 impl<'a, K: Hash + Eq, V, S: BuildHasher> HashMapRef<'a, K, V, S> {
-    /// Removes the pairs for which the closure, which is shown each, answers false: `retain` of
-    /// 0.2.5. The closure is shown a key's pair again where another call replaced it meanwhile, or
-    /// where all is copied.
+    /// Removes the entries for which the closure returns `false`: `retain` of 0.2.5. The closure is
+    /// called for each entry. It is called for a key's entry again if another call replaced it
+    /// meanwhile, or if everything is copied.
     ///
-    /// Where it meets a copier's work it copies what is left to copy, and may be refused a table
-    /// then: `Refused::Memory` where a growth was refused, and `Refused::Capacity` where there is
-    /// no room. What was removed stays so.
+    /// # Errors
+    /// If the call meets a copy under way, it copies what is left to copy, and may need a table.
+    /// Then it fails with `Refused::Memory` if an allocation fails, and with `Refused::Capacity` if
+    /// there is no room. Removed entries stay removed.
     pub fn retain<R: Wait, F: FnMut(&K, &V) -> bool>(&self, rt: &R, stays: F) -> Result<(), Refused>
         requires { F.IsAlwaysCallable stays }
         ensures* own { sem 𝓛 (of_its_history (EventOf K.row V.row S.row).coded.code
@@ -44,10 +45,11 @@ impl<'a, K: Hash + Eq, V, S: BuildHasher> HashMapRef<'a, K, V, S> {
         answer
     }
 
-    /// Removes the pairs that the map has: `clear` of 0.2.5. A pair that is stored meanwhile
+    /// Removes all entries that the map has: `clear` of 0.2.5. An entry that is stored meanwhile
     /// may stay.
     ///
-    /// Refused as [`HashMapRef::retain`] is.
+    /// # Errors
+    /// `Refused::Memory` or `Capacity`, as [`HashMapRef::retain`].
     pub fn clear<R: Wait>(&self, rt: &R) -> Result<(), Refused>
         ensures* own { sem 𝓛 (of_its_history (EventOf K.row V.row S.row).coded.code
             (rule_of ⟦<Law<K, V, S> as Rule<Event<K, V, S>, Named<K, V>>>⟧) self.now K.eq
@@ -58,15 +60,18 @@ impl<'a, K: Hash + Eq, V, S: BuildHasher> HashMapRef<'a, K, V, S> {
         answer
     }
 
-    /// The pairs of the map, one by one: `iter` of 0.2.5. Each that is given the map had in a
-    /// history that begins with what the pass had seen. What the walk sees as it goes on the pass
-    /// does not learn; a session does by
-    /// [`Session::learn_walk`](crate::session::Session::learn_walk).
+    /// Returns an iterator over the map's entries: `iter` of 0.2.5. Each entry returned was in the
+    /// map, in a history that begins with what the pass had observed. The pass does not learn what
+    /// the iterator observes later; a session does by
+    /// [`Session::learn_walk`](crate::session::Session::learn_walk). An entry that is stored or
+    /// removed meanwhile may be returned or not.
     ///
-    /// With `Blocking` it takes the root as it is. Else it copies first what is left to copy, and
-    /// may be refused a table then: `Refused::Memory` where a growth was refused, and
-    /// `Refused::Capacity` where there is no room, as at an insertion. A pair that is stored or
-    /// removed meanwhile may be given or not.
+    /// With `ResizeMode::Blocking` the iterator takes the root as it is. Otherwise the call first
+    /// copies what is left to copy.
+    ///
+    /// # Errors
+    /// If that copy needs a table: `Refused::Memory` if an allocation fails, and
+    /// `Refused::Capacity` if there is no room, as at an insertion.
     pub fn iter_as<R: Wait>(
         &self,
         rt: &R,
@@ -104,7 +109,10 @@ impl<'a, K: Hash + Eq, V, S: BuildHasher> HashMapRef<'a, K, V, S> {
         }
     }
 
-    /// The pairs of the map, one by one: `iter` of 0.2.5. Refused as [`HashMapRef::iter_as`] is.
+    /// Returns an iterator over the entries: `iter` of 0.2.5.
+    ///
+    /// # Errors
+    /// `Refused::Memory` or `Capacity`, as [`HashMapRef::iter_as`].
     pub fn iter<R: Wait>(&self, rt: &R) -> Result<Iter<'a, K, V, S>, Refused>
         ensures walk { IfOk result (λ pairs. pairs.book ≡ self.now.map.book) }
         ensures began { IfOk result (λ pairs. pairs.began ≡ []) }
@@ -114,7 +122,10 @@ impl<'a, K: Hash + Eq, V, S: BuildHasher> HashMapRef<'a, K, V, S> {
         self.iter_as(rt, &mut pass)
     }
 
-    /// The keys of the map, one by one: `keys` of 0.2.5. Refused as [`HashMapRef::iter_as`] is.
+    /// Returns an iterator over the keys: `keys` of 0.2.5.
+    ///
+    /// # Errors
+    /// `Refused::Memory` or `Capacity`, as [`HashMapRef::iter_as`].
     pub fn keys<R: Wait>(&self, rt: &R) -> Result<Keys<'a, K, V, S>, Refused>
         ensures walk { IfOk result (λ keys. keys.pairs.book ≡ self.now.map.book) }
         ensures began { IfOk result (λ keys. keys.pairs.began ≡ []) }
@@ -123,7 +134,10 @@ impl<'a, K: Hash + Eq, V, S: BuildHasher> HashMapRef<'a, K, V, S> {
         Ok(Keys::of(self.iter(rt)?))
     }
 
-    /// The values of the map, one by one: `values` of 0.2.5. Refused as [`HashMapRef::iter_as`] is.
+    /// Returns an iterator over the values: `values` of 0.2.5.
+    ///
+    /// # Errors
+    /// `Refused::Memory` or `Capacity`, as [`HashMapRef::iter_as`].
     pub fn values<R: Wait>(&self, rt: &R) -> Result<Values<'a, K, V, S>, Refused>
         ensures walk { IfOk result (λ values. values.pairs.book ≡ self.now.map.book) }
         ensures began { IfOk result (λ values. values.pairs.began ≡ []) }
@@ -134,8 +148,10 @@ impl<'a, K: Hash + Eq, V, S: BuildHasher> HashMapRef<'a, K, V, S> {
 }
 
 impl<K: Hash + Eq, V, S: BuildHasher> HashMap<K, V, S> {
-    /// Removes the pairs for which the closure, which is shown each, answers false: `retain` of
-    /// 0.2.5. Refused for a wrong guard, and as [`HashMapRef::retain`] is.
+    /// Removes the entries for which the closure returns `false`: `retain` of 0.2.5.
+    ///
+    /// # Errors
+    /// `Refused::WrongGuard`, and as [`HashMapRef::retain`].
     pub fn retain<R: Wait, F: FnMut(&K, &V) -> bool, G: Guard>(
         &self,
         rt: &R,
@@ -159,8 +175,10 @@ impl<K: Hash + Eq, V, S: BuildHasher> HashMap<K, V, S> {
         answer
     }
 
-    /// Removes the pairs that the map has: `clear` of 0.2.5. Refused for a wrong guard, and as
-    /// [`HashMapRef::clear`] is.
+    /// Removes all entries that the map has: `clear` of 0.2.5.
+    ///
+    /// # Errors
+    /// `Refused::WrongGuard`, and as [`HashMapRef::clear`].
     pub fn clear<R: Wait, G: Guard>(&self, rt: &R, guard: &G) -> Result<(), Refused>
         ensures* own { sem 𝓛 (of_its_history (EventOf K.row V.row S.row).coded.code
             (rule_of ⟦<Law<K, V, S> as Rule<Event<K, V, S>, Named<K, V>>>⟧) (unpinned self.now) K.eq
@@ -174,8 +192,10 @@ impl<K: Hash + Eq, V, S: BuildHasher> HashMap<K, V, S> {
         answer
     }
 
-    /// The pairs of the map, one by one: `iter` of 0.2.5. Refused for a wrong guard, and as
-    /// [`HashMapRef::iter_as`] is.
+    /// Returns an iterator over the entries: `iter` of 0.2.5.
+    ///
+    /// # Errors
+    /// `Refused::WrongGuard`, and as [`HashMapRef::iter_as`].
     pub fn iter<'g, R: Wait, G: Guard>(
         &'g self,
         rt: &R,
@@ -193,7 +213,10 @@ impl<K: Hash + Eq, V, S: BuildHasher> HashMap<K, V, S> {
         self.pin().iter_as(rt, &mut pass)
     }
 
-    /// The keys of the map, one by one: `keys` of 0.2.5. Refused as [`HashMap::iter`] is.
+    /// Returns an iterator over the keys: `keys` of 0.2.5.
+    ///
+    /// # Errors
+    /// As [`HashMap::iter`].
     pub fn keys<'g, R: Wait, G: Guard>(
         &'g self,
         rt: &R,
@@ -209,7 +232,10 @@ impl<K: Hash + Eq, V, S: BuildHasher> HashMap<K, V, S> {
         Ok(Keys::of(self.iter(rt, guard)?))
     }
 
-    /// The values of the map, one by one: `values` of 0.2.5. Refused as [`HashMap::iter`] is.
+    /// Returns an iterator over the values: `values` of 0.2.5.
+    ///
+    /// # Errors
+    /// As [`HashMap::iter`].
     pub fn values<'g, R: Wait, G: Guard>(
         &'g self,
         rt: &R,

@@ -1,38 +1,38 @@
-//! How much a map holds: the pairs of its arena, and the slots of its root table.
+//! How much a map holds: the entries of its arena, and the slots of its root table.
 //!
-//! Each call makes loads alone. No contract says what it returns, since other threads change the map
-//! meanwhile.
+//! Each call only loads words. No contract states what it returns, since other threads change the
+//! map meanwhile.
 use crate::map::{HashMap, HashMapRef};
 use std::hash::{BuildHasher, Hash};
 
 impl<K: Hash + Eq, V, S: BuildHasher> HashMap<K, V, S> {
-    /// Returns how many pairs the arena holds: those of the map, those that were replaced or removed
-    /// since the map was made or reclaimed, and those of calls that are under way. A place that was
-    /// lost to another call counts too. A pair of two numbers takes 24 bytes.
+    /// Returns the number of entries in the arena: those of the map, those replaced or removed
+    /// since it was made or reclaimed, and those of calls under way. A place that was lost to
+    /// another call counts too. An entry of two numbers takes 24 bytes.
     ///
-    /// After `reclaim` it is as many as [`HashMap::len`] returns, if no place was lost.
+    /// After `reclaim` it is the number that [`HashMap::len`] returns, if no place was lost.
     pub fn stored(&self) -> usize {
         self.book.stored()
     }
 
-    /// Returns how many slots the root table has, and 0 if there is none yet.
+    /// Returns the number of slots of the root table, or 0 if there is none yet.
     pub fn slots(&self) -> usize {
         self.pin().slots()
     }
 
-    /// Returns whether pairs are being moved to a next table.
+    /// Returns whether entries are being moved to a next table.
     pub fn resizing(&self) -> bool {
         self.pin().resizing()
     }
 }
 
 impl<'a, K: Hash + Eq, V, S: BuildHasher> HashMapRef<'a, K, V, S> {
-    /// Returns how many pairs the arena holds, as [`HashMap::stored`] counts them.
+    /// Returns the number of entries in the arena, as [`HashMap::stored`] counts them.
     pub fn stored(&self) -> usize {
         self.map.stored()
     }
 
-    /// Returns how many slots the root table has now, and 0 if there is none yet.
+    /// Returns the number of slots of the current root table, or 0 if there is none yet.
     pub fn slots(&self) -> usize {
         let mut window = self.window(&self.begun(None));
         let (_, root) = window.root();
@@ -42,7 +42,7 @@ impl<'a, K: Hash + Eq, V, S: BuildHasher> HashMapRef<'a, K, V, S> {
         }
     }
 
-    /// Returns whether pairs are being moved to a next table now.
+    /// Returns whether entries are being moved to a next table now.
     pub fn resizing(&self) -> bool {
         let mut window = self.window(&self.begun(None));
         let (number, root) = window.root();

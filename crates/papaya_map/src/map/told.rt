@@ -1,5 +1,5 @@
-//! The first halves of the calls that take no pass, and of those that take a guard. Each makes a
-//! pass or a session for itself, and answers a [`Told`](crate::told::Told).
+//! The first halves of the calls without a pass, and of those with a guard. Each creates a pass or
+//! a session for itself, and returns a [`Told`](crate::told::Told).
 mod computes;
 mod inserting;
 mod lookups;

@@ -1,5 +1,5 @@
-//! The calls that put what a closure makes in the place of a key's value: without
-//! a pass, and by a guard.
+//! The calls that replace a key's value by what a closure makes of it: without a pass, and with a
+//! guard.
 ghost use Rattle.std.specs.Prelude.{◌≡◌, Err, IfErr, IfOk, []};
 ghost use Rattle.std.specs.Borrow.{sem};
 ghost use Rattle.std.specs.Fn.{FnReturnsAt};
@@ -19,11 +19,12 @@ use std::hash::{BuildHasher, Hash};
 use std::sync::Wait;
 
 impl<'a, K: Hash + Eq + Drop, V: Drop, S: BuildHasher> HashMapRef<'a, K, V, S> {
-    /// Puts what the closure makes of the key's value in its place, and answers it: `update` of
-    /// 0.2.5. `Ok(None)` where the key has none. The closure may be called again, where another
-    /// call was first to replace the value that it was shown.
+    /// Replaces the key's value by what the closure makes of it, and returns that: `update` of
+    /// 0.2.5. Returns `Ok(None)` if the key has none. The closure may be called again if another
+    /// call was first to replace the value.
     ///
-    /// Refused as [`HashMapRef::insert_as`] is, and then it changes nothing.
+    /// # Errors
+    /// `Refused::Memory`, `Capacity` or `Limit`, as [`HashMapRef::insert_as`]; no entry changes.
     pub fn update<R: Wait, F: Fn(&V) -> V>(
         &self,
         rt: &R,
@@ -42,9 +43,10 @@ impl<'a, K: Hash + Eq + Drop, V: Drop, S: BuildHasher> HashMapRef<'a, K, V, S> {
         answer
     }
 
-    /// The same, and where the key has no value this one is stored: `update_or_insert` of 0.2.5.
+    /// Updates the key's value, or inserts this one if there is none: `update_or_insert` of 0.2.5.
     ///
-    /// Refused as [`HashMapRef::insert_as`] is, and then it changes nothing.
+    /// # Errors
+    /// `Refused::Memory`, `Capacity` or `Limit`, as [`HashMapRef::insert_as`]; no entry changes.
     pub fn update_or_insert<R: Wait, F: Fn(&V) -> V>(
         &self,
         rt: &R,
@@ -65,10 +67,11 @@ impl<'a, K: Hash + Eq + Drop, V: Drop, S: BuildHasher> HashMapRef<'a, K, V, S> {
         answer
     }
 
-    /// The same with a closure that makes the value where the key has none:
-    /// `update_or_insert_with` of 0.2.5. That closure is called once at most.
+    /// Updates the key's value, or inserts one that a second closure makes if there is none:
+    /// `update_or_insert_with` of 0.2.5. It is called once at most.
     ///
-    /// Refused as [`HashMapRef::insert_as`] is, and then it changes nothing.
+    /// # Errors
+    /// `Refused::Memory`, `Capacity` or `Limit`, as [`HashMapRef::insert_as`]; no entry changes.
     pub fn update_or_insert_with<R: Wait, U: Fn(&V) -> V, F: FnOnce() -> V + Drop>(
         &self,
         rt: &R,
@@ -92,9 +95,11 @@ impl<'a, K: Hash + Eq + Drop, V: Drop, S: BuildHasher> HashMapRef<'a, K, V, S> {
 }
 
 impl<K: Hash + Eq + Drop, V: Drop, S: BuildHasher> HashMap<K, V, S> {
-    /// Puts what the closure makes of the key's value in its place, and answers it: `update`
-    /// of 0.2.5. It answers as [`HashMapRef::update`], and is refused as that is and for a
-    /// wrong guard.
+    /// Replaces the key's value by what the closure makes of it: `update` of 0.2.5. Returns as
+    /// [`HashMapRef::update`].
+    ///
+    /// # Errors
+    /// `Refused::WrongGuard`, and as [`HashMapRef::update`].
     pub fn update<'g, R: Wait, F: Fn(&V) -> V, G: Guard>(
         &'g self,
         rt: &R,
@@ -117,8 +122,10 @@ impl<K: Hash + Eq + Drop, V: Drop, S: BuildHasher> HashMap<K, V, S> {
         answer
     }
 
-    /// The same, and where the key has no value this one is stored: `update_or_insert` of 0.2.5.
-    /// Refused as [`HashMap::update`].
+    /// Updates the key's value, or inserts this one if there is none: `update_or_insert` of 0.2.5.
+    ///
+    /// # Errors
+    /// As [`HashMap::update`].
     pub fn update_or_insert<'g, R: Wait, F: Fn(&V) -> V, G: Guard>(
         &'g self,
         rt: &R,
@@ -143,8 +150,11 @@ impl<K: Hash + Eq + Drop, V: Drop, S: BuildHasher> HashMap<K, V, S> {
         answer
     }
 
-    /// The same with a closure that makes the value where the key has none:
-    /// `update_or_insert_with` of 0.2.5. Refused as [`HashMap::update`].
+    /// Updates the key's value, or inserts one that a second closure makes if there is none:
+    /// `update_or_insert_with` of 0.2.5.
+    ///
+    /// # Errors
+    /// As [`HashMap::update`].
     pub fn update_or_insert_with<'g, R: Wait, U: Fn(&V) -> V, F: FnOnce() -> V + Drop, G: Guard>(
         &'g self,
         rt: &R,

@@ -1,4 +1,4 @@
-//! The call of a session whose closure answers what becomes of a key's pair.
+//! The call of a session whose closure returns what becomes of a key's entry.
 ghost use Rattle.std.specs.Prelude.{◌≡◌, Err, Some};
 ghost use mathlib.Core.List.{IsPrefix};
 ghost use Rattle.papaya_book.specs.Limits.{HasNoRoom};
@@ -15,16 +15,17 @@ use std::hash::{BuildHasher, Hash};
 use std::sync::Wait;
 
 impl<'a, K: Hash + Eq + Drop, V: Drop, S: BuildHasher> Session<'a, K, V, S> {
-    /// What the closure makes of the key's pair, or of its absence: `compute` of 0.2.5. It is lent
-    /// the pair, if there is one, and answers what is stored, that the pair is removed, or that
-    /// nothing is changed. Nothing that it answers may borrow of the pair, as in 0.2.5 it may.
+    /// Calls a closure with the key's entry, or `None`, and does what it returns: `compute` of
+    /// 0.2.5. The closure returns what to store, that the entry is removed, or that nothing is
+    /// changed. Its result may not borrow from the entry; in 0.2.5 it may.
     ///
-    /// The closure may be asked again, where another thread was first to replace or remove the pair
-    /// that it was shown: what it answered of one pair is done to that pair alone. That there is
-    /// none it is shown once at most, since its insertion is remembered.
+    /// The closure may be called again if another thread was first to replace or remove the entry:
+    /// what it returned for one entry is done to that entry alone. It is called with `None` once at
+    /// most, since its insertion is remembered.
     ///
-    /// Refused as [`Session::insert`], and with `Refused::RemoveNothing` where the closure would
-    /// remove and there is no pair.
+    /// # Errors
+    /// As [`Session::insert`], and `Refused::RemoveNothing` if the closure returns a removal and
+    /// there is no entry.
     pub fn compute<R: Wait, T: Drop, F: FnMut(Option<(&K, &V)>) -> Operation<V, T>>(
         &mut self,
         rt: &R,

@@ -1,4 +1,4 @@
-//! The call by which others of a session store what a rule answers.
+//! The call by which other calls of a session store what a rule returns.
 ghost use Rattle.std.specs.Prelude.{◌≡◌, Err, Some};
 ghost use mathlib.Core.List.{IsPrefix};
 ghost use Rattle.papaya_book.specs.Limits.{HasNoRoom};
@@ -12,7 +12,7 @@ use std::hash::{BuildHasher, Hash};
 use std::sync::Wait;
 
 impl<'a, K: Hash + Eq + Drop, V: Drop, S: BuildHasher> Session<'a, K, V, S> {
-    /// Stores for the key what the rule answers. It is refused as [`Session::insert`] is.
+    /// Stores for the key what the rule returns. Fails as [`Session::insert`] does.
     pub(crate) fn decide<R: Wait, D: Rule<V>>(
         &mut self,
         rt: &R,

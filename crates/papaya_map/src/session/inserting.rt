@@ -1,4 +1,4 @@
-//! The calls of a session that store a value, whether a key has one or where it has none.
+//! The calls of a session that store a value, always or only if the key has none.
 ghost use Rattle.std.specs.Prelude.{◌≡◌, Err, IfErr, IfOk, MatchOption, None, is_ok};
 ghost use mathlib.Core.List.{IsPrefix};
 ghost use Rattle.papaya_book.specs.Limits.{HasNoRoom};
@@ -16,7 +16,7 @@ use papaya_words::probe::Refused;
 use std::hash::{BuildHasher, Hash};
 use std::sync::Wait;
 
-/// What became of a value that was not inserted: it is still at hand, or it was logged.
+/// Returns a value that was not inserted: the value itself, or a reference to it in the arena.
 fn not_inserted<V>(supply: Option<Ready<V>>, spare: Option<&V>) -> NotInserted<'_, V>
     requires { supply ≡ None → MatchOption spare ⊥ (λ r. Unit {0}) }
     ensures { MatchOption supply (MatchOption spare.entry ⊥ (λ r. result ≡ Logged r))
@@ -30,11 +30,13 @@ fn not_inserted<V>(supply: Option<Ready<V>>, spare: Option<&V>) -> NotInserted<'
 }
 
 impl<'a, K: Hash + Eq + Drop, V: Drop, S: BuildHasher> Session<'a, K, V, S> {
-    /// Stores a pair, and answers the value that its key had: `insert` of 0.2.5. As its text says,
-    /// a key that is stored stays: the one that was handed in is dropped then.
+    /// Inserts a key-value pair, and returns the key's old value, if any: `insert` of 0.2.5. As
+    /// there, a stored key stays, and the key that was passed in is dropped.
     ///
-    /// `Refused::Memory` where a growth was refused. `Refused::Capacity` where a log is full, or a
-    /// next table would be too long. Refused, it changes nothing.
+    /// # Errors
+    /// `Refused::Memory` if an allocation fails, `Refused::Capacity` if an arena is full or a next
+    /// table would be too long, and `Refused::Limit` if the map's limit on entries is reached. The
+    /// call changes nothing then.
     pub fn insert<R: Wait>(&mut self, rt: &R, key: K, value: V) -> Result<Option<&'a V>, Refused>
         ensures map { self.new.map ≡ self.old.map }
         ensures seen { IsPrefix self.old.history self.new.history }
@@ -49,12 +51,14 @@ impl<'a, K: Hash + Eq + Drop, V: Drop, S: BuildHasher> Session<'a, K, V, S> {
         self.map.insert_as(rt, key, value, &mut self.pass)
     }
 
-    /// Stores a pair where the key has none, and answers its value: `try_insert` of 0.2.5.
-    /// Where the key has a value, that stays, and what was handed in is given back, or it lies
-    /// in the log.
+    /// Inserts an entry if the key is absent, and returns its value: `try_insert` of 0.2.5. If the
+    /// key is present, its value stays. The error then returns the value that was passed in, or a
+    /// reference to it in the arena.
     ///
-    /// Refused as [`Session::insert`]. The session makes one change where the value was stored,
-    /// and else none.
+    /// The session makes one change if the value was stored, and otherwise none.
+    ///
+    /// # Errors
+    /// `Refused::Memory`, `Capacity` or `Limit`, as [`Session::insert`].
     pub fn try_insert<R: Wait>(
         &mut self,
         rt: &R,
@@ -90,8 +94,11 @@ impl<'a, K: Hash + Eq + Drop, V: Drop, S: BuildHasher> Session<'a, K, V, S> {
         }
     }
 
-    /// The same with a closure that makes the value where it is to be stored, and with the value
-    /// that is there for an answer: `try_insert_with` of 0.2.5. The closure is called once at most.
+    /// Inserts a value made by a closure if the key is absent: `try_insert_with` of 0.2.5. The
+    /// error is the value that is there. The closure is called once at most.
+    ///
+    /// # Errors
+    /// As [`Session::insert`].
     pub fn try_insert_with<R: Wait, F: FnOnce() -> V + Drop>(
         &mut self,
         rt: &R,
@@ -126,10 +133,12 @@ impl<'a, K: Hash + Eq + Drop, V: Drop, S: BuildHasher> Session<'a, K, V, S> {
         }
     }
 
-    /// The value of a key, which is stored where the key has none: `get_or_insert` of 0.2.5.
+    /// Returns the key's value, inserting this one if there is none: `get_or_insert` of 0.2.5.
     ///
-    /// Refused as [`Session::insert`]. The session makes one change where the value was stored,
-    /// and else none.
+    /// The session makes one change if the value was stored, and otherwise none.
+    ///
+    /// # Errors
+    /// `Refused::Memory`, `Capacity` or `Limit`, as [`Session::insert`].
     pub fn get_or_insert<R: Wait>(&mut self, rt: &R, key: K, value: V) -> Result<&'a V, Refused>
         ensures map { self.new.map ≡ self.old.map }
         ensures seen { IsPrefix self.old.history self.new.history }
@@ -147,8 +156,11 @@ impl<'a, K: Hash + Eq + Drop, V: Drop, S: BuildHasher> Session<'a, K, V, S> {
         }
     }
 
-    /// The same with a closure that makes the value where it is to be stored:
+    /// Returns the key's value, inserting one that a closure makes if there is none:
     /// `get_or_insert_with` of 0.2.5. The closure is called once at most.
+    ///
+    /// # Errors
+    /// As [`Session::insert`].
     pub fn get_or_insert_with<R: Wait, F: FnOnce() -> V + Drop>(
         &mut self,
         rt: &R,

@@ -1,4 +1,4 @@
-//! The calls of a session that remove a key's pair.
+//! The calls of a session that remove a key's entry.
 ghost use Rattle.std.specs.Prelude.{◌≡◌, Err, true};
 ghost use mathlib.Core.List.{IsPrefix};
 ghost use Rattle.papaya_book.specs.Limits.{HasNoRoom};
@@ -13,14 +13,16 @@ use std::hash::{BuildHasher, Hash};
 use std::sync::Wait;
 
 impl<'a, K: Hash + Eq, V, S: BuildHasher> Session<'a, K, V, S> {
-    /// Removes a key's pair if the closure, which is shown it, answers true: `remove_if` of 0.2.5.
+    /// Removes a key's entry if the closure returns `true` for it: `remove_if` of 0.2.5.
     ///
-    /// `Ok(None)` where the key is absent, `Ok(Some(pair))` where that very pair was removed, and
-    /// `Err(pair)` where the closure answered false for it. The closure may be asked again, where
-    /// another thread was first to replace or remove the pair that it was shown.
+    /// Returns `Ok(None)` if the key is absent, `Ok(Some(entry))` if that very entry was removed,
+    /// and `Err(entry)` if the closure returned `false` for it. The closure may be called again if
+    /// another thread was first to replace or remove the entry.
     ///
-    /// A removal makes nothing for itself. But where it helps to copy the table it may be refused
-    /// as [`Session::insert`] is, and then it changes nothing.
+    /// # Errors
+    /// A removal allocates nothing for itself. If it helps to copy the table, it may fail with
+    /// `Refused::Memory` or `Refused::Capacity` as [`Session::insert`] does, and then changes
+    /// nothing.
     pub fn remove_if<R: Wait, Q: Equivalent<K>, F: FnMut(&K, &V) -> bool>(
         &mut self,
         rt: &R,
@@ -41,8 +43,10 @@ impl<'a, K: Hash + Eq, V, S: BuildHasher> Session<'a, K, V, S> {
             .remove_if_as(rt, key, should_remove, &mut self.pass)
     }
 
-    /// Removes a key's pair, and answers its value: `remove` of 0.2.5. It is refused as
-    /// [`Session::remove_if`] is.
+    /// Removes a key's entry, and returns its value, if any: `remove` of 0.2.5.
+    ///
+    /// # Errors
+    /// `Refused::Memory` or `Capacity`, as [`Session::remove_if`].
     pub fn remove<R: Wait, Q: Equivalent<K>>(
         &mut self,
         rt: &R,
@@ -60,8 +64,10 @@ impl<'a, K: Hash + Eq, V, S: BuildHasher> Session<'a, K, V, S> {
         self.map.remove_as(rt, key, &mut self.pass)
     }
 
-    /// Removes a key's pair, and answers it: `remove_entry` of 0.2.5. It is refused as
-    /// [`Session::remove_if`] is.
+    /// Removes a key's entry, and returns it, if any: `remove_entry` of 0.2.5.
+    ///
+    /// # Errors
+    /// `Refused::Memory` or `Capacity`, as [`Session::remove_if`].
     pub fn remove_entry<R: Wait, Q: Equivalent<K>>(
         &mut self,
         rt: &R,

@@ -1,4 +1,4 @@
-//! The call of a session that makes room ahead.
+//! The call of a session that reserves room.
 ghost use Rattle.std.specs.Prelude.{◌≡◌, Err, IfErr, IfOk};
 ghost use mathlib.Core.List.{IsPrefix};
 ghost use Rattle.papaya_change.specs.Resizing.{HasNoRoomAhead, HasRoomAhead};
@@ -12,15 +12,15 @@ use std::hash::{BuildHasher, Hash};
 use std::sync::Wait;
 
 impl<'a, K: Hash + Eq, V, S: BuildHasher> Session<'a, K, V, S> {
-    /// Makes room for so many pairs more than the map counts: `reserve` of 0.2.5. Where it is not
-    /// refused, the session has seen a table with slots for them beside as many pairs as were
-    /// counted, and where no other call changes the map meanwhile, that is its table. Calls of
-    /// others go on as before.
+    /// Reserves room for `additional` more entries than the map counts: `reserve` of 0.2.5. If it
+    /// succeeds, the session has observed a table with slots for them beside the entries counted.
+    /// If no other call changes the map meanwhile, that is its table. Other calls go on as before.
     ///
-    /// `Refused::Memory` where a growth was refused. `Refused::Capacity` where the log of tables is
-    /// full, or a table would be longer than [`papaya_words::limits::MAX_TABLE_LEN`]: that for so
-    /// many pairs, or one that a copy needs. 0.2.5 panics or aborts there. Refused or not, the
-    /// session makes no change.
+    /// # Errors
+    /// `Refused::Memory` if an allocation fails. `Refused::Capacity` if the arena of tables is
+    /// full, or a table would be longer than [`papaya_words::limits::MAX_TABLE_LEN`]: the one for
+    /// these entries, or one that a copy needs. 0.2.5 panics or aborts there. The session makes no
+    /// change, whether the call fails or not.
     pub fn reserve<R: Wait>(&mut self, rt: &R, additional: usize) -> Result<(), Refused>
         ensures map { self.new.map ≡ self.old.map }
         ensures seen { IsPrefix self.old.history self.new.history }

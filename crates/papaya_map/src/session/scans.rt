@@ -14,20 +14,21 @@ use std::hash::{BuildHasher, Hash};
 use std::sync::Wait;
 
 impl<'a, K: Hash + Eq, V, S: BuildHasher> Session<'a, K, V, S> {
-    /// Removes the pairs for which the closure, which is shown each, answers false: `retain` of
-    /// 0.2.5. Each pair that it is shown the map had in a history that begins with what the session
-    /// had seen. The closure is shown a key's pair again where another call replaced it meanwhile,
-    /// or where all is copied.
+    /// Removes the entries for which the closure returns `false`: `retain` of 0.2.5. Each entry
+    /// that it is called with was in the map, in a history that begins with what the session had
+    /// observed. The closure is called for a key's entry again if another call replaced it
+    /// meanwhile, or if everything is copied.
     ///
-    /// Where it is not refused, each pair that the map had after what the session had seen was
-    /// removed since, by this call or another, or the closure's last answer to it was true. A pair
-    /// that is stored meanwhile may be shown or not.
+    /// Take an entry that the map had after what the session had observed. If the call succeeds, it
+    /// was removed since, by this call or another, or the closure last returned `true` for it. The
+    /// closure may be called for an entry that is stored meanwhile, or not. The session makes one
+    /// change for each entry that this call removed, right after the closure returned `false` for
+    /// it, whether the call fails or not.
     ///
-    /// Where it meets a copier's work it copies what is left to copy, and may be refused a table
-    /// then: `Refused::Memory` where a growth was refused, and `Refused::Capacity` where there is
-    /// no room, as at an insertion. What was removed stays so. Refused or not, the session makes
-    /// one change for each pair that this call removed, right after the closure answered false to
-    /// it.
+    /// # Errors
+    /// If the call meets a copy under way, it copies what is left to copy, and may need a table.
+    /// Then it fails with `Refused::Memory` if an allocation fails, and with `Refused::Capacity` if
+    /// there is no room, as at an insertion. Removed entries stay removed.
     pub fn retain<R: Wait, F: FnMut(&K, &V) -> bool>(
         &mut self,
         rt: &R,
@@ -60,10 +61,13 @@ impl<'a, K: Hash + Eq, V, S: BuildHasher> Session<'a, K, V, S> {
         retained
     }
 
-    /// Removes the pairs that the map has: `clear` of 0.2.5. Where it is not refused, each pair
-    /// that the map had after what the session had seen was removed since, by this call or another.
-    /// A pair that is stored meanwhile may stay. Refused as [`Session::retain`] is. Refused or not,
-    /// the session makes one change for each pair that this call removed, and no other one.
+    /// Removes all entries that the map has: `clear` of 0.2.5. If it succeeds, each entry that the
+    /// map had after what the session had observed was removed since, by this call or another. An
+    /// entry that is stored meanwhile may stay. The session makes one change for each entry that
+    /// this call removed, and no other.
+    ///
+    /// # Errors
+    /// `Refused::Memory` or `Capacity`, as [`Session::retain`].
     pub fn clear<R: Wait>(&mut self, rt: &R) -> Result<(), Refused>
         ensures map { self.new.map ≡ self.old.map }
         ensures seen { IsPrefix self.old.history self.new.history }
@@ -83,12 +87,15 @@ impl<'a, K: Hash + Eq, V, S: BuildHasher> Session<'a, K, V, S> {
         )
     }
 
-    /// The pairs of the map, one by one: `iter` of 0.2.5. The session is free for other calls while
-    /// the walk goes on, and learns by [`Session::learn_walk`] what the walk has seen. A pair that
-    /// is stored or removed meanwhile may be given or not.
+    /// Returns an iterator over the map's entries: `iter` of 0.2.5. The session is free for other
+    /// calls meanwhile, and learns by [`Session::learn_walk`] what the iterator has observed. An
+    /// entry that is stored or removed meanwhile may be returned or not.
     ///
-    /// With `Blocking` it takes the root as it is. Else it copies first what is left to copy, and
-    /// may be refused as [`Session::retain`] is.
+    /// With `ResizeMode::Blocking` the iterator takes the root as it is. Otherwise the call first
+    /// copies what is left to copy.
+    ///
+    /// # Errors
+    /// `Refused::Memory` or `Capacity`, as [`Session::retain`], if that copy needs a table.
     pub fn iter<R: Wait>(&mut self, rt: &R) -> Result<Iter<'a, K, V, S>, Refused>
         ensures map { self.new.map ≡ self.old.map }
         ensures seen { IsPrefix self.old.history self.new.history }
@@ -104,7 +111,10 @@ impl<'a, K: Hash + Eq, V, S: BuildHasher> Session<'a, K, V, S> {
         self.map.iter_as(rt, &mut self.pass)
     }
 
-    /// Returns the keys of the map, one by one: `keys` of 0.2.5. Refused as [`Session::iter`] is.
+    /// Returns an iterator over the keys: `keys` of 0.2.5.
+    ///
+    /// # Errors
+    /// As [`Session::iter`].
     pub fn keys<R: Wait>(&mut self, rt: &R) -> Result<Keys<'a, K, V, S>, Refused>
         ensures map { self.new.map ≡ self.old.map }
         ensures seen { IsPrefix self.old.history self.new.history }
@@ -120,8 +130,10 @@ impl<'a, K: Hash + Eq, V, S: BuildHasher> Session<'a, K, V, S> {
         Ok(Keys::of(self.iter(rt)?))
     }
 
-    /// Returns the values of the map, one by one: `values` of 0.2.5. Refused as [`Session::iter`]
-    /// is.
+    /// Returns an iterator over the values: `values` of 0.2.5.
+    ///
+    /// # Errors
+    /// As [`Session::iter`].
     pub fn values<R: Wait>(&mut self, rt: &R) -> Result<Values<'a, K, V, S>, Refused>
         ensures map { self.new.map ≡ self.old.map }
         ensures seen { IsPrefix self.old.history self.new.history }

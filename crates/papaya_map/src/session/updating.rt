@@ -1,4 +1,4 @@
-//! The calls of a session that put what a closure makes in the place of a key's value.
+//! The calls of a session that replace a key's value by what a closure makes of it.
 ghost use Rattle.std.specs.Prelude.{◌≡◌, Err, IfErr, IfOk, is_ok};
 ghost use Rattle.std.specs.Fn.{FnReturnsAt};
 ghost use mathlib.Core.List.{IsPrefix};
@@ -16,12 +16,14 @@ use std::hash::{BuildHasher, Hash};
 use std::sync::Wait;
 
 impl<'a, K: Hash + Eq + Drop, V: Drop, S: BuildHasher> Session<'a, K, V, S> {
-    /// Puts what the closure makes of the key's value in its place, and answers it: `update` of
-    /// 0.2.5. `Ok(None)` where the key has none. The closure may be called again, where another
-    /// call was first to replace the value that it was shown.
+    /// Replaces the key's value by what the closure makes of it, and returns that: `update` of
+    /// 0.2.5. Returns `Ok(None)` if the key has none. The closure may be called again if another
+    /// call was first to replace the value.
     ///
-    /// Refused as [`Session::insert`]. The session makes one change where a value was replaced,
-    /// and else none.
+    /// The session makes one change if a value was replaced, and otherwise none.
+    ///
+    /// # Errors
+    /// `Refused::Memory`, `Capacity` or `Limit`, as [`Session::insert`].
     pub fn update<R: Wait, F: Fn(&V) -> V>(
         &mut self,
         rt: &R,
@@ -48,8 +50,8 @@ impl<'a, K: Hash + Eq + Drop, V: Drop, S: BuildHasher> Session<'a, K, V, S> {
         }
     }
 
-    /// Stores what the closure makes of the key's value in its place, or a value from the supply
-    /// where the key has none.
+    /// Replaces the key's value by what the closure makes of it, or stores a value from the supply
+    /// if the key has none.
     fn upsert<R: Wait, F: Fn(&V) -> V, G: Supply<V> + Drop>(
         &mut self,
         rt: &R,
@@ -81,8 +83,11 @@ impl<'a, K: Hash + Eq + Drop, V: Drop, S: BuildHasher> Session<'a, K, V, S> {
         }
     }
 
-    /// As [`Session::update`], and where the key has no value this one is stored:
-    /// `update_or_insert` of 0.2.5. The session makes one change, and none where it is refused.
+    /// Updates the key's value, or inserts this one if there is none: `update_or_insert` of 0.2.5.
+    /// The session makes one change, or none if the call fails. Otherwise as [`Session::update`].
+    ///
+    /// # Errors
+    /// As [`Session::insert`].
     pub fn update_or_insert<R: Wait, F: Fn(&V) -> V>(
         &mut self,
         rt: &R,
@@ -104,8 +109,11 @@ impl<'a, K: Hash + Eq + Drop, V: Drop, S: BuildHasher> Session<'a, K, V, S> {
         self.upsert(rt, key, update, Ready { value })
     }
 
-    /// The same with a closure that makes the value where the key has none:
-    /// `update_or_insert_with` of 0.2.5. That closure is called once at most.
+    /// Updates the key's value, or inserts one that a second closure makes if there is none:
+    /// `update_or_insert_with` of 0.2.5. It is called once at most.
+    ///
+    /// # Errors
+    /// As [`Session::insert`].
     pub fn update_or_insert_with<R: Wait, U: Fn(&V) -> V, F: FnOnce() -> V + Drop>(
         &mut self,
         rt: &R,

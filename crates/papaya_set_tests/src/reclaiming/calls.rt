@@ -28,7 +28,7 @@ fn a_map_is_reclaimed(rt: HostRuntime) -> Result<(), Fail> {
 
 fn is_reclaimed_where_due(rt: &(impl Abort + Wait), way: &mut Way<'_>) -> Result<(), Refused> {
     write(rt, way, 800)?;
-    // 8,000 pairs are stored, which is not more than LEAST_STORED
+    // 8,000 entries are stored, which is not more than LEAST_STORED
     is(rt, LEAST_STORED, 8192);
     is(rt, way.reclaim_if(rt, 2), Ok(false));
     write(rt, way, 100)?;
@@ -50,8 +50,8 @@ fn a_map_is_reclaimed_where_it_is_due(rt: HostRuntime) -> Result<(), Fail> {
     Ok(())
 }
 
-/// A guard is out while another handle tries to reclaim: does that, and how many pairs does the guard
-/// find and how many are stored?
+/// Tries to reclaim by another handle while a guard exists; returns whether it does, and how many
+/// entries the guard finds and how many are stored.
 fn tries_beside_a_guard(
     rt: &impl Wait,
     first: &mut Way<'_>,
@@ -59,7 +59,7 @@ fn tries_beside_a_guard(
 ) -> Result<(bool, usize, usize), Refused> {
     let guard = first.enter(rt);
     let reclaims = other.try_reclaim(rt)?;
-    // nobody waits to reclaim, so the guard is as it was
+    // no thread waits to reclaim, so the guard is as it was
     let guard = guard.refresh(rt);
     Ok((reclaims, guard.len(), guard.stored()))
 }
@@ -97,7 +97,7 @@ fn a_map_comes_out_again(rt: HostRuntime) -> Result<(), Fail> {
     Ok(())
 }
 
-/// Twenty pairs are stored, no further ones, and some after a reclaim.
+/// Stores twenty entries, then none, and some after a reclaim.
 fn counts_what_is_left(rt: &(impl Abort + Wait), way: &mut Way<'_>) {
     is(rt, write(rt, way, 2), Ok(()));
     is(rt, write(rt, way, 1), Err(Refused::Limit));
@@ -113,7 +113,7 @@ fn a_limit_counts_what_is_left(rt: HostRuntime) -> Result<(), Fail> {
     Ok(())
 }
 
-/// The keys from 0 to 9 are stored, and those below 5 removed.
+/// Stores the keys from 0 to 9, and removes those below 5.
 fn keeps_five(rt: &impl Wait, way: &mut Handle<'_, HashSet<u64>>) -> Result<(), Refused> {
     for key in 0..10u64 {
         way.enter(rt).pin().insert(rt, key)?;
@@ -124,7 +124,7 @@ fn keeps_five(rt: &impl Wait, way: &mut Handle<'_, HashSet<u64>>) -> Result<(), 
     Ok(())
 }
 
-/// Five keys are there, and stored.
+/// Checks that five keys are there, and are stored.
 fn has_five(rt: &(impl Abort + Wait), way: &mut Handle<'_, HashSet<u64>>) {
     let entered = way.enter(rt);
     is(rt, (entered.len(), entered.stored()), (5, 5));

@@ -1,4 +1,4 @@
-// The map of these tests, and what it has.
+// The map of these tests, and checks of its contents.
 use crate::expect::is;
 use papaya_map::map::HashMap;
 use papaya_reclaiming::reclaiming::{Handle, Reclaiming, ReclaimingMap};
@@ -8,7 +8,7 @@ use std::hash::{BuildHasherDefault, FoldHasher};
 use std::process::Abort;
 use std::sync::Wait;
 
-/// The map of these tests, and a thread's way to it.
+/// The map of these tests; `Way` is a thread's handle to it.
 pub type Numbers = HashMap<u64, u64, BuildHasherDefault<FoldHasher>>;
 
 pub type Way<'a> = Handle<'a, Numbers>;
@@ -17,7 +17,7 @@ pub fn numbers(rt: &impl Wait, alloc: Global) -> Result<ReclaimingMap<u64, u64>,
     Reclaiming::new(alloc, Numbers::new(rt, alloc)?)
 }
 
-/// Gives keys 0 to 9 a value each, so often.
+/// Stores a value at each of the keys 0 to 9, this many times.
 pub fn write(rt: &impl Wait, way: &mut Way<'_>, times: u64) -> Result<(), Refused> {
     let entered = way.enter(rt);
     let map = entered.pin();
@@ -29,7 +29,7 @@ pub fn write(rt: &impl Wait, way: &mut Way<'_>, times: u64) -> Result<(), Refuse
     Ok(())
 }
 
-/// The map has so many pairs, stores so many, and key 3 has this value.
+/// Checks that the map has this many entries, stores this many, and has this value at key 3.
 pub fn has(
     rt: &(impl Abort + Wait),
     way: &mut Way<'_>,

@@ -6,7 +6,7 @@ use std::process::Abort;
 use std::sync::Wait;
 use std::test::Fail;
 
-/// The map is reclaimed, or it is as it was, and is reclaimed at the second try.
+/// Checks that the map is reclaimed, or is as it was and is reclaimed at the second try.
 fn is_reclaimed(rt: &(impl Abort + Wait), way: &mut Way<'_>) {
     let before = way.enter(rt).stored();
     if let Err(refused) = way.reclaim(rt) {

@@ -1,4 +1,4 @@
-// Threads that come and go all the time while another one reclaims.
+// Threads that come and go all the time while another thread reclaims.
 use crate::expect::is;
 use crate::reclaiming::numbers::{Numbers, numbers};
 use papaya_reclaiming::reclaiming::ReclaimingMap;
@@ -9,14 +9,14 @@ use std::sync::atomic::{AtomicBool, AtomicU64, Ordering};
 use std::test::Fail;
 use std::thread::{Threads, join, yield_now};
 
-/// A worker calls so often at the most while another thread reclaims: one that holds the other off
-/// for longer fails.
+/// The most calls of a worker while another thread reclaims: a worker that holds the other thread
+/// off for longer fails.
 const MOST_TURNS: u64 = 50_000_000;
 
-/// How often the map is reclaimed meanwhile.
+/// The number of times that the map is reclaimed meanwhile.
 const RECLAIMS: u64 = 20;
 
-/// A map, how many workers have come, and whether the map was reclaimed so often by now.
+/// A map, the number of workers that have come, and whether all reclaims are done.
 #[derive(Drop)]
 struct Shared {
     map: ReclaimingMap<u64, u64>,
@@ -31,7 +31,7 @@ fn count(rt: &impl Wait, map: &Numbers, key: u64) -> Result<(), Refused> {
     Ok(())
 }
 
-/// Enters the map for each call, until all is over: how often it counted.
+/// Enters the map for each call, until all is over; returns how often it counted.
 fn comes_and_goes(rt: &impl Wait, shared: &Shared) -> Result<u64, Refused> {
     let mut handle = shared.map.handle();
     shared.here.fetch_add(1, Ordering::SeqCst);
@@ -44,8 +44,8 @@ fn comes_and_goes(rt: &impl Wait, shared: &Shared) -> Result<u64, Refused> {
     Ok(MOST_TURNS)
 }
 
-/// Stays in the map, and refreshes its guard between two calls, until all is over: how often it
-/// counted.
+/// Stays in the map, and refreshes its guard between two calls, until all is over; returns how
+/// often it counted.
 fn stays_in(rt: &impl Wait, shared: &Shared) -> Result<u64, Refused> {
     let mut handle = shared.map.handle();
     let mut entered = handle.enter(rt);
@@ -75,7 +75,7 @@ fn reclaims(rt: &impl Wait, shared: &Shared) -> Result<(), Refused> {
     Ok(())
 }
 
-/// Two threads that work.
+/// Lets two threads work.
 fn workers(
     rt: &(impl Threads + Wait + Sync),
     shared: &Shared,
@@ -83,14 +83,15 @@ fn workers(
     join(rt, || comes_and_goes(rt, shared), || stays_in(rt, shared))
 }
 
-/// Reclaims, and tells the workers.
+/// Reclaims, and then stops the workers.
 fn reclaims_and_tells(rt: &impl Wait, shared: &Shared) -> Result<(), Refused> {
     let reclaimed = reclaims(rt, shared);
     shared.is_over.store(true, Ordering::SeqCst);
     reclaimed
 }
 
-/// The worker of this key was done before its last turn, and each of its counts is in the map.
+/// Checks that the worker of this key ended before its last turn, and each of its counts is in the
+/// map.
 fn is_whole(rt: &(impl Abort + Wait), map: &Numbers, key: u64, worked: Result<u64, Refused>) {
     let Ok(turns) = worked else {
         assert!(rt; false, "a worker was refused");
@@ -100,7 +101,7 @@ fn is_whole(rt: &(impl Abort + Wait), map: &Numbers, key: u64, worked: Result<u6
     is(rt, map.pin().get(&key).copied().unwrap_or(0), turns);
 }
 
-/// So were both workers.
+/// Checks this for both workers.
 fn are_whole(
     rt: &(impl Abort + Wait),
     shared: &Shared,

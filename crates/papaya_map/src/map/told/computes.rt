@@ -1,4 +1,4 @@
-//! The first halves of the calls whose closure answers what becomes of a key's pair.
+//! The first halves of the calls whose closure returns what becomes of a key's entry.
 ghost use Rattle.std.specs.Prelude.{◌≡◌, Err, IsSome};
 ghost use mathlib.Core.List.{IsPrefix};
 ghost use Rattle.papaya_change.specs.Showings.{Operates};
@@ -15,7 +15,7 @@ use std::hash::{BuildHasher, Hash};
 use std::sync::Wait;
 
 impl<'a, K: Hash + Eq + Drop, V: Drop, S: BuildHasher> HashMapRef<'a, K, V, S> {
-    /// The same, with what was seen.
+    /// Performs [`HashMapRef::compute`], and returns the observed history as well.
     #[inline(always)]
     pub(crate) fn compute_told<
         R: Wait,
@@ -37,7 +37,7 @@ impl<'a, K: Hash + Eq + Drop, V: Drop, S: BuildHasher> HashMapRef<'a, K, V, S> {
 }
 
 impl<K: Hash + Eq + Drop, V: Drop, S: BuildHasher> HashMap<K, V, S> {
-    /// The same, with what was seen.
+    /// Performs [`HashMap::compute`], and returns the observed history as well.
     #[inline(always)]
     pub(crate) fn compute_told<
         'g,

@@ -15,7 +15,7 @@ use std::hash::{BuildHasher, Hash};
 use std::sync::Wait;
 
 impl<'a, K: Hash + Eq + Drop, V: Drop, S: BuildHasher> HashMapRef<'a, K, V, S> {
-    /// The same, with what was seen.
+    /// Performs [`HashMapRef::insert`], and returns the observed history as well.
     #[inline(always)]
     pub(crate) fn insert_told<R: Wait>(
         &self,
@@ -35,7 +35,7 @@ impl<'a, K: Hash + Eq + Drop, V: Drop, S: BuildHasher> HashMapRef<'a, K, V, S> {
         pass.tell(answer)
     }
 
-    /// The same, with what was seen.
+    /// Performs [`HashMapRef::try_insert`], and returns the observed history as well.
     #[inline(always)]
     pub(crate) fn try_insert_told<R: Wait>(
         &self,
@@ -55,7 +55,7 @@ impl<'a, K: Hash + Eq + Drop, V: Drop, S: BuildHasher> HashMapRef<'a, K, V, S> {
         session.tell(answer)
     }
 
-    /// The same, with what was seen.
+    /// Performs [`HashMapRef::try_insert_with`], and returns the observed history as well.
     #[inline(always)]
     pub(crate) fn try_insert_with_told<R: Wait, F: FnOnce() -> V + Drop>(
         &self,
@@ -76,7 +76,7 @@ impl<'a, K: Hash + Eq + Drop, V: Drop, S: BuildHasher> HashMapRef<'a, K, V, S> {
         session.tell(answer)
     }
 
-    /// The same, with what was seen.
+    /// Performs [`HashMapRef::get_or_insert`], and returns the observed history as well.
     #[inline(always)]
     pub(crate) fn get_or_insert_told<R: Wait>(
         &self,
@@ -96,7 +96,7 @@ impl<'a, K: Hash + Eq + Drop, V: Drop, S: BuildHasher> HashMapRef<'a, K, V, S> {
         session.tell(answer)
     }
 
-    /// The same, with what was seen.
+    /// Performs [`HashMapRef::get_or_insert_with`], and returns the observed history as well.
     #[inline(always)]
     pub(crate) fn get_or_insert_with_told<R: Wait, F: FnOnce() -> V + Drop>(
         &self,
@@ -119,7 +119,7 @@ impl<'a, K: Hash + Eq + Drop, V: Drop, S: BuildHasher> HashMapRef<'a, K, V, S> {
 }
 
 impl<K: Hash + Eq + Drop, V: Drop, S: BuildHasher> HashMap<K, V, S> {
-    /// The same, with what was seen.
+    /// Performs [`HashMap::insert`], and returns the observed history as well.
     #[inline(always)]
     pub(crate) fn insert_told<'g, R: Wait, G: Guard>(
         &'g self,
@@ -147,7 +147,7 @@ impl<K: Hash + Eq + Drop, V: Drop, S: BuildHasher> HashMap<K, V, S> {
         }
     }
 
-    /// The same, with what was seen.
+    /// Performs [`HashMap::try_insert`], and returns the observed history as well.
     #[inline(always)]
     pub(crate) fn try_insert_told<'g, R: Wait, G: Guard>(
         &'g self,
@@ -175,7 +175,7 @@ impl<K: Hash + Eq + Drop, V: Drop, S: BuildHasher> HashMap<K, V, S> {
         }
     }
 
-    /// The same, with what was seen.
+    /// Performs [`HashMap::try_insert_with`], and returns the observed history as well.
     #[inline(always)]
     pub(crate) fn try_insert_with_told<'g, R: Wait, F: FnOnce() -> V + Drop, G: Guard>(
         &'g self,
@@ -204,7 +204,7 @@ impl<K: Hash + Eq + Drop, V: Drop, S: BuildHasher> HashMap<K, V, S> {
         }
     }
 
-    /// The same, with what was seen.
+    /// Performs [`HashMap::get_or_insert`], and returns the observed history as well.
     #[inline(always)]
     pub(crate) fn get_or_insert_told<'g, R: Wait, G: Guard>(
         &'g self,
@@ -232,7 +232,7 @@ impl<K: Hash + Eq + Drop, V: Drop, S: BuildHasher> HashMap<K, V, S> {
         }
     }
 
-    /// The same, with what was seen.
+    /// Performs [`HashMap::get_or_insert_with`], and returns the observed history as well.
     #[inline(always)]
     pub(crate) fn get_or_insert_with_told<'g, R: Wait, F: FnOnce() -> V + Drop, G: Guard>(
         &'g self,

@@ -12,7 +12,7 @@ use papaya_words::probe::Refused;
 use std::hash::{BuildHasher, Hash};
 
 impl<'a, K: Hash + Eq, V, S: BuildHasher> HashMapRef<'a, K, V, S> {
-    /// The value of a key, with what was seen.
+    /// Performs [`HashMapRef::get`], and returns the observed history as well.
     #[inline(always)]
     pub(crate) fn get_told<Q: Equivalent<K>>(&self, key: &Q) -> Saying<Option<&'a V>, K, V, S>
         ensures book { result.book ≡ self.now.map.book }
@@ -26,7 +26,7 @@ impl<'a, K: Hash + Eq, V, S: BuildHasher> HashMapRef<'a, K, V, S> {
         pass.tell(found)
     }
 
-    /// The same, with what was seen.
+    /// Performs [`HashMapRef::get_key_value`], and returns the observed history as well.
     #[inline(always)]
     pub(crate) fn get_key_value_told<Q: Equivalent<K>>(
         &self,
@@ -43,7 +43,7 @@ impl<'a, K: Hash + Eq, V, S: BuildHasher> HashMapRef<'a, K, V, S> {
         session.tell(found)
     }
 
-    /// The same, with what was seen.
+    /// Performs [`HashMapRef::contains_key`], and returns the observed history as well.
     #[inline(always)]
     pub(crate) fn contains_key_told<Q: Equivalent<K>>(&self, key: &Q) -> Saying<bool, K, V, S>
         ensures book { result.book ≡ self.now.map.book }
@@ -59,7 +59,7 @@ impl<'a, K: Hash + Eq, V, S: BuildHasher> HashMapRef<'a, K, V, S> {
 }
 
 impl<K: Hash + Eq, V, S: BuildHasher> HashMap<K, V, S> {
-    /// The same, with what was seen.
+    /// Performs [`HashMap::get`], and returns the observed history as well.
     #[inline(always)]
     pub(crate) fn get_told<'g, Q: Equivalent<K>, G: Guard>(
         &'g self,
@@ -86,7 +86,7 @@ impl<K: Hash + Eq, V, S: BuildHasher> HashMap<K, V, S> {
         }
     }
 
-    /// The same, with what was seen.
+    /// Performs [`HashMap::get_key_value`], and returns the observed history as well.
     #[inline(always)]
     pub(crate) fn get_key_value_told<'g, Q: Equivalent<K>, G: Guard>(
         &'g self,
@@ -113,7 +113,7 @@ impl<K: Hash + Eq, V, S: BuildHasher> HashMap<K, V, S> {
         }
     }
 
-    /// The same, with what was seen.
+    /// Performs [`HashMap::contains_key`], and returns the observed history as well.
     #[inline(always)]
     pub(crate) fn contains_key_told<Q: Equivalent<K>, G: Guard>(
         &self,

@@ -1,4 +1,4 @@
-//! The first halves of the calls that remove a key's pair.
+//! The first halves of the calls that remove a key's entry.
 ghost use Rattle.std.specs.Prelude.{◌≡◌, Err};
 ghost use mathlib.Core.List.{IsPrefix};
 ghost use Rattle.papaya_change.specs.RemovalAnswers.{IsEntryRemoved, IsRemovalBy, IsRemoved};
@@ -13,7 +13,7 @@ use std::hash::{BuildHasher, Hash};
 use std::sync::Wait;
 
 impl<'a, K: Hash + Eq, V, S: BuildHasher> HashMapRef<'a, K, V, S> {
-    /// The same, with what was seen.
+    /// Performs [`HashMapRef::remove_if`], and returns the observed history as well.
     #[inline(always)]
     pub(crate) fn remove_if_told<R: Wait, Q: Equivalent<K>, F: FnMut(&K, &V) -> bool>(
         &self,
@@ -34,7 +34,7 @@ impl<'a, K: Hash + Eq, V, S: BuildHasher> HashMapRef<'a, K, V, S> {
         pass.tell(answer)
     }
 
-    /// The same, with what was seen.
+    /// Performs [`HashMapRef::remove`], and returns the observed history as well.
     #[inline(always)]
     pub(crate) fn remove_told<R: Wait, Q: Equivalent<K>>(
         &self,
@@ -52,7 +52,7 @@ impl<'a, K: Hash + Eq, V, S: BuildHasher> HashMapRef<'a, K, V, S> {
         pass.tell(answer)
     }
 
-    /// The same, with what was seen.
+    /// Performs [`HashMapRef::remove_entry`], and returns the observed history as well.
     #[inline(always)]
     pub(crate) fn remove_entry_told<R: Wait, Q: Equivalent<K>>(
         &self,
@@ -72,7 +72,7 @@ impl<'a, K: Hash + Eq, V, S: BuildHasher> HashMapRef<'a, K, V, S> {
 }
 
 impl<K: Hash + Eq, V, S: BuildHasher> HashMap<K, V, S> {
-    /// The same, with what was seen.
+    /// Performs [`HashMap::remove_if`], and returns the observed history as well.
     #[inline(always)]
     pub(crate) fn remove_if_told<'g, R: Wait, Q: Equivalent<K>, F: FnMut(&K, &V) -> bool, G: Guard>(
         &'g self,
@@ -100,7 +100,7 @@ impl<K: Hash + Eq, V, S: BuildHasher> HashMap<K, V, S> {
         }
     }
 
-    /// The same, with what was seen.
+    /// Performs [`HashMap::remove`], and returns the observed history as well.
     #[inline(always)]
     pub(crate) fn remove_told<'g, R: Wait, Q: Equivalent<K>, G: Guard>(
         &'g self,
@@ -126,7 +126,7 @@ impl<K: Hash + Eq, V, S: BuildHasher> HashMap<K, V, S> {
         }
     }
 
-    /// The same, with what was seen.
+    /// Performs [`HashMap::remove_entry`], and returns the observed history as well.
     #[inline(always)]
     pub(crate) fn remove_entry_told<'g, R: Wait, Q: Equivalent<K>, G: Guard>(
         &'g self,

@@ -14,7 +14,7 @@ use std::hash::{BuildHasher, Hash};
 use std::sync::Wait;
 
 impl<'a, K: Hash + Eq, V, S: BuildHasher> HashMapRef<'a, K, V, S> {
-    /// The same, with what was seen.
+    /// Performs [`HashMapRef::retain`], and returns the observed history as well.
     #[inline(always)]
     pub(crate) fn retain_told<R: Wait, F: FnMut(&K, &V) -> bool>(
         &self,
@@ -35,7 +35,7 @@ impl<'a, K: Hash + Eq, V, S: BuildHasher> HashMapRef<'a, K, V, S> {
         session.tell(answer)
     }
 
-    /// The same, with what was seen.
+    /// Performs [`HashMapRef::clear`], and returns the observed history as well.
     #[inline(always)]
     pub(crate) fn clear_told<R: Wait>(&self, rt: &R) -> Saying<Result<(), Refused>, K, V, S>
         ensures book { result.book ≡ self.now.map.book }
@@ -52,7 +52,7 @@ impl<'a, K: Hash + Eq, V, S: BuildHasher> HashMapRef<'a, K, V, S> {
 }
 
 impl<K: Hash + Eq, V, S: BuildHasher> HashMap<K, V, S> {
-    /// The same, with what was seen.
+    /// Performs [`HashMap::retain`], and returns the observed history as well.
     #[inline(always)]
     pub(crate) fn retain_told<R: Wait, F: FnMut(&K, &V) -> bool, G: Guard>(
         &self,
@@ -81,7 +81,7 @@ impl<K: Hash + Eq, V, S: BuildHasher> HashMap<K, V, S> {
         }
     }
 
-    /// The same, with what was seen.
+    /// Performs [`HashMap::clear`], and returns the observed history as well.
     #[inline(always)]
     pub(crate) fn clear_told<R: Wait, G: Guard>(
         &self,

@@ -1,4 +1,4 @@
-//! The first halves of the calls that put what a closure makes in the place of a key's value.
+//! The first halves of the calls that replace a key's value by what a closure makes of it.
 ghost use Rattle.std.specs.Prelude.{◌≡◌, Err, IfErr, IfOk};
 ghost use Rattle.std.specs.Fn.{FnReturnsAt};
 ghost use mathlib.Core.List.{IsPrefix};
@@ -14,7 +14,7 @@ use std::hash::{BuildHasher, Hash};
 use std::sync::Wait;
 
 impl<'a, K: Hash + Eq + Drop, V: Drop, S: BuildHasher> HashMapRef<'a, K, V, S> {
-    /// The same, with what was seen.
+    /// Performs [`HashMapRef::update`], and returns the observed history as well.
     #[inline(always)]
     pub(crate) fn update_told<R: Wait, F: Fn(&V) -> V>(
         &self,
@@ -35,7 +35,7 @@ impl<'a, K: Hash + Eq + Drop, V: Drop, S: BuildHasher> HashMapRef<'a, K, V, S> {
         session.tell(answer)
     }
 
-    /// The same, with what was seen.
+    /// Performs [`HashMapRef::update_or_insert`], and returns the observed history as well.
     #[inline(always)]
     pub(crate) fn update_or_insert_told<R: Wait, F: Fn(&V) -> V>(
         &self,
@@ -58,7 +58,7 @@ impl<'a, K: Hash + Eq + Drop, V: Drop, S: BuildHasher> HashMapRef<'a, K, V, S> {
         session.tell(answer)
     }
 
-    /// The same, with what was seen.
+    /// Performs [`HashMapRef::update_or_insert_with`], and returns the observed history as well.
     #[inline(always)]
     pub(crate) fn update_or_insert_with_told<R: Wait, U: Fn(&V) -> V, F: FnOnce() -> V + Drop>(
         &self,
@@ -84,7 +84,7 @@ impl<'a, K: Hash + Eq + Drop, V: Drop, S: BuildHasher> HashMapRef<'a, K, V, S> {
 }
 
 impl<K: Hash + Eq + Drop, V: Drop, S: BuildHasher> HashMap<K, V, S> {
-    /// The same, with what was seen.
+    /// Performs [`HashMap::update`], and returns the observed history as well.
     #[inline(always)]
     pub(crate) fn update_told<'g, R: Wait, F: Fn(&V) -> V, G: Guard>(
         &'g self,
@@ -113,7 +113,7 @@ impl<K: Hash + Eq + Drop, V: Drop, S: BuildHasher> HashMap<K, V, S> {
         }
     }
 
-    /// The same, with what was seen.
+    /// Performs [`HashMap::update_or_insert`], and returns the observed history as well.
     #[inline(always)]
     pub(crate) fn update_or_insert_told<'g, R: Wait, F: Fn(&V) -> V, G: Guard>(
         &'g self,
@@ -143,7 +143,7 @@ impl<K: Hash + Eq + Drop, V: Drop, S: BuildHasher> HashMap<K, V, S> {
         }
     }
 
-    /// The same, with what was seen.
+    /// Performs [`HashMap::update_or_insert_with`], and returns the observed history as well.
     #[inline(always)]
     pub(crate) fn update_or_insert_with_told<
         'g,
