@@ -12,7 +12,7 @@ use std::alloc::Global;
 use std::marker::Model;
 use std::sync::atomic::{AtomicI64, AtomicU64, Ordering};
 
-/// A signed number in shards. Contracts observe the number of shards. Additions are steps apart
+/// A signed number in shards. Contracts see the number of shards. Additions are steps apart
 /// from the changes that they count. So a sum may lag behind them, and no contract states what it
 /// is.
 ///

@@ -1,4 +1,4 @@
-//! The rule of the book. Only contracts observe the log, so most of this is never built.
+//! The rule of the book. Only contracts see the log, so most of this is never built.
 
 pub mod entry;
 pub mod law;

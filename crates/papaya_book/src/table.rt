@@ -13,7 +13,7 @@ use std::marker::Model;
 use std::sync::{Mutex, MutexGuard, Wait};
 
 /// A table: its slots, how far a search of it goes, and which chunks of the previous table were
-/// copied to it. Contracts observe it as the keys of its words. The maker of its next table holds
+/// copied to it. Contracts see it as the keys of its words. The maker of its next table holds
 /// `making`, so that not each thread that needs one pays for it. Slots of that table are written
 /// ahead while this one fills up; `ahead` has none once they were taken.
 #[derive(Drop)]

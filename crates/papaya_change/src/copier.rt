@@ -42,7 +42,7 @@ pub struct Asked {
 
 /// The state of a caller that copies: the pair loaded last, the pair that moves, and a new table
 /// until the call tries to open or link it. If a number was given past a limit, or the sum of the
-/// count, contracts observe that number.
+/// count, contracts see that number.
 #[derive(Drop)]
 pub struct Copier<K: Hash + Eq, V, S: BuildHasher> {
     pub last: Option<Stored<K, V>>,

@@ -5,7 +5,7 @@ ghost use Rattle.papaya_lines.specs.Walk.{IsByKey};
 use std::fmt;
 use std::marker::Model;
 
-/// The entries of an iteration, by rising key. Contracts observe them as a list.
+/// The entries of an iteration, by rising key. Contracts see them as a list.
 #[derive(Drop)]
 pub struct Walk {
     pairs: Vec<(u64, u64)>,

@@ -19,7 +19,7 @@ use std::hash::{BuildHasher, BuildHasherDefault, FoldHasher, Hash};
 use std::marker::{Model, PhantomData};
 use std::sync::{Arc, Wait};
 
-/// The settings of a map that is to be built: `HashMapBuilder` of 0.2.5. Contracts observe each
+/// The settings of a map that is to be built: `HashMapBuilder` of 0.2.5. Contracts see each
 /// setting. A setting that is out of range is refused when the map is built.
 #[derive(Drop)]
 pub struct HashMapBuilder<K, V, S = BuildHasherDefault<FoldHasher>> {

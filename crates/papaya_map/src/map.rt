@@ -37,9 +37,9 @@ use std::alloc::Global;
 use std::hash::{BuildHasher, BuildHasherDefault, FoldHasher, Hash};
 use std::marker::Model;
 
-/// A map that threads share. Contracts observe what is fixed when it is made: its book, hasher,
+/// A map that threads share. Contracts see what is fixed when it is made: its book, hasher,
 /// resize mode and arenas, the initial capacity that sizes its first table, and its number of
-/// shards. They also observe the tables that it had at once, and the history observed at that
+/// shards. They also see the tables that it had at once, and the history observed at that
 /// point.
 #[derive(Drop)]
 pub struct HashMap<K: Hash + Eq, V, S: BuildHasher = BuildHasherDefault<FoldHasher>> {
@@ -72,10 +72,10 @@ impl<K: Hash + Eq, V, S: BuildHasher> Model for HashMap<K, V, S> {
 /// The part of a map's history that a caller has observed, and the caller's own changes. At run
 /// time it holds only a number, by which its calls pick a shard of the map's count. Contracts
 /// observe the history, which is legal, the changes made by this pass, oldest first, and the book
-/// of both. They observe the number of slots of each table that the pass has observed, oldest
-/// first. If its last change failed with `Refused::Capacity`, they observe the number that a full
-/// arena of tables gave. Or they observe the sum of the map's count by which the table after one of
-/// those would be too long. For a map with a limit on entries they observe how many numbers were
+/// of both. They see the number of slots of each table that the pass has observed, oldest
+/// first. If its last change failed with `Refused::Capacity`, they see the number that a full
+/// arena of tables gave. Or they see the sum of the map's count by which the table after one of
+/// those would be too long. For a map with a limit on entries they see how many numbers were
 /// taken for entries.
 ///
 /// Each call by a pass takes effect after all that the pass had observed before. Afterwards the
@@ -135,7 +135,7 @@ impl<K: Hash + Eq, V, S: BuildHasher> Pass<K, V, S> {
 
 /// A pinned map, on which calls are made. References that it returns live as long as the map. It
 /// keeps the root table found when the map was pinned, so that calls need not look it up again.
-/// Contracts observe what they observe of the map, and the history that had been observed at the
+/// Contracts see what they see of the map, and the history that had been observed at the
 /// pin.
 pub struct HashMapRef<'a, K: Hash + Eq, V, S: BuildHasher> {
     pub(crate) map: &'a HashMap<K, V, S>,

@@ -20,11 +20,11 @@ use papaya_words::probe::Refused;
 use std::hash::{BuildHasher, BuildHasherDefault, FoldHasher, Hash};
 use std::marker::Model;
 
-/// One thread's access to a map: the pinned map, and a pass of it. Contracts observe what is fixed
+/// One thread's access to a map: the pinned map, and a pass of it. Contracts see what is fixed
 /// of the map, the observed history, and the changes that this session made, oldest first. They
 /// observe the number of slots of each table that the session has observed. If the last change
-/// failed with `Refused::Capacity`, they observe the number that a full arena of tables gave, or
-/// the sum of the map's count. If the map has a limit on entries, they observe how many numbers
+/// failed with `Refused::Capacity`, they see the number that a full arena of tables gave, or
+/// the sum of the map's count. If the map has a limit on entries, they see how many numbers
 /// were taken for entries.
 ///
 /// Each call takes effect after all that the session had observed before. Afterwards the session

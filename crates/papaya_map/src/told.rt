@@ -15,7 +15,7 @@ use papaya_book::rule::entry::{Event, Named};
 use papaya_book::rule::law::Law;
 use std::marker::{Model, PhantomData};
 
-/// A result, with evidence that a book has reached a log: contracts observe that book and that log.
+/// A result, with evidence that a book has reached a log: contracts see that book and that log.
 /// At run time it holds only the result.
 pub struct Told<B, E, A, P: Rule<E, A>> {
     pub answer: B,

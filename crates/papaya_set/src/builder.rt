@@ -21,7 +21,7 @@ use std::hash::{BuildHasher, BuildHasherDefault, FoldHasher, Hash};
 use std::marker::{Model, PhantomData};
 use std::sync::{Arc, Wait};
 
-/// The settings of a set that is to be built: `HashSetBuilder` of 0.2.5. Contracts observe each
+/// The settings of a set that is to be built: `HashSetBuilder` of 0.2.5. Contracts see each
 /// setting. A setting that is out of range is refused when the set is built.
 #[derive(Drop)]
 pub struct HashSetBuilder<K, S = BuildHasherDefault<FoldHasher>> {

@@ -8,7 +8,7 @@ use std::hash::{BuildHasher, Hash};
 use std::marker::Model;
 
 /// An iterator over a set's keys, slot by slot of the root as it was taken: `set::Iter` of 0.2.5.
-/// Contracts observe the history at its start, and the one observed so far.
+/// Contracts see the history at its start, and the one observed so far.
 #[derive(Drop)]
 pub struct Iter<'a, K: Hash + Eq, S: BuildHasher> {
     pub(crate) keys: Keys<'a, K, (), S>,

@@ -22,7 +22,7 @@ use std::marker::Model;
 /// A hash set for one caller: `papaya::HashSet` for where a `&mut` will do, as
 /// [`papaya_seq::seq::HashMap`] is for the map.
 ///
-/// Contracts observe it as the map of its keys to unit values, so its clauses are the map's. The
+/// Contracts see it as the map of its keys to unit values, so its clauses are the map's. The
 /// arena keeps removed keys, and keys that were inserted while an equal one was stored, until
 /// [`HashSet::reclaim`] or until the set is dropped.
 #[derive(Drop)]

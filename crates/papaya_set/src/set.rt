@@ -13,7 +13,7 @@ use std::sync::Wait;
 
 /// A set that threads share: `HashSet` of 0.2.5.
 ///
-/// Contracts observe it as the map of its keys to unit values, and of that what is fixed when it is
+/// Contracts see it as the map of its keys to unit values, and of that what is fixed when it is
 /// made, so its clauses are the map's. The arena keeps removed keys, and keys inserted while an
 /// equal one was stored, until [`HashSet::reclaim`] or until the set is dropped.
 #[derive(Drop)]
@@ -30,7 +30,7 @@ impl<K: Hash + Eq, S: BuildHasher> Model for HashSet<K, S> {
 }
 
 /// A pinned set, on which calls are made: `HashSetRef` of 0.2.5, but without a guard. References
-/// that it returns live as long as the set. Contracts observe what they observe of the set, and the
+/// that it returns live as long as the set. Contracts see what they see of the set, and the
 /// history that had been observed at the pin.
 #[derive(Drop)]
 pub struct HashSetRef<'a, K: Hash + Eq, S: BuildHasher> {

@@ -31,7 +31,7 @@ impl<'a, K: Hash + Eq, S: BuildHasher> IntoIterator for &'a HashSet<K, S> {
     }
 }
 
-/// The keys of a set that an iterator has left, which contracts observe as a list.
+/// The keys of a set that an iterator has left, which contracts see as a list.
 #[derive(Drop)]
 pub struct Iter<'a, K: Hash + Eq, S: BuildHasher> {
     keys: Keys<'a, K, (), S>,

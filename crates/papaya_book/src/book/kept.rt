@@ -9,7 +9,7 @@ use std::marker::Model;
 
 /// The root's number and its table, as they were loaded once, with the history observed then.
 /// Tables stay where they are, and a number belongs to one table. So a caller that loads the same
-/// number again has its table. Contracts observe which book it is of.
+/// number again has its table. Contracts see which book it is of.
 #[derive(Drop)]
 pub struct KeptRoot<'a, K: Hash + Eq, V, S: BuildHasher> {
     pub(crate) number: u64,

@@ -1,6 +1,6 @@
 //! The entries of the book's log.
 //!
-//! No code builds an entry: only contracts observe the log. Its types are those of the tokens and
+//! No code builds an entry: only contracts see the log. Its types are those of the tokens and
 //! arenas that the rule of the book is about.
 ghost use Rattle.logbook.specs.Pages.{Book, book_coded};
 ghost use Rattle.papaya_book.specs.Sheets.{Sheet as SheetOf, sheet_coded};

@@ -1,4 +1,4 @@
-//! The steps that a caller made itself, and the numbers that it was given. Only contracts observe
+//! The steps that a caller made itself, and the numbers that it was given. Only contracts see
 //! them: they have no bytes.
 ghost use Rattle.std.specs.Prelude.{◌≡◌, List, [], ◌∷◌, ◌++◌};
 ghost use base.Fml.{ftrue};

@@ -12,7 +12,7 @@ use papaya_log::row::Blank;
 use papaya_log::token::{Known, Pushed, token};
 use std::marker::{Model, PhantomData};
 
-/// A pair as contracts observe it. The arena of pairs cannot name the type of its own tokens.
+/// A pair as contracts see it. The arena of pairs cannot name the type of its own tokens.
 pub struct Shown<K, V> {
     key: K,
     value: V,
@@ -30,7 +30,7 @@ impl<K, V> Model for Shown<K, V> {
     } };
 }
 
-/// A blank, in slots where no pair is stored yet. It has no bytes. Contracts observe a key and a
+/// A blank, in slots where no pair is stored yet. It has no bytes. Contracts see a key and a
 /// value of it, as of a pair, but both are named as being where no arena has anything.
 pub struct Nobody<K, V> {
     marker: PhantomData<(K, V)>,
