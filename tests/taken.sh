@@ -41,16 +41,13 @@ for it in "$from" "$to"; do
     git -C "$it" init -q
 done
 
-# What take says of the proofs, and what a check says of functions and of the libraries that it builds.
+# What take says of the proofs (take.sh has what it says where there are none), and what a check says of functions and of
+# the libraries that it builds.
 take() { "$from/tools/take" "$to" "$@" | tail -n +2; }
 check() {
     (cd "$to/crates/$1" && rt check) 2>&1 | grep -E '^(fn |logic=|rt: chose )' | sed 's/ functions=.*//; s/--jobs [0-9]*/--jobs N/'
 }
-# (what earlier runs of this test have kept is of another text)
-echo "// $(date +%s.%N)" >>"$from/crates/papaya_low/src/lib.rt"
 
-same 'nothing is proved yet' 'take: rt ci has proved 0 of them on this machine, and a first rt check there proves the others, in far over an hour;
-take: better run rt ci papaya in '"$from"', half an hour to two hours on four processors, and then take again' "$(take)"
 same 'rt ci proves two of the three' 0 "$(cd "$from" && rt ci papaya >&2 && echo 0)"
 alone='take: rt ci has proved them on this machine, so a first rt check there proves your own crates alone'
 same 'what it has proved goes along' "$alone" "$(take)"
