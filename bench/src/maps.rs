@@ -172,6 +172,37 @@ impl Map for StdRwLock {
     }
 }
 
+/// The calls that are written alike for papaya and flurry: both pin a map, and then lend its values.
+#[cfg(any(feature = "papaya", feature = "flurry"))]
+macro_rules! calls_of_a_pinned_map {
+    () => {
+        #[inline(always)]
+        fn pin(&self) -> Self::Pinned<'_> {
+            self.0.pin()
+        }
+
+        #[inline(always)]
+        fn get(map: &Self::Pinned<'_>, key: u64) -> Option<u64> {
+            map.get(&key).copied()
+        }
+
+        #[inline(always)]
+        fn insert(map: &Self::Pinned<'_>, key: u64, value: u64) -> Option<u64> {
+            map.insert(key, value).copied()
+        }
+
+        #[inline(always)]
+        fn remove(map: &Self::Pinned<'_>, key: u64) -> Option<u64> {
+            map.remove(&key).copied()
+        }
+
+        fn sum(map: &Self::Pinned<'_>) -> u64 {
+            map.iter()
+                .fold(0, |sum, (_, value)| sum.wrapping_add(*value))
+        }
+    };
+}
+
 #[cfg(feature = "papaya")]
 pub mod papaya_maps {
     //! papaya, with a guard that a thread holds over all its calls, and with a guard for each call.
@@ -214,25 +245,7 @@ pub mod papaya_maps {
             Papaya(made(capacity, mode))
         }
 
-        #[inline(always)]
-        fn pin(&self) -> Held<'_> {
-            self.0.pin()
-        }
-
-        #[inline(always)]
-        fn get(map: &Held<'_>, key: u64) -> Option<u64> {
-            map.get(&key).copied()
-        }
-
-        #[inline(always)]
-        fn insert(map: &Held<'_>, key: u64, value: u64) -> Option<u64> {
-            map.insert(key, value).copied()
-        }
-
-        #[inline(always)]
-        fn remove(map: &Held<'_>, key: u64) -> Option<u64> {
-            map.remove(&key).copied()
-        }
+        calls_of_a_pinned_map!();
 
         #[inline(always)]
         fn count(map: &Held<'_>, key: u64) -> u64 {
@@ -246,11 +259,6 @@ pub mod papaya_maps {
                 Compute::Updated { new, .. } => *new.1,
                 Compute::Removed(..) | Compute::Aborted(()) => 0,
             }
-        }
-
-        fn sum(map: &Held<'_>) -> u64 {
-            map.iter()
-                .fold(0, |sum, (_, value)| sum.wrapping_add(*value))
         }
     }
 
@@ -455,25 +463,7 @@ pub mod flurry_maps {
             ))
         }
 
-        #[inline(always)]
-        fn pin(&self) -> Held<'_> {
-            self.0.pin()
-        }
-
-        #[inline(always)]
-        fn get(map: &Held<'_>, key: u64) -> Option<u64> {
-            map.get(&key).copied()
-        }
-
-        #[inline(always)]
-        fn insert(map: &Held<'_>, key: u64, value: u64) -> Option<u64> {
-            map.insert(key, value).copied()
-        }
-
-        #[inline(always)]
-        fn remove(map: &Held<'_>, key: u64) -> Option<u64> {
-            map.remove(&key).copied()
-        }
+        calls_of_a_pinned_map!();
 
         /// flurry has no call that counts a key which is not there; such a key is inserted then.
         #[inline(always)]
@@ -485,11 +475,6 @@ pub mod flurry_maps {
                     1
                 }
             }
-        }
-
-        fn sum(map: &Held<'_>) -> u64 {
-            map.iter()
-                .fold(0, |sum, (_, value)| sum.wrapping_add(*value))
         }
     }
 }
