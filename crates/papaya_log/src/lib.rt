@@ -5,6 +5,7 @@
 //! counters of several lanes, which lie on cache lines apart from what a lookup reads.
 #![tactic(auto)]
 
+pub mod brief;
 pub(crate) mod lanes;
 pub mod log;
 pub mod row;
