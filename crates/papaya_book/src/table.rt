@@ -7,6 +7,7 @@ use crate::count::Count;
 use crate::room::Room;
 use crate::rule::offer::Seen;
 use crate::slot::{Cell, HintCell, Slot};
+use papaya_log::brief::brief_lock;
 use papaya_words::table::next_len;
 use std::hash::{BuildHasher, Hash};
 use std::marker::Model;
@@ -122,9 +123,12 @@ impl<K: Hash + Eq, V, S: BuildHasher> Table<K, V, S> {
         *ahead = Some(room.with_more(next, sight));
     }
 
-    /// Returns the slots of the next table that were written ahead.
-    pub fn take_room<R: Wait>(&self, rt: &R) -> Option<Room<K, V, S>> {
-        self.ahead.lock(rt).take()
+    /// Takes the slots of the next table that were written ahead. There are none while a thread
+    /// writes some, since that one may be stopped: the caller then writes all of them, and waits
+    /// for nobody.
+    pub fn take_room(&self) -> Option<Room<K, V, S>> {
+        let mut ahead = brief_lock(&self.ahead)?;
+        ahead.take()
     }
 
     /// Returns the word that says whether the table was given up.

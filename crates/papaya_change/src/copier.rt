@@ -511,7 +511,7 @@ fn turn<'a, K: Hash + Eq, V, S: BuildHasher, R: Wait>(
     *making = Some(table.lock_next(rt));
     let (next, _) = window.next(table, follows);
     if next == 0 {
-        return (size, table.take_room(rt));
+        return (size, table.take_room());
     }
     ((8, 15), None)
 }

@@ -5,6 +5,7 @@
 //! counters of several lanes, on other cache lines than the words that lookups read.
 #![tactic(auto)]
 
+pub mod brief;
 pub(crate) mod lanes;
 pub mod log;
 pub mod row;

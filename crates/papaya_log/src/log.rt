@@ -4,6 +4,7 @@ ghost use Rattle.boxcar.specs.Table.{Shows, id_at};
 ghost use Rattle.papaya_log.specs.Rows.{AreRows, part_first, part_len, row_of, slot_of};
 ghost use Rattle.papaya_log.specs.Places.{IsMade, IsPlace};
 
+use crate::brief::brief_lock;
 use crate::lanes::{LANES, Lanes};
 use crate::row::{Blank, Row, RowSlot, new_row, no_row, write_some};
 use crate::token::Pushed;
@@ -54,11 +55,15 @@ pub(crate) struct Place {
 /// A row has a part for each of eight lanes, whose pushes take numbers from a counter of their own.
 /// The caller selects the lane by any number. The more these numbers differ, the more evenly the
 /// parts fill.
+///
+/// A thread that makes a row holds `making`, so that one thread alone pays for it. Slots of a row
+/// that is not made yet are written ahead, and wait in `ahead`.
 #[derive(Drop)]
 pub struct Log<T> {
     rows: Vec<RowSlot<T>>,
     first_bits: u32,
-    making: Mutex<Vec<Slot<T>>>,
+    making: Mutex<()>,
+    ahead: Mutex<Vec<Slot<T>>>,
     alloc: Global,
     lanes: Lanes,
 }
@@ -177,7 +182,8 @@ impl<T: Drop> Log<T> {
         Ok(Log {
             rows: empty_rows(alloc, first_bits, &lanes)?,
             first_bits,
-            making: Mutex::new(Vec::new(alloc)),
+            making: Mutex::new(()),
+            ahead: Mutex::new(Vec::new(alloc)),
             alloc,
             lanes,
         })
@@ -197,7 +203,7 @@ impl<T: Blank + Drop> Log<T> {
         requires { row < 38 }
         ensures { IfOk result (λ written. written.of ≡ id_at self.now.buckets row) }
     {
-        let mut ahead = self.making.lock(rt);
+        let making = self.making.lock(rt);
         if let Some(written) = self.rows[row].witness() {
             return Ok(written);
         }
@@ -205,11 +211,19 @@ impl<T: Blank + Drop> Log<T> {
             first_of(self.first_bits, row),
             length_of(self.first_bits, row),
         );
-        let written = replace(&mut *ahead, Vec::new(self.alloc));
-        let slots = new_row(&self.lanes, first, len, written, value)?;
+        let slots = new_row(&self.lanes, first, len, self.take_ahead(), value)?;
         let made = self.rows[row].set_written(slots).map_err(|_| AllocError);
-        drop(ahead);
+        drop(making);
         made
+    }
+
+    /// Takes the slots that were written ahead. There are none while a thread writes some, since
+    /// that one may be stopped: the caller then writes the whole row, and waits for nobody.
+    fn take_ahead(&self) -> Vec<Slot<T>> {
+        match brief_lock(&self.ahead) {
+            Some(mut ahead) => replace(&mut *ahead, Vec::new(self.alloc)),
+            None => Vec::new(self.alloc),
+        }
     }
 
     /// Returns whether a lane has slots left in a row before its last piece (see `AHEAD_PARTS`).
@@ -240,7 +254,7 @@ impl<T: Blank + Drop> Log<T> {
         if roomy > LANES / 2 {
             return;
         }
-        let Some(mut ahead) = self.making.try_lock() else {
+        let Some(mut ahead) = self.ahead.try_lock() else {
             return;
         };
         if self.rows[row].witness().is_some() {

@@ -56,6 +56,8 @@ mod sizes;
 #[cfg(test)]
 mod steps;
 #[cfg(test)]
+mod stopped;
+#[cfg(test)]
 mod stored_keys;
 #[cfg(test)]
 mod stuck;
