@@ -13,7 +13,7 @@ use crate::resizing::copy_chunk;
 use papaya_book::book::Book;
 use papaya_book::window::Window;
 use papaya_keys::guard::Equivalent;
-use papaya_lookup::lookup::{Hit, find};
+use papaya_lookup::lookup::{Found, Hit, find};
 use papaya_words::word::{Kind, Word};
 use std::hash::{BuildHasher, Hash};
 use std::sync::Wait;
@@ -43,8 +43,9 @@ fn help<R: Wait, K: Hash + Eq, V, S: BuildHasher>(
 /// it if that agrees. None where the pair is being moved, or another word stands in its place by
 /// then: the closure may have been shown a pair all the same.
 ///
-/// Where the pair stood in a later table than the root, a chunk of the root is copied. Else maps
-/// whose pairs are removed would stay in their resize, and search two tables each time.
+/// Where the search has gone on past the root, a chunk of the root is copied once the removal is
+/// done, whether it has found a pair or not. Else maps whose keys are removed would stay in their
+/// resize, and search two tables each time.
 #[inline(always)]
 pub fn remove_fast<
     'a,
@@ -67,7 +68,9 @@ pub fn remove_fast<
     ensures removed { IsTriedRemoval K.eq (Q.matches key.now) (past window.old) (past window.new)
         (Judges F.FnMut) agrees.old agrees.new result }
 {
-    let Some(hit) = find(window, key) else {
+    let Found { hit, later } = find(window, key);
+    let Some(hit) = hit else {
+        help(means, window.book, later);
         return Some(Ok(None));
     };
     if Word(hit.met.word).kind() != Kind::Live {
@@ -79,9 +82,9 @@ pub fn remove_fast<
         met,
         key: stored_key,
         value,
-        later,
     } = hit;
     if !agrees(stored_key, value) {
+        help(means, window.book, later);
         return Some(Err((stored_key, value)));
     }
     if !bury_met(means.shard, window, table, &met) {

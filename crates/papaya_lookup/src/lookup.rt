@@ -44,7 +44,13 @@ pub struct Hit<'a, K: Hash + Eq, V, S: BuildHasher> {
     pub met: Met<K, V>,
     pub key: &'a K,
     pub value: &'a V,
-    /// Is that table one behind the root, to which pairs are moved?
+}
+
+/// Where a lookup's search has ended: the pair that it found, if any.
+#[derive(Drop)]
+pub struct Found<'a, K: Hash + Eq, V, S: BuildHasher> {
+    pub hit: Option<Hit<'a, K, V, S>>,
+    /// Did the search go on past the root, to a table to which pairs are moved?
     pub later: bool,
 }
 
@@ -173,8 +179,8 @@ fn search<'a, K: Hash + Eq, V, S: BuildHasher, Q: Equivalent<K>>(
     }
 }
 
-/// Looks up the pair whose key `key` matches, and tells where it stood. It goes by atomic loads
-/// alone: it waits for nobody and takes no memory.
+/// Looks up the pair whose key `key` matches, and tells where it stood, and whether the search went
+/// on past the root. It goes by atomic loads alone: it waits for nobody and takes no memory.
 ///
 /// The answer is the pair of one of the histories that the map had between the last one that was
 /// seen before and the one that is seen then: its key as it is stored, and its value. A removal
@@ -183,13 +189,13 @@ fn search<'a, K: Hash + Eq, V, S: BuildHasher, Q: Equivalent<K>>(
 pub fn find<'a, K: Hash + Eq, V, S: BuildHasher, Q: Equivalent<K>>(
     window: &mut Window<'a, K, V, S>,
     key: &Q,
-) -> Option<Hit<'a, K, V, S>>
+) -> Found<'a, K, V, S>
     ensures sees { Sees window.old window.new }
     ensures own { window.new.own ≡ window.old.own }
     ensures lawful { IsLawful window.new }
     ensures answered { IsHitAnsweredBetween K.eq (Q.matches key.now) (past window.old)
-        (past window.new) result }
-    ensures hits { (hit : _) → result ≡ Some hit → Hits (⟦<S as Asked<K, Q>>⟧.query key.now)
+        (past window.new) result.hit }
+    ensures hits { (hit : _) → result.hit ≡ Some hit → Hits (⟦<S as Asked<K, Q>>⟧.query key.now)
         window.old window.new hit }
 {
     // The root is searched first, then each table to which pairs are moved from the one before: a
@@ -201,17 +207,18 @@ pub fn find<'a, K: Hash + Eq, V, S: BuildHasher, Q: Equivalent<K>>(
     let (root, first) = window.root();
     let (mut number, mut held) = (root, first);
     while let Some(table) = held {
+        let later = number != root;
         let (len, limit) = table.size();
         let first = Place::first(hash, number, len, limit);
         match search(window, key, hash, table, first) {
             Turn::Found(met, entry) => {
-                return Some(Hit {
+                let hit = Some(Hit {
                     table,
                     met,
                     key: entry.0,
                     value: entry.1,
-                    later: number != root,
                 });
+                return Found { hit, later };
             }
             Turn::Over(passed) => match window.book.parts.mode {
                 ResizeMode::Incremental(_) => {
@@ -219,12 +226,13 @@ pub fn find<'a, K: Hash + Eq, V, S: BuildHasher, Q: Equivalent<K>>(
                     number = next;
                     held = table;
                 }
-                ResizeMode::Blocking => return None,
+                ResizeMode::Blocking => return Found { hit: None, later },
             },
-            _ => return None,
+            _ => return Found { hit: None, later },
         }
     }
-    None
+    let later = number != root;
+    Found { hit: None, later }
 }
 
 /// Looks up what `key` matches, as [`find`] does, and answers its key and its value alone.
@@ -239,7 +247,8 @@ pub fn look_up_pair<'a, K: Hash + Eq, V, S: BuildHasher, Q: Equivalent<K>>(
     ensures answered { IsPairAnsweredBetween K.eq (Q.matches key.now) (past window.old)
         (past window.new) result }
 {
-    match find(window, key) {
+    let Found { hit, later: _ } = find(window, key);
+    match hit {
         Some(hit) => Some((hit.key, hit.value)),
         None => None,
     }
