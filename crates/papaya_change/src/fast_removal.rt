@@ -13,7 +13,7 @@ use crate::resizing::copy_chunk;
 use papaya_book::book::Book;
 use papaya_book::window::Window;
 use papaya_keys::guard::Equivalent;
-use papaya_lookup::lookup::{Hit, find};
+use papaya_lookup::lookup::{Found, Hit, find};
 use papaya_words::word::{Kind, Word};
 use std::hash::{BuildHasher, Hash};
 use std::sync::Wait;
@@ -43,8 +43,9 @@ fn help<R: Wait, K: Hash + Eq, V, S: BuildHasher>(
 /// if the closure returns true. Returns `None` if the pair is being moved or another word is in its
 /// place; the closure may have been called all the same.
 ///
-/// If the pair was in a later table than the root, it copies a chunk of the root. Otherwise maps
-/// that only remove pairs would stay in their resize, and search two tables each time.
+/// If the search went on past the root, it copies a chunk of the root afterwards, whether it found
+/// a pair or not. Otherwise maps whose keys are removed would stay in their resize, and search two
+/// tables each time.
 #[inline(always)]
 pub fn remove_fast<
     'a,
@@ -67,7 +68,9 @@ pub fn remove_fast<
     ensures removed { IsTriedRemoval K.eq (Q.matches key.now) (past window.old) (past window.new)
         (Judges F.FnMut) agrees.old agrees.new result }
 {
-    let Some(hit) = find(window, key) else {
+    let Found { hit, later } = find(window, key);
+    let Some(hit) = hit else {
+        help(means, window.book, later);
         return Some(Ok(None));
     };
     if Word(hit.met.word).kind() != Kind::Live {
@@ -79,9 +82,9 @@ pub fn remove_fast<
         met,
         key: stored_key,
         value,
-        later,
     } = hit;
     if !agrees(stored_key, value) {
+        help(means, window.book, later);
         return Some(Err((stored_key, value)));
     }
     if !bury_met(means.shard, window, table, &met) {

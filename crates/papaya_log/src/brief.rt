@@ -3,14 +3,14 @@ use std::hint::spin_loop;
 use std::sync::{Mutex, MutexGuard};
 use std::thread::yield_now;
 
-/// How often a thread lets another one run, before it goes on without the lock.
+/// How many times a thread yields to another one before it continues without the lock.
 const YIELDS: usize = 10;
 
-/// How often it tries the lock before each time.
+/// How many times it tries the lock before each yield.
 const TRIES: usize = 100;
 
 /// Tries a lock for some microseconds, and returns its guard. Returns `None` if another thread holds
-/// the lock for longer, as one does that is stopped: so nobody waits for that one.
+/// the lock for longer, as a stopped thread does, so that nobody waits for that thread.
 pub fn brief_lock<T>(lock: &Mutex<T>) -> Option<MutexGuard<'_, T>> {
     for _ in 0..YIELDS {
         for _ in 0..TRIES {

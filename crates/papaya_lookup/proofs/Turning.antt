@@ -421,13 +421,13 @@ module _ {K V S H : Type 0} (eq : K → K → Bool) (input : K → List (List �
 
   -- what the lookup answers: the pair that was found
   pub answers_found : (log : List (Event K V S)) (table : Sheet) (met : Met K V) (entry : Bor K × Bor V) → Turned log table (turns.Found met entry)
-      → (lent : Bor Sheet) (later : Bool) → IsHitAnsweredBetween {S = S} {H = H} eq matches (history_of old) (history_of log)
-      (Some (record { table = lent; met = met; key = entry.0; value = entry.1; later = later }))
-  answers_found log table met entry turned lent later =
+      → (lent : Bor Sheet) → IsHitAnsweredBetween {S = S} {H = H} eq matches (history_of old) (history_of log)
+      (Some (record { table = lent; met = met; key = entry.0; value = entry.1 }))
+  answers_found log table met entry turned lent =
       let f = turned.found met entry refl in
       found_answer eq input build write finish classes respects b matches query lawful old began pre log
       (lookup_at h b.mode b.limit (Ended (replies.Found turned.number))) (Some turned.lent) turned.pair turned.reading tt turned.number refl
-      met.stored f.0 (record { table = lent; met = met; key = entry.0; value = entry.1; later = later }) f.1 f.2
+      met.stored f.0 (record { table = lent; met = met; key = entry.0; value = entry.1 }) f.1 f.2
 
   absent : (log : List (Event K V S)) (held : Option (Bor Sheet)) (pair : Option (Stored K V)) → Reads_with log (Ended replies.Absent) held pair
       → IsHitAnsweredBetween {S = S} {H = H} eq matches (history_of old) (history_of log) None

@@ -44,7 +44,13 @@ pub struct Hit<'a, K: Hash + Eq, V, S: BuildHasher> {
     pub met: Met<K, V>,
     pub key: &'a K,
     pub value: &'a V,
-    /// Whether that table is one behind the root, to which pairs are moved.
+}
+
+/// The end of a lookup's search: the pair that it found, if any.
+#[derive(Drop)]
+pub struct Found<'a, K: Hash + Eq, V, S: BuildHasher> {
+    pub hit: Option<Hit<'a, K, V, S>>,
+    /// Whether the search went on past the root, to a table to which pairs are moved.
     pub later: bool,
 }
 
@@ -172,8 +178,8 @@ fn search<'a, K: Hash + Eq, V, S: BuildHasher, Q: Equivalent<K>>(
     }
 }
 
-/// Looks up the entry whose key matches `key`, and returns it with the place where it was met. It
-/// only loads words atomically: it never waits and allocates nothing.
+/// Looks up the entry whose key matches `key`. Returns where it was met, and whether the search went
+/// on past the root. It only loads words atomically: it never waits and allocates nothing.
 ///
 /// The result is right for one of the map's histories between the last one that this window
 /// observed before and the one that it has observed afterwards. It has the stored key and its
@@ -182,13 +188,13 @@ fn search<'a, K: Hash + Eq, V, S: BuildHasher, Q: Equivalent<K>>(
 pub fn find<'a, K: Hash + Eq, V, S: BuildHasher, Q: Equivalent<K>>(
     window: &mut Window<'a, K, V, S>,
     key: &Q,
-) -> Option<Hit<'a, K, V, S>>
+) -> Found<'a, K, V, S>
     ensures sees { Sees window.old window.new }
     ensures own { window.new.own ≡ window.old.own }
     ensures lawful { IsLawful window.new }
     ensures answered { IsHitAnsweredBetween K.eq (Q.matches key.now) (past window.old)
-        (past window.new) result }
-    ensures hits { (hit : _) → result ≡ Some hit → Hits (⟦<S as Asked<K, Q>>⟧.query key.now)
+        (past window.new) result.hit }
+    ensures hits { (hit : _) → result.hit ≡ Some hit → Hits (⟦<S as Asked<K, Q>>⟧.query key.now)
         window.old window.new hit }
 {
     // The root is searched first, then each table to which pairs are moved from the one before: a
@@ -200,17 +206,18 @@ pub fn find<'a, K: Hash + Eq, V, S: BuildHasher, Q: Equivalent<K>>(
     let (root, first) = window.root();
     let (mut number, mut held) = (root, first);
     while let Some(table) = held {
+        let later = number != root;
         let (len, limit) = table.size();
         let first = Place::first(hash, number, len, limit);
         match search(window, key, hash, table, first) {
             Turn::Found(met, entry) => {
-                return Some(Hit {
+                let hit = Some(Hit {
                     table,
                     met,
                     key: entry.0,
                     value: entry.1,
-                    later: number != root,
                 });
+                return Found { hit, later };
             }
             Turn::Over(passed) => match window.book.parts.mode {
                 ResizeMode::Incremental(_) => {
@@ -218,12 +225,13 @@ pub fn find<'a, K: Hash + Eq, V, S: BuildHasher, Q: Equivalent<K>>(
                     number = next;
                     held = table;
                 }
-                ResizeMode::Blocking => return None,
+                ResizeMode::Blocking => return Found { hit: None, later },
             },
-            _ => return None,
+            _ => return Found { hit: None, later },
         }
     }
-    None
+    let later = number != root;
+    Found { hit: None, later }
 }
 
 /// Looks up an entry whose key matches `key`, as [`find`] does. Returns only its key and value.
@@ -238,7 +246,8 @@ pub fn look_up_pair<'a, K: Hash + Eq, V, S: BuildHasher, Q: Equivalent<K>>(
     ensures answered { IsPairAnsweredBetween K.eq (Q.matches key.now) (past window.old)
         (past window.new) result }
 {
-    match find(window, key) {
+    let Found { hit, later: _ } = find(window, key);
+    match hit {
         Some(hit) => Some((hit.key, hit.value)),
         None => None,
     }

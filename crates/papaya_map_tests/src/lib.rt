@@ -10,6 +10,8 @@ mod board;
 #[cfg(test)]
 mod builders;
 #[cfg(test)]
+mod chunks;
+#[cfg(test)]
 mod computes;
 #[cfg(test)]
 mod crowd;

@@ -1,4 +1,4 @@
-use Rattle.std.proofs.Common.{◌≡◌, ◌==◌, ◌<◌, ◌≤◌, not, None, refl, ◌∙◌, rules, subst, arith}
+use Rattle.std.proofs.Common.{◌≡◌, ◌<◌, ◌≤◌, None, refl, ◌∙◌, rules, subst, arith}
 use mathlib.Core.List.{IsPrefix}
 use denote.Bor.{Bor}
 use Rattle.papaya_call.specs.declared.machine.State.TheVariants.{Searching}
@@ -74,7 +74,7 @@ returns-in-Found-clause-answered g c =
     answers_found g.K.PartialEq.eq g.K.Hash.hash_input g.S.BuildHasher.build_hasher g.S.Hasher.Hasher.write g.S.Hasher.Hasher.finish g.met.K.Eq.laws
     g.met.K.Hash.respects_eq c.search.new.window.book.now (g.Q.Equivalent.matches c.args.key.now) (g.Q.Hash.hash_input c.args.key.now) (lawful g c.args.key.now)
     c.args.window.now.sight.log c.loop-held.invariant.0 c.loop-held.invariant.1 c.hash-hash.result c.search.new.window.sight.log
-    c.in-Some.table.now c.in-Found.met c.in-Found.entry turned c.in-Some.table (not (c.loop-held.number == c.root-root.result.0))
+    c.in-Some.table.now c.in-Found.met c.in-Found.entry turned c.in-Some.table
 
 pub returns-in-Found-clause-hits : goal.returns-in-Found-clause-hits
 returns-in-Found-clause-hits g c =
@@ -87,7 +87,6 @@ returns-in-Found-clause-hits g c =
       met = c.in-Found.met;
       key = c.in-Found.entry.0;
       value = c.in-Found.entry.1;
-      later = not (c.loop-held.number == c.root-root.result.0);
     } ≡ hit = cc e in
     rw (← one) (c.loop-held.invariant.0, c.loop-held.invariant.1, (after, f.1, f.2, f.3))
 
