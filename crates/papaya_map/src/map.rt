@@ -32,10 +32,10 @@ use papaya_book::rule::law::Law;
 use papaya_book::rule::offer::Seen;
 use papaya_book::rule::own::{CapacityCause, OwnSteps};
 use papaya_book::window::Window;
-use papaya_keys::guard::{Collector, Guard};
+use papaya_keys::guard::{Collector, Guard, LocalGuard, OwnedGuard};
 use std::alloc::Global;
 use std::hash::{BuildHasher, BuildHasherDefault, FoldHasher, Hash};
-use std::marker::Model;
+use std::marker::{Model, PhantomData};
 
 /// A map that threads share. Contracts see what of it is fixed when it is made: which book it has,
 /// the hasher, how it resizes, its logs, the initial capacity by which its first table is sized,
@@ -132,17 +132,19 @@ impl<K: Hash + Eq, V, S: BuildHasher> Pass<K, V, S> {
     }
 }
 
-/// A map, as calls take it. What it answers stays for as long as the map does. It keeps the root as
-/// it was found when the map was pinned, so that calls need not look for the table again. Contracts
-/// see what they see of the map, and what had been seen of its history when it was pinned.
-pub struct HashMapRef<'a, K: Hash + Eq, V, S: BuildHasher> {
+/// A map, as calls take it: `HashMapRef` of 0.2.5. What it answers stays for as long as the map does.
+/// It keeps the root as it was found when the map was pinned, so that calls need not look for the
+/// table again. Of the guard it has the type alone. Contracts see what they see of the map, and what
+/// had been seen of its history when it was pinned.
+pub struct HashMapRef<'a, K: Hash + Eq, V, S: BuildHasher, G> {
     pub(crate) map: &'a HashMap<K, V, S>,
     kept: KeptRoot<'a, K, V, S>,
     seen: Seen<K, V, S>,
+    guard: PhantomData<G>,
     ghost seen_book: { seen.book ≡ map.now.book },
 }
 
-impl<'a, K: Hash + Eq, V, S: BuildHasher> Model for HashMapRef<'a, K, V, S> {
+impl<'a, K: Hash + Eq, V, S: BuildHasher, G> Model for HashMapRef<'a, K, V, S, G> {
     ghost Value = { Pinned K V S };
 
     ghost view = { λ r. record { map = r.map.now; seen = history_of r.seen.log } };
@@ -152,9 +154,14 @@ impl<'a, K: Hash + Eq, V, S: BuildHasher> Model for HashMapRef<'a, K, V, S> {
 }
 
 // By hand, so that a caller's proof sees the whole value to its end.
-impl<'a, K: Hash + Eq, V, S: BuildHasher> Drop for HashMapRef<'a, K, V, S> {
+impl<'a, K: Hash + Eq, V, S: BuildHasher, G> Drop for HashMapRef<'a, K, V, S, G> {
     fn drop(self) {
-        let Self { map: _, kept, seen } = self;
+        let Self {
+            map: _,
+            kept,
+            seen,
+            guard: _,
+        } = self;
         drop(seen);
         drop(kept);
     }
@@ -163,7 +170,23 @@ impl<'a, K: Hash + Eq, V, S: BuildHasher> Drop for HashMapRef<'a, K, V, S> {
 impl<K: Hash + Eq, V, S: BuildHasher> HashMap<K, V, S> {
     /// The map, as calls take it. It writes no word.
     #[inline]
-    pub fn pin(&self) -> HashMapRef<'_, K, V, S>
+    pub fn pin(&self) -> HashMapRef<'_, K, V, S, LocalGuard<'_>>
+        ensures { result.map ≡ self.now }
+    {
+        self.pinned()
+    }
+
+    /// The map, as [`HashMap::pin`] gives it, by the other guard's type: `pin_owned` of 0.2.5, whose
+    /// reference may go to another thread. Here each may, as it holds no guard.
+    pub fn pin_owned(&self) -> HashMapRef<'_, K, V, S, OwnedGuard<'_>>
+        ensures { result.map ≡ self.now }
+    {
+        self.pinned()
+    }
+
+    /// The map, pinned under the name of any guard's type.
+    #[inline(always)]
+    pub(crate) fn pinned<G>(&self) -> HashMapRef<'_, K, V, S, G>
         ensures { result.map ≡ self.now }
     {
         let kept = self.book.keep_root();
@@ -173,15 +196,8 @@ impl<K: Hash + Eq, V, S: BuildHasher> HashMap<K, V, S> {
             map: self,
             kept,
             seen,
+            guard: PhantomData,
         }
-    }
-
-    /// The same as [`HashMap::pin`]: `pin_owned` of 0.2.5, whose reference may go to another
-    /// thread. Here each may, as it holds no guard.
-    pub fn pin_owned(&self) -> HashMapRef<'_, K, V, S>
-        ensures { result.map ≡ self.now }
-    {
-        self.pin()
     }
 
     /// How many pairs were counted. A change is counted a step after it was made.
@@ -263,7 +279,7 @@ impl<K: Hash + Eq, V, S: BuildHasher> HashMap<K, V, S> {
     }
 }
 
-impl<'a, K: Hash + Eq, V, S: BuildHasher> HashMapRef<'a, K, V, S> {
+impl<'a, K: Hash + Eq, V, S: BuildHasher, G: Guard> HashMapRef<'a, K, V, S, G> {
     /// The map that was pinned: `map` of 0.2.5.
     pub fn map(&self) -> &'a HashMap<K, V, S>
         ensures { result.now ≡ self.now.map }
@@ -271,15 +287,16 @@ impl<'a, K: Hash + Eq, V, S: BuildHasher> HashMapRef<'a, K, V, S> {
         self.map
     }
 
-    /// The same.
+    /// The same, under the name of any guard's type.
     #[inline(always)]
-    pub(crate) fn again(&self) -> HashMapRef<'a, K, V, S>
+    pub(crate) fn again<H>(&self) -> HashMapRef<'a, K, V, S, H>
         ensures { result ≡ self.now }
     {
         HashMapRef {
             map: self.map,
             kept: self.kept.again(),
             seen: self.seen.again(),
+            guard: PhantomData,
         }
     }
 

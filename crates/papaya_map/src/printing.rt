@@ -2,6 +2,7 @@
 use crate::map::{HashMap, HashMapRef};
 use papaya_book::rule::own::OwnSteps;
 use papaya_book::window::Window;
+use papaya_keys::guard::Guard;
 use papaya_scan::printing::{print, print_keys};
 use std::fmt;
 use std::hash::{BuildHasher, Hash};
@@ -25,8 +26,8 @@ impl<K: Hash + Eq + fmt::Debug, V, S: BuildHasher> HashMap<K, V, S> {
     }
 }
 
-impl<'a, K: Hash + Eq + fmt::Debug, V: fmt::Debug, S: BuildHasher> fmt::Debug
-    for HashMapRef<'a, K, V, S> {
+impl<'a, K: Hash + Eq + fmt::Debug, V: fmt::Debug, S: BuildHasher, G: Guard> fmt::Debug
+    for HashMapRef<'a, K, V, S, G> {
     fn fmt<W: fmt::Write>(&self, f: &mut fmt::Formatter<W>) -> fmt::Result {
         fmt::Debug::fmt(self.map(), f)
     }

@@ -14,7 +14,7 @@ mod updating;
 
 use crate::map::{HashMap, HashMapRef, Pass};
 use crate::told::{Saying, Told};
-use papaya_keys::guard::Guard;
+use papaya_keys::guard::{Guard, LocalGuard};
 use papaya_scan::walk::Iter;
 use papaya_words::probe::Refused;
 use std::hash::{BuildHasher, BuildHasherDefault, FoldHasher, Hash};
@@ -31,7 +31,7 @@ use std::marker::Model;
 /// map's after them.
 #[derive(Drop)]
 pub struct Session<'a, K: Hash + Eq, V, S: BuildHasher = BuildHasherDefault<FoldHasher>> {
-    map: HashMapRef<'a, K, V, S>,
+    map: HashMapRef<'a, K, V, S, LocalGuard<'a>>,
     pass: Pass<K, V, S>,
 }
 
@@ -138,7 +138,7 @@ impl<'a, K: Hash + Eq, V, S: BuildHasher> Session<'a, K, V, S> {
     /// begins with what each had seen, so its calls stand after all that the walk gave. Nothing is
     /// done when the program runs, and the call is never refused. As at [`Session::meet`] a premise
     /// is left: that the walk is of the session's map.
-    pub fn learn_walk(&mut self, walk: &Iter<'_, K, V, S>)
+    pub fn learn_walk<G>(&mut self, walk: &Iter<'_, K, V, G, S>)
         requires { walk.now.book ≡ self.old.map.book }
         ensures map { self.new.map ≡ self.old.map }
         ensures seen { IsPrefix self.old.history self.new.history }
@@ -151,7 +151,7 @@ impl<'a, K: Hash + Eq, V, S: BuildHasher> Session<'a, K, V, S> {
     }
 }
 
-impl<'a, K: Hash + Eq, V, S: BuildHasher> HashMapRef<'a, K, V, S> {
+impl<'a, K: Hash + Eq, V, S: BuildHasher, G: Guard> HashMapRef<'a, K, V, S, G> {
     /// A session of this map, which has seen what had been seen when the map was pinned. Its calls
     /// pick the count's shard by this number, if there is one, and else by the key. A call that
     /// takes no session makes its own by this; a caller takes [`Session::new`].

@@ -20,14 +20,15 @@ use papaya_book::table::Table;
 use papaya_book::window::Window;
 use papaya_lookup::near::{slots_of, word_of};
 use papaya_words::word::{Kind, Word};
-use std::hash::{BuildHasher, Hash};
-use std::marker::Model;
+use std::hash::{BuildHasher, BuildHasherDefault, FoldHasher, Hash};
+use std::marker::{Model, PhantomData};
 
 /// The pairs of a map, slot by slot of the root as it was taken: `Iter` of 0.2.5. It keeps the root's
-/// number, how many slots it has, and those that are left. Contracts see which book it is of, the
-/// history that was seen as the walk began, and the one that is seen by now.
+/// number, how many slots it has, and those that are left. Of the guard it has the type alone. Its
+/// last parameter, the hasher, 0.2.5 has not. Contracts see which book it is of, the history that
+/// was seen as the walk began, and the one that is seen by now.
 #[derive(Drop)]
-pub struct Iter<'a, K: Hash + Eq, V, S: BuildHasher> {
+pub struct Iter<'a, K: Hash + Eq, V, G, S: BuildHasher = BuildHasherDefault<FoldHasher>> {
     book: &'a Book<K, V, S>,
     kept: KeptRoot<'a, K, V, S>,
     began: Seen<K, V, S>,
@@ -35,9 +36,10 @@ pub struct Iter<'a, K: Hash + Eq, V, S: BuildHasher> {
     number: u64,
     len: usize,
     rest: &'a [Slot<K, V, S>],
+    guard: PhantomData<G>,
 }
 
-impl<'a, K: Hash + Eq, V, S: BuildHasher> Model for Iter<'a, K, V, S> {
+impl<'a, K: Hash + Eq, V, G, S: BuildHasher> Model for Iter<'a, K, V, G, S> {
     ghost Value = { Walked K V };
 
     ghost view = { λ i. record {
@@ -52,7 +54,7 @@ impl<'a, K: Hash + Eq, V, S: BuildHasher> Model for Iter<'a, K, V, S> {
         i.sight.log i.number i.len i.rest.now };
 }
 
-impl<'a, K: Hash + Eq, V, S: BuildHasher> Iter<'a, K, V, S> {
+impl<'a, K: Hash + Eq, V, G, S: BuildHasher> Iter<'a, K, V, G, S> {
     /// A walk over a root that was taken, from its first slot on. `began` is what was seen
     /// before that. `iter` of a map makes its walk by this; a caller has no need of it.
     pub fn over(
@@ -61,7 +63,7 @@ impl<'a, K: Hash + Eq, V, S: BuildHasher> Iter<'a, K, V, S> {
         began: Seen<K, V, S>,
         sight: Seen<K, V, S>,
         root: Option<(u64, &'a Table<K, V, S>)>,
-    ) -> Iter<'a, K, V, S>
+    ) -> Iter<'a, K, V, G, S>
         requires kept { kept.now ≡ book.now.begun.book }
         requires seen { sight.book ≡ book.now.begun.book }
         requires root { IsRootOf (begun_of book.now.parts) began.log sight.log root }
@@ -81,6 +83,7 @@ impl<'a, K: Hash + Eq, V, S: BuildHasher> Iter<'a, K, V, S> {
             number,
             len: rest.len(),
             rest,
+            guard: PhantomData,
         }
     }
 
@@ -93,7 +96,7 @@ impl<'a, K: Hash + Eq, V, S: BuildHasher> Iter<'a, K, V, S> {
     }
 
     /// The same walk, from where this one stands.
-    pub(crate) fn again(&self) -> Iter<'a, K, V, S>
+    pub(crate) fn again(&self) -> Iter<'a, K, V, G, S>
         ensures { result ≡ self.now }
     {
         Iter {
@@ -104,6 +107,7 @@ impl<'a, K: Hash + Eq, V, S: BuildHasher> Iter<'a, K, V, S> {
             number: self.number,
             len: self.len,
             rest: self.rest,
+            guard: PhantomData,
         }
     }
 }
@@ -172,7 +176,7 @@ fn next_pair<'a, K: Hash + Eq, V, S: BuildHasher>(
     (rest, None)
 }
 
-impl<'a, K: Hash + Eq, V, S: BuildHasher> Iterator for Iter<'a, K, V, S> {
+impl<'a, K: Hash + Eq, V, G, S: BuildHasher> Iterator for Iter<'a, K, V, G, S> {
     type Item = (&'a K, &'a V);
 
     ghost next_gives = { Gives K.eq };
@@ -192,20 +196,20 @@ impl<'a, K: Hash + Eq, V, S: BuildHasher> Iterator for Iter<'a, K, V, S> {
 
 /// The keys of a map: `Keys` of 0.2.5.
 #[derive(Drop)]
-pub struct Keys<'a, K: Hash + Eq, V, S: BuildHasher> {
-    pub(crate) pairs: Iter<'a, K, V, S>,
+pub struct Keys<'a, K: Hash + Eq, V, G, S: BuildHasher = BuildHasherDefault<FoldHasher>> {
+    pub(crate) pairs: Iter<'a, K, V, G, S>,
 }
 
-impl<'a, K: Hash + Eq, V, S: BuildHasher> Keys<'a, K, V, S> {
+impl<'a, K: Hash + Eq, V, G, S: BuildHasher> Keys<'a, K, V, G, S> {
     /// The keys of these pairs.
-    pub fn of(pairs: Iter<'a, K, V, S>) -> Keys<'a, K, V, S>
+    pub fn of(pairs: Iter<'a, K, V, G, S>) -> Keys<'a, K, V, G, S>
         ensures { result.pairs ≡ pairs.entry }
     {
         Keys { pairs }
     }
 
     /// The same keys, from where this walk stands.
-    pub fn again(&self) -> Keys<'a, K, V, S>
+    pub fn again(&self) -> Keys<'a, K, V, G, S>
         ensures { result ≡ self.now }
     {
         Keys {
@@ -214,7 +218,7 @@ impl<'a, K: Hash + Eq, V, S: BuildHasher> Keys<'a, K, V, S> {
     }
 }
 
-impl<'a, K: Hash + Eq, V, S: BuildHasher> Iterator for Keys<'a, K, V, S> {
+impl<'a, K: Hash + Eq, V, G, S: BuildHasher> Iterator for Keys<'a, K, V, G, S> {
     type Item = &'a K;
 
     ghost next_gives = { λ s key t. GivesKey K.eq s.pairs key t.pairs };
@@ -232,20 +236,20 @@ impl<'a, K: Hash + Eq, V, S: BuildHasher> Iterator for Keys<'a, K, V, S> {
 
 /// The values of a map: `Values` of 0.2.5.
 #[derive(Drop)]
-pub struct Values<'a, K: Hash + Eq, V, S: BuildHasher> {
-    pub(crate) pairs: Iter<'a, K, V, S>,
+pub struct Values<'a, K: Hash + Eq, V, G, S: BuildHasher = BuildHasherDefault<FoldHasher>> {
+    pub(crate) pairs: Iter<'a, K, V, G, S>,
 }
 
-impl<'a, K: Hash + Eq, V, S: BuildHasher> Values<'a, K, V, S> {
+impl<'a, K: Hash + Eq, V, G, S: BuildHasher> Values<'a, K, V, G, S> {
     /// The values of these pairs.
-    pub fn of(pairs: Iter<'a, K, V, S>) -> Values<'a, K, V, S>
+    pub fn of(pairs: Iter<'a, K, V, G, S>) -> Values<'a, K, V, G, S>
         ensures { result.pairs ≡ pairs.entry }
     {
         Values { pairs }
     }
 }
 
-impl<'a, K: Hash + Eq, V, S: BuildHasher> Iterator for Values<'a, K, V, S> {
+impl<'a, K: Hash + Eq, V, G, S: BuildHasher> Iterator for Values<'a, K, V, G, S> {
     type Item = &'a V;
 
     ghost next_gives = { λ s value t. GivesValue K.eq s.pairs value t.pairs };

@@ -4,6 +4,7 @@ ghost use Rattle.papaya_words.specs.declared.limits.TheConstants.{DEFAULT_CHUNK,
 ghost use Rattle.papaya_keys.specs.Sizes.{IsAllowed, IsSizeRefusal};
 ghost use Rattle.papaya_map.specs.Fixed.{IsFor};
 
+use papaya_keys::guard::{LocalGuard, OwnedGuard};
 use papaya_map::map::{HashMap, HashMapRef};
 use papaya_words::probe::{Refused, ResizeMode};
 use std::alloc::Global;
@@ -29,17 +30,17 @@ impl<K: Hash + Eq, S: BuildHasher> Model for HashSet<K, S> {
     ghost view = { λ s. s.map };
 }
 
-/// A set, as calls take it: `HashSetRef` of 0.2.5, but for the guard, which it needs none of. What
-/// it answers stays for as long as the set does. Contracts see what they see of the set, and what
+/// A set, as calls take it: `HashSetRef` of 0.2.5. Of the guard it has the type alone. What it
+/// answers stays for as long as the set does. Contracts see what they see of the set, and what
 /// had been seen of its history when it was pinned.
 #[derive(Drop)]
-pub struct HashSetRef<'a, K: Hash + Eq, S: BuildHasher> {
+pub struct HashSetRef<'a, K: Hash + Eq, S: BuildHasher, G> {
     pub(crate) set: &'a HashSet<K, S>,
-    pub(crate) keys: HashMapRef<'a, K, (), S>,
+    pub(crate) keys: HashMapRef<'a, K, (), S, G>,
     ghost of_set: { keys.map ≡ set.now },
 }
 
-impl<'a, K: Hash + Eq, S: BuildHasher> Model for HashSetRef<'a, K, S> {
+impl<'a, K: Hash + Eq, S: BuildHasher, G> Model for HashSetRef<'a, K, S, G> {
     ghost use Rattle.papaya_map.specs.Fixed.{Pinned};
 
     ghost Value = { Pinned K (Unit {0}) S };
@@ -169,7 +170,7 @@ impl<K: Hash + Eq, S: BuildHasher> HashSet<K, S> {
 
     /// The set, as calls take it: `pin` of 0.2.5. It writes no word.
     #[inline]
-    pub fn pin(&self) -> HashSetRef<'_, K, S>
+    pub fn pin(&self) -> HashSetRef<'_, K, S, LocalGuard<'_>>
         ensures { result.map ≡ self.now }
     {
         HashSetRef {
@@ -178,12 +179,15 @@ impl<K: Hash + Eq, S: BuildHasher> HashSet<K, S> {
         }
     }
 
-    /// The same as [`HashSet::pin`]: `pin_owned` of 0.2.5, whose reference may go to another
-    /// thread. Here each may, as it holds no guard.
-    pub fn pin_owned(&self) -> HashSetRef<'_, K, S>
+    /// The set, as [`HashSet::pin`] gives it, by the other guard's type: `pin_owned` of 0.2.5, whose
+    /// reference may go to another thread. Here each may, as it holds no guard.
+    pub fn pin_owned(&self) -> HashSetRef<'_, K, S, OwnedGuard<'_>>
         ensures { result.map ≡ self.now }
     {
-        self.pin()
+        HashSetRef {
+            set: self,
+            keys: self.map.pin_owned(),
+        }
     }
 
     /// How many keys were counted: `len` of 0.2.5. A change is counted a step after it was made.

@@ -23,7 +23,7 @@ use papaya_words::probe::Refused;
 use std::hash::{BuildHasher, Hash};
 use std::sync::Wait;
 
-impl<'a, K: Hash + Eq + Drop, V: Drop, S: BuildHasher> HashMapRef<'a, K, V, S> {
+impl<'a, K: Hash + Eq + Drop, V: Drop, S: BuildHasher, G: Guard> HashMapRef<'a, K, V, S, G> {
     /// What the closure makes of the key's pair, or of its absence: `compute` of 0.2.5. It is shown
     /// the pair, if there is one, and answers what is stored, that the pair is removed, or that
     /// nothing is changed.

@@ -23,7 +23,7 @@ use papaya_words::probe::Refused;
 use std::hash::{BuildHasher, Hash};
 use std::sync::Wait;
 
-impl<'a, K: Hash + Eq + Drop, V: Drop, S: BuildHasher> HashMapRef<'a, K, V, S> {
+impl<'a, K: Hash + Eq + Drop, V: Drop, S: BuildHasher, G: Guard> HashMapRef<'a, K, V, S, G> {
     /// Stores a pair, and answers the value that its key had: `insert` of 0.2.5. As its text
     /// says, a key that is stored stays: the one that was handed in is dropped then.
     ///

@@ -16,7 +16,7 @@ use papaya_lookup::lookup::look_up;
 use papaya_words::probe::Refused;
 use std::hash::{BuildHasher, Hash};
 
-impl<'a, K: Hash + Eq, V, S: BuildHasher> HashMapRef<'a, K, V, S> {
+impl<'a, K: Hash + Eq, V, S: BuildHasher, G: Guard> HashMapRef<'a, K, V, S, G> {
     /// The value of a key: `get` of 0.2.5. It loads words and nothing else: it waits for nobody,
     /// and takes no lock and no memory.
     #[inline(always)]

@@ -20,7 +20,7 @@ use papaya_words::probe::Refused;
 use std::hash::{BuildHasher, Hash};
 use std::sync::Wait;
 
-impl<'a, K: Hash + Eq, V, S: BuildHasher> HashMapRef<'a, K, V, S> {
+impl<'a, K: Hash + Eq, V, S: BuildHasher, G: Guard> HashMapRef<'a, K, V, S, G> {
     /// Removes a key's pair if the closure, which is shown it, answers true: `remove_if` of 0.2.5.
     ///
     /// `Ok(None)` where the key is absent, `Ok(Some(pair))` where that very pair was removed, and

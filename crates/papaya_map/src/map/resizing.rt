@@ -8,7 +8,7 @@ use papaya_words::probe::Refused;
 use std::hash::{BuildHasher, Hash};
 use std::sync::Wait;
 
-impl<'a, K: Hash + Eq, V, S: BuildHasher> HashMapRef<'a, K, V, S> {
+impl<'a, K: Hash + Eq, V, S: BuildHasher, G: Guard> HashMapRef<'a, K, V, S, G> {
     /// Makes room for so many pairs more than the map counts: `reserve` of 0.2.5. Refused as
     /// [`Session::reserve`](crate::session::Session::reserve) is.
     pub fn reserve<R: Wait>(&self, rt: &R, additional: usize) -> Result<(), Refused>

@@ -21,7 +21,7 @@ use papaya_words::probe::Refused;
 use std::hash::{BuildHasher, Hash};
 use std::sync::Wait;
 
-impl<'a, K: Hash + Eq, V, S: BuildHasher> HashMapRef<'a, K, V, S> {
+impl<'a, K: Hash + Eq, V, S: BuildHasher, G: Guard> HashMapRef<'a, K, V, S, G> {
     /// Removes the pairs for which the closure, which is shown each, answers false: `retain` of
     /// 0.2.5. The closure is shown a key's pair again where another call replaced it meanwhile, or
     /// where all is copied.
@@ -71,7 +71,7 @@ impl<'a, K: Hash + Eq, V, S: BuildHasher> HashMapRef<'a, K, V, S> {
         &self,
         rt: &R,
         pass: &mut Pass<K, V, S>,
-    ) -> Result<Iter<'a, K, V, S>, Refused>
+    ) -> Result<Iter<'a, K, V, G, S>, Refused>
         requires { pass.old.book ≡ self.now.map.book }
         ensures book { pass.new.book ≡ pass.old.book }
         ensures seen { IsPrefix pass.old.history pass.new.history }
@@ -105,7 +105,7 @@ impl<'a, K: Hash + Eq, V, S: BuildHasher> HashMapRef<'a, K, V, S> {
     }
 
     /// The pairs of the map, one by one: `iter` of 0.2.5. Refused as [`HashMapRef::iter_as`] is.
-    pub fn iter<R: Wait>(&self, rt: &R) -> Result<Iter<'a, K, V, S>, Refused>
+    pub fn iter<R: Wait>(&self, rt: &R) -> Result<Iter<'a, K, V, G, S>, Refused>
         ensures walk { IfOk result (λ pairs. pairs.book ≡ self.now.map.book) }
         ensures began { IfOk result (λ pairs. pairs.began ≡ []) }
         ensures refused { IfErr result (λ refused. IsMemoryOrCapacity refused) }
@@ -115,7 +115,7 @@ impl<'a, K: Hash + Eq, V, S: BuildHasher> HashMapRef<'a, K, V, S> {
     }
 
     /// The keys of the map, one by one: `keys` of 0.2.5. Refused as [`HashMapRef::iter_as`] is.
-    pub fn keys<R: Wait>(&self, rt: &R) -> Result<Keys<'a, K, V, S>, Refused>
+    pub fn keys<R: Wait>(&self, rt: &R) -> Result<Keys<'a, K, V, G, S>, Refused>
         ensures walk { IfOk result (λ keys. keys.pairs.book ≡ self.now.map.book) }
         ensures began { IfOk result (λ keys. keys.pairs.began ≡ []) }
         ensures refused { IfErr result (λ refused. IsMemoryOrCapacity refused) }
@@ -124,7 +124,7 @@ impl<'a, K: Hash + Eq, V, S: BuildHasher> HashMapRef<'a, K, V, S> {
     }
 
     /// The values of the map, one by one: `values` of 0.2.5. Refused as [`HashMapRef::iter_as`] is.
-    pub fn values<R: Wait>(&self, rt: &R) -> Result<Values<'a, K, V, S>, Refused>
+    pub fn values<R: Wait>(&self, rt: &R) -> Result<Values<'a, K, V, G, S>, Refused>
         ensures walk { IfOk result (λ values. values.pairs.book ≡ self.now.map.book) }
         ensures began { IfOk result (λ values. values.pairs.began ≡ []) }
         ensures refused { IfErr result (λ refused. IsMemoryOrCapacity refused) }
@@ -180,7 +180,7 @@ impl<K: Hash + Eq, V, S: BuildHasher> HashMap<K, V, S> {
         &'g self,
         rt: &R,
         guard: &'g G,
-    ) -> Result<Iter<'g, K, V, S>, Refused>
+    ) -> Result<Iter<'g, K, V, G, S>, Refused>
         ensures walk { IfOk result (λ pairs. pairs.book ≡ self.now.book) }
         ensures began { IfOk result (λ pairs. pairs.began ≡ []) }
         ensures right { G.collector_number guard.now ≡ self.now.collector
@@ -190,7 +190,7 @@ impl<K: Hash + Eq, V, S: BuildHasher> HashMap<K, V, S> {
     {
         self.verify(guard)?;
         let mut pass = self.numbered(guard.number());
-        self.pin().iter_as(rt, &mut pass)
+        self.pinned::<G>().iter_as(rt, &mut pass)
     }
 
     /// The keys of the map, one by one: `keys` of 0.2.5. Refused as [`HashMap::iter`] is.
@@ -198,7 +198,7 @@ impl<K: Hash + Eq, V, S: BuildHasher> HashMap<K, V, S> {
         &'g self,
         rt: &R,
         guard: &'g G,
-    ) -> Result<Keys<'g, K, V, S>, Refused>
+    ) -> Result<Keys<'g, K, V, G, S>, Refused>
         ensures walk { IfOk result (λ keys. keys.pairs.book ≡ self.now.book) }
         ensures began { IfOk result (λ keys. keys.pairs.began ≡ []) }
         ensures right { G.collector_number guard.now ≡ self.now.collector
@@ -214,7 +214,7 @@ impl<K: Hash + Eq, V, S: BuildHasher> HashMap<K, V, S> {
         &'g self,
         rt: &R,
         guard: &'g G,
-    ) -> Result<Values<'g, K, V, S>, Refused>
+    ) -> Result<Values<'g, K, V, G, S>, Refused>
         ensures walk { IfOk result (λ values. values.pairs.book ≡ self.now.book) }
         ensures began { IfOk result (λ values. values.pairs.began ≡ []) }
         ensures right { G.collector_number guard.now ≡ self.now.collector

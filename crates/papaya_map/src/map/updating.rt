@@ -18,7 +18,7 @@ use papaya_words::probe::Refused;
 use std::hash::{BuildHasher, Hash};
 use std::sync::Wait;
 
-impl<'a, K: Hash + Eq + Drop, V: Drop, S: BuildHasher> HashMapRef<'a, K, V, S> {
+impl<'a, K: Hash + Eq + Drop, V: Drop, S: BuildHasher, G: Guard> HashMapRef<'a, K, V, S, G> {
     /// Puts what the closure makes of the key's value in its place, and answers it: `update` of
     /// 0.2.5. `Ok(None)` where the key has none. The closure may be called again, where another
     /// call was first to replace the value that it was shown.

@@ -7,6 +7,7 @@ ghost use Rattle.papaya_change.specs.Writing.{IsMemoryOrCapacity};
 ghost use Rattle.papaya_scan.specs.Leaving.{HasDropped, HasKept, IsCleared};
 
 use crate::session::Session;
+use papaya_keys::guard::LocalGuard;
 use papaya_scan::retain::retain;
 use papaya_scan::walk::{Iter, Keys, Values};
 use papaya_words::probe::Refused;
@@ -89,7 +90,7 @@ impl<'a, K: Hash + Eq, V, S: BuildHasher> Session<'a, K, V, S> {
     ///
     /// With `Blocking` it takes the root as it is. Else it copies first what is left to copy, and
     /// may be refused as [`Session::retain`] is.
-    pub fn iter<R: Wait>(&mut self, rt: &R) -> Result<Iter<'a, K, V, S>, Refused>
+    pub fn iter<R: Wait>(&mut self, rt: &R) -> Result<Iter<'a, K, V, LocalGuard<'a>, S>, Refused>
         ensures map { self.new.map ≡ self.old.map }
         ensures seen { IsPrefix self.old.history self.new.history }
         ensures tables { IsPrefix self.old.tables self.new.tables }
@@ -105,7 +106,7 @@ impl<'a, K: Hash + Eq, V, S: BuildHasher> Session<'a, K, V, S> {
     }
 
     /// Returns the keys of the map, one by one: `keys` of 0.2.5. Refused as [`Session::iter`] is.
-    pub fn keys<R: Wait>(&mut self, rt: &R) -> Result<Keys<'a, K, V, S>, Refused>
+    pub fn keys<R: Wait>(&mut self, rt: &R) -> Result<Keys<'a, K, V, LocalGuard<'a>, S>, Refused>
         ensures map { self.new.map ≡ self.old.map }
         ensures seen { IsPrefix self.old.history self.new.history }
         ensures tables { IsPrefix self.old.tables self.new.tables }
@@ -122,7 +123,10 @@ impl<'a, K: Hash + Eq, V, S: BuildHasher> Session<'a, K, V, S> {
 
     /// Returns the values of the map, one by one: `values` of 0.2.5. Refused as [`Session::iter`]
     /// is.
-    pub fn values<R: Wait>(&mut self, rt: &R) -> Result<Values<'a, K, V, S>, Refused>
+    pub fn values<R: Wait>(
+        &mut self,
+        rt: &R,
+    ) -> Result<Values<'a, K, V, LocalGuard<'a>, S>, Refused>
         ensures map { self.new.map ≡ self.old.map }
         ensures seen { IsPrefix self.old.history self.new.history }
         ensures tables { IsPrefix self.old.tables self.new.tables }
