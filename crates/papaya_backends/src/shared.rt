@@ -10,6 +10,7 @@ ghost use Rattle.papaya_shell.specs.Failure.{without_memory};
 ghost use Rattle.papaya_backends.specs.Shared.{IsBad, IsCleared, IsMissing, IsWalked, Obeys, ObeysLine, WereHad};
 
 use crate::line_by_line::{Obey, run_lines};
+use papaya_keys::guard::LocalGuard;
 use papaya_lines::closures::follower;
 use papaya_lines::commands::{Command, command_of};
 use papaya_lines::printed::Printed;
@@ -29,7 +30,7 @@ const SHARDS: usize = 16;
 /// Returns the pairs of an iterator.
 fn listed<S: BuildHasher + Drop>(
     alloc: Global,
-    pairs: Iter<'_, u64, u64, S>,
+    pairs: Iter<'_, u64, u64, LocalGuard<'_>, S>,
 ) -> Result<Vec<(u64, u64)>, Failure>
     ensures had { IfOk result (λ listed. WereHad pairs.entry.began listed.items) }
     ensures failed { IfErr result (λ failure. failure ≡ without_memory) }
@@ -45,7 +46,7 @@ fn listed<S: BuildHasher + Drop>(
 #[derive(Drop)]
 struct Caller<'a, H: Wait, S: BuildHasher> {
     rt: &'a H,
-    map: HashMapRef<'a, u64, u64, S>,
+    map: HashMapRef<'a, u64, u64, S, LocalGuard<'a>>,
     ghost unlimited: { map.map.begun.limit ≡ None },
 }
 
