@@ -18,6 +18,8 @@ mod plain;
 #[cfg(test)]
 mod plans;
 #[cfg(test)]
+mod refused;
+#[cfg(test)]
 mod resizing;
 #[cfg(test)]
 mod schedules;

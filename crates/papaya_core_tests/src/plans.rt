@@ -119,7 +119,7 @@ impl Plan {
     }
 
     /// Returns whether the call removes pairs one by one, so that it may come back to a key.
-    fn scans(self) -> bool {
+    pub(crate) fn scans(self) -> bool {
         matches!(self, Plan::Clear | Plan::Retain(_))
     }
 }
@@ -164,7 +164,7 @@ fn called(plan: Plan, held: Option<u64>) -> Then {
 }
 
 /// Returns a call's result for a key (of an iteration the pair), and the key's value afterwards.
-fn at_key(plan: Plan, key: u64, held: Option<u64>) -> (Option<Reply>, Option<u64>) {
+pub(crate) fn at_key(plan: Plan, key: u64, held: Option<u64>) -> (Option<Reply>, Option<u64>) {
     match (plan, held) {
         (Plan::Clear, _) => (None, None),
         (Plan::Retain(says), Some(value)) if !says.agrees(value) => (None, None),

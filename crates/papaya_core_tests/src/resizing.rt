@@ -34,9 +34,11 @@ fn stopped_at(alloc: Global, core: &mut Numbers, steps: usize) -> Result<Option<
     Ok(reply_to(&trace, 1))
 }
 
-/// Continues caller 1's insertion. Returns its reply, if it had none yet.
-fn ended(alloc: Global, core: &mut Numbers) -> Result<Option<Reply>, Fail> {
-    let trace = go_on(alloc, core, 1)?;
+/// Caller 1 goes on with the insertion, and its first step may have no memory: its reply, if it had
+/// none yet.
+fn ended(alloc: Global, core: &mut Numbers, refuse: bool) -> Result<Option<Reply>, Fail> {
+    let turns = vec![in alloc; Turn::Step(1, refuse), Turn::Finish(1, WHOLE)]?;
+    let trace = core.run(turns)?;
     Ok(reply_to(&trace, 1))
 }
 
@@ -51,20 +53,121 @@ fn removes_0(
     replies(rt, alloc, core, case, removal(alloc, 0, true)?, removed)
 }
 
+/// A caller makes so many steps at most of the walk that it is at: what that came to, if it ended.
+fn walks_on(core: &mut Numbers, caller: usize, most: usize) -> Option<Outcome> {
+    for _ in 0..most {
+        if !core.running(caller) {
+            return None;
+        }
+        if let Some(outcome) = core.step(caller, false) {
+            return Some(outcome);
+        }
+    }
+    None
+}
+
+/// A caller begins a walk, and makes so many steps of it at most.
+fn walks(core: &mut Numbers, caller: usize, most: usize) -> Result<Option<Outcome>, Fail> {
+    if !core.running(caller) {
+        core.begin(caller, Call::Walk)?;
+    }
+    Ok(walks_on(core, caller, most))
+}
+
+/// The keys that a walk gave, by size.
+fn given(alloc: Global, core: &Numbers, walked: Option<Outcome>) -> Result<Vec<u64>, Fail> {
+    let mut keys = Vec::new(alloc);
+    if let Some(Outcome::Walked(numbers)) = walked {
+        for number in &numbers {
+            if let Some((key, _)) = core.pair(*number) {
+                keys.push(*key)?;
+            }
+        }
+    }
+    keys.sort()?;
+    Ok(keys)
+}
+
+/// A walk gave each key once, but at most once this one and the one that is inserted.
+fn gives(
+    rt: &impl Abort,
+    alloc: Global,
+    core: &Numbers,
+    steps: usize,
+    walked: Option<Outcome>,
+    unsure: u64,
+) -> Result<(), Fail> {
+    let keys = given(alloc, core, walked)?;
+    let mut wanted = Vec::new(alloc);
+    for key in 0..KEYS + 1 {
+        if key != unsure && key != KEYS || keys.contains(&key) {
+            wanted.push(key)?;
+        }
+    }
+    is_at(rt, steps, keys, wanted);
+    Ok(())
+}
+
+/// Caller 2 ends the resize, or walks.
+fn copies_or_walks(
+    rt: &impl Abort,
+    alloc: Global,
+    core: &mut Numbers,
+    steps: usize,
+    case: Case,
+) -> Result<(), Fail> {
+    if matches!(case, Case::CopyBeside) {
+        return replies(rt, alloc, core, (steps, 2), Call::CopyAll, Reply::Done);
+    }
+    let walked = walks(core, 2, WHOLE)?;
+    gives(rt, alloc, core, steps, walked, KEYS)
+}
+
 /// Lets caller 2 finish the resize and remove key 0, and then caller 1 continue with an insertion.
 fn removal_beside(
     rt: &impl Abort,
     alloc: Global,
     core: &mut Numbers,
     steps: usize,
+    case: Case,
 ) -> Result<(), Fail> {
     let early = stopped_at(alloc, core, steps)?;
-    replies(rt, alloc, core, (steps, 2), Call::CopyAll, Reply::Done)?;
+    copies_or_walks(rt, alloc, core, steps, case)?;
     removes_0(rt, alloc, core, (steps, 2))?;
-    let reply = early.or(ended(alloc, core)?);
-    let wanted = Some(Reply::Inserted(value(KEYS)));
-    is_at(rt, steps, by_value(core, reply), wanted);
-    holds(rt, alloc, core, steps, (1, KEYS + 1))
+    let refuse = matches!(case, Case::RefusalBeside);
+    let late = ended(alloc, core, refuse)?;
+    let reply = by_value(core, early.or(late));
+    let (wanted, end) = if refuse && reply == Some(Reply::Refused(Refused::Memory)) {
+        (reply, KEYS)
+    } else {
+        (Some(Reply::Inserted(value(KEYS))), KEYS + 1)
+    };
+    is_at(rt, steps, reply, wanted);
+    holds(rt, alloc, core, steps, (1, end))
+}
+
+/// Caller 1 walks and is stopped, caller 2 inserts a key and removes key 3, and then caller 1 goes
+/// on.
+fn walk_stopped(
+    rt: &impl Abort,
+    alloc: Global,
+    core: &mut Numbers,
+    steps: usize,
+) -> Result<(), Fail> {
+    let early = walks(core, 1, steps)?;
+    let inserted = Reply::Inserted(value(KEYS));
+    replies(rt, alloc, core, (steps, 2), insertion(), inserted)?;
+    let removed = Reply::Removed(value(3));
+    replies(
+        rt,
+        alloc,
+        core,
+        (steps, 2),
+        removal(alloc, 3, true)?,
+        removed,
+    )?;
+    let late = walks_on(core, 1, WHOLE);
+    gives(rt, alloc, core, steps, early.or(late), 3)
 }
 
 /// Checks that none of the keys of the full table is there.
@@ -85,7 +188,7 @@ fn retain_beside(
     let _ = stopped_at(alloc, core, steps)?;
     let retain = retain_of_nothing(alloc);
     replies(rt, alloc, core, (steps, 2), retain, Reply::Done)?;
-    let _ = ended(alloc, core)?;
+    let _ = ended(alloc, core, false)?;
     is_gone(rt, alloc, core, steps)
 }
 
@@ -131,21 +234,6 @@ fn refuses_table(rt: &impl Abort, alloc: Global, core: &mut Numbers) -> Result<(
     holds(rt, alloc, core, 4, (0, KEYS))
 }
 
-/// Steps an iteration of caller 2 to its end.
-fn walked(core: &mut Numbers) -> Result<Option<Outcome>, Fail> {
-    if !core.running(2) {
-        core.begin(2, Call::Walk)?;
-    }
-    for _ in 0..WHOLE {
-        if core.running(2) {
-            if let Some(outcome) = core.step(2, false) {
-                return Ok(Some(outcome));
-            }
-        }
-    }
-    Ok(None)
-}
-
 /// Returns the numbers of the pairs of an iteration, sorted.
 fn sorted(outcome: Option<Outcome>) -> Result<Option<Outcome>, Fail> {
     match outcome {
@@ -160,7 +248,7 @@ fn sorted(outcome: Option<Outcome>) -> Result<Option<Outcome>, Fail> {
 /// Checks that an iteration that is stepped returns its list, without key 0.
 fn walks_by_hand(rt: &impl Abort, alloc: Global, core: &mut Numbers) -> Result<(), Fail> {
     removes_0(rt, alloc, core, (0, 1))?;
-    let outcome = sorted(walked(core)?)?;
+    let outcome = sorted(walks(core, 2, WHOLE)?)?;
     let numbers = vec![in alloc; 1, 2, 3, 4, 5, 6, 7]?;
     is(rt, outcome, Some(Outcome::Walked(numbers)));
     Ok(())
@@ -169,8 +257,15 @@ fn walks_by_hand(rt: &impl Abort, alloc: Global, core: &mut Numbers) -> Result<(
 /// The cases of a full table.
 #[derive(Clone, Copy)]
 enum Case {
-    RemovalBeside,
+    /// An insertion is stopped. Beside it all is copied, or walked, and a key removed.
+    CopyBeside,
+    WalkBeside,
+    /// The same, and the insertion's next step has no memory.
+    RefusalBeside,
+    /// An insertion is stopped, and beside it no pair is retained.
     RetainBeside,
+    /// A walk is stopped. Beside it a key is inserted, and another removed.
+    WalkStopped,
     AsksOnce,
     RefusesRoom,
     RefusesTable,
@@ -185,8 +280,11 @@ fn is_done(
     steps: usize,
 ) -> Result<(), Fail> {
     match case {
-        Case::RemovalBeside => removal_beside(rt, alloc, core, steps),
+        Case::CopyBeside | Case::WalkBeside | Case::RefusalBeside => {
+            removal_beside(rt, alloc, core, steps, case)
+        }
         Case::RetainBeside => retain_beside(rt, alloc, core, steps),
+        Case::WalkStopped => walk_stopped(rt, alloc, core, steps),
         Case::AsksOnce => asks_once(rt, alloc, core),
         Case::RefusesRoom => refuses_room(rt, alloc, core),
         Case::RefusesTable => refuses_table(rt, alloc, core),
@@ -232,13 +330,17 @@ fn at_each_step(rt: &impl Abort, alloc: Global, case: Case) -> Result<(), Fail> 
 }
 
 #[test]
-fn a_copy_and_a_removal_beside_a_stopped_insertion(rt: HostRuntime) -> Result<(), Fail> {
-    at_each_step(&rt, rt.alloc(), Case::RemovalBeside)
-}
-
-#[test]
-fn retain_of_nothing_beside_a_stopped_insertion(rt: HostRuntime) -> Result<(), Fail> {
-    at_each_step(&rt, rt.alloc(), Case::RetainBeside)
+fn calls_beside_one_that_is_stopped_in_a_full_table(rt: HostRuntime) -> Result<(), Fail> {
+    for case in [
+        Case::CopyBeside,
+        Case::WalkBeside,
+        Case::RefusalBeside,
+        Case::RetainBeside,
+        Case::WalkStopped,
+    ] {
+        at_each_step(&rt, rt.alloc(), case)?;
+    }
+    Ok(())
 }
 
 /// Stores the keys of a range, and checks that no table is made for them.

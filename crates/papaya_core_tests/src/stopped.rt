@@ -15,7 +15,7 @@ use std::hash::BuildHasher;
 use std::process::Abort;
 use std::test::Fail;
 
-type Ruled<S> = Core<u64, u64, S, Says>;
+pub(crate) type Ruled<S> = Core<u64, u64, S, Says>;
 
 /// More steps than any of the stopped calls makes.
 const MOST: usize = 2000;
@@ -23,15 +23,15 @@ const MOST: usize = 2000;
 /// The map when the first call begins: the capacity for which it was made, how many keys were
 /// stored, and the key from which on they were removed.
 #[derive(Clone, Copy)]
-struct Start {
-    capacity: usize,
-    stored: u64,
-    left: u64,
+pub(crate) struct Start {
+    pub(crate) capacity: usize,
+    pub(crate) stored: u64,
+    pub(crate) left: u64,
 }
 
 impl Start {
     /// Returns the value of a key.
-    fn held(self, key: u64) -> Option<u64> {
+    pub(crate) fn held(self, key: u64) -> Option<u64> {
         if key < self.left {
             Some(value(key))
         } else {
@@ -55,7 +55,7 @@ const ONE: Start = Start {
 };
 
 /// A table of 8 slots is full.
-const FULL: Start = Start {
+pub(crate) const FULL: Start = Start {
     capacity: 6,
     stored: 8,
     left: 8,
@@ -70,7 +70,7 @@ const TOMBSTONE: Start = Start {
 
 /// A table of 8 slots is full. The first of its chunks, each of one slot, is copied to the next
 /// table, which has one more key.
-const COPIED: Start = Start {
+pub(crate) const COPIED: Start = Start {
     capacity: 6,
     stored: 9,
     left: 9,
@@ -104,12 +104,12 @@ fn makes<S: BuildHasher>(
 
 /// The outcome of a call: its reply, by the values of pairs, and the pairs of an iteration.
 #[derive(Drop)]
-struct Said {
+pub(crate) struct Said {
     reply: Option<Reply>,
     given: Vec<(u64, u64)>,
 }
 
-fn heard<S: BuildHasher>(
+pub(crate) fn heard<S: BuildHasher>(
     alloc: Global,
     core: &Ruled<S>,
     outcome: Option<Outcome>,
@@ -132,7 +132,7 @@ fn heard<S: BuildHasher>(
 }
 
 /// Makes a caller's call whole.
-fn said_by<S: BuildHasher>(
+pub(crate) fn said_by<S: BuildHasher>(
     alloc: Global,
     core: &mut Ruled<S>,
     caller: usize,
@@ -157,7 +157,7 @@ fn given_to(key: u64, given: &[(u64, u64)]) -> Option<Reply> {
 }
 
 /// Returns the result of a call for a key.
-fn told_of(key: u64, plan: Plan, said: &Said) -> Option<Reply> {
+pub(crate) fn told_of(key: u64, plan: Plan, said: &Said) -> Option<Reply> {
     match plan {
         Plan::Walk => given_to(key, &said.given),
         _ if plan.key() == Some(key) => said.reply,
@@ -166,7 +166,7 @@ fn told_of(key: u64, plan: Plan, said: &Said) -> Option<Reply> {
 }
 
 /// Returns the value that a lookup finds.
-fn found<S: BuildHasher>(core: &mut Ruled<S>, key: u64) -> Result<Option<u64>, Fail> {
+pub(crate) fn found<S: BuildHasher>(core: &mut Ruled<S>, key: u64) -> Result<Option<u64>, Fail> {
     let outcome = makes(core, 2, Plan::Get(key), WHOLE)?;
     match outcome {
         Some(Outcome::Replied(reply)) => match by_value(core, Some(reply)) {
@@ -212,7 +212,7 @@ fn is_done(rt: &impl Abort, case: usize, plan: Plan, said: &Said) {
 }
 
 /// Creates a map with the keys of `start`.
-fn begun<S: BuildHasher + Drop>(
+pub(crate) fn begun<S: BuildHasher + Drop>(
     alloc: Global,
     mode: ResizeMode,
     hasher: S,

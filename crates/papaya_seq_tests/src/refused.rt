@@ -2,10 +2,12 @@
 // `rt try --test --fail-alloc N`, a call here meets it.
 use crate::expect::{is, is_at};
 use crate::numbers::{Numbers, Parts, Work, on_made, removes};
-use papaya_call::answers::Operation;
-use papaya_testing::times::{TOGETHER, Times};
-use papaya_words::probe::Refused;
-use std::alloc::Global;
+use papaya_ask::call::{Call, Reply};
+use papaya_call::answers::{Listed, Operation};
+use papaya_seq::outcome::Outcome;
+use papaya_testing::times::{APART, TOGETHER, Times};
+use papaya_words::probe::{Refused, ResizeMode};
+use std::alloc::{AllocError, Global};
 use std::process::Abort;
 use std::test::Fail;
 
@@ -123,9 +125,155 @@ fn reclaims(map: &mut Numbers, end: u64) -> Result<bool, Refused> {
     }
 }
 
+type Asked = Call<u64, u64, Listed<u64>>;
+
+/// How many keys are inserted by the calls that are run.
+const RUN: u64 = 12;
+
+/// What a closure answers, of which a call uses one list.
+fn listed(
+    alloc: Global,
+    op: Option<Operation<u64, u64>>,
+    yes: u64,
+) -> Result<Listed<u64>, AllocError> {
+    let (mut ops, mut agreed) = (Vec::new(alloc), Vec::new(alloc));
+    if let Some(op) = op {
+        ops.push(op)?;
+    }
+    for _ in 0..yes {
+        agreed.push(true)?;
+    }
+    Ok(Listed { ops, yes: agreed })
+}
+
+/// Calls that are run in turn: three insert the keys, each of which is looked up. Then a resize is
+/// ended, room is made, a pair kept, and all are retained and walked.
+fn calls(alloc: Global) -> Result<Vec<Asked>, AllocError> {
+    let mut calls = Vec::new(alloc);
+    for key in 0..RUN {
+        let value = key.wrapping_mul(10);
+        calls.push(match key % 3 {
+            0 => Call::Insert(key, value),
+            1 => Call::TryInsert(key, value),
+            _ => Call::Compute(key, listed(alloc, Some(Operation::Insert(value)), 0)?),
+        })?;
+        calls.push(Call::Get(key))?;
+    }
+    calls.push(Call::CopyAll)?;
+    calls.push(Call::Reserve(40))?;
+    calls.push(Call::RemoveIf(0, listed(alloc, None, 0)?))?;
+    calls.push(Call::Retain(listed(alloc, None, RUN)?))?;
+    calls.push(Call::Walk)?;
+    Ok(calls)
+}
+
+/// The same, also where memory was refused for their list at first.
+fn calls_again(alloc: Global) -> Result<Vec<Asked>, AllocError> {
+    if let Ok(calls) = calls(alloc) {
+        return Ok(calls);
+    }
+    calls(alloc)
+}
+
+/// A new map runs them. Where there is no room for what they come to, none was made.
+fn run_again(alloc: Global, map: &mut Numbers) -> Result<Vec<Outcome>, Fail> {
+    match map.run(calls_again(alloc)?) {
+        Err(Refused::Memory) if has_below(map, 0) => Ok(map.run(calls_again(alloc)?)?),
+        outcomes => Ok(outcomes?),
+    }
+}
+
+/// What an outcome tells.
+#[derive(Clone, Copy, PartialEq)]
+enum Told {
+    /// A pair was inserted, or found or kept.
+    Inserted(u64),
+    Is(u64),
+    Absent,
+    Done,
+    /// There was no memory.
+    Memory,
+    Other,
+}
+
+fn told(outcome: &Outcome) -> Told {
+    match outcome {
+        Outcome::Replied(Reply::Inserted(number)) => Told::Inserted(*number),
+        Outcome::Replied(Reply::Found(number) | Reply::Kept(number)) => Told::Is(*number),
+        Outcome::Replied(Reply::Absent) => Told::Absent,
+        Outcome::Replied(Reply::Done) => Told::Done,
+        Outcome::Replied(Reply::Refused(Refused::Memory)) => Told::Memory,
+        _ => Told::Other,
+    }
+}
+
+/// Was a key inserted with ten times itself and found then, or refused and not found?
+fn is_told(map: &Numbers, key: u64, inserted: Told, found: Told) -> bool {
+    match inserted {
+        Told::Inserted(number) => {
+            found == Told::Is(number) && map.pair(number) == Some((&key, &(key.wrapping_mul(10))))
+        }
+        Told::Memory => found == Told::Absent,
+        _ => false,
+    }
+}
+
+/// Did the calls come to what they should, where one request is refused at most?
+fn is_run(map: &Numbers, outcomes: &[Outcome]) -> bool {
+    let (mut refused, mut held) = (0usize, 0usize);
+    for outcome in outcomes {
+        if told(outcome) == Told::Memory {
+            refused = refused.wrapping_add(1);
+        }
+    }
+    for key in 0..RUN {
+        let at = key as usize * 2;
+        let inserted = told(&outcomes[at]);
+        if !is_told(map, key, inserted, told(&outcomes[at + 1])) {
+            return false;
+        }
+        if inserted != Told::Memory {
+            held = held.wrapping_add(1);
+        }
+    }
+    let last = RUN as usize * 2;
+    let kept = match told(&outcomes[0]) {
+        Told::Inserted(number) => Told::Is(number),
+        _ => Told::Absent,
+    };
+    for (at, wanted) in [Told::Done, Told::Done, kept, Told::Done]
+        .iter()
+        .enumerate()
+    {
+        let told = told(&outcomes[last + at]);
+        if told != *wanted && told != Told::Memory {
+            return false;
+        }
+    }
+    let is_walked = match &outcomes[last + 4] {
+        Outcome::Walked(numbers) => numbers.len() == held,
+        outcome => told(outcome) == Told::Memory,
+    };
+    is_walked && refused <= 1 && map.len() == held
+}
+
+/// Calls are run. Then each key is inserted that was refused.
+fn runs(rt: &impl Abort, alloc: Global, map: &mut Numbers) -> Result<(), Fail> {
+    let outcomes = run_again(alloc, map)?;
+    is(rt, is_run(map, &outcomes), true);
+    for key in 0..RUN {
+        if map.get(&key).is_none() {
+            let _ = map.insert(key, key.wrapping_mul(10))?;
+        }
+    }
+    is(rt, has_below(map, RUN), true);
+    Ok(())
+}
+
 /// The cases of a new map.
 #[derive(Clone, Copy)]
 enum Case {
+    Runs,
     Grows,
     Fills(Insertion),
     Updates,
@@ -137,6 +285,7 @@ impl Work<Times> for Case {
         match self {
             Case::Grows => grows(rt, map),
             Case::Fills(by) => fills(rt, map, by),
+            Case::Runs => runs(rt, alloc, map),
             Case::Updates => {
                 is(rt, insert_again(map, 0, Insertion::Insert)?, true);
                 for time in 0..20 {
@@ -174,6 +323,15 @@ fn refused_computes_leave_the_map(rt: HostRuntime) -> Result<(), Fail> {
         Insertion::Compute,
     ] {
         on_made(&rt, rt.alloc(), PARTS, Case::Fills(by))?;
+    }
+    Ok(())
+}
+
+/// In a table of eight slots.
+#[test]
+fn refused_calls_that_are_run_leave_the_map(rt: HostRuntime) -> Result<(), Fail> {
+    for mode in [ResizeMode::Incremental(1), ResizeMode::Blocking] {
+        on_made(&rt, rt.alloc(), Parts::All(mode, 6, APART), Case::Runs)?;
     }
     Ok(())
 }
