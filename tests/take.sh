@@ -139,5 +139,10 @@ same 'a repository whose HANDLES lacks a word' 0 "$(KIT='rattle-kit-0' take .)"
 same 'is told so, and that its kit is another' "take: HANDLES of . lacks Threads, so its gate will refuse papaya
 take: these were proved with $kit, and rt is of rattle-kit-0" "$(cat "$room/errors")"
 same 'its HANDLES stays' 'Handles allowed: Wait.' "$(cat HANDLES)"
+echo 'Handles allowed: Threads, Wait, Net.' >HANDLES
+same 'a repository whose HANDLES has more' 0 "$(take .)"
+same 'is told what that costs' "take: HANDLES of . allows more than papaya's own, so the gate there proves papaya once for itself" \
+    "$(grep HANDLES "$room/output")"
+same 'nothing is amiss there' '' "$(cat "$room/errors")"
 
 told take.sh

@@ -43,7 +43,7 @@ done
 
 # What take says of the proofs (take.sh has what it says where there are none), and what a check says of functions and of
 # the libraries that it builds.
-take() { "$from/tools/take" "$to" "$@" | tail -n +2; }
+take() { "$from/tools/take" "$to" "$@" | tail -n +3; }
 check() {
     (cd "$to/crates/$1" && rt check) 2>&1 | grep -E '^(fn |logic=|rt: chose )' | sed 's/ functions=.*//; s/--jobs [0-9]*/--jobs N/'
 }
