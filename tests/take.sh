@@ -51,8 +51,8 @@ for time in first second; do
     same "the $time time, each crate is listed" "$(ls "$room/to/crates")" \
         "$(cut -d: -f1 "$room/to/crates.txt" | grep -v '^shop$' | sort)"
 done
-same 'it is said that a first check is long' 'take: rt ci has proved 0 of them on this machine, and a first rt check there proves the others, in far over an hour;
-take: better run rt ci papaya in '"$from"', half an hour to two hours on four processors, and then take again' "$(tail -n +2 "$room/output")"
+same 'it is said that a first check is long' 'take: rt ci has proved 0 of them on this machine, and a first rt check there proves the others, one by one: far over an hour for all;
+take: better run rt ci papaya in '"$from"', half an hour to two hours for all on four processors, and then take again' "$(tail -n +2 "$room/output")"
 same 'no test, program or caller is taken' '' "$(ls "$room/to/crates" | grep -E '_tests$|_run$|_bench$|_uses$' || true)"
 same 'the handles go along' "$(cat "$top/HANDLES")" "$(cat "$room/to/HANDLES")"
 same "the user's own line stays" 'shop: papaya' "$(grep shop "$room/to/crates.txt")"
@@ -139,5 +139,10 @@ same 'a repository whose HANDLES lacks a word' 0 "$(KIT='rattle-kit-0' take .)"
 same 'is told so, and that its kit is another' "take: HANDLES of . lacks Threads, so its gate will refuse papaya
 take: these were proved with $kit, and rt is of rattle-kit-0" "$(cat "$room/errors")"
 same 'its HANDLES stays' 'Handles allowed: Wait.' "$(cat HANDLES)"
+echo 'Handles allowed: Threads, Wait, Net.' >HANDLES
+same 'a repository whose HANDLES has more' 0 "$(take .)"
+same 'is told what that costs' "take: HANDLES of . allows more than papaya's own, so the gate there proves papaya once for itself" \
+    "$(grep HANDLES "$room/output")"
+same 'nothing is amiss there' '' "$(cat "$room/errors")"
 
 told take.sh

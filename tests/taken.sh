@@ -43,7 +43,7 @@ done
 
 # What take says of the proofs (take.sh has what it says where there are none), and what a check says of functions and of
 # the libraries that it builds.
-take() { "$from/tools/take" "$to" "$@" | tail -n +2; }
+take() { "$from/tools/take" "$to" "$@" | tail -n +3; }
 check() {
     (cd "$to/crates/$1" && rt check) 2>&1 | grep -E '^(fn |logic=|rt: chose )' | sed 's/ functions=.*//; s/--jobs [0-9]*/--jobs N/'
 }
@@ -54,7 +54,7 @@ same 'what it has proved goes along' "$alone" "$(take)"
 same 'a first check proves the crate alone' 'rt: chose --jobs N for shop
 fn shop::one: proved
 logic=proved' "$(check shop)"
-same 'of three crates two are proved' 'take: rt ci has proved 2 of them on this machine, and a first rt check there proves the others, in far over an hour;' \
+same 'of three crates two are proved' 'take: rt ci has proved 2 of them on this machine, and a first rt check there proves the others, one by one: far over an hour for all;' \
     "$(take papaya_more | head -1)"
 same 'a check of the third begins with these' 'rt: chose --jobs N for papaya_more
 fn papaya_more::one: proved
