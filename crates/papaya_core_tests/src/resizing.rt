@@ -34,8 +34,8 @@ fn stopped_at(alloc: Global, core: &mut Numbers, steps: usize) -> Result<Option<
     Ok(reply_to(&trace, 1))
 }
 
-/// Caller 1 goes on with the insertion, and its first step may have no memory: its reply, if it had
-/// none yet.
+/// Continues caller 1's insertion, whose first step may run out of memory. Returns its reply, if it
+/// had none yet.
 fn ended(alloc: Global, core: &mut Numbers, refuse: bool) -> Result<Option<Reply>, Fail> {
     let turns = vec![in alloc; Turn::Step(1, refuse), Turn::Finish(1, WHOLE)]?;
     let trace = core.run(turns)?;
