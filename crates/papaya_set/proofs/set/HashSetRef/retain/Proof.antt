@@ -63,8 +63,12 @@ retain_spec 𝓤 𝓛 𝓜 𝓡 wired K S G S-Hasher R F LK LS LG LH LR LF K-Has
     (λ log. IsSince a.0.now K-PartialEq.eq (λ h.
     ((made : List (Change K.Denot (Stored K.Denot (Unit {0}))))
     × HasKept K-PartialEq.eq a.0.now.seen h [] made (JudgesKey F-FnMut) a.1.1.0 r.answer)) (history_of log)) f.0 (f.1, f.2, f.3)
-    (record { history = history_of r.log; legal = f.1; told = kept a.0.now.seen (history_of r.log) K-PartialEq.eq (JudgesKey F-FnMut) a.1.1.0 r.answer
-    f.3 }) f.4)
+    (record {
+      history = history_of r.log;
+      legal = f.1;
+      told = kept a.0.now.seen (history_of r.log) K-PartialEq.eq (JudgesKey F-FnMut) a.1.1.0 r.answer
+          f.3;
+    }) f.4)
     (λ κs. let ℓ : NamedLft = record { mir = named 1; lft = κs.1.0 } in result_laws unit-field.row RefusedRow unit_laws refused_laws)
     (λ κs x f. refl, (λ κs x f. refl, (λ κs x f. refl, tt))) (#self inst) (#callee inst) (inst_fn inst code.function)
     (code.unfolded 𝓤 𝓛.H 𝓜 𝓡 wired (K, (S, (G, (S-Hasher, (R, (F, tt)))))) K-Hash-dict K-Eq-dict K-PartialEq-dict S-BuildHasher-dict
