@@ -1,6 +1,6 @@
-// Each step of a call has no memory once, also in the midst of a copy. Where that step makes a key, a
-// value, a pair or a table, the call is refused for want of memory, and no pair is lost; then there
-// is memory, and the call is made. What each comes to is as a plain map has it.
+// Each step of a call runs out of memory once, also in the midst of a copy. If that step makes a
+// key, a value, an entry or a table, the call fails with `Memory` and no entry is lost. Then there
+// is memory, and the call is made. Each outcome is that of a plain map.
 use crate::expect::is_at;
 use crate::plain::WHOLE;
 use crate::plans::{Plan, Says, at_key};
@@ -32,11 +32,11 @@ const CROWDED_AND_COPIED: Start = Start {
     left: 40,
 };
 
-/// A map, and whether an insertion into it was refused in the midst of its copy.
+/// A map, and whether an insertion into it failed in the midst of its copy.
 type Map = (ResizeMode, Times, Start, bool);
 
-/// No step of a caller has memory from the one with this number on: what its call comes to, and the
-/// number of its last step.
+/// Runs a caller to its end; from the step with this number on no step has memory. Returns the
+/// outcome of its call, and the number of its last step.
 fn ends_without(core: &mut Numbers, caller: usize, from: usize) -> (Option<Outcome>, usize) {
     for step in 0..WHOLE {
         if !core.running(caller) {
@@ -49,7 +49,7 @@ fn ends_without(core: &mut Numbers, caller: usize, from: usize) -> (Option<Outco
     (None, WHOLE)
 }
 
-/// A caller makes a call so.
+/// Runs a call of a caller like this.
 fn makes_without(
     core: &mut Numbers,
     caller: usize,
@@ -62,8 +62,8 @@ fn makes_without(
     Ok(ends_without(core, caller, from))
 }
 
-/// The map is made. The first request of an insertion is for a table: with that one alone it is
-/// refused when it has copied some pairs, and wants another.
+/// Makes the map. The first request of an insertion is for a table: with that one alone it fails
+/// when it has copied some entries and needs another.
 fn made(alloc: Global, (mode, hasher, start, is_refused): Map) -> Result<Numbers, Fail> {
     let mut core = begun(alloc, mode, hasher, start)?;
     if is_refused {
@@ -74,8 +74,8 @@ fn made(alloc: Global, (mode, hasher, start, is_refused): Map) -> Result<Numbers
     Ok(core)
 }
 
-/// The call was refused. A key has what it had, or what a call leaves there that takes out pairs one
-/// by one.
+/// Returns whether a key has what it had after a call that failed, or what such a call leaves that
+/// takes out entries one by one.
 fn is_kept(
     rt: &impl Abort,
     core: &mut Numbers,
@@ -94,7 +94,7 @@ fn is_kept(
     Ok(then)
 }
 
-/// The call told of each key, and left there, what it was to.
+/// Returns whether the call reported what it should of each key, and left that there.
 fn is_made(
     rt: &impl Abort,
     core: &mut Numbers,
@@ -110,7 +110,7 @@ fn is_made(
     Ok(())
 }
 
-/// After a refusal no pair is lost, and with memory the call is made.
+/// Checks that no entry is lost after a refusal, and that the call is made once there is memory.
 fn goes_on(
     rt: &impl Abort,
     alloc: Global,
@@ -127,7 +127,7 @@ fn goes_on(
     is_made(rt, core, case, (plan, &said), &held)
 }
 
-/// From a step on there is no memory for a call. The step at which it was refused, if it was.
+/// Runs a call without memory from a step on. Returns the step at which it failed, if it did.
 fn one_refusal(
     rt: &impl Abort,
     alloc: Global,
@@ -151,7 +151,7 @@ fn one_refusal(
     Ok(None)
 }
 
-/// Each request of a call is refused in turn: how many there are.
+/// Refuses each request of a call in turn. Returns how many there are.
 fn refusals(
     rt: &impl Abort,
     alloc: Global,
@@ -169,8 +169,8 @@ fn refusals(
     Ok(MOST)
 }
 
-/// The same of each call on a map: an insertion of a new key that never replaces, and of one that is
-/// there, a removal that keeps the pair, a retain, and the end of a resize.
+/// Does so with each call on a map: an insertion of a new key that never replaces, and of one that
+/// is there, a removal that keeps the entry, a retain, and the end of a resize.
 fn refusals_of_each(
     rt: &impl Abort,
     alloc: Global,
@@ -192,7 +192,7 @@ fn refusals_of_each(
 }
 
 /// The maps, and how many requests each of those calls makes there. An insertion makes its key, its
-/// value and its pair. A call makes each table that it needs.
+/// value and its entry. A call makes each table that it needs.
 const MAPS: [(Map, [usize; 5]); 6] = [
     (
         (ResizeMode::Incremental(1), APART, FULL, false),

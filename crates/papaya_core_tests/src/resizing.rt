@@ -53,7 +53,8 @@ fn removes_0(
     replies(rt, alloc, core, case, removal(alloc, 0, true)?, removed)
 }
 
-/// A caller makes so many steps at most of the walk that it is at: what that came to, if it ended.
+/// Runs at most this many steps of the iteration that a caller is at. Returns its outcome, if it
+/// ended.
 fn walks_on(core: &mut Numbers, caller: usize, most: usize) -> Option<Outcome> {
     for _ in 0..most {
         if !core.running(caller) {
@@ -66,7 +67,7 @@ fn walks_on(core: &mut Numbers, caller: usize, most: usize) -> Option<Outcome> {
     None
 }
 
-/// A caller begins a walk, and makes so many steps of it at most.
+/// Begins an iteration of a caller, and runs at most this many steps of it.
 fn walks(core: &mut Numbers, caller: usize, most: usize) -> Result<Option<Outcome>, Fail> {
     if !core.running(caller) {
         core.begin(caller, Call::Walk)?;
@@ -74,7 +75,7 @@ fn walks(core: &mut Numbers, caller: usize, most: usize) -> Result<Option<Outcom
     Ok(walks_on(core, caller, most))
 }
 
-/// The keys that a walk gave, by size.
+/// Returns the keys that an iteration yielded, sorted.
 fn given(alloc: Global, core: &Numbers, walked: Option<Outcome>) -> Result<Vec<u64>, Fail> {
     let mut keys = Vec::new(alloc);
     if let Some(Outcome::Walked(numbers)) = walked {
@@ -88,7 +89,8 @@ fn given(alloc: Global, core: &Numbers, walked: Option<Outcome>) -> Result<Vec<u
     Ok(keys)
 }
 
-/// A walk gave each key once, but at most once this one and the one that is inserted.
+/// Returns whether an iteration yielded each key once, and the removed and the inserted one at most
+/// once.
 fn gives(
     rt: &impl Abort,
     alloc: Global,
@@ -108,7 +110,7 @@ fn gives(
     Ok(())
 }
 
-/// Caller 2 ends the resize, or walks.
+/// Lets caller 2 finish the resize, or iterate.
 fn copies_or_walks(
     rt: &impl Abort,
     alloc: Global,
@@ -146,8 +148,8 @@ fn removal_beside(
     holds(rt, alloc, core, steps, (1, end))
 }
 
-/// Caller 1 walks and is stopped, caller 2 inserts a key and removes key 3, and then caller 1 goes
-/// on.
+/// Stops caller 1 in an iteration, lets caller 2 insert a key and remove key 3, and then caller 1
+/// continue.
 fn walk_stopped(
     rt: &impl Abort,
     alloc: Global,
@@ -257,14 +259,14 @@ fn walks_by_hand(rt: &impl Abort, alloc: Global, core: &mut Numbers) -> Result<(
 /// The cases of a full table.
 #[derive(Clone, Copy)]
 enum Case {
-    /// An insertion is stopped. Beside it all is copied, or walked, and a key removed.
+    /// An insertion is stopped. Meanwhile all is copied, or iterated over, and a key removed.
     CopyBeside,
     WalkBeside,
-    /// The same, and the insertion's next step has no memory.
+    /// The same, and the next step of the insertion runs out of memory.
     RefusalBeside,
-    /// An insertion is stopped, and beside it no pair is retained.
+    /// An insertion is stopped, and meanwhile a `retain` keeps no entry.
     RetainBeside,
-    /// A walk is stopped. Beside it a key is inserted, and another removed.
+    /// An iteration is stopped. Meanwhile a key is inserted, and another removed.
     WalkStopped,
     AsksOnce,
     RefusesRoom,

@@ -43,7 +43,7 @@ impl<'a, K: Hash + Eq + fmt::Debug, V: fmt::Debug, S: BuildHasher> fmt::Debug
 }
 
 impl<K: Hash + Eq, V, S: BuildHasher> fmt::Debug for Pass<K, V, S> {
-    /// Its number. There is no more of it when the program runs.
+    /// The pass's number, which is all that it holds at run time.
     fn fmt<W: fmt::Write>(&self, f: &mut fmt::Formatter<W>) -> fmt::Result {
         f.debug_struct("Pass")
             .field("number", &self.number)

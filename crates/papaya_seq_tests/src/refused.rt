@@ -130,7 +130,7 @@ type Asked = Call<u64, u64, Listed<u64>>;
 /// How many keys are inserted by the calls that are run.
 const RUN: u64 = 12;
 
-/// What a closure answers, of which a call uses one list.
+/// The results of a closure, of which a call uses one list.
 fn listed(
     alloc: Global,
     op: Option<Operation<u64, u64>>,
@@ -147,7 +147,7 @@ fn listed(
 }
 
 /// Calls that are run in turn: three insert the keys, each of which is looked up. Then a resize is
-/// ended, room is made, a pair kept, and all are retained and walked.
+/// ended, room is made, an entry kept, and all entries are retained and iterated over.
 fn calls(alloc: Global) -> Result<Vec<Asked>, AllocError> {
     let mut calls = Vec::new(alloc);
     for key in 0..RUN {
@@ -167,7 +167,7 @@ fn calls(alloc: Global) -> Result<Vec<Asked>, AllocError> {
     Ok(calls)
 }
 
-/// The same, also where memory was refused for their list at first.
+/// Runs them, also if memory for their list was refused at first.
 fn calls_again(alloc: Global) -> Result<Vec<Asked>, AllocError> {
     if let Ok(calls) = calls(alloc) {
         return Ok(calls);
@@ -175,7 +175,7 @@ fn calls_again(alloc: Global) -> Result<Vec<Asked>, AllocError> {
     calls(alloc)
 }
 
-/// A new map runs them. Where there is no room for what they come to, none was made.
+/// Runs them on a new map. If there is no room for their outcomes, no call was made.
 fn run_again(alloc: Global, map: &mut Numbers) -> Result<Vec<Outcome>, Fail> {
     match map.run(calls_again(alloc)?) {
         Err(Refused::Memory) if has_below(map, 0) => Ok(map.run(calls_again(alloc)?)?),
@@ -183,10 +183,10 @@ fn run_again(alloc: Global, map: &mut Numbers) -> Result<Vec<Outcome>, Fail> {
     }
 }
 
-/// What an outcome tells.
+/// The kinds of outcomes.
 #[derive(Clone, Copy, PartialEq)]
 enum Told {
-    /// A pair was inserted, or found or kept.
+    /// An entry was inserted, found or kept.
     Inserted(u64),
     Is(u64),
     Absent,
@@ -207,7 +207,8 @@ fn told(outcome: &Outcome) -> Told {
     }
 }
 
-/// Was a key inserted with ten times itself and found then, or refused and not found?
+/// Returns whether a key was inserted with ten times itself and then found, or refused and not
+/// found.
 fn is_told(map: &Numbers, key: u64, inserted: Told, found: Told) -> bool {
     match inserted {
         Told::Inserted(number) => {
@@ -218,7 +219,7 @@ fn is_told(map: &Numbers, key: u64, inserted: Told, found: Told) -> bool {
     }
 }
 
-/// Did the calls come to what they should, where one request is refused at most?
+/// Returns whether the calls had the outcomes that they should, with at most one request refused.
 fn is_run(map: &Numbers, outcomes: &[Outcome]) -> bool {
     let (mut refused, mut held) = (0usize, 0usize);
     for outcome in outcomes {
@@ -257,7 +258,7 @@ fn is_run(map: &Numbers, outcomes: &[Outcome]) -> bool {
     is_walked && refused <= 1 && map.len() == held
 }
 
-/// Calls are run. Then each key is inserted that was refused.
+/// Runs the calls, and then inserts each key that was refused.
 fn runs(rt: &impl Abort, alloc: Global, map: &mut Numbers) -> Result<(), Fail> {
     let outcomes = run_again(alloc, map)?;
     is(rt, is_run(map, &outcomes), true);

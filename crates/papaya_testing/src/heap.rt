@@ -32,13 +32,13 @@ pub fn relent(alloc: Global) -> bool {
     !is_granted(alloc, WORDS.wrapping_add(BETWEEN).wrapping_add(BETWEEN))
 }
 
-/// The next request for just so many bytes is answered when [`let_go`] is called, or some seconds
-/// later. Does the heap do so?
+/// Makes the heap hold up the next request for exactly this many bytes until [`let_go`] is called,
+/// or for some seconds. Returns whether the heap can do so.
 pub fn hold(alloc: Global, bytes: usize) -> bool {
     !is_granted(alloc, HOLD.wrapping_add(bytes))
 }
 
-/// That request is answered now. Was a thread held up in it?
+/// Grants the request that is held up. Returns whether a thread was held up in it.
 pub fn let_go(alloc: Global) -> bool {
     !is_granted(alloc, LET_GO)
 }

@@ -7,17 +7,17 @@ use std::test::Fail;
 
 type Folding = BuildHasherDefault<FoldHasher>;
 
-/// The value of a key.
+/// Returns the value of a key.
 fn value_of<G: Guard>(map: &HashMapRef<'_, u64, u64, Folding, G>, key: u64) -> Option<u64> {
     map.get(&key).copied()
 }
 
-/// Is the key in the set?
+/// Returns whether the key is in the set.
 fn has<G: Guard>(set: &HashSetRef<'_, u64, Folding, G>, key: u64) -> bool {
     set.contains(&key)
 }
 
-/// How many pairs have their key as their value.
+/// Counts the entries whose key is their value.
 fn equal<G: Guard>(pairs: Iter<'_, u64, u64, G>) -> u64 {
     let mut equal = 0u64;
     for (key, value) in pairs {
@@ -26,7 +26,7 @@ fn equal<G: Guard>(pairs: Iter<'_, u64, u64, G>) -> u64 {
     equal
 }
 
-/// The sum of these numbers.
+/// Returns the sum of these numbers.
 fn sum<'g, I: Iterator<Item = &'g u64> + Drop>(numbers: I) -> u64 {
     let mut sum = 0u64;
     for number in numbers {
@@ -35,17 +35,17 @@ fn sum<'g, I: Iterator<Item = &'g u64> + Drop>(numbers: I) -> u64 {
     sum
 }
 
-/// The sum of a map's keys.
+/// Returns the sum of a map's keys.
 fn keys<G: Guard>(keys: Keys<'_, u64, u64, G>) -> u64 {
     sum(keys)
 }
 
-/// The sum of a map's values.
+/// Returns the sum of a map's values.
 fn values<G: Guard>(values: Values<'_, u64, u64, G>) -> u64 {
     sum(values)
 }
 
-/// The sum of a set's keys.
+/// Returns the sum of a set's keys.
 fn members<G: Guard>(keys: set::Iter<'_, u64, G>) -> u64 {
     sum(keys)
 }
