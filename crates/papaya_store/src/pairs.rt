@@ -1,7 +1,7 @@
 //! Pairs as they are logged, and calls under way.
 ghost use Rattle.std.specs.Prelude.{◌≡◌, ℕ, List, ◌++◌, length, Some};
 ghost use Rattle.papaya_ask.specs.declared.ask.Answer.{Answer};
-ghost use Rattle.papaya_store.specs.Pairs.{brought_by, key_part, pair_with};
+ghost use Rattle.papaya_store.specs.Pairs.{brought_by, key_part, owned, pair_with};
 ghost use Rattle.papaya_store.specs.Performs.{LogsOf, LogsOwn, own_key, own_value};
 ghost use Rattle.papaya_store.specs.Store.{StoreState, Stored, pair_of};
 
@@ -42,6 +42,17 @@ pub struct Running<K, V, A> {
 }
 
 impl<T> Part<T> {
+    /// What was brought with it, where it is not yet in the log.
+    #[inline(always)]
+    pub fn own(self) -> Option<T>
+        ensures { result ≡ owned self }
+    {
+        match self {
+            Part::Own(part) => Some(part),
+            Part::Logged(_) => None,
+        }
+    }
+
     /// What pair `n` is to be logged with, and what the call has of it from then on.
     #[inline(always)]
     pub(crate) fn lend(self, n: usize) -> (Part<T>, Part<T>)
