@@ -3,6 +3,7 @@ use Rattle.std.proofs.Common.{◌≡◌, ⊎_elim, ℕ, Bool, true, false, cond,
 use Rattle.std.proofs.Common.{None, Result, Ok, Err, inl, inr, refl, sym, ◌∙◌, ap, subst, IfErr}
 use Rattle.std.proofs.lemmas.Bool.{cases_Bool}
 use Rattle.std.specs.Cmp.{IsEquivalence}
+use Rattle.std.specs.Prelude.{MatchOption}
 use Rattle.papaya_words.specs.declared.probe.Refused.{Refused}
 use Rattle.papaya_words.specs.declared.probe.Refused.TheVariants.{RemoveNothing}
 use Rattle.papaya_law.specs.Content.{lookup}
@@ -14,7 +15,7 @@ use Rattle.papaya_timeline.specs.Maps.{Does, IsMadeOf, IsUpdate, IsUpdateBy, Sam
 use Rattle.papaya_timeline.specs.Solo.{CallDoes, IsAnswered, IsNewIn}
 use Rattle.papaya_store.specs.Store.{StoreState, Stored, pair_of}
 use Rattle.papaya_seq.proofs.LeftBy.{left_same, same_left}
-use Rattle.papaya_seq.specs.Map.{Inserts, IsStoreRefusal, IsOccupied, IsTried, IsTryRefusal}
+use Rattle.papaya_seq.specs.Map.{HasValue, Inserts, IsStoreRefusal, IsOccupied, IsTried, IsTryRefusal}
 use Rattle.papaya_seq.specs.Map.{IsWriteCause, IsWriteCauseAt, KeepsAndGrows, MapState, insertion}
 use Rattle.papaya_seq.specs.Map.{kept_key, value_of}
 use Rattle.papaya_seq.proofs.Lawful.{logged_content, lookup_some}
@@ -178,6 +179,37 @@ pub tried_there : {K V S : Type 0} (eq : K → K → Bool) (k : K) (v : V) (s : 
     (s' : MapState K V S) (n : ℕ) (left : V) → result ≡ Ok (n, Some left) → IsTried eq k v s result s'
     → (p : Stored K V) × (pair_of s'.store n ≡ Some p) × (left ≡ v) × IsOccupied eq k s.store p.value s'.store × KeepsAndGrows s s'
 tried_there eq k v s result s' n left is tried = subst (λ r. IsTried eq k v s r s') is tried
+
+-- and one that stored its pair
+pub tried_made : {K V S : Type 0} (eq : K → K → Bool) (k : K) (v : V) (s : MapState K V S) (result : Result (ℕ × Option V) Refused)
+    (s' : MapState K V S) (n : ℕ) → result ≡ Ok (n, None) → IsTried eq k v s result s'
+    → (p : Stored K V) × (pair_of s'.store n ≡ Some p) × (p.value ≡ v) × Inserts eq k v s.store None s'.store × KeepsAndGrows s s'
+tried_made eq k v s result s' n is tried = subst (λ r. IsTried eq k v s r s') is tried
+
+-- what held none before its value was stored, had no pair
+pub none_held : {K V : Type 0} (held : Option (Stored K V)) → value_of held ≡ None → held ≡ None
+none_held None e = refl
+none_held (Some p) e = let f : Some p.value ≡ None = e in absurd cc
+
+module _ {K V S : Type 0} (eq : K → K → Bool) (k : K) (v : V) (s s' : MapState K V S) (shown : V) where
+  -- the value that the key has when it was stored, or was there
+  abbrev IsValueHeld : Type 0
+  IsValueHeld = HasValue eq k v s (Ok shown) s'
+      × MatchOption (value_of (map_in eq s.store k)) (shown ≡ v) (λ current. shown ≡ current)
+
+  pub tried_value : (result : Result (ℕ × Option V) Refused) (n : ℕ) (left : Option V) → result ≡ Ok (n, left) → IsTried eq k v s result s'
+      → ((p : Stored K V) → pair_of s'.store n ≡ Some p → shown ≡ p.value) → IsValueHeld
+  tried_value result n None is tried show =
+      let (p, logged, value, inserts, keeps) = tried_made eq k v s result s' n is tried in
+      let none = inserts.update.before ∙ none_held inserts.old inserts.old_is in
+      let same = show p logged ∙ value in
+      ((inr (same, inserts), keeps), subst (λ o. MatchOption (value_of o) (shown ≡ v) (λ current. shown ≡ current)) (sym none) same)
+  tried_value result n (Some left) is tried show =
+      let (p, logged, given_back, occupied, keeps) = tried_there eq k v s result s' n left is tried in
+      let same = show p logged in (
+        (inl (subst (λ w. IsOccupied eq k s.store w s'.store) (sym same) occupied), keeps),
+        subst (λ o. MatchOption (value_of o) (shown ≡ v) (λ current. shown ≡ current)) (sym occupied.there) (same ∙ sym occupied.value),
+      )
 
 -- what holds of a refusal, holds of this one
 pub err_at : {T E : Type 0} (P : E → Type 0) (result : Result T E) (e : E) → result ≡ Err e → IfErr result P → P e

@@ -14,7 +14,6 @@ use Rattle.papaya_ask.specs.declared.call.Reply.TheVariants as replies
 use Rattle.papaya_ask.specs.declared.call.Reply.TheVariants.{Refused as Refused_reply}
 use Rattle.papaya_seq.specs.Answered.{IsParted}
 use Rattle.papaya_seq.specs.Computing.{IsComputed}
-use Rattle.papaya_seq.specs.MadeAlone.{IsComputedAlone}
 use Rattle.papaya_seq.specs.Computes.{Computes, ComputesBy, IsComputeRefusal, IsNew, IsRefusedFirst, Operates, Says, answer_map}
 use Rattle.papaya_seq.specs.Map.{Inserts, IsResizing, IsWriteCauseAt, KeepsAndGrows, MapState, Unchanged, deref_pair, entry_of, kept_key, value_of}
 use Rattle.papaya_keys.specs.declared.compute.Computed.{Computed}
@@ -262,19 +261,6 @@ parted_whole (Ok (Updated p q)) shown known left is (e, was) = subst (λ x. IsWh
 parted_whole (Ok (Removed p)) shown known left is (e, was) = subst (λ x. IsWhole x left (Ok (Removed p))) (sym e ∙ is) refl
 parted_whole (Ok (Aborted t)) shown known left is (e, was) = subst (λ x. IsWhole x left (Ok (Aborted t))) (sym e ∙ is) (t, was, refl)
 parted_whole (Err refused) shown known left is (e, was) = subst (λ x. IsWhole x left (Err refused)) (sym e ∙ is) refl
-
--- a compute made alone, with another answer that is done, or refused as that one is
-module _ {K V S : Type 0} (eq : K → K → Bool) (hash : S → K → ℕ) (s s' : MapState K V S) (k : K) {R T : Type 0}
-    (result : Result (Computed R T) Refused) (made : IsComputedAlone eq hash s k result s') where
-  pub alone_done : {Q U : Type 0} (done : Computed Q U) → IsComputedAlone eq hash s k (Ok done) s'
-  alone_done done = record { reply = made.reply; alone = made.alone; refused = λ refused e. let f : Ok done ≡ Err refused = e in absurd cc }
-
-  pub alone_refused : {Q U : Type 0} (refused : Refused) → result ≡ Err refused → IsComputedAlone eq hash {R = Q} {T = U} s k (Err refused) s'
-  alone_refused {Q} {U} refused is = record {
-    reply = made.reply;
-    alone = made.alone;
-    refused = λ other e. let same : refused ≡ other = let f : Err refused ≡ Err other = e in cc f in made.refused other (is ∙ ap Err same);
-  }
 
 -- a machine that was refused replied so
 pub told_refused : {T : Type 0} (reply : Reply) (aborted : Option T) (answer : Result (Computed ℕ T) Refused) → IsComputed reply aborted answer

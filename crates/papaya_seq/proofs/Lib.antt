@@ -15,6 +15,7 @@ pub mod ComputeStages
 pub mod ComputeSteps
 pub mod ComputedFast
 pub mod ComputesDone
+pub mod DoneAlone
 pub mod ComputingCopies
 pub mod CopyTurns
 pub mod Advancing

@@ -5,7 +5,6 @@ use Rattle.papaya_ask.specs.declared.call.Call.{Call}
 use Rattle.papaya_ask.specs.declared.call.Call.TheVariants.{Compute}
 use Rattle.papaya_ask.specs.declared.call.Reply.{Reply}
 use Rattle.papaya_ask.specs.declared.call.Reply.TheVariants.{Refused}
-use Rattle.papaya_keys.specs.declared.compute.Computed.{Computed}
 use Rattle.papaya_timeline.specs.Core.{CoreState}
 use Rattle.papaya_timeline.specs.Solo.{RunsAlone}
 use Rattle.papaya_seq.specs.Map.{MapState, core_of}
@@ -33,9 +32,15 @@ module _ {K V S : Type 0} (eq : K → K → Bool) (hash : S → K → ℕ) where
     pub alone : IsMadeAlone s call (Refused refused) left
     pub cause : because left
 
-  -- the core's compute leaves this map, and is refused where this one is, and so
-  pub record IsComputedAlone {R T : Type 0} (s : MapState K V S) (k : K)
-      (answer : Result (Computed R T) words.Refused) (s' : MapState K V S) : Type 0 where
+  -- The core's call leaves this map, with its tables, words, log, numbers and count, and is refused
+  -- where this one is, and so.
+  pub record IsDoneAlone {R : Type 0} (s : MapState K V S) (call : Call K V (Unit {0}))
+      (answer : Result R words.Refused) (s' : MapState K V S) : Type 0 where
     pub reply : Reply
-    pub alone : IsMadeAlone s (Compute k tt) reply s'
+    pub alone : IsMadeAlone s call reply s'
     pub refused : (refused : words.Refused) → answer ≡ Err refused → reply ≡ Refused refused
+
+  -- the core's compute does so
+  abbrev pub IsComputedAlone : {R : Type 0} → MapState K V S → K → Result R words.Refused
+      → MapState K V S → Type 0
+  IsComputedAlone s k answer s' = IsDoneAlone s (Compute k tt) answer s'

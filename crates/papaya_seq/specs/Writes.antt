@@ -1,6 +1,6 @@
 -- What is done at one place of a table: a pair is stored there, or the one that stands there is
 -- taken out.
-use Rattle.std.specs.Prelude.{◌≡◌, ◌≢◌, ◌<◌, ℕ, pos, negsuc, [], ◌∷◌, ◌++◌, length, slice_get, Option, Some, None}
+use Rattle.std.specs.Prelude.{◌≡◌, ◌≢◌, ◌<◌, ◌==◌, MatchBool, ℕ, pos, negsuc, [], ◌∷◌, ◌++◌, length, slice_get, Option, Some, None}
 use Rattle.papaya_words.specs.Counter.{added}
 use Rattle.papaya_words.specs.Word.{hint_of, live_word, pair_of as number_of}
 use Rattle.papaya_words.specs.declared.limits.TheConstants.{MAX_LOG_LEN}
@@ -15,6 +15,8 @@ use Rattle.papaya_call.specs.declared.remove.Removal.{Removal}
 use Rattle.papaya_call.specs.declared.write.Write.{Write}
 use Rattle.papaya_store.specs.declared.pairs.Pair.{Pair}
 use Rattle.papaya_store.specs.declared.pairs.Pair.TheVariants.{Own, Keyed}
+use Rattle.papaya_store.specs.declared.pairs.Part.{Part}
+use Rattle.papaya_store.specs.declared.pairs.Part.TheVariants.{Own as Own_part, Logged}
 use Rattle.papaya_store.specs.Pairs.{key_from}
 use Rattle.papaya_store.specs.Performs.{Refuses}
 use Rattle.papaya_store.specs.Store.{StoreState}
@@ -51,6 +53,13 @@ module _ {K V S : Type 0} (s : StoreState K V S) where
     pub number : n ≡ length s.pairs
     pub few : length s.pairs < MAX_LOG_LEN
     pub left_is : left ≡ None
+
+  -- The key that a pair is logged with for a place where this word stands: where the place is empty
+  -- the one that was handed in, and else by the number of the pair that brought that of the word's.
+  abbrev pub IsKeyFor : (old : ℕ) → K → Part K → Type 0
+  IsKeyFor old key part = MatchBool (old == 0) (part ≡ Own_part key) ((first : ℕ)
+      × (key_from (number_of old) (slice_get s.pairs (number_of old)) ≡ Some first)
+      × (part ≡ Logged first))
 
   -- What was done with a key and a value for a place, where a pair was wanted: it has the key where
   -- the place was empty, and else that of the pair that stood there; or the log refused it.

@@ -5,10 +5,12 @@ ghost use Rattle.std.specs.declared.hash.FoldHasher.{FoldHasher};
 ghost use Rattle.std.specs.declared.hash.BuildHasherDefault.{BuildHasherDefault};
 ghost use Rattle.papaya_seq.specs.Entries.{AllCome, ComesNext, Extends, HasJust, IsCutAnew};
 ghost use Rattle.papaya_seq.specs.Entries.{IsCutIn, IsPut};
+ghost use Rattle.papaya_keys.specs.Hashes.{hash_of};
+ghost use Rattle.papaya_seq.specs.MadeAlone.{IsDoneAlone};
 ghost use Rattle.papaya_seq.specs.Map.{LogsOne, deref_pair};
 
 use crate::seq::HashMap;
-use papaya_ask::call::Reply;
+use papaya_ask::call::{Call, Reply};
 use papaya_words::probe::Refused;
 use std::alloc::Global;
 use std::hash::{BuildHasher, BuildHasherDefault, FoldHasher, Hash};
@@ -23,6 +25,9 @@ impl<K: Hash + Eq + Drop, V: Drop, S: BuildHasher> HashMap<K, V, S> {
     /// Fails as [`HashMap::insert`] does.
     pub fn put(&mut self, key: K, value: V) -> Result<bool, Refused>
         ensures puts { IsPut K.eq key value self.old result self.new }
+        ensures alone { IsDoneAlone K.eq
+            (hash_of K.hash_input S.build_hasher S.Hasher.write S.Hasher.finish) self.old
+            (Call.Insert key value) result self.new }
         ensures logs { LogsOne self.old.store self.new.store }
     {
         let (reply, _) = self.insert_by(key, value, true);

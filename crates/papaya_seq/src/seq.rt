@@ -20,7 +20,7 @@ ghost use Rattle.papaya_seq.specs.Calls.{AreCalled, IsCalled, IsListed};
 ghost use Rattle.papaya_seq.specs.Computes.{tried_answered};
 ghost use Rattle.papaya_seq.specs.Computing.{reply_of};
 ghost use Rattle.papaya_seq.specs.Looks.{LooksUp};
-ghost use Rattle.papaya_seq.specs.MadeAlone.{IsMadeAlone, IsRefusedAlone};
+ghost use Rattle.papaya_seq.specs.MadeAlone.{IsDoneAlone, IsRefusedAlone};
 ghost use Rattle.papaya_seq.specs.Removes.{IsJudged, IsRemoved, Judges};
 ghost use Rattle.papaya_seq.specs.Map.{HasNone, HasValue, Holds, IsInserted, IsMakeRefusal};
 ghost use Rattle.papaya_seq.specs.Map.{IsStoreRefusal};
@@ -378,7 +378,11 @@ impl<K: Hash + Eq + Drop, V: Drop, S: BuildHasher> HashMap<K, V, S> {
     /// - `Refused::Limit` if the map has a limit and that many numbers were taken for entries.
     pub fn insert(&mut self, key: K, value: V) -> Result<Option<&V>, Refused>
         ensures* inserts { sem 𝓛 (ends_so K.row V.row S.row S.Hasher.row K.Hash S.BuildHasher
-            S.Hasher.Hasher self.entry (IsInserted K.eq key value self.old (old_answered result))) }
+            S.Hasher.Hasher self.entry (λ after.
+            IsInserted K.eq key value self.old (old_answered result) after
+            × IsDoneAlone K.eq
+            (hash_of K.hash_input S.build_hasher S.Hasher.write S.Hasher.finish) self.old
+            (Call.Insert key value) (old_answered result) after)) }
         ensures old { IfOk result (λ old. option_map (λ v. v.now) old ≡ value_of
             (map_in K.eq self.old.store key)) }
         ensures err { IfErr result (IsStoreRefusal self.old) }
@@ -401,9 +405,9 @@ impl<K: Hash + Eq + Drop, V: Drop, S: BuildHasher> HashMap<K, V, S> {
     /// Fails as [`HashMap::insert`] does, but only if the key is absent or a resize is under way.
     pub fn insert_absent(&mut self, key: K, value: V) -> Result<(u64, Option<V>), Refused>
         ensures tried { IsTried K.eq key value self.old result self.new }
-        ensures alone { IfErr result (λ refused. IsMadeAlone K.eq
+        ensures alone { IsDoneAlone K.eq
             (hash_of K.hash_input S.build_hasher S.Hasher.write S.Hasher.finish) self.old
-            (Call.TryInsert key value) (Reply.Refused refused) self.new) }
+            (Call.TryInsert key value) result self.new }
     {
         let (reply, left) = self.insert_by(key, value, false);
         match reply {
@@ -428,8 +432,11 @@ impl<K: Hash + Eq + Drop, V: Drop, S: BuildHasher> HashMap<K, V, S> {
         left: &mut Option<V>,
     ) -> Result<Result<&V, &V>, Refused>
         ensures* tries { sem 𝓛 (ends_so K.row V.row S.row S.Hasher.row K.Hash S.BuildHasher
-            S.Hasher.Hasher self.entry (IsTriedInto K.eq key value self.old
-            (tried_answered result) left.old left.new)) }
+            S.Hasher.Hasher self.entry (λ after. IsTriedInto K.eq key value self.old
+            (tried_answered result) left.old left.new after
+            × IsDoneAlone K.eq
+            (hash_of K.hash_input S.build_hasher S.Hasher.write S.Hasher.finish) self.old
+            (Call.TryInsert key value) (tried_answered result) after)) }
         ensures stored { IfOk result (λ tried. IfOk tried
             (λ v. (v.now ≡ value) × (map_in K.eq self.old.store key ≡ None))) }
         ensures occupied { IfOk result (λ tried. IfErr tried
@@ -496,8 +503,11 @@ impl<K: Hash + Eq + Drop, V: Drop, S: BuildHasher> HashMap<K, V, S> {
     /// Fails as [`HashMap::insert`] does, but only if the key is absent or a resize is under way.
     pub fn get_or_insert(&mut self, key: K, value: V) -> Result<&V, Refused>
         ensures* inserts { sem 𝓛 (ends_so K.row V.row S.row S.Hasher.row K.Hash S.BuildHasher
-            S.Hasher.Hasher self.entry (HasValue K.eq key value self.old
-            (value_answered result))) }
+            S.Hasher.Hasher self.entry (λ after.
+            HasValue K.eq key value self.old (value_answered result) after
+            × IsDoneAlone K.eq
+            (hash_of K.hash_input S.build_hasher S.Hasher.write S.Hasher.finish) self.old
+            (Call.TryInsert key value) (value_answered result) after)) }
         ensures value { IfOk result (λ v. MatchOption (value_of (map_in K.eq self.old.store key))
             (v.now ≡ value) (λ current. v.now ≡ current)) }
         ensures err { IfErr result (λ refused. IsStoreRefusal self.old refused

@@ -8,21 +8,37 @@ ghost use Rattle.papaya_call_law.specs.Alone.{IsBare};
 ghost use Rattle.papaya_store.specs.Store.{pair_of};
 ghost use Rattle.papaya_store.specs.Tables.{table_of, word_at};
 ghost use Rattle.papaya_seq.specs.Drives.{IsInsertedFast, IsLedTo, led_state};
-ghost use Rattle.papaya_seq.specs.Writes.{IsWritten, slot_of};
+ghost use Rattle.papaya_seq.specs.Writes.{IsKeyFor, IsWritten, slot_of};
 
-use crate::insertion::value_left;
 use crate::search::{Turn, search_root};
-use papaya_ask::ask::{Answer, Ask, At};
-use papaya_ask::call::{Reply, Task};
-use papaya_call::answers::Listed;
+use papaya_ask::ask::At;
+use papaya_ask::call::Reply;
 use papaya_call::write::Write;
-use papaya_chain::machine::Machine;
-use papaya_store::pairs::{Part, Running};
+use papaya_store::pairs::Part;
 use papaya_store::store::Store;
-use papaya_words::probe::ResizeMode;
 use papaya_words::word::{Kind, Word, hint};
 use std::alloc::Global;
 use std::hash::{BuildHasher, Hash};
+
+/// Returns the key part of a pair for a place that holds this word: the key of the pair that the
+/// word names, or else the key that was passed in.
+#[inline(always)]
+fn key_for<K: Hash + Eq + Drop, V, S: BuildHasher>(
+    store: &Store<K, V, S>,
+    key: K,
+    old: u64,
+) -> Part<K>
+    requires { old ≢ 0 → IsSome (pair_of store.now (number_of old)) }
+    ensures { IsKeyFor store.now old key result }
+{
+    if old == 0 {
+        return Part::Own(key);
+    }
+    match store.key_from(Word(old).pair()) {
+        Some(first) => Part::Logged(first),
+        None => unreachable!(),
+    }
+}
 
 /// Stores a pair, and writes it where its search ended, over the word there. Its key is that of the
 /// pair that this word names, or otherwise the key that was passed in.
@@ -39,23 +55,12 @@ pub(crate) fn write<K: Hash + Eq + Drop, V: Drop, S: BuildHasher>(
     requires pair { write.old ≢ 0 → IsSome (pair_of store.old (number_of write.old)) }
     ensures { IsWritten store.old hash write key value result.0 result.1 store.new }
 {
-    let mut running: Running<K, V, Listed<V>> = Running {
-        // The store reads only the key and the value.
-        machine: Machine::new(Task::Get, hash, ResizeMode::Blocking, 1, 0, None),
-        key: Part::Own(key),
-        value: Some(Part::Own(value)),
-        answers: None,
-    };
     let old = Word(write.old).pair();
-    let ask = if write.old == 0 {
-        Ask::MakePair
-    } else {
-        Ask::MakePairOf(old)
-    };
-    let pair = match store.perform(alloc, 0, &mut running, ask, false) {
-        Answer::Made(pair) => pair,
-        Answer::Refused(refused) => return (Reply::Refused(refused), value_left(running)),
-        _ => unreachable!(),
+    let mut key = key_for(store, key, write.old);
+    let mut value = Part::Own(value);
+    let pair = match store.log_pair(&mut key, &mut value) {
+        Ok(pair) => pair,
+        Err(refused) => return (Reply::Refused(refused), value.own()),
     };
     let at = At::Slot(write.place.table, write.place.probe.i);
     let _ = store.exchange(at, write.old, Word::live(pair).0);

@@ -71,6 +71,11 @@ module _ {K V S : Type 0} where
       ((answer ≡ Exchanged) × (s' ≡ record s { words = after }))
       ((answer ≡ Found_instead found) × (s' ≡ s))
 
+  -- a pair of this key and this value went to the end of the log, under this number
+  abbrev pub IsLogged : ℕ → Part K → Part V → StoreState K V S → StoreState K V S → Type 0
+  IsLogged n key value s s' = (n ≡ length s.pairs) × (length s.pairs < MAX_LOG_LEN)
+      × (s' ≡ record s { pairs = s.pairs ++ pair_with key value ∷ [] })
+
   -- the table goes to the end of the tables
   abbrev pub MakesTable : Answer → (slots limit chunks : ℕ) → StoreState K V S → StoreState K V S
       → Type 0

@@ -4,7 +4,10 @@
 
 pub mod asks;
 pub mod copies;
+pub mod log;
 pub mod mode;
 pub mod pairs;
+pub mod performs;
 pub mod scans;
 pub mod store;
+pub mod tables;

@@ -1,7 +1,7 @@
 //! Pairs as they are stored, and calls under way.
 ghost use Rattle.std.specs.Prelude.{◌≡◌, ℕ, List, ◌++◌, length, Some};
 ghost use Rattle.papaya_ask.specs.declared.ask.Answer.{Answer};
-ghost use Rattle.papaya_store.specs.Pairs.{brought_by, key_part, pair_with};
+ghost use Rattle.papaya_store.specs.Pairs.{brought_by, key_part, owned, pair_with};
 ghost use Rattle.papaya_store.specs.Performs.{LogsOf, LogsOwn, own_key, own_value};
 ghost use Rattle.papaya_store.specs.Store.{StoreState, Stored, pair_of};
 
@@ -42,6 +42,17 @@ pub struct Running<K, V, A> {
 }
 
 impl<T> Part<T> {
+    /// Returns the value, if it is not stored in the arena yet.
+    #[inline(always)]
+    pub fn own(self) -> Option<T>
+        ensures { result ≡ owned self }
+    {
+        match self {
+            Part::Own(part) => Some(part),
+            Part::Logged(_) => None,
+        }
+    }
+
     /// Returns the part that pair `n` is stored with, and the part that the call then has.
     #[inline(always)]
     pub(crate) fn lend(self, n: usize) -> (Part<T>, Part<T>)

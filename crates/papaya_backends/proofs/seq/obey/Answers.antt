@@ -8,19 +8,19 @@ pub returns-in-Ok-Some-clause-done : goal.returns-in-Ok-Some-clause-done
 returns-in-Ok-Some-clause-done g c = rw c.in-Insert.is (
   old_answered c.insert.result,
   sym (ap (λ r. of_insertion (old_answered r)) (c.in-Ok-Some.is ∙ ap Ok c.in-Ok-Some.field-0-is)),
-  c.insert.follows.holds-at-none,
+  c.insert.follows.holds-at-none.0,
 )
 
 pub returns-in-Ok-None-clause-done : goal.returns-in-Ok-None-clause-done
 returns-in-Ok-None-clause-done g c = rw c.in-Insert.is (
   old_answered c.insert.result,
   sym (ap (λ r. of_insertion (old_answered r)) (c.in-Ok-None.is ∙ ap Ok c.in-Ok-None.field-0-is)),
-  c.insert.follows.holds-at-none,
+  c.insert.follows.holds-at-none.0,
 )
 
 pub returns-in-Err-clause-done : goal.returns-in-Err-clause-done
 returns-in-Err-clause-done g c = rw c.in-Insert.is
-    (old_answered c.insert.result, sym (ap (λ r. of_insertion (old_answered r)) c.in-Err.is), c.insert.follows.holds-at-none)
+    (old_answered c.insert.result, sym (ap (λ r. of_insertion (old_answered r)) c.in-Err.is), c.insert.follows.holds-at-none.0)
 
 pub returns-in-Some-clause-done : goal.returns-in-Some-clause-done
 returns-in-Some-clause-done g c = rw c.in-Get.is (Some c.in-Some.value.now, refl, c.in-Some.ensures.answer, refl)

@@ -1,9 +1,11 @@
 use Rattle.std.proofs.Common.{ℕ, Ok, Err, refl, ◌∙◌, ap}
 use Rattle.std.proofs.lemmas.Result.{err_from_is_err_and}
 use Rattle.papaya_keys.specs.Hashes.{hash_of}
+use Rattle.papaya_ask.specs.declared.call.Call.TheVariants.{Compute}
 use Rattle.papaya_seq.specs.Map.{deref_pair}
 use Rattle.papaya_keys.specs.declared.compute.Computed.TheVariants.{Inserted, Updated, Removed, Aborted}
-use Rattle.papaya_seq.proofs.ComputesDone.{alone_done, alone_refused, computes_shown}
+use Rattle.papaya_seq.proofs.ComputesDone.{computes_shown}
+use Rattle.papaya_seq.proofs.DoneAlone.{alone_done, alone_refused}
 use Rattle.papaya_seq.proofs.UpdatesDone.{removed_logged, updated_logged}
 use Rattle.papaya_seq.proofs.seq.HashMap.compute_into.Goals as goal
 use Rattle.papaya_seq.proofs.seq.HashMap.compute_into.Given.{Over}
@@ -26,7 +28,7 @@ returns-in_err-computed g c =
           c.compute_numbered.new.self,
           r,
           alone_refused g.K.PartialEq.eq (hash g)
-              c.args.self.now c.compute_numbered.new.self c.args.key c.compute_numbered.result c.compute_numbered.ensures.alone c.in_err-computed.field-0.0
+              c.args.self.now c.compute_numbered.new.self (Compute c.args.key tt) c.compute_numbered.result c.compute_numbered.ensures.alone c.in_err-computed.field-0.0
               c.in_err-computed.was,
           (refl, refl),
         );
@@ -56,7 +58,7 @@ returns-in-Inserted g c =
           c.compute_numbered.new.self,
           r,
           alone_done g.K.PartialEq.eq
-              (hash g) c.args.self.now c.compute_numbered.new.self c.args.key c.compute_numbered.result c.compute_numbered.ensures.alone
+              (hash g) c.args.self.now c.compute_numbered.new.self (Compute c.args.key tt) c.compute_numbered.result c.compute_numbered.ensures.alone
               (Inserted (deref_pair c.entry.result)),
           (refl, refl),
         );
@@ -75,7 +77,7 @@ returns-in-Updated g c =
           Ok (Updated (deref_pair c.entry-in-Updated.result) (deref_pair c.entry-in-Updated-2.result)),
           c.compute_numbered.new.self,
           r,
-          alone_done g.K.PartialEq.eq (hash g) c.args.self.now c.compute_numbered.new.self c.args.key
+          alone_done g.K.PartialEq.eq (hash g) c.args.self.now c.compute_numbered.new.self (Compute c.args.key tt)
               c.compute_numbered.result c.compute_numbered.ensures.alone
               (Updated (deref_pair c.entry-in-Updated.result) (deref_pair c.entry-in-Updated-2.result)),
           (refl, refl),
@@ -96,7 +98,7 @@ returns-in-Removed g c =
           c.compute_numbered.new.self,
           r,
           alone_done
-              g.K.PartialEq.eq (hash g) c.args.self.now c.compute_numbered.new.self c.args.key c.compute_numbered.result c.compute_numbered.ensures.alone
+              g.K.PartialEq.eq (hash g) c.args.self.now c.compute_numbered.new.self (Compute c.args.key tt) c.compute_numbered.result c.compute_numbered.ensures.alone
               (Removed (deref_pair c.entry-in-Removed.result)),
           (refl, refl),
         );
@@ -116,7 +118,7 @@ returns-in-Aborted g c =
           c.compute_numbered.new.self,
           r,
           alone_done g.K.PartialEq.eq (hash g)
-              c.args.self.now c.compute_numbered.new.self c.args.key c.compute_numbered.result c.compute_numbered.ensures.alone (Aborted c.in-Aborted.with),
+              c.args.self.now c.compute_numbered.new.self (Compute c.args.key tt) c.compute_numbered.result c.compute_numbered.ensures.alone (Aborted c.in-Aborted.with),
           (refl, refl),
         );
       },
