@@ -7,7 +7,7 @@ ghost use Rattle.std.specs.Hash as fed;
 use std::alloc::Allocator;
 use std::fmt;
 use std::hash::Hash;
-use std::marker::{Model, PhantomData};
+use std::marker::Model;
 use std::sync::atomic::{AtomicU64, Ordering};
 
 /// A type by which keys of type `K` can be looked up: 0.2.5's trait of that name, which it takes
@@ -104,9 +104,8 @@ impl Collector {
         ensures { result.collector ≡ self.now }
     {
         LocalGuard {
-            collector: self.number,
+            collector: self,
             own: self.guards.fetch_add(1, Ordering::SeqCst),
-            borrowed: PhantomData,
         }
     }
 
@@ -152,9 +151,8 @@ fn print<G: Guard, W: fmt::Write>(name: &str, guard: &G, f: &mut fmt::Formatter<
 /// A guard of [`Collector::enter`]: `seize`'s type of that name.
 #[derive(Drop)]
 pub struct LocalGuard<'a> {
-    collector: u64,
+    collector: &'a Collector,
     own: u64,
-    borrowed: PhantomData<&'a ()>,
 }
 
 impl<'a> Model for LocalGuard<'a> {
@@ -162,7 +160,7 @@ impl<'a> Model for LocalGuard<'a> {
 
     ghost Value = { GuardNumbers };
 
-    ghost view = { λ guard. record { collector = guard.collector; own = guard.own } };
+    ghost view = { λ guard. record { collector = guard.collector.now; own = guard.own } };
 }
 
 impl fmt::Debug for LocalGuard<'_> {
@@ -177,7 +175,7 @@ impl Guard for LocalGuard<'_> {
     ghost number = { λ guard. guard.own };
 
     fn collector_number(&self) -> u64 {
-        self.collector
+        self.collector.number()
     }
 
     fn number(&self) -> u64 {

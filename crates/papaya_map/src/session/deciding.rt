@@ -32,7 +32,7 @@ impl<'a, K: Hash + Eq + Drop, V: Drop, S: BuildHasher> Session<'a, K, V, S> {
             ≡ Some self.new.taken }
     {
         let Session { map: pinned, pass } = self;
-        let map = pinned.map();
+        let map = pinned.map;
         let shard = map.count.shard(pass.number);
         let mut window = pinned.window(pass);
         let decided = decide(

@@ -32,7 +32,7 @@ impl<'a, K: Hash + Eq, V, S: BuildHasher> Session<'a, K, V, S> {
             additional self.new.tables self.new.given }
     {
         let Session { map: pinned, pass } = self;
-        let map = pinned.map();
+        let map = pinned.map;
         let shard = map.count.shard(pass.number);
         let mut window = pinned.window(pass);
         let reserved = resize(
