@@ -10,7 +10,6 @@ ghost use Rattle.papaya_shell.specs.Failure.{without_memory};
 ghost use Rattle.papaya_backends.specs.Shared.{IsBad, IsCleared, IsMissing, IsWalked, Obeys, ObeysLine, WereHad};
 
 use crate::line_by_line::{Obey, run_lines};
-use papaya_keys::guard::LocalGuard;
 use papaya_lines::closures::follower;
 use papaya_lines::commands::{Command, command_of};
 use papaya_lines::printed::Printed;
@@ -30,7 +29,7 @@ const SHARDS: usize = 16;
 /// Returns the pairs of an iterator.
 fn listed<S: BuildHasher + Drop>(
     alloc: Global,
-    pairs: Iter<'_, u64, u64, LocalGuard<'_>, S>,
+    pairs: Iter<'_, u64, u64, S>,
 ) -> Result<Vec<(u64, u64)>, Failure>
     ensures had { IfOk result (λ listed. WereHad pairs.entry.began listed.items) }
     ensures failed { IfErr result (λ failure. failure ≡ without_memory) }
@@ -46,7 +45,7 @@ fn listed<S: BuildHasher + Drop>(
 #[derive(Drop)]
 struct Caller<'a, H: Wait, S: BuildHasher> {
     rt: &'a H,
-    map: HashMapRef<'a, u64, u64, S, LocalGuard<'a>>,
+    map: HashMapRef<'a, u64, u64, S>,
     ghost unlimited: { map.map.begun.limit ≡ None },
 }
 

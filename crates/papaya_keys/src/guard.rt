@@ -5,9 +5,8 @@ ghost use Rattle.std.specs.Cmp.Lexicographic.{bytes_decides, nat_list_eq_equiv};
 ghost use Rattle.std.specs.Hash as fed;
 
 use std::alloc::Allocator;
-use std::fmt;
 use std::hash::Hash;
-use std::marker::Model;
+use std::marker::{Model, PhantomData};
 use std::sync::atomic::{AtomicU64, Ordering};
 
 /// A type by which keys of type `K` can be looked up: 0.2.5's trait of that name, which it takes
@@ -104,8 +103,9 @@ impl Collector {
         ensures { result.collector ≡ self.now }
     {
         LocalGuard {
-            collector: self,
+            collector: self.number,
             own: self.guards.fetch_add(1, Ordering::SeqCst),
+            borrowed: PhantomData,
         }
     }
 
@@ -121,7 +121,7 @@ impl Collector {
 
 /// A sequence of calls: `seize`'s trait of that name.
 ///
-/// There a guard keeps what was loaded under it from being freed. Here it has two numbers, on
+/// There a guard keeps what was loaded under it from being freed. Here it holds two numbers, on
 /// which no safety depends. It has `collector_number` instead of `collector`, and its own `number`
 /// instead of `thread_id`.
 pub trait Guard {
@@ -140,19 +140,12 @@ pub trait Guard {
         ensures { result ≡ number self.now };
 }
 
-/// Prints a guard by this name, with its two numbers.
-fn print<G: Guard, W: fmt::Write>(name: &str, guard: &G, f: &mut fmt::Formatter<W>) -> fmt::Result {
-    f.debug_struct(name)
-        .field("collector", &guard.collector_number())
-        .field("number", &guard.number())
-        .finish()
-}
-
 /// A guard of [`Collector::enter`]: `seize`'s type of that name.
 #[derive(Drop)]
 pub struct LocalGuard<'a> {
-    collector: &'a Collector,
+    collector: u64,
     own: u64,
+    borrowed: PhantomData<&'a ()>,
 }
 
 impl<'a> Model for LocalGuard<'a> {
@@ -160,13 +153,7 @@ impl<'a> Model for LocalGuard<'a> {
 
     ghost Value = { GuardNumbers };
 
-    ghost view = { λ guard. record { collector = guard.collector.now; own = guard.own } };
-}
-
-impl fmt::Debug for LocalGuard<'_> {
-    fn fmt<W: fmt::Write>(&self, f: &mut fmt::Formatter<W>) -> fmt::Result {
-        print("LocalGuard", self, f)
-    }
+    ghost view = { λ guard. record { collector = guard.collector; own = guard.own } };
 }
 
 impl Guard for LocalGuard<'_> {
@@ -175,7 +162,7 @@ impl Guard for LocalGuard<'_> {
     ghost number = { λ guard. guard.own };
 
     fn collector_number(&self) -> u64 {
-        self.collector.number()
+        self.collector
     }
 
     fn number(&self) -> u64 {
@@ -197,12 +184,6 @@ impl<'a> Model for OwnedGuard<'a> {
     ghost Value = { GuardNumbers };
 
     ghost view = { λ owned. owned.guard };
-}
-
-impl fmt::Debug for OwnedGuard<'_> {
-    fn fmt<W: fmt::Write>(&self, f: &mut fmt::Formatter<W>) -> fmt::Result {
-        print("OwnedGuard", self, f)
-    }
 }
 
 impl Guard for OwnedGuard<'_> {

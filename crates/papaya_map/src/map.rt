@@ -32,10 +32,10 @@ use papaya_book::rule::law::Law;
 use papaya_book::rule::offer::Seen;
 use papaya_book::rule::own::{CapacityCause, OwnSteps};
 use papaya_book::window::Window;
-use papaya_keys::guard::{Collector, Guard, LocalGuard, OwnedGuard};
+use papaya_keys::guard::{Collector, Guard};
 use std::alloc::Global;
 use std::hash::{BuildHasher, BuildHasherDefault, FoldHasher, Hash};
-use std::marker::{Model, PhantomData};
+use std::marker::Model;
 
 /// A map that threads share. Contracts see what is fixed when it is made: its book, hasher,
 /// resize mode and arenas, the initial capacity that sizes its first table, and its number of
@@ -133,19 +133,18 @@ impl<K: Hash + Eq, V, S: BuildHasher> Pass<K, V, S> {
     }
 }
 
-/// A pinned map, on which calls are made: `HashMapRef` of 0.2.5. References that it returns live as
-/// long as the map. It keeps the root table found when the map was pinned, so that calls need not
-/// look it up again, and only the type of its guard. Contracts see what they see of the map, and
-/// the history that had been observed at the pin.
-pub struct HashMapRef<'a, K: Hash + Eq, V, S: BuildHasher, G> {
+/// A pinned map, on which calls are made. References that it returns live as long as the map. It
+/// keeps the root table found when the map was pinned, so that calls need not look it up again.
+/// Contracts see what they see of the map, and the history that had been observed at the
+/// pin.
+pub struct HashMapRef<'a, K: Hash + Eq, V, S: BuildHasher> {
     pub(crate) map: &'a HashMap<K, V, S>,
     kept: KeptRoot<'a, K, V, S>,
     seen: Seen<K, V, S>,
-    guard: PhantomData<G>,
     ghost seen_book: { seen.book ≡ map.now.book },
 }
 
-impl<'a, K: Hash + Eq, V, S: BuildHasher, G> Model for HashMapRef<'a, K, V, S, G> {
+impl<'a, K: Hash + Eq, V, S: BuildHasher> Model for HashMapRef<'a, K, V, S> {
     ghost Value = { Pinned K V S };
 
     ghost view = { λ r. record { map = r.map.now; seen = history_of r.seen.log } };
@@ -155,14 +154,9 @@ impl<'a, K: Hash + Eq, V, S: BuildHasher, G> Model for HashMapRef<'a, K, V, S, G
 }
 
 // By hand, so that a caller's proof knows the whole value to its end.
-impl<'a, K: Hash + Eq, V, S: BuildHasher, G> Drop for HashMapRef<'a, K, V, S, G> {
+impl<'a, K: Hash + Eq, V, S: BuildHasher> Drop for HashMapRef<'a, K, V, S> {
     fn drop(self) {
-        let Self {
-            map: _,
-            kept,
-            seen,
-            guard: _,
-        } = self;
+        let Self { map: _, kept, seen } = self;
         drop(seen);
         drop(kept);
     }
@@ -171,23 +165,7 @@ impl<'a, K: Hash + Eq, V, S: BuildHasher, G> Drop for HashMapRef<'a, K, V, S, G>
 impl<K: Hash + Eq, V, S: BuildHasher> HashMap<K, V, S> {
     /// Pins the map, and returns the reference on which calls are made. It writes no word.
     #[inline]
-    pub fn pin(&self) -> HashMapRef<'_, K, V, S, LocalGuard<'_>>
-        ensures { result.map ≡ self.now }
-    {
-        self.pinned()
-    }
-
-    /// Pins the map as [`HashMap::pin`] does: `pin_owned` of 0.2.5, whose reference may be sent to
-    /// another thread. Here every pinned map may, as it holds no guard.
-    pub fn pin_owned(&self) -> HashMapRef<'_, K, V, S, OwnedGuard<'_>>
-        ensures { result.map ≡ self.now }
-    {
-        self.pinned()
-    }
-
-    /// Pins the map, with any guard's type.
-    #[inline(always)]
-    pub(crate) fn pinned<G>(&self) -> HashMapRef<'_, K, V, S, G>
+    pub fn pin(&self) -> HashMapRef<'_, K, V, S>
         ensures { result.map ≡ self.now }
     {
         let kept = self.book.keep_root();
@@ -197,8 +175,15 @@ impl<K: Hash + Eq, V, S: BuildHasher> HashMap<K, V, S> {
             map: self,
             kept,
             seen,
-            guard: PhantomData,
         }
+    }
+
+    /// Pins the map as [`HashMap::pin`] does: `pin_owned` of 0.2.5, whose reference may be sent to
+    /// another thread. Here every pinned map may, as it holds no guard.
+    pub fn pin_owned(&self) -> HashMapRef<'_, K, V, S>
+        ensures { result.map ≡ self.now }
+    {
+        self.pin()
     }
 
     /// Returns the number of entries counted. A change is counted one step after it is made.
@@ -280,7 +265,7 @@ impl<K: Hash + Eq, V, S: BuildHasher> HashMap<K, V, S> {
     }
 }
 
-impl<'a, K: Hash + Eq, V, S: BuildHasher, G: Guard> HashMapRef<'a, K, V, S, G> {
+impl<'a, K: Hash + Eq, V, S: BuildHasher> HashMapRef<'a, K, V, S> {
     /// Returns the map that was pinned: `map` of 0.2.5.
     pub fn map(&self) -> &'a HashMap<K, V, S>
         ensures { result.now ≡ self.now.map }
@@ -288,16 +273,15 @@ impl<'a, K: Hash + Eq, V, S: BuildHasher, G: Guard> HashMapRef<'a, K, V, S, G> {
         self.map
     }
 
-    /// Returns the same pinned map, with any guard's type.
+    /// Returns the same pinned map again.
     #[inline(always)]
-    pub(crate) fn again<H>(&self) -> HashMapRef<'a, K, V, S, H>
+    pub(crate) fn again(&self) -> HashMapRef<'a, K, V, S>
         ensures { result ≡ self.now }
     {
         HashMapRef {
             map: self.map,
             kept: self.kept.again(),
             seen: self.seen.again(),
-            guard: PhantomData,
         }
     }
 

@@ -14,7 +14,7 @@ mod updating;
 
 use crate::map::{HashMap, HashMapRef, Pass};
 use crate::told::{Saying, Told};
-use papaya_keys::guard::{Guard, LocalGuard};
+use papaya_keys::guard::Guard;
 use papaya_scan::walk::Iter;
 use papaya_words::probe::Refused;
 use std::hash::{BuildHasher, BuildHasherDefault, FoldHasher, Hash};
@@ -32,7 +32,7 @@ use std::marker::Model;
 /// reads at some point after them.
 #[derive(Drop)]
 pub struct Session<'a, K: Hash + Eq, V, S: BuildHasher = BuildHasherDefault<FoldHasher>> {
-    map: HashMapRef<'a, K, V, S, LocalGuard<'a>>,
+    map: HashMapRef<'a, K, V, S>,
     pass: Pass<K, V, S>,
 }
 
@@ -139,7 +139,7 @@ impl<'a, K: Hash + Eq, V, S: BuildHasher> Session<'a, K, V, S> {
     /// a history that begins with what each had observed. So its calls take effect after all that
     /// the iterator returned. Does nothing at run time, and never fails. As at [`Session::meet`] a
     /// premise is left: the iterator is of the session's map.
-    pub fn learn_walk<G>(&mut self, walk: &Iter<'_, K, V, G, S>)
+    pub fn learn_walk(&mut self, walk: &Iter<'_, K, V, S>)
         requires { walk.now.book ≡ self.old.map.book }
         ensures map { self.new.map ≡ self.old.map }
         ensures seen { IsPrefix self.old.history self.new.history }
@@ -152,7 +152,7 @@ impl<'a, K: Hash + Eq, V, S: BuildHasher> Session<'a, K, V, S> {
     }
 }
 
-impl<'a, K: Hash + Eq, V, S: BuildHasher, G: Guard> HashMapRef<'a, K, V, S, G> {
+impl<'a, K: Hash + Eq, V, S: BuildHasher> HashMapRef<'a, K, V, S> {
     /// Returns a session of this map, which has observed the history up to the pin. Its calls pick
     /// the count's shard by this number if there is one, and otherwise by the key. A call without a
     /// session creates its own by this; users call [`Session::new`].

@@ -4,7 +4,6 @@ ghost use Rattle.std.specs.Prelude.{◌≡◌};
 use crate::answers::{Answer, computed, done, pair, removal, there, value};
 use crate::seen::{Says, Seen, agrees, next, next_at, operation};
 use crate::steps::{Calls, Keeps, Step};
-use papaya_keys::guard::{Guard, LocalGuard, OwnedGuard};
 use papaya_map::map::{HashMap, HashMapRef, Pass};
 use papaya_testing::gate::Gate;
 use papaya_testing::times::Times;
@@ -17,8 +16,8 @@ pub type Numbers = HashMap<u64, u64, Times>;
 
 /// Such a map, pinned, with two passes of it.
 #[derive(Drop)]
-pub struct Pinned<'a, G> {
-    map: HashMapRef<'a, u64, u64, Times, G>,
+pub struct Pinned<'a> {
+    map: HashMapRef<'a, u64, u64, Times>,
     pass: Pass<u64, u64, Times>,
     other: Pass<u64, u64, Times>,
     seen: Seen,
@@ -26,9 +25,9 @@ pub struct Pinned<'a, G> {
     ghost other_same: { other.book ≡ map.map.book },
 }
 
-impl<'a> Pinned<'a, LocalGuard<'a>> {
+impl<'a> Pinned<'a> {
     /// Pins a map by `pin`, with a new pass.
-    pub fn of(map: &'a Numbers) -> Self {
+    pub fn of(map: &'a Numbers) -> Pinned<'a> {
         Pinned {
             map: map.pin(),
             pass: map.pass(),
@@ -36,11 +35,9 @@ impl<'a> Pinned<'a, LocalGuard<'a>> {
             seen: Seen::nothing(),
         }
     }
-}
 
-impl<'a> Pinned<'a, OwnedGuard<'a>> {
     /// Pins a map by `pin_owned`.
-    pub fn owned_of(map: &'a Numbers) -> Self {
+    pub fn owned_of(map: &'a Numbers) -> Pinned<'a> {
         Pinned {
             map: map.pin_owned(),
             pass: map.pass(),
@@ -48,9 +45,7 @@ impl<'a> Pinned<'a, OwnedGuard<'a>> {
             seen: Seen::nothing(),
         }
     }
-}
 
-impl<G: Guard> Pinned<'_, G> {
     /// Lets the passes meet.
     fn meet(&mut self) -> Answer {
         self.map.meet(&mut self.pass, &mut self.other);
@@ -103,7 +98,7 @@ pub fn said(answer: Result<Answer, Refused>) -> Answer {
     }
 }
 
-impl<G: Guard> Calls for Pinned<'_, G> {
+impl Calls for Pinned<'_> {
     fn get(&mut self, key: u64) -> Answer {
         value(Ok(self.map.get_as(&key, &mut self.pass)))
     }

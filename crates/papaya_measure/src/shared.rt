@@ -3,7 +3,6 @@
 use crate::collections::{Collection, Growing, Pinned, Shared};
 use crate::reclaim::Reclaimed;
 use crate::steps::{Target, Work, counted_up, one_more, stored};
-use papaya_keys::guard::Guard;
 use papaya_map::map::{HashMap, HashMapRef};
 use papaya_map::session::Session;
 use papaya_plan::answers::weight;
@@ -31,7 +30,7 @@ pub(crate) struct PinACall(Map);
 /// The set.
 pub(crate) type Set = HashSet<u64>;
 
-impl<G: Guard> Target for HashMapRef<'_, u64, u64, Hasher, G> {
+impl Target for HashMapRef<'_, u64, u64, Hasher> {
     #[inline(always)]
     fn look_up<R: Wait>(&mut self, _rt: &R, key: u64) -> u64 {
         weight(self.get(&key))
@@ -128,7 +127,7 @@ impl Target for &PinACall {
     }
 }
 
-impl<G: Guard> Target for HashSetRef<'_, u64, Hasher, G> {
+impl Target for HashSetRef<'_, u64, Hasher> {
     #[inline(always)]
     fn look_up<R: Wait>(&mut self, _rt: &R, key: u64) -> u64 {
         u64::from(self.contains(&key))

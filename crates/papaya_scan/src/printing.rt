@@ -90,8 +90,8 @@ pub fn print_keys<'a, 'f, K: Hash + Eq + fmt::Debug, V, S: BuildHasher, W: fmt::
     out.finish()
 }
 
-impl<'a, K: Hash + Eq + fmt::Debug, V: fmt::Debug, G, S: BuildHasher> fmt::Debug
-    for Iter<'a, K, V, G, S> {
+impl<'a, K: Hash + Eq + fmt::Debug, V: fmt::Debug, S: BuildHasher> fmt::Debug
+    for Iter<'a, K, V, S> {
     /// Prints the entries that are left.
     fn fmt<W: fmt::Write>(&self, f: &mut fmt::Formatter<W>) -> fmt::Result {
         let mut out = f.debug_list();
@@ -102,15 +102,15 @@ impl<'a, K: Hash + Eq + fmt::Debug, V: fmt::Debug, G, S: BuildHasher> fmt::Debug
     }
 }
 
-impl<'a, K: Hash + Eq + fmt::Debug, V: fmt::Debug, G, S: BuildHasher> fmt::Debug
-    for Keys<'a, K, V, G, S> {
+impl<'a, K: Hash + Eq + fmt::Debug, V: fmt::Debug, S: BuildHasher> fmt::Debug
+    for Keys<'a, K, V, S> {
     fn fmt<W: fmt::Write>(&self, f: &mut fmt::Formatter<W>) -> fmt::Result {
         f.debug_tuple("Keys").field(&self.pairs).finish()
     }
 }
 
-impl<'a, K: Hash + Eq + fmt::Debug, V: fmt::Debug, G, S: BuildHasher> fmt::Debug
-    for Values<'a, K, V, G, S> {
+impl<'a, K: Hash + Eq + fmt::Debug, V: fmt::Debug, S: BuildHasher> fmt::Debug
+    for Values<'a, K, V, S> {
     fn fmt<W: fmt::Write>(&self, f: &mut fmt::Formatter<W>) -> fmt::Result {
         f.debug_tuple("Values").field(&self.pairs).finish()
     }

@@ -20,15 +20,14 @@ use papaya_book::table::Table;
 use papaya_book::window::Window;
 use papaya_lookup::near::{slots_of, word_of};
 use papaya_words::word::{Kind, Word};
-use std::hash::{BuildHasher, BuildHasherDefault, FoldHasher, Hash};
-use std::marker::{Model, PhantomData};
+use std::hash::{BuildHasher, Hash};
+use std::marker::Model;
 
 /// An iterator over the entries of a map, slot by slot of the root that it took: `Iter` of 0.2.5.
-/// It keeps the root's number, its length, the slots that are left, and only the type of a guard.
-/// Its last parameter, the hasher, is not in 0.2.5. Contracts see the book, the history observed
-/// when the iteration began, and the history observed by now.
+/// It keeps the root's number, its length, and the slots that are left. Contracts see the book, the
+/// history observed when the iteration began, and the history observed by now.
 #[derive(Drop)]
-pub struct Iter<'a, K: Hash + Eq, V, G, S: BuildHasher = BuildHasherDefault<FoldHasher>> {
+pub struct Iter<'a, K: Hash + Eq, V, S: BuildHasher> {
     book: &'a Book<K, V, S>,
     kept: KeptRoot<'a, K, V, S>,
     began: Seen<K, V, S>,
@@ -36,10 +35,9 @@ pub struct Iter<'a, K: Hash + Eq, V, G, S: BuildHasher = BuildHasherDefault<Fold
     number: u64,
     len: usize,
     rest: &'a [Slot<K, V, S>],
-    guard: PhantomData<G>,
 }
 
-impl<'a, K: Hash + Eq, V, G, S: BuildHasher> Model for Iter<'a, K, V, G, S> {
+impl<'a, K: Hash + Eq, V, S: BuildHasher> Model for Iter<'a, K, V, S> {
     ghost Value = { Walked K V };
 
     ghost view = { λ i. record {
@@ -54,7 +52,7 @@ impl<'a, K: Hash + Eq, V, G, S: BuildHasher> Model for Iter<'a, K, V, G, S> {
         i.sight.log i.number i.len i.rest.now };
 }
 
-impl<'a, K: Hash + Eq, V, G, S: BuildHasher> Iter<'a, K, V, G, S> {
+impl<'a, K: Hash + Eq, V, S: BuildHasher> Iter<'a, K, V, S> {
     /// Creates an iterator over a root that was taken, from its first slot. `began` is the history
     /// observed before. A map's `iter` uses this; other callers do not need it.
     pub fn over(
@@ -63,7 +61,7 @@ impl<'a, K: Hash + Eq, V, G, S: BuildHasher> Iter<'a, K, V, G, S> {
         began: Seen<K, V, S>,
         sight: Seen<K, V, S>,
         root: Option<(u64, &'a Table<K, V, S>)>,
-    ) -> Iter<'a, K, V, G, S>
+    ) -> Iter<'a, K, V, S>
         requires kept { kept.now ≡ book.now.begun.book }
         requires seen { sight.book ≡ book.now.begun.book }
         requires root { IsRootOf (begun_of book.now.parts) began.log sight.log root }
@@ -83,7 +81,6 @@ impl<'a, K: Hash + Eq, V, G, S: BuildHasher> Iter<'a, K, V, G, S> {
             number,
             len: rest.len(),
             rest,
-            guard: PhantomData,
         }
     }
 
@@ -96,7 +93,7 @@ impl<'a, K: Hash + Eq, V, G, S: BuildHasher> Iter<'a, K, V, G, S> {
     }
 
     /// Returns the same iterator, at the same slot.
-    pub(crate) fn again(&self) -> Iter<'a, K, V, G, S>
+    pub(crate) fn again(&self) -> Iter<'a, K, V, S>
         ensures { result ≡ self.now }
     {
         Iter {
@@ -107,7 +104,6 @@ impl<'a, K: Hash + Eq, V, G, S: BuildHasher> Iter<'a, K, V, G, S> {
             number: self.number,
             len: self.len,
             rest: self.rest,
-            guard: PhantomData,
         }
     }
 }
@@ -176,7 +172,7 @@ fn next_pair<'a, K: Hash + Eq, V, S: BuildHasher>(
     (rest, None)
 }
 
-impl<'a, K: Hash + Eq, V, G, S: BuildHasher> Iterator for Iter<'a, K, V, G, S> {
+impl<'a, K: Hash + Eq, V, S: BuildHasher> Iterator for Iter<'a, K, V, S> {
     type Item = (&'a K, &'a V);
 
     ghost next_gives = { Gives K.eq };
@@ -196,20 +192,20 @@ impl<'a, K: Hash + Eq, V, G, S: BuildHasher> Iterator for Iter<'a, K, V, G, S> {
 
 /// An iterator over the keys of a map: `Keys` of 0.2.5.
 #[derive(Drop)]
-pub struct Keys<'a, K: Hash + Eq, V, G, S: BuildHasher = BuildHasherDefault<FoldHasher>> {
-    pub(crate) pairs: Iter<'a, K, V, G, S>,
+pub struct Keys<'a, K: Hash + Eq, V, S: BuildHasher> {
+    pub(crate) pairs: Iter<'a, K, V, S>,
 }
 
-impl<'a, K: Hash + Eq, V, G, S: BuildHasher> Keys<'a, K, V, G, S> {
+impl<'a, K: Hash + Eq, V, S: BuildHasher> Keys<'a, K, V, S> {
     /// Creates an iterator over the keys of these entries.
-    pub fn of(pairs: Iter<'a, K, V, G, S>) -> Keys<'a, K, V, G, S>
+    pub fn of(pairs: Iter<'a, K, V, S>) -> Keys<'a, K, V, S>
         ensures { result.pairs ≡ pairs.entry }
     {
         Keys { pairs }
     }
 
     /// Returns an iterator over the same keys, at the same slot.
-    pub fn again(&self) -> Keys<'a, K, V, G, S>
+    pub fn again(&self) -> Keys<'a, K, V, S>
         ensures { result ≡ self.now }
     {
         Keys {
@@ -218,7 +214,7 @@ impl<'a, K: Hash + Eq, V, G, S: BuildHasher> Keys<'a, K, V, G, S> {
     }
 }
 
-impl<'a, K: Hash + Eq, V, G, S: BuildHasher> Iterator for Keys<'a, K, V, G, S> {
+impl<'a, K: Hash + Eq, V, S: BuildHasher> Iterator for Keys<'a, K, V, S> {
     type Item = &'a K;
 
     ghost next_gives = { λ s key t. GivesKey K.eq s.pairs key t.pairs };
@@ -236,20 +232,20 @@ impl<'a, K: Hash + Eq, V, G, S: BuildHasher> Iterator for Keys<'a, K, V, G, S> {
 
 /// An iterator over the values of a map: `Values` of 0.2.5.
 #[derive(Drop)]
-pub struct Values<'a, K: Hash + Eq, V, G, S: BuildHasher = BuildHasherDefault<FoldHasher>> {
-    pub(crate) pairs: Iter<'a, K, V, G, S>,
+pub struct Values<'a, K: Hash + Eq, V, S: BuildHasher> {
+    pub(crate) pairs: Iter<'a, K, V, S>,
 }
 
-impl<'a, K: Hash + Eq, V, G, S: BuildHasher> Values<'a, K, V, G, S> {
+impl<'a, K: Hash + Eq, V, S: BuildHasher> Values<'a, K, V, S> {
     /// Creates an iterator over the values of these entries.
-    pub fn of(pairs: Iter<'a, K, V, G, S>) -> Values<'a, K, V, G, S>
+    pub fn of(pairs: Iter<'a, K, V, S>) -> Values<'a, K, V, S>
         ensures { result.pairs ≡ pairs.entry }
     {
         Values { pairs }
     }
 }
 
-impl<'a, K: Hash + Eq, V, G, S: BuildHasher> Iterator for Values<'a, K, V, G, S> {
+impl<'a, K: Hash + Eq, V, S: BuildHasher> Iterator for Values<'a, K, V, S> {
     type Item = &'a V;
 
     ghost next_gives = { λ s value t. GivesValue K.eq s.pairs value t.pairs };

@@ -339,7 +339,7 @@ impl<K: Hash + Eq, S: BuildHasher> HashSet<K, S> {
         &'g self,
         rt: &R,
         guard: &'g G,
-    ) -> Result<Iter<'g, K, G, S>, Refused>
+    ) -> Result<Iter<'g, K, S>, Refused>
         ensures began { IfOk result (λ keys. keys.began ≡ []) }
         ensures right { G.collector_number guard.now ≡ self.now.collector
             → IfErr result IsMemoryOrCapacity }

@@ -4,17 +4,17 @@ ghost use Rattle.std.specs.Iterator.{at_most};
 ghost use Rattle.papaya_scan.specs.Walked.{GivesKey};
 
 use papaya_scan::walk::Keys;
-use std::hash::{BuildHasher, BuildHasherDefault, FoldHasher, Hash};
+use std::hash::{BuildHasher, Hash};
 use std::marker::Model;
 
 /// An iterator over a set's keys, slot by slot of the root as it was taken: `set::Iter` of 0.2.5.
 /// Contracts see the history at its start, and the one observed so far.
 #[derive(Drop)]
-pub struct Iter<'a, K: Hash + Eq, G, S: BuildHasher = BuildHasherDefault<FoldHasher>> {
-    pub(crate) keys: Keys<'a, K, (), G, S>,
+pub struct Iter<'a, K: Hash + Eq, S: BuildHasher> {
+    pub(crate) keys: Keys<'a, K, (), S>,
 }
 
-impl<'a, K: Hash + Eq, G, S: BuildHasher> Model for Iter<'a, K, G, S> {
+impl<'a, K: Hash + Eq, S: BuildHasher> Model for Iter<'a, K, S> {
     ghost use Rattle.papaya_scan.specs.Walked.{Walked};
 
     ghost Value = { Walked K (Unit {0}) };
@@ -22,16 +22,16 @@ impl<'a, K: Hash + Eq, G, S: BuildHasher> Model for Iter<'a, K, G, S> {
     ghost view = { λ it. it.keys.pairs };
 }
 
-impl<'a, K: Hash + Eq, G, S: BuildHasher> Iter<'a, K, G, S> {
+impl<'a, K: Hash + Eq, S: BuildHasher> Iter<'a, K, S> {
     /// Returns the iterator of a set over the keys of its map.
-    pub(crate) fn of(keys: Keys<'a, K, (), G, S>) -> Iter<'a, K, G, S>
+    pub(crate) fn of(keys: Keys<'a, K, (), S>) -> Iter<'a, K, S>
         ensures { result ≡ keys.entry.pairs }
     {
         Iter { keys }
     }
 }
 
-impl<'a, K: Hash + Eq, G, S: BuildHasher> Iterator for Iter<'a, K, G, S> {
+impl<'a, K: Hash + Eq, S: BuildHasher> Iterator for Iter<'a, K, S> {
     type Item = &'a K;
 
     ghost next_gives = { GivesKey K.eq };

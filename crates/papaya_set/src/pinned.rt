@@ -20,13 +20,13 @@ use crate::set::{HashSet, HashSetRef};
 use logbook::Rule;
 use papaya_book::rule::entry::{Event, Named};
 use papaya_book::rule::law::Law;
-use papaya_keys::guard::{Equivalent, Guard};
+use papaya_keys::guard::Equivalent;
 use papaya_map::told::{Saying, Told};
 use papaya_words::probe::Refused;
 use std::hash::{BuildHasher, Hash};
 use std::sync::Wait;
 
-impl<'a, K: Hash + Eq, S: BuildHasher, G: Guard> HashSetRef<'a, K, S, G> {
+impl<'a, K: Hash + Eq, S: BuildHasher> HashSetRef<'a, K, S> {
     /// Returns the set that was pinned: `set` of 0.2.5.
     pub fn set(&self) -> &'a HashSet<K, S>
         ensures { result.now ≡ self.now.map }
@@ -244,7 +244,7 @@ impl<'a, K: Hash + Eq, S: BuildHasher, G: Guard> HashSetRef<'a, K, S, G> {
     ///
     /// # Errors
     /// `Refused::Memory` or `Capacity`, as [`HashSetRef::retain`], if that copy needs a table.
-    pub fn iter<R: Wait>(&self, rt: &R) -> Result<Iter<'a, K, G, S>, Refused>
+    pub fn iter<R: Wait>(&self, rt: &R) -> Result<Iter<'a, K, S>, Refused>
         ensures began { IfOk result (λ keys. keys.began ≡ []) }
         ensures refused { IfErr result IsMemoryOrCapacity }
     {
@@ -252,7 +252,7 @@ impl<'a, K: Hash + Eq, S: BuildHasher, G: Guard> HashSetRef<'a, K, S, G> {
     }
 }
 
-impl<'a, K: Hash + Eq + Drop, S: BuildHasher, G: Guard> HashSetRef<'a, K, S, G> {
+impl<'a, K: Hash + Eq + Drop, S: BuildHasher> HashSetRef<'a, K, S> {
     /// Performs [`HashSetRef::insert`], and returns the observed history as well.
     #[inline(always)]
     fn insert_told<R: Wait>(&self, rt: &R, key: K) -> Saying<Result<bool, Refused>, K, (), S>

@@ -2,7 +2,6 @@
 use crate::iter::Iter;
 use crate::seq;
 use crate::set::{HashSet, HashSetRef};
-use papaya_keys::guard::Guard;
 use std::fmt;
 use std::hash::{BuildHasher, Hash};
 
@@ -23,14 +22,13 @@ impl<K: Hash + Eq + fmt::Debug, S: BuildHasher> fmt::Debug for HashSet<K, S> {
     }
 }
 
-impl<'a, K: Hash + Eq + fmt::Debug, S: BuildHasher, G: Guard> fmt::Debug
-    for HashSetRef<'a, K, S, G> {
+impl<'a, K: Hash + Eq + fmt::Debug, S: BuildHasher> fmt::Debug for HashSetRef<'a, K, S> {
     fn fmt<W: fmt::Write>(&self, f: &mut fmt::Formatter<W>) -> fmt::Result {
         fmt::Debug::fmt(self.set(), f)
     }
 }
 
-impl<'a, K: Hash + Eq + fmt::Debug, G, S: BuildHasher> fmt::Debug for Iter<'a, K, G, S> {
+impl<'a, K: Hash + Eq + fmt::Debug, S: BuildHasher> fmt::Debug for Iter<'a, K, S> {
     /// Prints the keys that are left.
     fn fmt<W: fmt::Write>(&self, f: &mut fmt::Formatter<W>) -> fmt::Result {
         let mut out = f.debug_list();

@@ -4,7 +4,6 @@ ghost use Rattle.papaya_words.specs.declared.limits.TheConstants.{DEFAULT_CHUNK,
 ghost use Rattle.papaya_keys.specs.Sizes.{IsAllowed, IsSizeRefusal};
 ghost use Rattle.papaya_map.specs.Fixed.{IsFor};
 
-use papaya_keys::guard::{LocalGuard, OwnedGuard};
 use papaya_map::map::{HashMap, HashMapRef};
 use papaya_words::probe::{Refused, ResizeMode};
 use std::alloc::Global;
@@ -30,17 +29,17 @@ impl<K: Hash + Eq, S: BuildHasher> Model for HashSet<K, S> {
     ghost view = { λ s. s.map };
 }
 
-/// A pinned set, on which calls are made: `HashSetRef` of 0.2.5, which has only the type of its
-/// guard here. References that it returns live as long as the set. Contracts see what they see of
-/// the set, and the history that had been observed at the pin.
+/// A pinned set, on which calls are made: `HashSetRef` of 0.2.5, but without a guard. References
+/// that it returns live as long as the set. Contracts see what they see of the set, and the
+/// history that had been observed at the pin.
 #[derive(Drop)]
-pub struct HashSetRef<'a, K: Hash + Eq, S: BuildHasher, G> {
+pub struct HashSetRef<'a, K: Hash + Eq, S: BuildHasher> {
     pub(crate) set: &'a HashSet<K, S>,
-    pub(crate) keys: HashMapRef<'a, K, (), S, G>,
+    pub(crate) keys: HashMapRef<'a, K, (), S>,
     ghost of_set: { keys.map ≡ set.now },
 }
 
-impl<'a, K: Hash + Eq, S: BuildHasher, G> Model for HashSetRef<'a, K, S, G> {
+impl<'a, K: Hash + Eq, S: BuildHasher> Model for HashSetRef<'a, K, S> {
     ghost use Rattle.papaya_map.specs.Fixed.{Pinned};
 
     ghost Value = { Pinned K (Unit {0}) S };
@@ -188,7 +187,7 @@ impl<K: Hash + Eq, S: BuildHasher> HashSet<K, S> {
 
     /// Pins the set, and returns a reference for its calls: `pin` of 0.2.5. It writes no word.
     #[inline]
-    pub fn pin(&self) -> HashSetRef<'_, K, S, LocalGuard<'_>>
+    pub fn pin(&self) -> HashSetRef<'_, K, S>
         ensures { result.map ≡ self.now }
     {
         HashSetRef {
@@ -199,13 +198,10 @@ impl<K: Hash + Eq, S: BuildHasher> HashSet<K, S> {
 
     /// Pins the set as [`HashSet::pin`] does: `pin_owned` of 0.2.5, whose reference may be sent to
     /// another thread. Here every pinned set may, as it holds no guard.
-    pub fn pin_owned(&self) -> HashSetRef<'_, K, S, OwnedGuard<'_>>
+    pub fn pin_owned(&self) -> HashSetRef<'_, K, S>
         ensures { result.map ≡ self.now }
     {
-        HashSetRef {
-            set: self,
-            keys: self.map.pin_owned(),
-        }
+        self.pin()
     }
 
     /// Returns the number of keys counted: `len` of 0.2.5. A change is counted one step after it.

@@ -4,7 +4,6 @@ ghost use Rattle.std.proofs.Common.{ap};
 ghost use Rattle.std.specs.Cmp.{nat_eq_equiv, on_equiv, partial_equiv_from_equiv, unsigned_Decides};
 ghost use Rattle.std.specs.Hash as fed;
 
-use papaya_keys::guard::LocalGuard;
 use papaya_set::set::{HashSet, HashSetRef};
 use papaya_words::probe::{Refused, ResizeMode};
 use std::alloc::Global;
@@ -45,7 +44,7 @@ impl Hash for Labelled {
 /// A set of such keys that threads share.
 pub type Keys = HashSet<Labelled>;
 
-pub type Pinned<'a> = HashSetRef<'a, Labelled, BuildHasherDefault<FoldHasher>, LocalGuard<'a>>;
+pub type Pinned<'a> = HashSetRef<'a, Labelled, BuildHasherDefault<FoldHasher>>;
 
 /// Returns a key of this number and label.
 pub fn key(number: u64, label: char) -> Labelled {

@@ -1,13 +1,11 @@
 //! Each caller of `papaya_uses`, run once; threads share the tables. Then each enum of the facade,
-//! matched by name, and each type that names a guard.
+//! matched by name.
 #![tactic(auto)]
 
 #[cfg(test)]
 mod caches;
 #[cfg(test)]
 mod expect;
-#[cfg(test)]
-mod guarded;
 #[cfg(test)]
 mod named;
 #[cfg(test)]

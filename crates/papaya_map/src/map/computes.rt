@@ -23,7 +23,7 @@ use papaya_words::probe::Refused;
 use std::hash::{BuildHasher, Hash};
 use std::sync::Wait;
 
-impl<'a, K: Hash + Eq + Drop, V: Drop, S: BuildHasher, G: Guard> HashMapRef<'a, K, V, S, G> {
+impl<'a, K: Hash + Eq + Drop, V: Drop, S: BuildHasher> HashMapRef<'a, K, V, S> {
     /// Calls a closure with the key's entry, or `None`, and does what it returns: `compute` of
     /// 0.2.5. The closure returns what to store, that the entry is removed, or that nothing is
     /// changed.

@@ -23,7 +23,7 @@ use papaya_words::probe::Refused;
 use std::hash::{BuildHasher, Hash};
 use std::sync::Wait;
 
-impl<'a, K: Hash + Eq + Drop, V: Drop, S: BuildHasher, G: Guard> HashMapRef<'a, K, V, S, G> {
+impl<'a, K: Hash + Eq + Drop, V: Drop, S: BuildHasher> HashMapRef<'a, K, V, S> {
     /// Inserts a key-value pair, and returns the key's old value, if any: `insert` of 0.2.5. As
     /// there, a stored key stays, and the key that was passed in is dropped.
     ///

@@ -16,7 +16,7 @@ use papaya_lookup::lookup::look_up;
 use papaya_words::probe::Refused;
 use std::hash::{BuildHasher, Hash};
 
-impl<'a, K: Hash + Eq, V, S: BuildHasher, G: Guard> HashMapRef<'a, K, V, S, G> {
+impl<'a, K: Hash + Eq, V, S: BuildHasher> HashMapRef<'a, K, V, S> {
     /// Returns the key's value, or `None` if there is none: `get` of 0.2.5. It only loads words: it
     /// waits for no thread, takes no lock and allocates nothing.
     #[inline(always)]

@@ -20,7 +20,7 @@ use papaya_words::probe::Refused;
 use std::hash::{BuildHasher, Hash};
 use std::sync::Wait;
 
-impl<'a, K: Hash + Eq, V, S: BuildHasher, G: Guard> HashMapRef<'a, K, V, S, G> {
+impl<'a, K: Hash + Eq, V, S: BuildHasher> HashMapRef<'a, K, V, S> {
     /// Removes a key's entry if the closure returns `true` for it: `remove_if` of 0.2.5.
     ///
     /// Returns `Ok(None)` if the key is absent, `Ok(Some(entry))` if that very entry was removed,

@@ -21,7 +21,7 @@ use papaya_words::probe::Refused;
 use std::hash::{BuildHasher, Hash};
 use std::sync::Wait;
 
-impl<'a, K: Hash + Eq, V, S: BuildHasher, G: Guard> HashMapRef<'a, K, V, S, G> {
+impl<'a, K: Hash + Eq, V, S: BuildHasher> HashMapRef<'a, K, V, S> {
     /// Removes the entries for which the closure returns `false`: `retain` of 0.2.5. The closure is
     /// called for each entry. It is called for a key's entry again if another call replaced it
     /// meanwhile, or if everything is copied.
@@ -76,7 +76,7 @@ impl<'a, K: Hash + Eq, V, S: BuildHasher, G: Guard> HashMapRef<'a, K, V, S, G> {
         &self,
         rt: &R,
         pass: &mut Pass<K, V, S>,
-    ) -> Result<Iter<'a, K, V, G, S>, Refused>
+    ) -> Result<Iter<'a, K, V, S>, Refused>
         requires { pass.old.book ≡ self.now.map.book }
         ensures book { pass.new.book ≡ pass.old.book }
         ensures seen { IsPrefix pass.old.history pass.new.history }
@@ -113,7 +113,7 @@ impl<'a, K: Hash + Eq, V, S: BuildHasher, G: Guard> HashMapRef<'a, K, V, S, G> {
     ///
     /// # Errors
     /// `Refused::Memory` or `Capacity`, as [`HashMapRef::iter_as`].
-    pub fn iter<R: Wait>(&self, rt: &R) -> Result<Iter<'a, K, V, G, S>, Refused>
+    pub fn iter<R: Wait>(&self, rt: &R) -> Result<Iter<'a, K, V, S>, Refused>
         ensures walk { IfOk result (λ pairs. pairs.book ≡ self.now.map.book) }
         ensures began { IfOk result (λ pairs. pairs.began ≡ []) }
         ensures refused { IfErr result (λ refused. IsMemoryOrCapacity refused) }
@@ -126,7 +126,7 @@ impl<'a, K: Hash + Eq, V, S: BuildHasher, G: Guard> HashMapRef<'a, K, V, S, G> {
     ///
     /// # Errors
     /// `Refused::Memory` or `Capacity`, as [`HashMapRef::iter_as`].
-    pub fn keys<R: Wait>(&self, rt: &R) -> Result<Keys<'a, K, V, G, S>, Refused>
+    pub fn keys<R: Wait>(&self, rt: &R) -> Result<Keys<'a, K, V, S>, Refused>
         ensures walk { IfOk result (λ keys. keys.pairs.book ≡ self.now.map.book) }
         ensures began { IfOk result (λ keys. keys.pairs.began ≡ []) }
         ensures refused { IfErr result (λ refused. IsMemoryOrCapacity refused) }
@@ -138,7 +138,7 @@ impl<'a, K: Hash + Eq, V, S: BuildHasher, G: Guard> HashMapRef<'a, K, V, S, G> {
     ///
     /// # Errors
     /// `Refused::Memory` or `Capacity`, as [`HashMapRef::iter_as`].
-    pub fn values<R: Wait>(&self, rt: &R) -> Result<Values<'a, K, V, G, S>, Refused>
+    pub fn values<R: Wait>(&self, rt: &R) -> Result<Values<'a, K, V, S>, Refused>
         ensures walk { IfOk result (λ values. values.pairs.book ≡ self.now.map.book) }
         ensures began { IfOk result (λ values. values.pairs.began ≡ []) }
         ensures refused { IfErr result (λ refused. IsMemoryOrCapacity refused) }
@@ -200,7 +200,7 @@ impl<K: Hash + Eq, V, S: BuildHasher> HashMap<K, V, S> {
         &'g self,
         rt: &R,
         guard: &'g G,
-    ) -> Result<Iter<'g, K, V, G, S>, Refused>
+    ) -> Result<Iter<'g, K, V, S>, Refused>
         ensures walk { IfOk result (λ pairs. pairs.book ≡ self.now.book) }
         ensures began { IfOk result (λ pairs. pairs.began ≡ []) }
         ensures right { G.collector_number guard.now ≡ self.now.collector
@@ -210,7 +210,7 @@ impl<K: Hash + Eq, V, S: BuildHasher> HashMap<K, V, S> {
     {
         self.verify(guard)?;
         let mut pass = self.numbered(guard.number());
-        self.pinned::<G>().iter_as(rt, &mut pass)
+        self.pin().iter_as(rt, &mut pass)
     }
 
     /// Returns an iterator over the keys: `keys` of 0.2.5.
@@ -221,7 +221,7 @@ impl<K: Hash + Eq, V, S: BuildHasher> HashMap<K, V, S> {
         &'g self,
         rt: &R,
         guard: &'g G,
-    ) -> Result<Keys<'g, K, V, G, S>, Refused>
+    ) -> Result<Keys<'g, K, V, S>, Refused>
         ensures walk { IfOk result (λ keys. keys.pairs.book ≡ self.now.book) }
         ensures began { IfOk result (λ keys. keys.pairs.began ≡ []) }
         ensures right { G.collector_number guard.now ≡ self.now.collector
@@ -240,7 +240,7 @@ impl<K: Hash + Eq, V, S: BuildHasher> HashMap<K, V, S> {
         &'g self,
         rt: &R,
         guard: &'g G,
-    ) -> Result<Values<'g, K, V, G, S>, Refused>
+    ) -> Result<Values<'g, K, V, S>, Refused>
         ensures walk { IfOk result (λ values. values.pairs.book ≡ self.now.book) }
         ensures began { IfOk result (λ values. values.pairs.began ≡ []) }
         ensures right { G.collector_number guard.now ≡ self.now.collector

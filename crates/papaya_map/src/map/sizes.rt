@@ -3,7 +3,6 @@
 //! Each call only loads words. No contract states what it returns, since other threads change the
 //! map meanwhile.
 use crate::map::{HashMap, HashMapRef};
-use papaya_keys::guard::Guard;
 use std::hash::{BuildHasher, Hash};
 
 impl<K: Hash + Eq, V, S: BuildHasher> HashMap<K, V, S> {
@@ -27,7 +26,7 @@ impl<K: Hash + Eq, V, S: BuildHasher> HashMap<K, V, S> {
     }
 }
 
-impl<'a, K: Hash + Eq, V, S: BuildHasher, G: Guard> HashMapRef<'a, K, V, S, G> {
+impl<'a, K: Hash + Eq, V, S: BuildHasher> HashMapRef<'a, K, V, S> {
     /// Returns the number of entries in the arena, as [`HashMap::stored`] counts them.
     pub fn stored(&self) -> usize {
         self.map.stored()

@@ -18,7 +18,7 @@ use papaya_words::probe::Refused;
 use std::hash::{BuildHasher, Hash};
 use std::sync::Wait;
 
-impl<'a, K: Hash + Eq + Drop, V: Drop, S: BuildHasher, G: Guard> HashMapRef<'a, K, V, S, G> {
+impl<'a, K: Hash + Eq + Drop, V: Drop, S: BuildHasher> HashMapRef<'a, K, V, S> {
     /// Replaces the key's value by what the closure makes of it, and returns that: `update` of
     /// 0.2.5. Returns `Ok(None)` if the key has none. The closure may be called again if another
     /// call was first to replace the value.

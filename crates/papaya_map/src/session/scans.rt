@@ -7,7 +7,6 @@ ghost use Rattle.papaya_change.specs.Writing.{IsMemoryOrCapacity};
 ghost use Rattle.papaya_scan.specs.Leaving.{HasDropped, HasKept, IsCleared};
 
 use crate::session::Session;
-use papaya_keys::guard::LocalGuard;
 use papaya_scan::retain::retain;
 use papaya_scan::walk::{Iter, Keys, Values};
 use papaya_words::probe::Refused;
@@ -97,7 +96,7 @@ impl<'a, K: Hash + Eq, V, S: BuildHasher> Session<'a, K, V, S> {
     ///
     /// # Errors
     /// `Refused::Memory` or `Capacity`, as [`Session::retain`], if that copy needs a table.
-    pub fn iter<R: Wait>(&mut self, rt: &R) -> Result<Iter<'a, K, V, LocalGuard<'a>, S>, Refused>
+    pub fn iter<R: Wait>(&mut self, rt: &R) -> Result<Iter<'a, K, V, S>, Refused>
         ensures map { self.new.map ≡ self.old.map }
         ensures seen { IsPrefix self.old.history self.new.history }
         ensures tables { IsPrefix self.old.tables self.new.tables }
@@ -116,7 +115,7 @@ impl<'a, K: Hash + Eq, V, S: BuildHasher> Session<'a, K, V, S> {
     ///
     /// # Errors
     /// As [`Session::iter`].
-    pub fn keys<R: Wait>(&mut self, rt: &R) -> Result<Keys<'a, K, V, LocalGuard<'a>, S>, Refused>
+    pub fn keys<R: Wait>(&mut self, rt: &R) -> Result<Keys<'a, K, V, S>, Refused>
         ensures map { self.new.map ≡ self.old.map }
         ensures seen { IsPrefix self.old.history self.new.history }
         ensures tables { IsPrefix self.old.tables self.new.tables }
@@ -135,10 +134,7 @@ impl<'a, K: Hash + Eq, V, S: BuildHasher> Session<'a, K, V, S> {
     ///
     /// # Errors
     /// As [`Session::iter`].
-    pub fn values<R: Wait>(
-        &mut self,
-        rt: &R,
-    ) -> Result<Values<'a, K, V, LocalGuard<'a>, S>, Refused>
+    pub fn values<R: Wait>(&mut self, rt: &R) -> Result<Values<'a, K, V, S>, Refused>
         ensures map { self.new.map ≡ self.old.map }
         ensures seen { IsPrefix self.old.history self.new.history }
         ensures tables { IsPrefix self.old.tables self.new.tables }

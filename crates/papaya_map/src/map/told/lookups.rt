@@ -11,7 +11,7 @@ use papaya_keys::guard::{Equivalent, Guard};
 use papaya_words::probe::Refused;
 use std::hash::{BuildHasher, Hash};
 
-impl<'a, K: Hash + Eq, V, S: BuildHasher, G: Guard> HashMapRef<'a, K, V, S, G> {
+impl<'a, K: Hash + Eq, V, S: BuildHasher> HashMapRef<'a, K, V, S> {
     /// Performs [`HashMapRef::get`], and returns the observed history as well.
     #[inline(always)]
     pub(crate) fn get_told<Q: Equivalent<K>>(&self, key: &Q) -> Saying<Option<&'a V>, K, V, S>

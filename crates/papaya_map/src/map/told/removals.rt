@@ -12,7 +12,7 @@ use papaya_words::probe::Refused;
 use std::hash::{BuildHasher, Hash};
 use std::sync::Wait;
 
-impl<'a, K: Hash + Eq, V, S: BuildHasher, G: Guard> HashMapRef<'a, K, V, S, G> {
+impl<'a, K: Hash + Eq, V, S: BuildHasher> HashMapRef<'a, K, V, S> {
     /// Performs [`HashMapRef::remove_if`], and returns the observed history as well.
     #[inline(always)]
     pub(crate) fn remove_if_told<R: Wait, Q: Equivalent<K>, F: FnMut(&K, &V) -> bool>(

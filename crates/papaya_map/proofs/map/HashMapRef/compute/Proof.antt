@@ -39,28 +39,28 @@ use Rattle.papaya_map.proofs.map.HashMapRef.compute.Statement.{statement}
 use Rattle.papaya_map.proofs.map.HashMapRef.compute.Code as code
 
 pub compute_spec : {M : Type 1} → statement M
-compute_spec 𝓤 𝓛 𝓜 𝓡 wired K V S G S-Hasher R T F LK LV LS LG LH LR LT LF K-Hash K-Hash-dict K-Eq K-Eq-dict K-PartialEq K-PartialEq-dict S-BuildHasher
-    S-BuildHasher-dict S-Hasher-Hasher S-Hasher-Hasher-dict G-Guard G-Guard-dict K-Destruct-dict V-Destruct-dict S-Hasher-Destruct-dict R-Wait
-    R-Wait-dict F-FnMut F-FnMut-dict F-FnOnce-dict T-Destruct-dict F-Destruct-dict Lasts m1 m2 m3 m4 m5 m6 m7 m8 m9 m10 m11 m12 m13 m14 =
-    let inst = bounded (a_type ∷ a_type ∷ a_type ∷ a_type ∷ a_type ∷ a_type ∷ a_type ∷ a_type ∷ []) (K, (V, (S, (G, (S-Hasher, (R, (T, (F, tt))))))))
+compute_spec 𝓤 𝓛 𝓜 𝓡 wired K V S S-Hasher R T F LK LV LS LH LR LT LF K-Hash K-Hash-dict K-Eq K-Eq-dict K-PartialEq K-PartialEq-dict S-BuildHasher
+    S-BuildHasher-dict S-Hasher-Hasher S-Hasher-Hasher-dict K-Destruct-dict V-Destruct-dict S-Hasher-Destruct-dict R-Wait R-Wait-dict F-FnMut
+    F-FnMut-dict F-FnOnce-dict T-Destruct-dict F-Destruct-dict Lasts m1 m2 m3 m4 m5 m6 m7 m8 m9 m10 m11 m12 m13 =
+    let inst = bounded (a_type ∷ a_type ∷ a_type ∷ a_type ∷ a_type ∷ a_type ∷ a_type ∷ []) (K, (V, (S, (S-Hasher, (R, (T, (F, tt)))))))
     (dcons K-Hash-dict (dcons K-Eq-dict (dcons K-PartialEq-dict
-    (dcons S-BuildHasher-dict (dcons S-Hasher-Hasher-dict (dcons G-Guard-dict
+    (dcons S-BuildHasher-dict (dcons S-Hasher-Hasher-dict
     (dcons K-Destruct-dict (dcons V-Destruct-dict
     (dcons S-Hasher-Destruct-dict (dcons R-Wait-dict
-    (dcons F-FnMut-dict (dcons F-FnOnce-dict (dcons T-Destruct-dict (dcons F-Destruct-dict dnil)))))))))))))) in
+    (dcons F-FnMut-dict (dcons F-FnOnce-dict (dcons T-Destruct-dict (dcons F-Destruct-dict dnil))))))))))))) in
     let E = event.the_row (param 0 K) (param 1 V) (param 2 S) in let N = naming.the_row (param 0 K) (param 1 V) in
     let P = law.the_row (param 0 K) (param 1 V) (param 2 S) in
-    let g = LawRule.ghosts (param 0 K) (param 1 V) (param 2 S) (param 4 S-Hasher) K-Hash LawRule.no_dict K-Eq LawRule.no_dict K-PartialEq
+    let g = LawRule.ghosts (param 0 K) (param 1 V) (param 2 S) (param 3 S-Hasher) K-Hash LawRule.no_dict K-Eq LawRule.no_dict K-PartialEq
     LawRule.no_dict S-BuildHasher LawRule.no_dict S-Hasher-Hasher LawRule.no_dict LawRule.no_dict in
-    let Ends = ended K V S G S-Hasher R T F K-Hash K-Hash-dict K-Eq K-Eq-dict K-PartialEq K-PartialEq-dict S-BuildHasher S-BuildHasher-dict
-    S-Hasher-Hasher S-Hasher-Hasher-dict G-Guard G-Guard-dict K-Destruct-dict V-Destruct-dict S-Hasher-Destruct-dict R-Wait R-Wait-dict F-FnMut
-    F-FnMut-dict F-FnOnce-dict T-Destruct-dict F-Destruct-dict Lasts in
-    meets E N P g Ends 𝓛 𝓜 𝓡 (clauses K V S G S-Hasher R T F K-Hash K-Hash-dict K-Eq K-Eq-dict K-PartialEq K-PartialEq-dict S-BuildHasher
-    S-BuildHasher-dict S-Hasher-Hasher S-Hasher-Hasher-dict G-Guard G-Guard-dict K-Destruct-dict V-Destruct-dict S-Hasher-Destruct-dict R-Wait
-    R-Wait-dict F-FnMut F-FnMut-dict F-FnOnce-dict T-Destruct-dict F-Destruct-dict Lasts 𝓛 𝓜.mem 𝓡.returns)
-    (callee.clauses K V S G S-Hasher R T F K-Hash K-Hash-dict K-Eq K-Eq-dict K-PartialEq K-PartialEq-dict S-BuildHasher S-BuildHasher-dict
-    S-Hasher-Hasher S-Hasher-Hasher-dict G-Guard G-Guard-dict K-Destruct-dict V-Destruct-dict S-Hasher-Destruct-dict R-Wait R-Wait-dict F-FnMut
+    let Ends = ended K V S S-Hasher R T F K-Hash K-Hash-dict K-Eq K-Eq-dict K-PartialEq K-PartialEq-dict S-BuildHasher S-BuildHasher-dict
+    S-Hasher-Hasher S-Hasher-Hasher-dict K-Destruct-dict V-Destruct-dict S-Hasher-Destruct-dict R-Wait R-Wait-dict F-FnMut F-FnMut-dict
+    F-FnOnce-dict T-Destruct-dict F-Destruct-dict Lasts in
+    meets E N P g Ends 𝓛 𝓜 𝓡 (clauses K V S S-Hasher R T F K-Hash K-Hash-dict K-Eq K-Eq-dict K-PartialEq K-PartialEq-dict S-BuildHasher
+    S-BuildHasher-dict S-Hasher-Hasher S-Hasher-Hasher-dict K-Destruct-dict V-Destruct-dict S-Hasher-Destruct-dict R-Wait R-Wait-dict F-FnMut
     F-FnMut-dict F-FnOnce-dict T-Destruct-dict F-Destruct-dict Lasts 𝓛 𝓜.mem 𝓡.returns)
+    (callee.clauses K V S S-Hasher R T F K-Hash K-Hash-dict K-Eq K-Eq-dict K-PartialEq K-PartialEq-dict S-BuildHasher S-BuildHasher-dict
+    S-Hasher-Hasher S-Hasher-Hasher-dict K-Destruct-dict V-Destruct-dict S-Hasher-Destruct-dict R-Wait R-Wait-dict F-FnMut F-FnMut-dict
+    F-FnOnce-dict T-Destruct-dict F-Destruct-dict Lasts 𝓛 𝓜.mem 𝓡.returns)
     (λ κs a r. (r.book ≡ a.0.now.map.book) × IsLegalHistory K-PartialEq.eq key_of (history_of r.log) × IsPrefix a.0.now.seen (history_of r.log)
     × IsComputeBy K-PartialEq.eq a.1.1.0 a.0.now.seen (history_of r.log) (Operates F-FnMut) a.1.1.1.0 r.answer
     × (r.answer ≡ Err Limit → IsSome a.0.now.map.begun.limit))
@@ -75,18 +75,17 @@ compute_spec 𝓤 𝓛 𝓜 𝓡 wired K V S G S-Hasher R T F LK LV LS LG LH LR 
           a.1.1.1.0 r.answer f.3;
     }) f.4)
     (λ κs. let ℓ : NamedLft = record { mir = named 1; lft = κs.1.0 } in
-    result_laws (Computed.the_row ℓ (param 0 K) (param 1 V) (param 6 T)) RefusedRow
-    (computed_laws ℓ (param 0 K) (param 1 V) (param 6 T) (param_laws 0 K LK) (param_laws 1 V LV) (param_laws 6 T LT)) refused_laws)
+    result_laws (Computed.the_row ℓ (param 0 K) (param 1 V) (param 5 T)) RefusedRow
+    (computed_laws ℓ (param 0 K) (param 1 V) (param 5 T) (param_laws 0 K LK) (param_laws 1 V LV) (param_laws 5 T LT)) refused_laws)
     (λ κs x f. refl, (λ κs x f. refl, (λ κs x f. refl, (λ κs x f. refl, tt)))) (#self inst) (#callee inst) (inst_fn inst code.function)
-    (code.unfolded 𝓤 𝓛.H 𝓜 𝓡 wired (K, (V, (S, (G, (S-Hasher, (R, (T, (F, tt)))))))) K-Hash-dict K-Eq-dict K-PartialEq-dict S-BuildHasher-dict
-    S-Hasher-Hasher-dict G-Guard-dict K-Destruct-dict V-Destruct-dict S-Hasher-Destruct-dict R-Wait-dict F-FnMut-dict F-FnOnce-dict T-Destruct-dict
-    F-Destruct-dict)
-    (met 𝓤 𝓛 𝓜 𝓡 (code.calls-papaya_map::map::HashMapRef::compute_told 𝓡.env wired) K V S G S-Hasher R T F LK LV LS LG LH LR LT LF K-Hash K-Hash-dict K-Eq
-    K-Eq-dict K-PartialEq K-PartialEq-dict S-BuildHasher S-BuildHasher-dict S-Hasher-Hasher S-Hasher-Hasher-dict G-Guard G-Guard-dict K-Destruct-dict
-    V-Destruct-dict S-Hasher-Destruct-dict R-Wait R-Wait-dict F-FnMut F-FnMut-dict F-FnOnce-dict T-Destruct-dict F-Destruct-dict Lasts m1 m2 m3 m4 m5
-    m6 m7 m8 m9 m10 m11 m12 m13 m14)
+    (code.unfolded 𝓤 𝓛.H 𝓜 𝓡 wired (K, (V, (S, (S-Hasher, (R, (T, (F, tt))))))) K-Hash-dict K-Eq-dict K-PartialEq-dict S-BuildHasher-dict
+    S-Hasher-Hasher-dict K-Destruct-dict V-Destruct-dict S-Hasher-Destruct-dict R-Wait-dict F-FnMut-dict F-FnOnce-dict T-Destruct-dict F-Destruct-dict)
+    (met 𝓤 𝓛 𝓜 𝓡 (code.calls-papaya_map::map::HashMapRef::compute_told 𝓡.env wired) K V S S-Hasher R T F LK LV LS LH LR LT LF K-Hash K-Hash-dict K-Eq
+    K-Eq-dict K-PartialEq K-PartialEq-dict S-BuildHasher S-BuildHasher-dict S-Hasher-Hasher S-Hasher-Hasher-dict K-Destruct-dict V-Destruct-dict
+    S-Hasher-Destruct-dict R-Wait R-Wait-dict F-FnMut F-FnMut-dict F-FnOnce-dict T-Destruct-dict F-Destruct-dict Lasts m1 m2 m3 m4 m5 m6 m7 m8 m9
+    m10 m11 m12 m13)
     (λ y are. walk_rroo 𝓤 𝓛 𝓜 𝓡 (one_ref (named 0) y.0.0.0
-    (HashMapRef.the_row (named_lft 11 1 tt y.0.0) (param 0 K) (param 1 V) (param 2 S) (param 3 G) (param 4 S-Hasher) K-Hash K-Eq K-PartialEq S-BuildHasher
-    S-Hasher-Hasher) y.0.3.0 y.0.4.0 are.0 _ _) (one_ref (named 2) y.0.0.1.1.0 (param 5 R) y.0.3.1.0 y.0.4.1.0 are.1.0 _ _)
-    (one_of 𝓛 0 K LK y.0.3.1.1.0 y.0.4.1.1.0 are.1.1.0) (one_of 𝓛 7 F LF y.0.3.1.1.1.0 y.0.4.1.1.1.0 are.1.1.1.0)
+    (HashMapRef.the_row (named_lft 10 1 tt y.0.0) (param 0 K) (param 1 V) (param 2 S) (param 3 S-Hasher) K-Hash K-Eq K-PartialEq S-BuildHasher
+    S-Hasher-Hasher) y.0.3.0 y.0.4.0 are.0 _ _) (one_ref (named 2) y.0.0.1.1.0 (param 4 R) y.0.3.1.0 y.0.4.1.0 are.1.0 _ _)
+    (one_of 𝓛 0 K LK y.0.3.1.1.0 y.0.4.1.1.0 are.1.1.0) (one_of 𝓛 6 F LF y.0.3.1.1.1.0 y.0.4.1.1.1.0 are.1.1.1.0)
     (λ w good. (good, good, held_good (Answer E N P g Ends y.0.0) E N P g w good)))

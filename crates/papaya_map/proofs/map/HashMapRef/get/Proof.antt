@@ -36,25 +36,24 @@ use Rattle.papaya_map.proofs.map.HashMapRef.get.Statement.{statement}
 use Rattle.papaya_map.proofs.map.HashMapRef.get.Code as code
 
 pub get_spec : {M : Type 1} → statement M
-get_spec 𝓤 𝓛 𝓜 𝓡 wired K V S G S-Hasher Q LK LV LS LG LH LQ K-Hash K-Hash-dict K-Eq K-Eq-dict K-PartialEq K-PartialEq-dict S-BuildHasher
-    S-BuildHasher-dict S-Hasher-Hasher S-Hasher-Hasher-dict G-Guard G-Guard-dict S-Hasher-Destruct-dict Q-Equivalent Q-Equivalent-dict Q-Hash
-    Q-Hash-dict Q-Eq Q-Eq-dict Q-PartialEq Q-PartialEq-dict m1 m2 m3 m4 m5 m6 m7 m8 m9 m10 m11 =
-    let inst = bounded (a_type ∷ a_type ∷ a_type ∷ a_type ∷ a_type ∷ a_type ∷ []) (K, (V, (S, (G, (S-Hasher, (Q, tt))))))
+get_spec 𝓤 𝓛 𝓜 𝓡 wired K V S S-Hasher Q LK LV LS LH LQ K-Hash K-Hash-dict K-Eq K-Eq-dict K-PartialEq K-PartialEq-dict S-BuildHasher S-BuildHasher-dict
+    S-Hasher-Hasher S-Hasher-Hasher-dict S-Hasher-Destruct-dict Q-Equivalent Q-Equivalent-dict Q-Hash Q-Hash-dict Q-Eq Q-Eq-dict Q-PartialEq
+    Q-PartialEq-dict m1 m2 m3 m4 m5 m6 m7 m8 m9 m10 =
+    let inst = bounded (a_type ∷ a_type ∷ a_type ∷ a_type ∷ a_type ∷ []) (K, (V, (S, (S-Hasher, (Q, tt)))))
     (dcons K-Hash-dict (dcons K-Eq-dict (dcons K-PartialEq-dict
-    (dcons S-BuildHasher-dict (dcons S-Hasher-Hasher-dict (dcons G-Guard-dict
-    (dcons S-Hasher-Destruct-dict (dcons Q-Equivalent-dict (dcons Q-Hash-dict (dcons Q-Eq-dict (dcons Q-PartialEq-dict dnil))))))))))) in
+    (dcons S-BuildHasher-dict (dcons S-Hasher-Hasher-dict
+    (dcons S-Hasher-Destruct-dict (dcons Q-Equivalent-dict (dcons Q-Hash-dict (dcons Q-Eq-dict (dcons Q-PartialEq-dict dnil)))))))))) in
     let E = event.the_row (param 0 K) (param 1 V) (param 2 S) in let N = naming.the_row (param 0 K) (param 1 V) in
     let P = law.the_row (param 0 K) (param 1 V) (param 2 S) in
-    let g = LawRule.ghosts (param 0 K) (param 1 V) (param 2 S) (param 4 S-Hasher) K-Hash LawRule.no_dict K-Eq LawRule.no_dict K-PartialEq
+    let g = LawRule.ghosts (param 0 K) (param 1 V) (param 2 S) (param 3 S-Hasher) K-Hash LawRule.no_dict K-Eq LawRule.no_dict K-PartialEq
     LawRule.no_dict S-BuildHasher LawRule.no_dict S-Hasher-Hasher LawRule.no_dict LawRule.no_dict in
-    let Ends = ended K V S G S-Hasher Q K-Hash K-Hash-dict K-Eq K-Eq-dict K-PartialEq K-PartialEq-dict S-BuildHasher S-BuildHasher-dict
-    S-Hasher-Hasher S-Hasher-Hasher-dict G-Guard G-Guard-dict S-Hasher-Destruct-dict Q-Equivalent Q-Equivalent-dict Q-Hash Q-Hash-dict Q-Eq Q-Eq-dict
-    Q-PartialEq Q-PartialEq-dict in
-    meets E N P g Ends 𝓛 𝓜 𝓡 (clauses K V S G S-Hasher Q K-Hash K-Hash-dict K-Eq K-Eq-dict K-PartialEq K-PartialEq-dict S-BuildHasher S-BuildHasher-dict
-    S-Hasher-Hasher S-Hasher-Hasher-dict G-Guard G-Guard-dict S-Hasher-Destruct-dict Q-Equivalent Q-Equivalent-dict Q-Hash Q-Hash-dict Q-Eq Q-Eq-dict
-    Q-PartialEq Q-PartialEq-dict 𝓛 𝓜.mem 𝓡.returns) (callee.clauses K V S G S-Hasher Q K-Hash K-Hash-dict K-Eq K-Eq-dict K-PartialEq K-PartialEq-dict
-    S-BuildHasher S-BuildHasher-dict S-Hasher-Hasher S-Hasher-Hasher-dict G-Guard G-Guard-dict S-Hasher-Destruct-dict Q-Equivalent Q-Equivalent-dict
-    Q-Hash Q-Hash-dict Q-Eq Q-Eq-dict Q-PartialEq Q-PartialEq-dict 𝓛 𝓜.mem 𝓡.returns)
+    let Ends = ended K V S S-Hasher Q K-Hash K-Hash-dict K-Eq K-Eq-dict K-PartialEq K-PartialEq-dict S-BuildHasher S-BuildHasher-dict S-Hasher-Hasher
+    S-Hasher-Hasher-dict S-Hasher-Destruct-dict Q-Equivalent Q-Equivalent-dict Q-Hash Q-Hash-dict Q-Eq Q-Eq-dict Q-PartialEq Q-PartialEq-dict in
+    meets E N P g Ends 𝓛 𝓜 𝓡 (clauses K V S S-Hasher Q K-Hash K-Hash-dict K-Eq K-Eq-dict K-PartialEq K-PartialEq-dict S-BuildHasher S-BuildHasher-dict
+    S-Hasher-Hasher S-Hasher-Hasher-dict S-Hasher-Destruct-dict Q-Equivalent Q-Equivalent-dict Q-Hash Q-Hash-dict Q-Eq Q-Eq-dict Q-PartialEq
+    Q-PartialEq-dict 𝓛 𝓜.mem 𝓡.returns) (callee.clauses K V S S-Hasher Q K-Hash K-Hash-dict K-Eq K-Eq-dict K-PartialEq K-PartialEq-dict
+    S-BuildHasher S-BuildHasher-dict S-Hasher-Hasher S-Hasher-Hasher-dict S-Hasher-Destruct-dict Q-Equivalent Q-Equivalent-dict Q-Hash Q-Hash-dict
+    Q-Eq Q-Eq-dict Q-PartialEq Q-PartialEq-dict 𝓛 𝓜.mem 𝓡.returns)
     (λ κs a r. (r.book ≡ a.0.now.map.book) × IsLegalHistory K-PartialEq.eq key_of (history_of r.log) × IsPrefix a.0.now.seen (history_of r.log)
     × IsAnsweredBetween K-PartialEq.eq (Q-Equivalent.matches a.1.0.now) a.0.now.seen (history_of r.log) r.answer)
     (λ κs a u. (tt, id⊢ 𝓤 _)) (λ κs a u r ws. four_facts 𝓤)
@@ -69,12 +68,12 @@ get_spec 𝓤 𝓛 𝓜 𝓡 wired K V S G S-Hasher Q LK LV LS LG LH LQ K-Hash K
     }))
     (λ κs. let ℓ : NamedLft = record { mir = named 1; lft = κs.1.0 } in option_laws (ref_row ℓ 1 V) (ref_laws ℓ 1 V LV))
     (λ κs x f. refl, (λ κs x f. refl, tt)) (#self inst) (#callee inst) (inst_fn inst code.function)
-    (code.unfolded 𝓤 𝓛.H 𝓜 𝓡 wired (K, (V, (S, (G, (S-Hasher, (Q, tt)))))) K-Hash-dict K-Eq-dict K-PartialEq-dict S-BuildHasher-dict
-    S-Hasher-Hasher-dict G-Guard-dict S-Hasher-Destruct-dict Q-Equivalent-dict Q-Hash-dict Q-Eq-dict Q-PartialEq-dict)
-    (met 𝓤 𝓛 𝓜 𝓡 (code.calls-papaya_map::map::HashMapRef::get_told 𝓡.env wired) K V S G S-Hasher Q LK LV LS LG LH LQ K-Hash K-Hash-dict K-Eq K-Eq-dict
-    K-PartialEq K-PartialEq-dict S-BuildHasher S-BuildHasher-dict S-Hasher-Hasher S-Hasher-Hasher-dict G-Guard G-Guard-dict S-Hasher-Destruct-dict
-    Q-Equivalent Q-Equivalent-dict Q-Hash Q-Hash-dict Q-Eq Q-Eq-dict Q-PartialEq Q-PartialEq-dict m1 m2 m3 m4 m5 m6 m7 m8 m9 m10 m11)
+    (code.unfolded 𝓤 𝓛.H 𝓜 𝓡 wired (K, (V, (S, (S-Hasher, (Q, tt))))) K-Hash-dict K-Eq-dict K-PartialEq-dict S-BuildHasher-dict S-Hasher-Hasher-dict
+    S-Hasher-Destruct-dict Q-Equivalent-dict Q-Hash-dict Q-Eq-dict Q-PartialEq-dict)
+    (met 𝓤 𝓛 𝓜 𝓡 (code.calls-papaya_map::map::HashMapRef::get_told 𝓡.env wired) K V S S-Hasher Q LK LV LS LH LQ K-Hash K-Hash-dict K-Eq K-Eq-dict
+    K-PartialEq K-PartialEq-dict S-BuildHasher S-BuildHasher-dict S-Hasher-Hasher S-Hasher-Hasher-dict S-Hasher-Destruct-dict Q-Equivalent
+    Q-Equivalent-dict Q-Hash Q-Hash-dict Q-Eq Q-Eq-dict Q-PartialEq Q-PartialEq-dict m1 m2 m3 m4 m5 m6 m7 m8 m9 m10)
     (λ y are. walk_rr 𝓤 𝓛 𝓜 𝓡 (one_ref (named 0) y.0.0.0
-    (HashMapRef.the_row (named_lft 9 1 tt y.0.0) (param 0 K) (param 1 V) (param 2 S) (param 3 G) (param 4 S-Hasher) K-Hash K-Eq K-PartialEq S-BuildHasher
-    S-Hasher-Hasher) y.0.3.0 y.0.4.0 are.0 _ _) (one_ref (named 2) y.0.0.1.1.0 (param 5 Q) y.0.3.1.0 y.0.4.1.0 are.1.0 _ _)
+    (HashMapRef.the_row (named_lft 8 1 tt y.0.0) (param 0 K) (param 1 V) (param 2 S) (param 3 S-Hasher) K-Hash K-Eq K-PartialEq S-BuildHasher
+    S-Hasher-Hasher) y.0.3.0 y.0.4.0 are.0 _ _) (one_ref (named 2) y.0.0.1.1.0 (param 4 Q) y.0.3.1.0 y.0.4.1.0 are.1.0 _ _)
     (λ w good. (good, good, held_good (Answer E N P g Ends y.0.0) E N P g w good)))

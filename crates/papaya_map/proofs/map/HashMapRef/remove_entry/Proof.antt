@@ -37,27 +37,26 @@ use Rattle.papaya_map.proofs.map.HashMapRef.remove_entry.Statement.{statement}
 use Rattle.papaya_map.proofs.map.HashMapRef.remove_entry.Code as code
 
 pub remove_entry_spec : {M : Type 1} → statement M
-remove_entry_spec 𝓤 𝓛 𝓜 𝓡 wired K V S G S-Hasher R Q LK LV LS LG LH LR LQ K-Hash K-Hash-dict K-Eq K-Eq-dict K-PartialEq K-PartialEq-dict S-BuildHasher
-    S-BuildHasher-dict S-Hasher-Hasher S-Hasher-Hasher-dict G-Guard G-Guard-dict S-Hasher-Destruct-dict R-Wait R-Wait-dict Q-Equivalent
-    Q-Equivalent-dict Q-Hash Q-Hash-dict Q-Eq Q-Eq-dict Q-PartialEq Q-PartialEq-dict m1 m2 m3 m4 m5 m6 m7 m8 m9 m10 m11 m12 =
-    let inst = bounded (a_type ∷ a_type ∷ a_type ∷ a_type ∷ a_type ∷ a_type ∷ a_type ∷ []) (K, (V, (S, (G, (S-Hasher, (R, (Q, tt)))))))
+remove_entry_spec 𝓤 𝓛 𝓜 𝓡 wired K V S S-Hasher R Q LK LV LS LH LR LQ K-Hash K-Hash-dict K-Eq K-Eq-dict K-PartialEq K-PartialEq-dict S-BuildHasher
+    S-BuildHasher-dict S-Hasher-Hasher S-Hasher-Hasher-dict S-Hasher-Destruct-dict R-Wait R-Wait-dict Q-Equivalent Q-Equivalent-dict Q-Hash
+    Q-Hash-dict Q-Eq Q-Eq-dict Q-PartialEq Q-PartialEq-dict m1 m2 m3 m4 m5 m6 m7 m8 m9 m10 m11 =
+    let inst = bounded (a_type ∷ a_type ∷ a_type ∷ a_type ∷ a_type ∷ a_type ∷ []) (K, (V, (S, (S-Hasher, (R, (Q, tt))))))
     (dcons K-Hash-dict (dcons K-Eq-dict (dcons K-PartialEq-dict
-    (dcons S-BuildHasher-dict (dcons S-Hasher-Hasher-dict (dcons G-Guard-dict
-    (dcons S-Hasher-Destruct-dict (dcons R-Wait-dict (dcons Q-Equivalent-dict (dcons Q-Hash-dict (dcons Q-Eq-dict (dcons Q-PartialEq-dict
-    dnil)))))))))))) in
+    (dcons S-BuildHasher-dict (dcons S-Hasher-Hasher-dict
+    (dcons S-Hasher-Destruct-dict (dcons R-Wait-dict (dcons Q-Equivalent-dict (dcons Q-Hash-dict (dcons Q-Eq-dict (dcons Q-PartialEq-dict dnil))))))))))) in
     let E = event.the_row (param 0 K) (param 1 V) (param 2 S) in let N = naming.the_row (param 0 K) (param 1 V) in
     let P = law.the_row (param 0 K) (param 1 V) (param 2 S) in
-    let g = LawRule.ghosts (param 0 K) (param 1 V) (param 2 S) (param 4 S-Hasher) K-Hash LawRule.no_dict K-Eq LawRule.no_dict K-PartialEq
+    let g = LawRule.ghosts (param 0 K) (param 1 V) (param 2 S) (param 3 S-Hasher) K-Hash LawRule.no_dict K-Eq LawRule.no_dict K-PartialEq
     LawRule.no_dict S-BuildHasher LawRule.no_dict S-Hasher-Hasher LawRule.no_dict LawRule.no_dict in
-    let Ends = ended K V S G S-Hasher R Q K-Hash K-Hash-dict K-Eq K-Eq-dict K-PartialEq K-PartialEq-dict S-BuildHasher S-BuildHasher-dict
-    S-Hasher-Hasher S-Hasher-Hasher-dict G-Guard G-Guard-dict S-Hasher-Destruct-dict R-Wait R-Wait-dict Q-Equivalent Q-Equivalent-dict Q-Hash
-    Q-Hash-dict Q-Eq Q-Eq-dict Q-PartialEq Q-PartialEq-dict in
-    meets E N P g Ends 𝓛 𝓜 𝓡 (clauses K V S G S-Hasher R Q K-Hash K-Hash-dict K-Eq K-Eq-dict K-PartialEq K-PartialEq-dict S-BuildHasher
-    S-BuildHasher-dict S-Hasher-Hasher S-Hasher-Hasher-dict G-Guard G-Guard-dict S-Hasher-Destruct-dict R-Wait R-Wait-dict Q-Equivalent
-    Q-Equivalent-dict Q-Hash Q-Hash-dict Q-Eq Q-Eq-dict Q-PartialEq Q-PartialEq-dict 𝓛 𝓜.mem 𝓡.returns)
-    (callee.clauses K V S G S-Hasher R Q K-Hash K-Hash-dict K-Eq K-Eq-dict K-PartialEq K-PartialEq-dict S-BuildHasher S-BuildHasher-dict
-    S-Hasher-Hasher S-Hasher-Hasher-dict G-Guard G-Guard-dict S-Hasher-Destruct-dict R-Wait R-Wait-dict Q-Equivalent Q-Equivalent-dict Q-Hash
+    let Ends = ended K V S S-Hasher R Q K-Hash K-Hash-dict K-Eq K-Eq-dict K-PartialEq K-PartialEq-dict S-BuildHasher S-BuildHasher-dict
+    S-Hasher-Hasher S-Hasher-Hasher-dict S-Hasher-Destruct-dict R-Wait R-Wait-dict Q-Equivalent Q-Equivalent-dict Q-Hash Q-Hash-dict Q-Eq Q-Eq-dict
+    Q-PartialEq Q-PartialEq-dict in
+    meets E N P g Ends 𝓛 𝓜 𝓡 (clauses K V S S-Hasher R Q K-Hash K-Hash-dict K-Eq K-Eq-dict K-PartialEq K-PartialEq-dict S-BuildHasher
+    S-BuildHasher-dict S-Hasher-Hasher S-Hasher-Hasher-dict S-Hasher-Destruct-dict R-Wait R-Wait-dict Q-Equivalent Q-Equivalent-dict Q-Hash
     Q-Hash-dict Q-Eq Q-Eq-dict Q-PartialEq Q-PartialEq-dict 𝓛 𝓜.mem 𝓡.returns)
+    (callee.clauses K V S S-Hasher R Q K-Hash K-Hash-dict K-Eq K-Eq-dict K-PartialEq K-PartialEq-dict S-BuildHasher S-BuildHasher-dict
+    S-Hasher-Hasher S-Hasher-Hasher-dict S-Hasher-Destruct-dict R-Wait R-Wait-dict Q-Equivalent Q-Equivalent-dict Q-Hash Q-Hash-dict Q-Eq Q-Eq-dict
+    Q-PartialEq Q-PartialEq-dict 𝓛 𝓜.mem 𝓡.returns)
     (λ κs a r. (r.book ≡ a.0.now.map.book) × IsLegalHistory K-PartialEq.eq key_of (history_of r.log) × IsPrefix a.0.now.seen (history_of r.log)
     × IsEntryRemoved K-PartialEq.eq (Q-Equivalent.matches a.1.1.0.now) a.0.now.seen (history_of r.log) r.answer)
     (λ κs a u. (tt, id⊢ 𝓤 _)) (λ κs a u r ws. four_facts 𝓤)
@@ -73,14 +72,13 @@ remove_entry_spec 𝓤 𝓛 𝓜 𝓡 wired K V S G S-Hasher R Q LK LV LS LG LH 
     (λ κs. let ℓ : NamedLft = record { mir = named 1; lft = κs.1.0 } in
     result_laws (Option.the_row (pair_row ℓ 0 K 1 V)) RefusedRow (option_laws (pair_row ℓ 0 K 1 V) (pair_laws ℓ 0 K LK 1 V LV)) refused_laws)
     (λ κs x f. refl, (λ κs x f. refl, (λ κs x f. refl, tt))) (#self inst) (#callee inst) (inst_fn inst code.function)
-    (code.unfolded 𝓤 𝓛.H 𝓜 𝓡 wired (K, (V, (S, (G, (S-Hasher, (R, (Q, tt))))))) K-Hash-dict K-Eq-dict K-PartialEq-dict S-BuildHasher-dict
-    S-Hasher-Hasher-dict G-Guard-dict S-Hasher-Destruct-dict R-Wait-dict Q-Equivalent-dict Q-Hash-dict Q-Eq-dict Q-PartialEq-dict)
-    (met 𝓤 𝓛 𝓜 𝓡 (code.calls-papaya_map::map::HashMapRef::remove_entry_told 𝓡.env wired) K V S G S-Hasher R Q LK LV LS LG LH LR LQ K-Hash K-Hash-dict K-Eq
-    K-Eq-dict K-PartialEq K-PartialEq-dict S-BuildHasher S-BuildHasher-dict S-Hasher-Hasher S-Hasher-Hasher-dict G-Guard G-Guard-dict
-    S-Hasher-Destruct-dict R-Wait R-Wait-dict Q-Equivalent Q-Equivalent-dict Q-Hash Q-Hash-dict Q-Eq Q-Eq-dict Q-PartialEq Q-PartialEq-dict m1 m2 m3
-    m4 m5 m6 m7 m8 m9 m10 m11 m12)
+    (code.unfolded 𝓤 𝓛.H 𝓜 𝓡 wired (K, (V, (S, (S-Hasher, (R, (Q, tt)))))) K-Hash-dict K-Eq-dict K-PartialEq-dict S-BuildHasher-dict
+    S-Hasher-Hasher-dict S-Hasher-Destruct-dict R-Wait-dict Q-Equivalent-dict Q-Hash-dict Q-Eq-dict Q-PartialEq-dict)
+    (met 𝓤 𝓛 𝓜 𝓡 (code.calls-papaya_map::map::HashMapRef::remove_entry_told 𝓡.env wired) K V S S-Hasher R Q LK LV LS LH LR LQ K-Hash K-Hash-dict K-Eq
+    K-Eq-dict K-PartialEq K-PartialEq-dict S-BuildHasher S-BuildHasher-dict S-Hasher-Hasher S-Hasher-Hasher-dict S-Hasher-Destruct-dict R-Wait
+    R-Wait-dict Q-Equivalent Q-Equivalent-dict Q-Hash Q-Hash-dict Q-Eq Q-Eq-dict Q-PartialEq Q-PartialEq-dict m1 m2 m3 m4 m5 m6 m7 m8 m9 m10 m11)
     (λ y are. walk_rrr 𝓤 𝓛 𝓜 𝓡 (one_ref (named 0) y.0.0.0
-    (HashMapRef.the_row (named_lft 11 1 tt y.0.0) (param 0 K) (param 1 V) (param 2 S) (param 3 G) (param 4 S-Hasher) K-Hash K-Eq K-PartialEq S-BuildHasher
-    S-Hasher-Hasher) y.0.3.0 y.0.4.0 are.0 _ _) (one_ref (named 2) y.0.0.1.1.0 (param 5 R) y.0.3.1.0 y.0.4.1.0 are.1.0 _ _)
-    (one_ref (named 3) y.0.0.1.1.1.0 (param 6 Q) y.0.3.1.1.0 y.0.4.1.1.0 are.1.1.0 _ _)
+    (HashMapRef.the_row (named_lft 10 1 tt y.0.0) (param 0 K) (param 1 V) (param 2 S) (param 3 S-Hasher) K-Hash K-Eq K-PartialEq S-BuildHasher
+    S-Hasher-Hasher) y.0.3.0 y.0.4.0 are.0 _ _) (one_ref (named 2) y.0.0.1.1.0 (param 4 R) y.0.3.1.0 y.0.4.1.0 are.1.0 _ _)
+    (one_ref (named 3) y.0.0.1.1.1.0 (param 5 Q) y.0.3.1.1.0 y.0.4.1.1.0 are.1.1.0 _ _)
     (λ w good. (good, good, held_good (Answer E N P g Ends y.0.0) E N P g w good)))

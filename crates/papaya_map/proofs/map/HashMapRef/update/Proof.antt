@@ -39,28 +39,27 @@ use Rattle.papaya_map.proofs.map.HashMapRef.update.Statement.{statement}
 use Rattle.papaya_map.proofs.map.HashMapRef.update.Code as code
 
 pub update_spec : {M : Type 1} → statement M
-update_spec 𝓤 𝓛 𝓜 𝓡 wired K V S G S-Hasher R F LK LV LS LG LH LR LF K-Hash K-Hash-dict K-Eq K-Eq-dict K-PartialEq K-PartialEq-dict S-BuildHasher
-    S-BuildHasher-dict S-Hasher-Hasher S-Hasher-Hasher-dict G-Guard G-Guard-dict K-Destruct-dict V-Destruct-dict S-Hasher-Destruct-dict R-Wait
-    R-Wait-dict F-Fn F-Fn-dict F-FnMut-dict F-FnOnce-dict F-Destruct-dict m1 m2 m3 m4 m5 m6 m7 m8 m9 m10 m11 m12 m13 m14 =
-    let inst = bounded (a_type ∷ a_type ∷ a_type ∷ a_type ∷ a_type ∷ a_type ∷ a_type ∷ []) (K, (V, (S, (G, (S-Hasher, (R, (F, tt)))))))
+update_spec 𝓤 𝓛 𝓜 𝓡 wired K V S S-Hasher R F LK LV LS LH LR LF K-Hash K-Hash-dict K-Eq K-Eq-dict K-PartialEq K-PartialEq-dict S-BuildHasher
+    S-BuildHasher-dict S-Hasher-Hasher S-Hasher-Hasher-dict K-Destruct-dict V-Destruct-dict S-Hasher-Destruct-dict R-Wait R-Wait-dict F-Fn F-Fn-dict
+    F-FnMut-dict F-FnOnce-dict F-Destruct-dict m1 m2 m3 m4 m5 m6 m7 m8 m9 m10 m11 m12 m13 =
+    let inst = bounded (a_type ∷ a_type ∷ a_type ∷ a_type ∷ a_type ∷ a_type ∷ []) (K, (V, (S, (S-Hasher, (R, (F, tt))))))
     (dcons K-Hash-dict (dcons K-Eq-dict (dcons K-PartialEq-dict
-    (dcons S-BuildHasher-dict (dcons S-Hasher-Hasher-dict (dcons G-Guard-dict
+    (dcons S-BuildHasher-dict (dcons S-Hasher-Hasher-dict
     (dcons K-Destruct-dict (dcons V-Destruct-dict
-    (dcons S-Hasher-Destruct-dict (dcons R-Wait-dict (dcons F-Fn-dict (dcons F-FnMut-dict (dcons F-FnOnce-dict (dcons F-Destruct-dict
-    dnil)))))))))))))) in
+    (dcons S-Hasher-Destruct-dict (dcons R-Wait-dict (dcons F-Fn-dict (dcons F-FnMut-dict (dcons F-FnOnce-dict (dcons F-Destruct-dict dnil))))))))))))) in
     let E = event.the_row (param 0 K) (param 1 V) (param 2 S) in let N = naming.the_row (param 0 K) (param 1 V) in
     let P = law.the_row (param 0 K) (param 1 V) (param 2 S) in
-    let g = LawRule.ghosts (param 0 K) (param 1 V) (param 2 S) (param 4 S-Hasher) K-Hash LawRule.no_dict K-Eq LawRule.no_dict K-PartialEq
+    let g = LawRule.ghosts (param 0 K) (param 1 V) (param 2 S) (param 3 S-Hasher) K-Hash LawRule.no_dict K-Eq LawRule.no_dict K-PartialEq
     LawRule.no_dict S-BuildHasher LawRule.no_dict S-Hasher-Hasher LawRule.no_dict LawRule.no_dict in
-    let Ends = ended K V S G S-Hasher R F K-Hash K-Hash-dict K-Eq K-Eq-dict K-PartialEq K-PartialEq-dict S-BuildHasher S-BuildHasher-dict
-    S-Hasher-Hasher S-Hasher-Hasher-dict G-Guard G-Guard-dict K-Destruct-dict V-Destruct-dict S-Hasher-Destruct-dict R-Wait R-Wait-dict F-Fn F-Fn-dict
-    F-FnMut-dict F-FnOnce-dict F-Destruct-dict in
-    meets E N P g Ends 𝓛 𝓜 𝓡 (clauses K V S G S-Hasher R F K-Hash K-Hash-dict K-Eq K-Eq-dict K-PartialEq K-PartialEq-dict S-BuildHasher
-    S-BuildHasher-dict S-Hasher-Hasher S-Hasher-Hasher-dict G-Guard G-Guard-dict K-Destruct-dict V-Destruct-dict S-Hasher-Destruct-dict R-Wait
-    R-Wait-dict F-Fn F-Fn-dict F-FnMut-dict F-FnOnce-dict F-Destruct-dict 𝓛 𝓜.mem 𝓡.returns)
-    (callee.clauses K V S G S-Hasher R F K-Hash K-Hash-dict K-Eq K-Eq-dict K-PartialEq K-PartialEq-dict S-BuildHasher S-BuildHasher-dict
-    S-Hasher-Hasher S-Hasher-Hasher-dict G-Guard G-Guard-dict K-Destruct-dict V-Destruct-dict S-Hasher-Destruct-dict R-Wait R-Wait-dict F-Fn F-Fn-dict
+    let Ends = ended K V S S-Hasher R F K-Hash K-Hash-dict K-Eq K-Eq-dict K-PartialEq K-PartialEq-dict S-BuildHasher S-BuildHasher-dict
+    S-Hasher-Hasher S-Hasher-Hasher-dict K-Destruct-dict V-Destruct-dict S-Hasher-Destruct-dict R-Wait R-Wait-dict F-Fn F-Fn-dict F-FnMut-dict
+    F-FnOnce-dict F-Destruct-dict in
+    meets E N P g Ends 𝓛 𝓜 𝓡 (clauses K V S S-Hasher R F K-Hash K-Hash-dict K-Eq K-Eq-dict K-PartialEq K-PartialEq-dict S-BuildHasher
+    S-BuildHasher-dict S-Hasher-Hasher S-Hasher-Hasher-dict K-Destruct-dict V-Destruct-dict S-Hasher-Destruct-dict R-Wait R-Wait-dict F-Fn F-Fn-dict
     F-FnMut-dict F-FnOnce-dict F-Destruct-dict 𝓛 𝓜.mem 𝓡.returns)
+    (callee.clauses K V S S-Hasher R F K-Hash K-Hash-dict K-Eq K-Eq-dict K-PartialEq K-PartialEq-dict S-BuildHasher S-BuildHasher-dict
+    S-Hasher-Hasher S-Hasher-Hasher-dict K-Destruct-dict V-Destruct-dict S-Hasher-Destruct-dict R-Wait R-Wait-dict F-Fn F-Fn-dict F-FnMut-dict
+    F-FnOnce-dict F-Destruct-dict 𝓛 𝓜.mem 𝓡.returns)
     (λ κs a r. (r.book ≡ a.0.now.map.book) × IsLegalHistory K-PartialEq.eq key_of (history_of r.log) × IsPrefix a.0.now.seen (history_of r.log)
     × IfOk r.answer (IsUpdated K-PartialEq.eq a.1.1.0 a.0.now.seen (history_of r.log) (FnReturnsAt F-Fn a.1.1.1.0))
     × IfErr r.answer (IsPlainRefusal a.0.now.map.begun.limit))
@@ -73,15 +72,13 @@ update_spec 𝓤 𝓛 𝓜 𝓡 wired K V S G S-Hasher R F LK LV LS LG LH LR LF 
     (λ κs. let ℓ : NamedLft = record { mir = named 1; lft = κs.1.0 } in
     result_laws (Option.the_row (ref_row ℓ 1 V)) RefusedRow (option_laws (ref_row ℓ 1 V) (ref_laws ℓ 1 V LV)) refused_laws)
     (λ κs x f. refl, (λ κs x f. refl, (λ κs x f. refl, (λ κs x f. refl, tt)))) (#self inst) (#callee inst) (inst_fn inst code.function)
-    (code.unfolded 𝓤 𝓛.H 𝓜 𝓡 wired (K, (V, (S, (G, (S-Hasher, (R, (F, tt))))))) K-Hash-dict K-Eq-dict K-PartialEq-dict S-BuildHasher-dict
-    S-Hasher-Hasher-dict G-Guard-dict K-Destruct-dict V-Destruct-dict S-Hasher-Destruct-dict R-Wait-dict F-Fn-dict F-FnMut-dict F-FnOnce-dict
-    F-Destruct-dict)
-    (met 𝓤 𝓛 𝓜 𝓡 (code.calls-papaya_map::map::HashMapRef::update_told 𝓡.env wired) K V S G S-Hasher R F LK LV LS LG LH LR LF K-Hash K-Hash-dict K-Eq
-    K-Eq-dict K-PartialEq K-PartialEq-dict S-BuildHasher S-BuildHasher-dict S-Hasher-Hasher S-Hasher-Hasher-dict G-Guard G-Guard-dict K-Destruct-dict
-    V-Destruct-dict S-Hasher-Destruct-dict R-Wait R-Wait-dict F-Fn F-Fn-dict F-FnMut-dict F-FnOnce-dict F-Destruct-dict m1 m2 m3 m4 m5 m6 m7 m8 m9 m10
-    m11 m12 m13 m14)
+    (code.unfolded 𝓤 𝓛.H 𝓜 𝓡 wired (K, (V, (S, (S-Hasher, (R, (F, tt)))))) K-Hash-dict K-Eq-dict K-PartialEq-dict S-BuildHasher-dict
+    S-Hasher-Hasher-dict K-Destruct-dict V-Destruct-dict S-Hasher-Destruct-dict R-Wait-dict F-Fn-dict F-FnMut-dict F-FnOnce-dict F-Destruct-dict)
+    (met 𝓤 𝓛 𝓜 𝓡 (code.calls-papaya_map::map::HashMapRef::update_told 𝓡.env wired) K V S S-Hasher R F LK LV LS LH LR LF K-Hash K-Hash-dict K-Eq
+    K-Eq-dict K-PartialEq K-PartialEq-dict S-BuildHasher S-BuildHasher-dict S-Hasher-Hasher S-Hasher-Hasher-dict K-Destruct-dict V-Destruct-dict
+    S-Hasher-Destruct-dict R-Wait R-Wait-dict F-Fn F-Fn-dict F-FnMut-dict F-FnOnce-dict F-Destruct-dict m1 m2 m3 m4 m5 m6 m7 m8 m9 m10 m11 m12 m13)
     (λ y are. walk_rroo 𝓤 𝓛 𝓜 𝓡 (one_ref (named 0) y.0.0.0
-    (HashMapRef.the_row (named_lft 10 1 tt y.0.0) (param 0 K) (param 1 V) (param 2 S) (param 3 G) (param 4 S-Hasher) K-Hash K-Eq K-PartialEq S-BuildHasher
-    S-Hasher-Hasher) y.0.3.0 y.0.4.0 are.0 _ _) (one_ref (named 2) y.0.0.1.1.0 (param 5 R) y.0.3.1.0 y.0.4.1.0 are.1.0 _ _)
-    (one_of 𝓛 0 K LK y.0.3.1.1.0 y.0.4.1.1.0 are.1.1.0) (one_of 𝓛 6 F LF y.0.3.1.1.1.0 y.0.4.1.1.1.0 are.1.1.1.0)
+    (HashMapRef.the_row (named_lft 9 1 tt y.0.0) (param 0 K) (param 1 V) (param 2 S) (param 3 S-Hasher) K-Hash K-Eq K-PartialEq S-BuildHasher
+    S-Hasher-Hasher) y.0.3.0 y.0.4.0 are.0 _ _) (one_ref (named 2) y.0.0.1.1.0 (param 4 R) y.0.3.1.0 y.0.4.1.0 are.1.0 _ _)
+    (one_of 𝓛 0 K LK y.0.3.1.1.0 y.0.4.1.1.0 are.1.1.0) (one_of 𝓛 5 F LF y.0.3.1.1.1.0 y.0.4.1.1.1.0 are.1.1.1.0)
     (λ w good. (good, good, held_good (Answer E N P g Ends y.0.0) E N P g w good)))

@@ -36,25 +36,23 @@ use Rattle.papaya_set.proofs.set.HashSetRef.retain.Statement.{statement}
 use Rattle.papaya_set.proofs.set.HashSetRef.retain.Code as code
 
 pub retain_spec : {M : Type 1} → statement M
-retain_spec 𝓤 𝓛 𝓜 𝓡 wired K S G S-Hasher R F LK LS LG LH LR LF K-Hash K-Hash-dict K-Eq K-Eq-dict K-PartialEq K-PartialEq-dict S-BuildHasher
-    S-BuildHasher-dict S-Hasher-Hasher S-Hasher-Hasher-dict G-Guard G-Guard-dict S-Hasher-Destruct-dict R-Wait R-Wait-dict F-FnMut F-FnMut-dict
-    F-FnOnce-dict F-Destruct-dict m1 m2 m3 m4 m5 m6 m7 m8 m9 m10 m11 =
-    let inst = bounded (a_type ∷ a_type ∷ a_type ∷ a_type ∷ a_type ∷ a_type ∷ []) (K, (S, (G, (S-Hasher, (R, (F, tt))))))
+retain_spec 𝓤 𝓛 𝓜 𝓡 wired K S S-Hasher R F LK LS LH LR LF K-Hash K-Hash-dict K-Eq K-Eq-dict K-PartialEq K-PartialEq-dict S-BuildHasher
+    S-BuildHasher-dict S-Hasher-Hasher S-Hasher-Hasher-dict S-Hasher-Destruct-dict R-Wait R-Wait-dict F-FnMut F-FnMut-dict F-FnOnce-dict
+    F-Destruct-dict m1 m2 m3 m4 m5 m6 m7 m8 m9 m10 =
+    let inst = bounded (a_type ∷ a_type ∷ a_type ∷ a_type ∷ a_type ∷ []) (K, (S, (S-Hasher, (R, (F, tt)))))
     (dcons K-Hash-dict (dcons K-Eq-dict (dcons K-PartialEq-dict
-    (dcons S-BuildHasher-dict (dcons S-Hasher-Hasher-dict (dcons G-Guard-dict
-    (dcons S-Hasher-Destruct-dict (dcons R-Wait-dict (dcons F-FnMut-dict (dcons F-FnOnce-dict (dcons F-Destruct-dict dnil))))))))))) in
+    (dcons S-BuildHasher-dict (dcons S-Hasher-Hasher-dict
+    (dcons S-Hasher-Destruct-dict (dcons R-Wait-dict (dcons F-FnMut-dict (dcons F-FnOnce-dict (dcons F-Destruct-dict dnil)))))))))) in
     let E = event.the_row (param 0 K) unit-field.row (param 1 S) in let N = naming.the_row (param 0 K) unit-field.row in
     let P = law.the_row (param 0 K) unit-field.row (param 1 S) in
-    let g = LawRule.ghosts (param 0 K) unit-field.row (param 1 S) (param 3 S-Hasher) K-Hash LawRule.no_dict K-Eq LawRule.no_dict K-PartialEq
+    let g = LawRule.ghosts (param 0 K) unit-field.row (param 1 S) (param 2 S-Hasher) K-Hash LawRule.no_dict K-Eq LawRule.no_dict K-PartialEq
     LawRule.no_dict S-BuildHasher LawRule.no_dict S-Hasher-Hasher LawRule.no_dict LawRule.no_dict in
-    let Ends = ended K S G S-Hasher R F K-Hash K-Hash-dict K-Eq K-Eq-dict K-PartialEq K-PartialEq-dict S-BuildHasher S-BuildHasher-dict
-    S-Hasher-Hasher S-Hasher-Hasher-dict G-Guard G-Guard-dict S-Hasher-Destruct-dict R-Wait R-Wait-dict F-FnMut F-FnMut-dict F-FnOnce-dict
-    F-Destruct-dict in
-    meets E N P g Ends 𝓛 𝓜 𝓡 (clauses K S G S-Hasher R F K-Hash K-Hash-dict K-Eq K-Eq-dict K-PartialEq K-PartialEq-dict S-BuildHasher S-BuildHasher-dict
-    S-Hasher-Hasher S-Hasher-Hasher-dict G-Guard G-Guard-dict S-Hasher-Destruct-dict R-Wait R-Wait-dict F-FnMut F-FnMut-dict F-FnOnce-dict
-    F-Destruct-dict 𝓛 𝓜.mem 𝓡.returns) (callee.clauses K S G S-Hasher R F K-Hash K-Hash-dict K-Eq K-Eq-dict K-PartialEq K-PartialEq-dict S-BuildHasher
-    S-BuildHasher-dict S-Hasher-Hasher S-Hasher-Hasher-dict G-Guard G-Guard-dict S-Hasher-Destruct-dict R-Wait R-Wait-dict F-FnMut F-FnMut-dict
-    F-FnOnce-dict F-Destruct-dict 𝓛 𝓜.mem 𝓡.returns)
+    let Ends = ended K S S-Hasher R F K-Hash K-Hash-dict K-Eq K-Eq-dict K-PartialEq K-PartialEq-dict S-BuildHasher S-BuildHasher-dict S-Hasher-Hasher
+    S-Hasher-Hasher-dict S-Hasher-Destruct-dict R-Wait R-Wait-dict F-FnMut F-FnMut-dict F-FnOnce-dict F-Destruct-dict in
+    meets E N P g Ends 𝓛 𝓜 𝓡 (clauses K S S-Hasher R F K-Hash K-Hash-dict K-Eq K-Eq-dict K-PartialEq K-PartialEq-dict S-BuildHasher S-BuildHasher-dict
+    S-Hasher-Hasher S-Hasher-Hasher-dict S-Hasher-Destruct-dict R-Wait R-Wait-dict F-FnMut F-FnMut-dict F-FnOnce-dict F-Destruct-dict 𝓛 𝓜.mem
+    𝓡.returns) (callee.clauses K S S-Hasher R F K-Hash K-Hash-dict K-Eq K-Eq-dict K-PartialEq K-PartialEq-dict S-BuildHasher S-BuildHasher-dict
+    S-Hasher-Hasher S-Hasher-Hasher-dict S-Hasher-Destruct-dict R-Wait R-Wait-dict F-FnMut F-FnMut-dict F-FnOnce-dict F-Destruct-dict 𝓛 𝓜.mem 𝓡.returns)
     (λ κs a r. (r.book ≡ a.0.now.map.book) × IsLegalHistory K-PartialEq.eq key_of (history_of r.log) × IsPrefix a.0.now.seen (history_of r.log)
     × ((made : List (Change K.Denot (Stored K.Denot (Unit {0}))))
     × HasKept K-PartialEq.eq a.0.now.seen (history_of r.log) [] made (JudgesKey F-FnMut) a.1.1.0 r.answer) × IfErr r.answer IsMemoryOrCapacity)
@@ -63,21 +61,16 @@ retain_spec 𝓤 𝓛 𝓜 𝓡 wired K S G S-Hasher R F LK LS LG LH LR LF K-Has
     (λ log. IsSince a.0.now K-PartialEq.eq (λ h.
     ((made : List (Change K.Denot (Stored K.Denot (Unit {0}))))
     × HasKept K-PartialEq.eq a.0.now.seen h [] made (JudgesKey F-FnMut) a.1.1.0 r.answer)) (history_of log)) f.0 (f.1, f.2, f.3)
-    (record {
-      history = history_of r.log;
-      legal = f.1;
-      told = kept a.0.now.seen (history_of r.log) K-PartialEq.eq (JudgesKey F-FnMut) a.1.1.0 r.answer
-          f.3;
-    }) f.4)
+    (record { history = history_of r.log; legal = f.1; told = kept a.0.now.seen (history_of r.log) K-PartialEq.eq (JudgesKey F-FnMut) a.1.1.0 r.answer f.3 })
+    f.4)
     (λ κs. let ℓ : NamedLft = record { mir = named 1; lft = κs.1.0 } in result_laws unit-field.row RefusedRow unit_laws refused_laws)
     (λ κs x f. refl, (λ κs x f. refl, (λ κs x f. refl, tt))) (#self inst) (#callee inst) (inst_fn inst code.function)
-    (code.unfolded 𝓤 𝓛.H 𝓜 𝓡 wired (K, (S, (G, (S-Hasher, (R, (F, tt)))))) K-Hash-dict K-Eq-dict K-PartialEq-dict S-BuildHasher-dict
-    S-Hasher-Hasher-dict G-Guard-dict S-Hasher-Destruct-dict R-Wait-dict F-FnMut-dict F-FnOnce-dict F-Destruct-dict)
-    (met 𝓤 𝓛 𝓜 𝓡 (code.calls-papaya_set::set::HashSetRef::retain_told 𝓡.env wired) K S G S-Hasher R F LK LS LG LH LR LF K-Hash K-Hash-dict K-Eq K-Eq-dict
-    K-PartialEq K-PartialEq-dict S-BuildHasher S-BuildHasher-dict S-Hasher-Hasher S-Hasher-Hasher-dict G-Guard G-Guard-dict S-Hasher-Destruct-dict
-    R-Wait R-Wait-dict F-FnMut F-FnMut-dict F-FnOnce-dict F-Destruct-dict m1 m2 m3 m4 m5 m6 m7 m8 m9 m10 m11)
+    (code.unfolded 𝓤 𝓛.H 𝓜 𝓡 wired (K, (S, (S-Hasher, (R, (F, tt))))) K-Hash-dict K-Eq-dict K-PartialEq-dict S-BuildHasher-dict S-Hasher-Hasher-dict
+    S-Hasher-Destruct-dict R-Wait-dict F-FnMut-dict F-FnOnce-dict F-Destruct-dict)
+    (met 𝓤 𝓛 𝓜 𝓡 (code.calls-papaya_set::set::HashSetRef::retain_told 𝓡.env wired) K S S-Hasher R F LK LS LH LR LF K-Hash K-Hash-dict K-Eq K-Eq-dict
+    K-PartialEq K-PartialEq-dict S-BuildHasher S-BuildHasher-dict S-Hasher-Hasher S-Hasher-Hasher-dict S-Hasher-Destruct-dict R-Wait R-Wait-dict
+    F-FnMut F-FnMut-dict F-FnOnce-dict F-Destruct-dict m1 m2 m3 m4 m5 m6 m7 m8 m9 m10)
     (λ y are. walk_rro 𝓤 𝓛 𝓜 𝓡 (one_ref (named 0) y.0.0.0
-    (Owner.the_row (named_lft 9 1 tt y.0.0) (param 0 K) (param 1 S) (param 2 G) (param 3 S-Hasher) K-Hash K-Eq K-PartialEq S-BuildHasher S-Hasher-Hasher)
-    y.0.3.0 y.0.4.0 are.0 _ _) (one_ref (named 2) y.0.0.1.1.0 (param 4 R) y.0.3.1.0 y.0.4.1.0 are.1.0 _ _) (one_of 𝓛 5 F LF y.0.3.1.1.0 y.0.4.1.1.0
-    are.1.1.0)
+    (Owner.the_row (named_lft 8 1 tt y.0.0) (param 0 K) (param 1 S) (param 2 S-Hasher) K-Hash K-Eq K-PartialEq S-BuildHasher S-Hasher-Hasher)
+    y.0.3.0 y.0.4.0 are.0 _ _) (one_ref (named 2) y.0.0.1.1.0 (param 3 R) y.0.3.1.0 y.0.4.1.0 are.1.0 _ _) (one_of 𝓛 4 F LF y.0.3.1.1.0 y.0.4.1.1.0 are.1.1.0)
     (λ w good. (good, good, held_good (Answer E N P g Ends y.0.0) E N P g w good)))

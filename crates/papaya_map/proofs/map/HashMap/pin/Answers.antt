@@ -1,7 +1,7 @@
 use Rattle.std.proofs.Common.{ap, ◌∙◌}
 use Rattle.papaya_lookup.proofs.Histories.{history_legal}
 use Rattle.papaya_map.specs.Fixed.{Fixed}
-use Rattle.papaya_map.proofs.map.HashMap.pinned.Goals as goal
+use Rattle.papaya_map.proofs.map.HashMap.pin.Goals as goal
 
 pub invariant_of-result-2 : goal.invariant_of-result-2
 invariant_of-result-2 g c =
