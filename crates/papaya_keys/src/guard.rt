@@ -5,6 +5,7 @@ ghost use Rattle.std.specs.Cmp.Lexicographic.{bytes_decides, nat_list_eq_equiv};
 ghost use Rattle.std.specs.Hash as fed;
 
 use std::alloc::Allocator;
+use std::fmt;
 use std::hash::Hash;
 use std::marker::{Model, PhantomData};
 use std::sync::atomic::{AtomicU64, Ordering};
@@ -121,7 +122,7 @@ impl Collector {
 
 /// A sequence of calls: `seize`'s trait of that name.
 ///
-/// There a guard keeps what was loaded under it from being freed. Here it holds two numbers, on
+/// There a guard keeps what was loaded under it from being freed. Here it has two numbers, on
 /// which no safety depends. It has `collector_number` instead of `collector`, and its own `number`
 /// instead of `thread_id`.
 pub trait Guard {
@@ -140,6 +141,14 @@ pub trait Guard {
         ensures { result ≡ number self.now };
 }
 
+/// Prints a guard by this name, with its two numbers.
+fn print<G: Guard, W: fmt::Write>(name: &str, guard: &G, f: &mut fmt::Formatter<W>) -> fmt::Result {
+    f.debug_struct(name)
+        .field("collector", &guard.collector_number())
+        .field("number", &guard.number())
+        .finish()
+}
+
 /// A guard of [`Collector::enter`]: `seize`'s type of that name.
 #[derive(Drop)]
 pub struct LocalGuard<'a> {
@@ -154,6 +163,12 @@ impl<'a> Model for LocalGuard<'a> {
     ghost Value = { GuardNumbers };
 
     ghost view = { λ guard. record { collector = guard.collector; own = guard.own } };
+}
+
+impl fmt::Debug for LocalGuard<'_> {
+    fn fmt<W: fmt::Write>(&self, f: &mut fmt::Formatter<W>) -> fmt::Result {
+        print("LocalGuard", self, f)
+    }
 }
 
 impl Guard for LocalGuard<'_> {
@@ -184,6 +199,12 @@ impl<'a> Model for OwnedGuard<'a> {
     ghost Value = { GuardNumbers };
 
     ghost view = { λ owned. owned.guard };
+}
+
+impl fmt::Debug for OwnedGuard<'_> {
+    fn fmt<W: fmt::Write>(&self, f: &mut fmt::Formatter<W>) -> fmt::Result {
+        print("OwnedGuard", self, f)
+    }
 }
 
 impl Guard for OwnedGuard<'_> {

@@ -1,5 +1,7 @@
-//! `Debug` of a map prints `{key: value, ..}`, as in 0.2.5.
-use crate::map::{HashMap, HashMapRef};
+//! `Debug` of a map prints `{key: value, ..}`, as in 0.2.5. A pinned map and a session print their
+//! map.
+use crate::map::{HashMap, HashMapRef, Pass};
+use crate::session::Session;
 use papaya_book::rule::own::OwnSteps;
 use papaya_book::window::Window;
 use papaya_scan::printing::{print, print_keys};
@@ -29,5 +31,21 @@ impl<'a, K: Hash + Eq + fmt::Debug, V: fmt::Debug, S: BuildHasher> fmt::Debug
     for HashMapRef<'a, K, V, S> {
     fn fmt<W: fmt::Write>(&self, f: &mut fmt::Formatter<W>) -> fmt::Result {
         fmt::Debug::fmt(self.map(), f)
+    }
+}
+
+impl<'a, K: Hash + Eq + fmt::Debug, V: fmt::Debug, S: BuildHasher> fmt::Debug
+    for Session<'a, K, V, S> {
+    fn fmt<W: fmt::Write>(&self, f: &mut fmt::Formatter<W>) -> fmt::Result {
+        fmt::Debug::fmt(self.map(), f)
+    }
+}
+
+impl<K: Hash + Eq, V, S: BuildHasher> fmt::Debug for Pass<K, V, S> {
+    /// The pass's number, which is all that it holds at run time.
+    fn fmt<W: fmt::Write>(&self, f: &mut fmt::Formatter<W>) -> fmt::Result {
+        f.debug_struct("Pass")
+            .field("number", &self.number)
+            .finish()
     }
 }

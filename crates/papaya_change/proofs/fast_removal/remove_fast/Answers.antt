@@ -24,8 +24,8 @@ returns-then-not-agrees-clause-removed g c =
       class = λ k l.
           g.met.Q.Equivalent.matches_equal_keys c.args.key.now k l;
     } in
-    let w = c.find.new.window.book.now in let b = begun_of w.parts in let log = c.find.new.window.sight.log in let hit = c.in-Some.hit in let met = hit.met in
-    let h = c.find.ensures.hits hit c.in-Some.is in
+    let w = c.find-hit.new.window.book.now in let b = begun_of w.parts in let log = c.find-hit.new.window.sight.log in let hit = c.in-Some.hit in let met = hit.met in
+    let h = c.find-hit.ensures.hits hit c.in-Some.is in
     let live : kind_of met.word ≡ Live = search rules in
     let said : c.agrees.result ≡ false = search rules in
     let judged : Judges g.F.FnMut c.args.agrees.now met.stored false
@@ -45,8 +45,8 @@ bury_met-requires-clause-place g c =
       class = λ k l.
           g.met.Q.Equivalent.matches_equal_keys c.args.key.now k l;
     } in
-    let w = c.find.new.window.book.now in let b = begun_of w.parts in let log = c.find.new.window.sight.log in let hit = c.in-Some.hit in let met = hit.met in
-    let h = c.find.ensures.hits hit c.in-Some.is in
+    let w = c.find-hit.new.window.book.now in let b = begun_of w.parts in let log = c.find-hit.new.window.sight.log in let hit = c.in-Some.hit in let met = hit.met in
+    let h = c.find-hit.ensures.hits hit c.in-Some.is in
     let live : kind_of met.word ≡ Live = search rules in
     let said : c.agrees.result ≡ true = search rules in
     let judged : Judges g.F.FnMut c.args.agrees.now met.stored true
@@ -64,8 +64,8 @@ bury_met-requires-clause-can g c =
       class = λ k l.
           g.met.Q.Equivalent.matches_equal_keys c.args.key.now k l;
     } in
-    let w = c.find.new.window.book.now in let b = begun_of w.parts in let log = c.find.new.window.sight.log in let hit = c.in-Some.hit in let met = hit.met in
-    let h = c.find.ensures.hits hit c.in-Some.is in
+    let w = c.find-hit.new.window.book.now in let b = begun_of w.parts in let log = c.find-hit.new.window.sight.log in let hit = c.in-Some.hit in let met = hit.met in
+    let h = c.find-hit.ensures.hits hit c.in-Some.is in
     let live : kind_of met.word ≡ Live = search rules in
     let said : c.agrees.result ≡ true = search rules in
     let judged : Judges g.F.FnMut c.args.agrees.now met.stored true
@@ -83,8 +83,8 @@ returns-then-not-bury_met-clause-removed g c =
       class = λ k l.
           g.met.Q.Equivalent.matches_equal_keys c.args.key.now k l;
     } in
-    let w = c.find.new.window.book.now in let b = begun_of w.parts in let log = c.find.new.window.sight.log in let hit = c.in-Some.hit in let met = hit.met in
-    let h = c.find.ensures.hits hit c.in-Some.is in
+    let w = c.find-hit.new.window.book.now in let b = begun_of w.parts in let log = c.find-hit.new.window.sight.log in let hit = c.in-Some.hit in let met = hit.met in
+    let h = c.find-hit.ensures.hits hit c.in-Some.is in
     let live : kind_of met.word ≡ Live = search rules in
     let said : c.agrees.result ≡ true = search rules in
     let judged : Judges g.F.FnMut c.args.agrees.now met.stored true
@@ -107,8 +107,8 @@ returns-clause-removed g c =
       class = λ k l.
           g.met.Q.Equivalent.matches_equal_keys c.args.key.now k l;
     } in
-    let w = c.find.new.window.book.now in let b = begun_of w.parts in let log = c.find.new.window.sight.log in let hit = c.in-Some.hit in let met = hit.met in
-    let h = c.find.ensures.hits hit c.in-Some.is in
+    let w = c.find-hit.new.window.book.now in let b = begun_of w.parts in let log = c.find-hit.new.window.sight.log in let hit = c.in-Some.hit in let met = hit.met in
+    let h = c.find-hit.ensures.hits hit c.in-Some.is in
     let live : kind_of met.word ≡ Live = search rules in
     let said : c.agrees.result ≡ true = search rules in
     let judged : Judges g.F.FnMut c.args.agrees.now met.stored true
@@ -127,9 +127,9 @@ returns-clause-removed g c =
 
 pub returns-in_default-clause-removed : goal.returns-in_default-clause-removed
 returns-in_default-clause-removed g c =
-    let none_found : c.find.result ≡ None = search rules in
-    let none = subst (IsHitAnsweredBetween g.K.PartialEq.eq (g.Q.Equivalent.matches c.args.key.now) (past c.args.window.now) (past c.find.new.window))
-    none_found c.find.ensures.answered in
+    let none_found : c.find-hit.result.hit ≡ None = search rules in
+    let none = subst (IsHitAnsweredBetween g.K.PartialEq.eq (g.Q.Equivalent.matches c.args.key.now) (past c.args.window.now) (past c.find-hit.new.window))
+    none_found c.find-hit.ensures.answered in
     record {
       said = [];
       left = c.args.agrees.now;
@@ -140,7 +140,7 @@ returns-in_default-clause-removed g c =
 
 pub returns-clause-ends : goal.returns-clause-ends
 returns-clause-ends g c = record {
-  sees = sees_trans _ _ _ c.find.ensures.sees c.bury_met.ensures.sees;
+  sees = sees_trans _ _ _ c.find-hit.ensures.sees c.bury_met.ensures.sees;
   lawful = search rules;
   made =
       let lawful : IsQuery g.K.PartialEq.eq g.K.Hash.hash_input (g.Q.Equivalent.matches c.args.key.now)
@@ -149,8 +149,8 @@ returns-clause-ends g c = record {
         class = λ k l.
             g.met.Q.Equivalent.matches_equal_keys c.args.key.now k l;
       } in
-      let w = c.find.new.window.book.now in let b = begun_of w.parts in let log = c.find.new.window.sight.log in let hit = c.in-Some.hit in let met = hit.met in
-      let h = c.find.ensures.hits hit c.in-Some.is in
+      let w = c.find-hit.new.window.book.now in let b = begun_of w.parts in let log = c.find-hit.new.window.sight.log in let hit = c.in-Some.hit in let met = hit.met in
+      let h = c.find-hit.ensures.hits hit c.in-Some.is in
       let live : kind_of met.word ≡ Live = search rules in
       let said : c.agrees.result ≡ true = search rules in
       let judged : Judges g.F.FnMut c.args.agrees.now met.stored true
@@ -159,12 +159,12 @@ returns-clause-ends g c = record {
       let put = c.bury_met in let t = put.ensures.tried in
       let went : put.result ≡ true = search rules in
       let is : (t.found == met.word) ≡ true = sym t.went_is ∙ went in
-      let does = subst (λ (z : Bool). Does z c.find.new.window put.new.window) went put.ensures.does in
-      rw (sym c.find.ensures.own) (makes g.K.PartialEq.eq None h.0 t.before None
+      let does = subst (λ (z : Bool). Does z c.find-hit.new.window put.new.window) went put.ensures.does in
+      rw (sym c.find-hit.ensures.own) (makes g.K.PartialEq.eq None h.0 t.before None
       (ended g.K.PartialEq.eq g.K.Hash.hash_input g.S.BuildHasher.build_hasher g.S.Hasher.Hasher.write g.S.Hasher.Hasher.finish g.met.K.Eq.laws
       g.met.K.Hash.respects_eq b w.begun.book (g.Q.Equivalent.matches c.args.key.now) (g.Q.Hash.hash_input c.args.key.now) lawful (Judges g.F.FnMut)
       c.args.agrees.now h.0 log h.2.0 w.chunked c.fits.ensures hit.table met h.2.3 live c.agrees.new.self judged put.new.window.sight.log
-      put.ensures.sees.log t.found t.before t.tried is).call.machine c.find.new.window put.new.window
+      put.ensures.sees.log t.found t.before t.tried is).call.machine c.find-hit.new.window put.new.window
       (hit_changed g.K.PartialEq.eq g.K.Hash.hash_input g.S.BuildHasher.build_hasher g.S.Hasher.Hasher.write g.S.Hasher.Hasher.finish g.met.K.Eq.laws
       g.met.K.Hash.respects_eq b w.begun.book (g.Q.Equivalent.matches c.args.key.now) (g.Q.Hash.hash_input c.args.key.now) lawful (Judges g.F.FnMut)
       c.args.agrees.now h.0 log h.2.0 w.chunked c.fits.ensures hit.table met h.2.3 live c.agrees.new.self judged put.new.window.sight.log

@@ -1,4 +1,4 @@
-use Rattle.std.proofs.Common.{false, MatchOption, None, refl, subst}
+use Rattle.std.proofs.Common.{MatchOption, None, refl, subst}
 use denote.Bor.{Bor}
 use Rattle.papaya_ask.specs.declared.search.Place.{Place}
 use Rattle.papaya_lookup.specs.Lookups.{turn_near}
@@ -71,7 +71,7 @@ returns-in-Found-clause-answered g c =
     let hit = answers_found g.K.PartialEq.eq g.K.Hash.hash_input g.S.BuildHasher.build_hasher g.S.Hasher.Hasher.write g.S.Hasher.Hasher.finish
     g.met.K.Eq.laws g.met.K.Hash.respects_eq c.search_slots.new.window.book.now (g.Q.Equivalent.matches c.args.key.now)
     (g.Q.Hash.hash_input c.args.key.now) (lawful g c.args.key.now) c.args.window.now.sight.log c.learn.new.self.sight.log c.learn.ensures.sees.log
-    c.hash-hash.result c.search_slots.new.window.sight.log c.in-Some.table.now c.in-Found._met c.in-Found.entry turned c.in-Some.table false in
+    c.hash-hash.result c.search_slots.new.window.sight.log c.in-Some.table.now c.in-Found._met c.in-Found.entry turned c.in-Some.table in
     value_answer _ _ _ _ _ _ refl (pair_answer _ _ _ _ _ _ refl hit)
 
 pub returns-in-Absent-clause-lawful : goal.returns-in-Absent-clause-lawful
