@@ -185,7 +185,7 @@ fn run_again(alloc: Global, map: &mut Numbers) -> Result<Vec<Outcome>, Fail> {
 
 /// The kinds of outcomes.
 #[derive(Clone, Copy, PartialEq)]
-enum Told {
+enum OutcomeKind {
     /// An entry was inserted, found or kept.
     Inserted(u64),
     Is(u64),
@@ -196,66 +196,97 @@ enum Told {
     Other,
 }
 
-fn told(outcome: &Outcome) -> Told {
+fn kind_of(outcome: &Outcome) -> OutcomeKind {
     match outcome {
-        Outcome::Replied(Reply::Inserted(number)) => Told::Inserted(*number),
-        Outcome::Replied(Reply::Found(number) | Reply::Kept(number)) => Told::Is(*number),
-        Outcome::Replied(Reply::Absent) => Told::Absent,
-        Outcome::Replied(Reply::Done) => Told::Done,
-        Outcome::Replied(Reply::Refused(Refused::Memory)) => Told::Memory,
-        _ => Told::Other,
+        Outcome::Replied(Reply::Inserted(number)) => OutcomeKind::Inserted(*number),
+        Outcome::Replied(Reply::Found(number) | Reply::Kept(number)) => OutcomeKind::Is(*number),
+        Outcome::Replied(Reply::Absent) => OutcomeKind::Absent,
+        Outcome::Replied(Reply::Done) => OutcomeKind::Done,
+        Outcome::Replied(Reply::Refused(Refused::Memory)) => OutcomeKind::Memory,
+        _ => OutcomeKind::Other,
+    }
+}
+
+/// Returns the kind of the outcome at this place, if there is one.
+fn kind_at(outcomes: &[Outcome], at: u64) -> OutcomeKind {
+    match outcomes.get(at as usize) {
+        Some(outcome) => kind_of(outcome),
+        None => OutcomeKind::Other,
     }
 }
 
 /// Returns whether a key was inserted with ten times itself and then found, or refused and not
 /// found.
-fn is_told(map: &Numbers, key: u64, inserted: Told, found: Told) -> bool {
+fn is_inserted(map: &Numbers, key: u64, inserted: OutcomeKind, found: OutcomeKind) -> bool {
     match inserted {
-        Told::Inserted(number) => {
-            found == Told::Is(number) && map.pair(number) == Some((&key, &(key.wrapping_mul(10))))
+        OutcomeKind::Inserted(number) => {
+            found == OutcomeKind::Is(number)
+                && map.pair(number) == Some((&key, &(key.wrapping_mul(10))))
         }
-        Told::Memory => found == Told::Absent,
+        OutcomeKind::Memory => found == OutcomeKind::Absent,
         _ => false,
+    }
+}
+
+/// Counts the calls that were refused.
+fn refusals(outcomes: &[Outcome]) -> usize {
+    let mut refused = 0usize;
+    for outcome in outcomes {
+        if kind_of(outcome) == OutcomeKind::Memory {
+            refused = refused.wrapping_add(1);
+        }
+    }
+    refused
+}
+
+/// Returns how many keys were inserted, if each call on a key had the outcome that it should.
+fn inserted(map: &Numbers, outcomes: &[Outcome]) -> Option<usize> {
+    let mut held = 0usize;
+    for key in 0..RUN {
+        let at = key.wrapping_mul(2);
+        let inserted = kind_at(outcomes, at);
+        if !is_inserted(map, key, inserted, kind_at(outcomes, at.wrapping_add(1))) {
+            return None;
+        }
+        if inserted != OutcomeKind::Memory {
+            held = held.wrapping_add(1);
+        }
+    }
+    Some(held)
+}
+
+/// Returns whether a call on all entries had this outcome, or was refused.
+fn is_or_refused(outcomes: &[Outcome], at: u64, wanted: OutcomeKind) -> bool {
+    let kind = kind_at(outcomes, at);
+    kind == wanted || kind == OutcomeKind::Memory
+}
+
+/// Returns whether an iteration yielded this many entries, or was refused.
+fn yields(outcomes: &[Outcome], at: u64, held: usize) -> bool {
+    match outcomes.get(at as usize) {
+        Some(Outcome::Walked(numbers)) => numbers.len() == held,
+        Some(outcome) => kind_of(outcome) == OutcomeKind::Memory,
+        None => false,
     }
 }
 
 /// Returns whether the calls had the outcomes that they should, with at most one request refused.
 fn is_run(map: &Numbers, outcomes: &[Outcome]) -> bool {
-    let (mut refused, mut held) = (0usize, 0usize);
-    for outcome in outcomes {
-        if told(outcome) == Told::Memory {
-            refused = refused.wrapping_add(1);
-        }
-    }
-    for key in 0..RUN {
-        let at = key as usize * 2;
-        let inserted = told(&outcomes[at]);
-        if !is_told(map, key, inserted, told(&outcomes[at + 1])) {
-            return false;
-        }
-        if inserted != Told::Memory {
-            held = held.wrapping_add(1);
-        }
-    }
-    let last = RUN as usize * 2;
-    let kept = match told(&outcomes[0]) {
-        Told::Inserted(number) => Told::Is(number),
-        _ => Told::Absent,
+    let Some(held) = inserted(map, outcomes) else {
+        return false;
     };
-    for (at, wanted) in [Told::Done, Told::Done, kept, Told::Done]
-        .iter()
-        .enumerate()
-    {
-        let told = told(&outcomes[last + at]);
-        if told != *wanted && told != Told::Memory {
-            return false;
-        }
-    }
-    let is_walked = match &outcomes[last + 4] {
-        Outcome::Walked(numbers) => numbers.len() == held,
-        outcome => told(outcome) == Told::Memory,
+    let kept = match kind_at(outcomes, 0) {
+        OutcomeKind::Inserted(number) => OutcomeKind::Is(number),
+        _ => OutcomeKind::Absent,
     };
-    is_walked && refused <= 1 && map.len() == held
+    let last = RUN.wrapping_mul(2);
+    is_or_refused(outcomes, last, OutcomeKind::Done)
+        && is_or_refused(outcomes, last.wrapping_add(1), OutcomeKind::Done)
+        && is_or_refused(outcomes, last.wrapping_add(2), kept)
+        && is_or_refused(outcomes, last.wrapping_add(3), OutcomeKind::Done)
+        && yields(outcomes, last.wrapping_add(4), held)
+        && refusals(outcomes) <= 1
+        && map.len() == held
 }
 
 /// Runs the calls, and then inserts each key that was refused.
