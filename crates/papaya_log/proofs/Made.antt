@@ -15,8 +15,6 @@ use denote.Struct.Struct.{within}
 use denote.Struct.Declared.{shape}
 use Rattle.boxcar.specs.Slot.{written, mark, full}
 use Rattle.boxcar.specs.Table.{Where}
-use Rattle.boxcar.proofs.Made.{written_made as row_made}
-use Rattle.boxcar.specs.contracts.slot.Written as RowWritten
 use Rattle.papaya_slot.proofs.Made.{written_made}
 use Rattle.papaya_slot.specs.contracts.slot.Written as Written
 use Rattle.papaya_log.specs.Tokens.{Fields, fields_row, row_row, stands, token_row}
@@ -36,7 +34,7 @@ module _ {M : Type 1} {𝓤 : Ura M} (𝓛 : Logic 𝓤) (R : RattleType) where
       let vs : List Val = bytes n ∷ [] in
       let S = shape (Inside.the_type R) in
       qed 𝓛 (‵ (written (row_row R) x.0.row.of x.0.row.value) ∷ ‵ (written R x.0.item.of x.0.item.value) ∷ []) ∵
-      use1 𝓛 (‵ ((RowWritten.the_row (row_row R)).own_val x.0.row (token ∷ []))) (row_made 𝓛 (row_row R) x.0.row.of x.0.row.value) $ move ! (1 ∷ []) $
+      use1 𝓛 (‵ ((Written.the_row (row_row R)).own_val x.0.row (token ∷ []))) (written_made 𝓛 (row_row R) x.0.row.of x.0.row.value) $ move ! (1 ∷ []) $
       use1 𝓛 (‵ ((Written.the_row R).own_val x.0.item (token ∷ []))) (written_made 𝓛 R x.0.item.of x.0.item.value) $
       nothing ! $ move ! (1 ∷ 0 ∷ []) $ fjoin ! $ move ! (1 ∷ 0 ∷ []) $ fjoin ! $
       owned ! usize _ (uint_Makes 𝓛 w64) x.0.number (vint w64 n ∷ []) (ap (λ (i : ℕ). vint w64 i ∷ []) en, subst (λ (i : ℕ). i < 2 ^ 64) en fn) $ fjoin ! $

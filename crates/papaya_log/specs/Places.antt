@@ -2,6 +2,8 @@
 use Rattle.std.specs.Prelude.{◌≡◌, ℕ, ◌+◌, ◌<◌, ◌≤◌, ◌^◌, List, [], slice_index_or}
 use Rattle.boxcar.specs.Slot.{Named}
 use Rattle.boxcar.specs.Table.{id_at}
+use Rattle.papaya_slot.specs.Slots.{Named as SlotNamed}
+use Rattle.papaya_log.specs.Rows.{AreSlots}
 use Rattle.papaya_log.specs.declared.log.Place.{Place}
 
 -- the tag of a log's row: the length of its parts, the push that the first slot of a part is for, and
@@ -20,6 +22,10 @@ pub record IsPlace (rows : List Named) (place : Place) : Type 0 where
   pub number : place.right.number ≡ slice_index_or (tag_at rows place.row) 1 0 + place.slot
   pub counter : place.right.counter ≡ slice_index_or (tag_at rows place.row) (2 + place.lane) 0
 
--- a row has a slot there, and this is the number by which it is known to be made
-abbrev pub IsMade : (rows : List Named) (place : Place) (of : ℕ) → Type 0
-IsMade rows place of = IsPlace rows place × (of ≡ id_at rows place.row)
+-- this is the number by which a row is known to be made, and these are the row's slots
+abbrev pub IsRow : (rows : List Named) (row of : ℕ) (slots : List SlotNamed) → Type 0
+IsRow rows row of slots = (of ≡ id_at rows row) × AreSlots (tag_at rows row) slots
+
+-- a row has a slot there, and is made
+abbrev pub IsMade : (rows : List Named) (place : Place) (of : ℕ) (slots : List SlotNamed) → Type 0
+IsMade rows place of slots = IsPlace rows place × IsRow rows place.row of slots

@@ -2,14 +2,13 @@
 ghost use Rattle.std.specs.Prelude.{[], ◌≡◌, ◌≤◌, ◌<◌, ◌^◌, ◌+◌, ◌*◌, ◌/◌, ◌%◌, IfOk, IfErr, IfSome};
 ghost use Rattle.boxcar.specs.Table.{Shows, id_at};
 ghost use Rattle.papaya_log.specs.Rows.{AreRows, part_first, part_len, row_of, slot_of};
-ghost use Rattle.papaya_log.specs.Places.{IsMade, IsPlace};
+ghost use Rattle.papaya_log.specs.Places.{IsMade, IsPlace, IsRow};
 
 use crate::brief::brief_lock;
 use crate::lanes::{LANES, Lanes};
 use crate::row::{Blank, Row, RowSlot, new_row, no_row, write_some};
 use crate::token::Pushed;
-use boxcar::slot::Written;
-use papaya_slot::slot::{Right, Slot};
+use papaya_slot::slot::{Right, Slot, Written};
 use std::alloc::{AllocError, Global};
 use std::marker::Model;
 use std::mem::{forget, replace};
@@ -166,7 +165,7 @@ fn empty_rows<T: Drop>(
     let mut rows = Vec::with_capacity(alloc, ROWS)?;
     for row in 0..ROWS {
         let first = first_of(first_bits, row);
-        rows.push(no_row(lanes, first, length_of(first_bits, row)))?;
+        rows.push(no_row(alloc, lanes, first, length_of(first_bits, row)))?;
     }
     Ok(rows)
 }
@@ -201,7 +200,7 @@ impl<T: Blank + Drop> Log<T> {
         value: &T,
     ) -> Result<Written<Row<T>>, AllocError>
         requires { row < 38 }
-        ensures { IfOk result (λ written. written.of ≡ id_at self.now.buckets row) }
+        ensures { IfOk result (λ made. IsRow self.now.buckets row made.of made.value.items) }
     {
         let making = self.making.lock(rt);
         if let Some(written) = self.rows[row].witness() {
@@ -212,7 +211,7 @@ impl<T: Blank + Drop> Log<T> {
             length_of(self.first_bits, row),
         );
         let slots = new_row(&self.lanes, first, len, self.take_ahead(), value)?;
-        let made = self.rows[row].set_written(slots).map_err(|_| AllocError);
+        let made = self.rows[row].set(slots);
         drop(making);
         made
     }
@@ -268,7 +267,7 @@ impl<T: Blank + Drop> Log<T> {
     /// Returns the proof that a row exists. Makes the row if it does not.
     fn row<R: Wait>(&self, rt: &R, row: usize, value: &T) -> Result<Written<Row<T>>, AllocError>
         requires { row < 38 }
-        ensures { IfOk result (λ written. written.of ≡ id_at self.now.buckets row) }
+        ensures { IfOk result (λ made. IsRow self.now.buckets row made.of made.value.items) }
     {
         match self.rows[row].witness() {
             Some(written) => Ok(written),
@@ -311,7 +310,7 @@ impl<T: Blank + Drop> Log<T> {
     /// Returns the next place of a lane if its row is made.
     #[inline(always)]
     fn made_place(&self, lane: u64) -> Option<(Place, Written<Row<T>>)>
-        ensures { IfSome result (λ made. IsMade self.now.buckets made.0 made.1.of) }
+        ensures { IfSome result (λ made. IsMade self.now.buckets made.0 made.1.of made.1.value.items) }
     {
         let place = self.next_place(lane)?;
         match self.rows[place.row].witness() {
@@ -327,7 +326,7 @@ impl<T: Blank + Drop> Log<T> {
     #[cold]
     #[inline(never)]
     fn other_place(&self, lane: u64) -> Option<(Place, Written<Row<T>>)>
-        ensures { IfSome result (λ made. IsMade self.now.buckets made.0 made.1.of) }
+        ensures { IfSome result (λ made. IsMade self.now.buckets made.0 made.1.of made.1.value.items) }
     {
         for step in 1..LANES as u64 {
             let made = self.made_place(lane.wrapping_add(step));
@@ -342,7 +341,7 @@ impl<T: Blank + Drop> Log<T> {
     /// row, so that an arena within its capacity has no other row.
     #[inline(always)]
     fn is_due(&self, place: &Place, row: &Written<Row<T>>) -> bool
-        requires { IsMade self.now.buckets place.now row.now.of }
+        requires { IsMade self.now.buckets place.now row.now.of row.now.value.items }
     {
         if !place.slot.is_multiple_of(AHEAD_PUSHES) || place.row == 0 {
             return false;
@@ -354,7 +353,7 @@ impl<T: Blank + Drop> Log<T> {
     /// Writes a value into its slot, and returns its token.
     #[inline(always)]
     fn write(&self, place: Place, row: Written<Row<T>>, value: T) -> Pushed<T>
-        requires { IsMade self.now.buckets place row.of }
+        requires { IsMade self.now.buckets place row.of row.value.items }
         ensures shows { Shows self.now result × (result.value ≡ value) }
         ensures number { result.index < 2 ^ 48 }
     {
@@ -372,7 +371,7 @@ impl<T: Blank + Drop> Log<T> {
     /// Pushes a value at a place whose row is made. Writes slots of the next row ahead if that is
     /// due.
     fn push_at(&self, place: Place, row: Written<Row<T>>, value: T) -> Pushed<T>
-        requires { IsMade self.now.buckets place row.of }
+        requires { IsMade self.now.buckets place row.of row.value.items }
         ensures shows { Shows self.now result × (result.value ≡ value) }
         ensures number { result.index < 2 ^ 48 }
     {
@@ -409,7 +408,7 @@ impl<T: Blank + Drop> Log<T> {
     /// Returns the place of a push that makes no row and writes no slots ahead.
     #[inline(always)]
     fn place_at_once(&self, lane: u64) -> Option<(Place, Written<Row<T>>)>
-        ensures { IfSome result (λ made. IsMade self.now.buckets made.0 made.1.of) }
+        ensures { IfSome result (λ made. IsMade self.now.buckets made.0 made.1.of made.1.value.items) }
     {
         let Some((place, row)) = self.made_place(lane) else {
             return self.other_place(lane);

@@ -1,5 +1,5 @@
 //! Rows of slots, each written once.
-ghost use Rattle.std.specs.Prelude.{◌≡◌, ◌+◌, ◌<◌, ◌≤◌, ◌^◌, ◌∷◌, IfOk};
+ghost use Rattle.std.specs.Prelude.{◌≡◌, ◌+◌, ◌<◌, ◌≤◌, ◌^◌, ◌∷◌, IfOk, IfSome};
 ghost use Rattle.papaya_log.specs.Rows.{AreSlots};
 
 use crate::lanes::{LANES, Lanes};
@@ -7,14 +7,40 @@ use boxcar::slot::{OnceSlot, SlotRule};
 use boxcar::tag::{Names, Tag};
 use core::mem::replace_with;
 use papaya_slot::counter::Counter;
-use papaya_slot::slot::Slot;
-use std::alloc::AllocError;
+use papaya_slot::slot::{Slot, Written};
+use std::alloc::{AllocError, Global};
+use std::marker::Model;
 
 /// A row of an arena.
 pub type Row<T> = Vec<Slot<T>>;
 
-/// The cell of an arena that holds a row once it is made.
-pub type RowSlot<T> = OnceSlot<Row<T>, Numbered>;
+/// The cell of an arena that holds a row once it is made, and no slots before. Contracts see the
+/// name of the row's slot, and a tag.
+///
+/// Whoever has the row's token reads the row alone. `made` keeps that token for those who have none,
+/// and `counter` lets one caller make the row. A cell has 64 bytes, so that it is found by a shift.
+#[derive(Drop)]
+pub struct RowSlot<T> {
+    row: Slot<Row<T>>,
+    counter: Counter,
+    made: OnceSlot<Written<Row<T>>, Numbered>,
+    apart: [u64; 2],
+}
+
+impl<T> Model for RowSlot<T> {
+    ghost use Rattle.std.specs.Prelude.{◌≡◌, ◌∷◌};
+    ghost use Rattle.boxcar.specs.Slot.{Named as RowNamed, named_coded};
+    ghost use Rattle.boxcar.specs.Table.{others};
+
+    ghost Value = { RowNamed };
+
+    ghost coded = { named_coded };
+
+    ghost view = { λ cell. record { id = cell.row.id; tag = others cell.made.tag } };
+
+    ghost invariant = { λ cell. (cell.row.counter ≡ cell.counter) × (cell.row.number ≡ 0)
+        × (cell.made.tag ≡ cell.row.id ∷ others cell.made.tag) };
+}
 
 /// A type whose values can fill a slot until its value is written.
 pub trait Blank {
@@ -28,18 +54,24 @@ impl Blank for u64 {
     }
 }
 
-/// The rule of a row's cell: a row has the slots that the cell's tag says.
+/// The rule of the token in a row's cell: it is that of the cell's row, which has the slots that the
+/// cell's tag says.
 pub struct Numbered;
 
-impl<T> SlotRule<Row<T>> for Numbered {
+impl<T> SlotRule<Written<Row<T>>> for Numbered {
+    ghost use Rattle.std.specs.Prelude.{◌≡◌};
+    ghost use Rattle.boxcar.specs.Table.{first, others};
     ghost use Rattle.papaya_log.specs.Rows.{AreSlots};
 
-    ghost holds = { λ tag row. AreSlots tag row.items };
+    ghost holds = { λ tag token. (token.of ≡ first tag)
+        × AreSlots (others tag) token.value.items };
 }
 
-/// The length of a part of a row, the number of its first slot, and the counters of these numbers.
+/// The slot of a row, the length of the row's parts, the number of its first slot, and the counters
+/// of these numbers.
 #[derive(Drop)]
-pub(crate) struct Numbers {
+pub(crate) struct Numbers<'a, T> {
+    pub(crate) row: &'a Slot<Row<T>>,
     pub(crate) part: usize,
     pub(crate) first: usize,
     pub(crate) counters: Tag,
@@ -47,21 +79,70 @@ pub(crate) struct Numbers {
 
 struct Told;
 
-impl Names<Numbers> for Told {
+impl<'a, T> Names<Numbers<'a, T>> for Told {
     ghost use Rattle.std.specs.Prelude.{◌∷◌};
 
-    ghost numbers = { λ row. row.part ∷ row.first ∷ row.counters.numbers };
+    ghost numbers = { λ row. row.row.now.id ∷ row.part ∷ row.first ∷ row.counters.numbers };
 }
 
 /// Returns the cell of a row that is not made yet.
-pub(crate) fn no_row<T>(lanes: &Lanes, first: usize, part: usize) -> RowSlot<T>
+pub(crate) fn no_row<T>(alloc: Global, lanes: &Lanes, first: usize, part: usize) -> RowSlot<T>
     ensures { result.tag ≡ part ∷ first ∷ lanes.now }
 {
-    OnceSlot::new(&Tag::of::<Numbers, Told>(&Numbers {
+    let counter = Counter::new();
+    let row = Slot::new(Vec::new(alloc), &counter, 0);
+    let made = OnceSlot::new(&Tag::of::<Numbers<'_, T>, Told>(&Numbers {
+        row: &row,
         part,
         first,
         counters: lanes.tag(),
-    }))
+    }));
+    RowSlot {
+        row,
+        counter,
+        made,
+        apart: [0; 2],
+    }
+}
+
+impl<T> RowSlot<T> {
+    /// Returns the token of the row if the row is made.
+    #[inline(always)]
+    pub(crate) fn witness(&self) -> Option<Written<Row<T>>>
+        ensures row { IfSome result (λ row. row.of ≡ self.now.id) }
+        ensures slots { IfSome result (λ row. AreSlots self.now.tag row.value.items) }
+    {
+        let made = self.made.get()?;
+        Some(made.again())
+    }
+
+    /// Returns the row, which the token proves to be made.
+    #[inline(always)]
+    pub(crate) fn value<'a>(&'a self, written: &Written<Row<T>>) -> &'a Row<T>
+        requires { written.now.of ≡ self.now.id }
+        ensures { result.now ≡ written.now.value }
+    {
+        self.row.value(written)
+    }
+}
+
+impl<T: Drop> RowSlot<T> {
+    /// Makes this the row, and returns its token. Fails if there is a row already.
+    pub(crate) fn set(&self, slots: Row<T>) -> Result<Written<Row<T>>, AllocError>
+        requires { AreSlots self.now.tag slots.items }
+        ensures row { IfOk result (λ row. row.of ≡ self.now.id) }
+        ensures slots { IfOk result (λ row. AreSlots self.now.tag row.value.items) }
+    {
+        let Some((0, right)) = self.counter.take() else {
+            return Err(AllocError);
+        };
+        let (written, _none) = self.row.write(right, slots);
+        let token = written.again();
+        match self.made.set_written(written) {
+            Ok(_) => Ok(token),
+            Err(_) => Err(AllocError),
+        }
+    }
 }
 
 // Returns the slot for the caller that has this number of the counter.

@@ -6,7 +6,6 @@ ghost use Rattle.std.specs.Prelude.{◌≡◌};
 ghost use Rattle.boxcar.specs.Table.{Where, where_coded};
 
 use crate::row::Row;
-use boxcar::slot::Written as RowWritten;
 use papaya_slot::slot::Written;
 use std::marker::{Model, PhantomData};
 
@@ -14,7 +13,7 @@ use std::marker::{Model, PhantomData};
 #[derive(Drop)]
 pub struct Pushed<T> {
     pub(crate) number: usize,
-    pub(crate) row: RowWritten<Row<T>>,
+    pub(crate) row: Written<Row<T>>,
     pub(crate) item: Written<T>,
 }
 
