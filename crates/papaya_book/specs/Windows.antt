@@ -27,6 +27,12 @@ module _ {K V S H : Type 0} {d : keyed.Ghosts S K H} where
     pub book : new.book ≡ old.book
     pub log : IsPrefix old.sight.log new.sight.log
 
+  -- and no exchange of a slot was made through it
+  pub record Observes (old new : Window K V S H d) : Type 0 where
+    pub book : new.book ≡ old.book
+    pub log : IsPrefix old.sight.log new.sight.log
+    pub own : new.own ≡ old.own
+
   -- Of slots, where so told, one exchange was made through it: the last that is seen then. Else
   -- none was.
   abbrev pub Does : Bool → (old new : Window K V S H d) → Type 0

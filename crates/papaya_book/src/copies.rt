@@ -4,7 +4,7 @@ ghost use Rattle.papaya_ask.specs.Search.{IsSize};
 ghost use Rattle.papaya_ask.specs.declared.ask.At.TheVariants.{Aborted, Done, Root, Slot};
 ghost use Rattle.papaya_book.specs.Books.{Seals};
 ghost use Rattle.papaya_book.specs.Limits.{IsFull};
-ghost use Rattle.papaya_book.specs.Windows.{CanCopy, CanLink, CopiesSlot, CopiesWord, HasCome, IsIn, IsMade, IsTable, IsWord, Links, Sees};
+ghost use Rattle.papaya_book.specs.Windows.{CanCopy, CanLink, CopiesSlot, CopiesWord, HasCome, IsIn, IsMade, IsTable, IsWord, Links, Observes};
 ghost use Rattle.papaya_book.specs.Logs.{pair_named};
 ghost use Rattle.papaya_book.specs.declared.rule.entry.Named.TheVariants.{Table as TableNamed};
 
@@ -31,8 +31,7 @@ impl<'a, K: Hash + Eq, V, S: BuildHasher> Window<'a, K, V, S> {
     #[inline]
     pub fn table(&mut self, number: u64) -> &'a Table<K, V, S>
         requires come { HasCome self.old number }
-        ensures sees { Sees self.old self.new }
-        ensures own { self.new.own ≡ self.old.own }
+        ensures sees { Observes self.old self.new }
         ensures table { IsTable self.new number result.now }
     {
         self.sight.learn(&self.book.begun);
@@ -49,8 +48,7 @@ impl<'a, K: Hash + Eq, V, S: BuildHasher> Window<'a, K, V, S> {
     /// Loads the word that says whether a table was given up, in one atomic step.
     pub fn aborted(&mut self, table: &Table<K, V, S>, number: u64) -> u64
         requires table { IsTable self.old number table.now }
-        ensures sees { Sees self.old self.new }
-        ensures own { self.new.own ≡ self.old.own }
+        ensures sees { Observes self.old self.new }
         ensures word { IsWord self.old self.new (Aborted number) result }
     {
         self.sight.learn(&self.book.begun);
@@ -65,8 +63,7 @@ impl<'a, K: Hash + Eq, V, S: BuildHasher> Window<'a, K, V, S> {
     pub fn done(&mut self, table: &Table<K, V, S>, number: u64, chunk: usize) -> u64
         requires table { IsTable self.old number table.now }
         requires chunk { chunk < length table.now.done }
-        ensures sees { Sees self.old self.new }
-        ensures own { self.new.own ≡ self.old.own }
+        ensures sees { Observes self.old self.new }
         ensures word { IsWord self.old self.new (Done number chunk) result }
     {
         self.sight.learn(&self.book.begun);
@@ -91,8 +88,7 @@ impl<'a, K: Hash + Eq, V, S: BuildHasher> Window<'a, K, V, S> {
         requires table { IsTable self.old number table.now }
         requires place { place < length table.now.slots }
         requires can { CanCopy self.old (Slot number place) kind kept.now words }
-        ensures sees { Sees self.old self.new }
-        ensures own { self.new.own ≡ self.old.own }
+        ensures sees { Observes self.old self.new }
         ensures tried { CopiesSlot self.old self.new number place kind kept.now words result.0
             result.1 }
     {
@@ -117,8 +113,7 @@ impl<'a, K: Hash + Eq, V, S: BuildHasher> Window<'a, K, V, S> {
         words: (u64, u64),
     ) -> u64
         requires can { CanCopy self.old Root kind kept.now words }
-        ensures sees { Sees self.old self.new }
-        ensures own { self.new.own ≡ self.old.own }
+        ensures sees { Observes self.old self.new }
         ensures tried { CopiesWord self.old self.new Root kind kept.now words result }
     {
         let wish = Wish {
@@ -145,8 +140,7 @@ impl<'a, K: Hash + Eq, V, S: BuildHasher> Window<'a, K, V, S> {
     ) -> u64
         requires table { IsTable self.old number table.now }
         requires can { CanCopy self.old (Aborted number) kind kept.now words }
-        ensures sees { Sees self.old self.new }
-        ensures own { self.new.own ≡ self.old.own }
+        ensures sees { Observes self.old self.new }
         ensures tried { CopiesWord self.old self.new (Aborted number) kind kept.now words result }
     {
         self.sight.learn(&self.book.begun);
@@ -176,8 +170,7 @@ impl<'a, K: Hash + Eq, V, S: BuildHasher> Window<'a, K, V, S> {
         requires table { IsTable self.old number table.now }
         requires chunk { chunk < length table.now.done }
         requires can { CanCopy self.old (Done number chunk) kind kept.now words }
-        ensures sees { Sees self.old self.new }
-        ensures own { self.new.own ≡ self.old.own }
+        ensures sees { Observes self.old self.new }
         ensures tried { CopiesWord self.old self.new (Done number chunk) kind kept.now words
             result }
     {
@@ -207,8 +200,7 @@ impl<'a, K: Hash + Eq, V, S: BuildHasher> Window<'a, K, V, S> {
         given: &mut OwnSteps<CapacityCause>,
     ) -> Result<(Pushed<Table<K, V, S>>, Pen), Refused>
         requires size { IsSize size.0 size.1 }
-        ensures sees { Sees self.old self.new }
-        ensures own { self.new.own ≡ self.old.own }
+        ensures sees { Observes self.old self.new }
         ensures err { IfErr result (λ e. (e ≡ Refused.Memory)
             ⊎ ((e ≡ Refused.Capacity) × IsFull given.new.done)) }
         ensures ok { IfOk result (λ r. given.new.done ≡ given.old.done) }
@@ -243,8 +235,7 @@ impl<'a, K: Hash + Eq, V, S: BuildHasher> Window<'a, K, V, S> {
         requires made { IsMade self.old table.now.value }
         requires pen { Seals self.old.book.now seal.old table.now.value }
         requires can { CanLink self.old number table.now }
-        ensures sees { Sees self.old self.new }
-        ensures own { self.new.own ≡ self.old.own }
+        ensures sees { Observes self.old self.new }
         ensures tried { Links self.old self.new number table.now result }
     {
         self.sight.learn(&self.book.begun);

@@ -42,7 +42,7 @@ impl<'a, K: Hash + Eq, V, S: BuildHasher> Window<'a, K, V, S> {
     ghost use Rattle.papaya_book.specs.Books.{IsLeft, Seals, root_then};
     ghost use Rattle.papaya_book.specs.Limits.{IsFull};
     ghost use Rattle.papaya_book.specs.Windows.{CanCopy, CanPutSlot, CanTrySlot, CopiesWord, Does, IsHint, IsIn, IsLawful, IsMade, IsNext, IsRoot};
-    ghost use Rattle.papaya_book.specs.Windows.{IsSlot, IsSlotWord, IsTable, IsWord, MayHint, Opens, PutsSlot, Sees, TriesSlot};
+    ghost use Rattle.papaya_book.specs.Windows.{IsSlot, IsSlotWord, IsTable, IsWord, MayHint, Observes, Opens, PutsSlot, Sees, TriesSlot};
     ghost use Rattle.papaya_book.specs.declared.rule.entry.Named.TheVariants.{Pair as PairNamed, Table as TableNamed};
 
     /// Returns a window onto the book with this observed history and these exchanges.
@@ -70,9 +70,8 @@ impl<'a, K: Hash + Eq, V, S: BuildHasher> Window<'a, K, V, S> {
     /// Observes what the book was opened with, and what its log now has.
     #[inline(always)]
     pub fn learn(&mut self)
-        ensures sees { Sees self.old self.new }
+        ensures sees { Observes self.old self.new }
         ensures lawful { IsLawful self.new }
-        ensures own { self.new.own ≡ self.old.own }
     {
         self.sight.learn(&self.book.begun);
     }
@@ -81,9 +80,8 @@ impl<'a, K: Hash + Eq, V, S: BuildHasher> Window<'a, K, V, S> {
     /// the number is the same. Otherwise it loads the root once more, with its table.
     #[inline(always)]
     pub fn root(&mut self) -> (u64, Option<&'a Table<K, V, S>>)
-        ensures sees { Sees self.old self.new }
+        ensures sees { Observes self.old self.new }
         ensures root { IsRoot self.old self.new result.0 result.1 }
-        ensures own { self.new.own ≡ self.old.own }
     {
         let kept = &self.kept;
         self.sight.learn(&self.book.begun);
@@ -100,9 +98,8 @@ impl<'a, K: Hash + Eq, V, S: BuildHasher> Window<'a, K, V, S> {
     #[inline(always)]
     pub fn next(&mut self, table: &Table<K, V, S>, number: u64) -> (u64, Option<&'a Table<K, V, S>>)
         requires table { IsTable self.old number table.now }
-        ensures sees { Sees self.old self.new }
+        ensures sees { Observes self.old self.new }
         ensures next { IsNext self.old self.new number result.0 result.1 }
-        ensures own { self.new.own ≡ self.old.own }
     {
         self.sight.learn(&self.book.begun);
         let sought = Sought {
@@ -119,8 +116,7 @@ impl<'a, K: Hash + Eq, V, S: BuildHasher> Window<'a, K, V, S> {
 
     /// Loads how many numbers were taken for pairs, in one atomic step.
     pub fn made(&mut self) -> u64
-        ensures sees { Sees self.old self.new }
-        ensures own { self.new.own ≡ self.old.own }
+        ensures sees { Observes self.old self.new }
         ensures word { IsWord self.old self.new Made result }
     {
         let sought = Sought { at: At::Made };
@@ -131,8 +127,7 @@ impl<'a, K: Hash + Eq, V, S: BuildHasher> Window<'a, K, V, S> {
     /// Exchanges that word in one atomic step; returns the count found.
     pub fn take(&mut self, kind: Option<StepKind>, words: (u64, u64)) -> u64
         requires can { CanCopy self.old Made kind None words }
-        ensures sees { Sees self.old self.new }
-        ensures own { self.new.own ≡ self.old.own }
+        ensures sees { Observes self.old self.new }
         ensures tried { CopiesWord self.old self.new Made kind None words result }
     {
         let wish = Wish {
@@ -153,9 +148,8 @@ impl<'a, K: Hash + Eq, V, S: BuildHasher> Window<'a, K, V, S> {
     pub fn hint(&mut self, table: &Table<K, V, S>, number: u64, place: usize) -> u64
         requires table { IsTable self.old number table.now }
         requires place { place < length table.now.slots }
-        ensures sees { Sees self.old self.new }
+        ensures sees { Observes self.old self.new }
         ensures hint { IsHint self.old self.new number place result }
-        ensures own { self.new.own ≡ self.old.own }
     {
         self.sight.learn(&self.book.begun);
         let hint = table.hint(place).load(&mut self.sight);
@@ -187,9 +181,8 @@ impl<'a, K: Hash + Eq, V, S: BuildHasher> Window<'a, K, V, S> {
     ) -> (u64, Offer<K, V, S>)
         requires table { IsTable self.old number table.now }
         requires place { place < length table.now.slots }
-        ensures sees { Sees self.old self.new }
+        ensures sees { Observes self.old self.new }
         ensures slot { IsSlotWord self.old self.new number place result.0 result.1.state }
-        ensures own { self.new.own ≡ self.old.own }
     {
         self.sight.learn(&self.book.begun);
         let sought = Sought {
@@ -208,9 +201,8 @@ impl<'a, K: Hash + Eq, V, S: BuildHasher> Window<'a, K, V, S> {
     ) -> (u64, Option<Stored<K, V>>)
         requires table { IsTable self.old number table.now }
         requires place { place < length table.now.slots }
-        ensures sees { Sees self.old self.new }
+        ensures sees { Observes self.old self.new }
         ensures slot { IsSlot self.old self.new number place result.0 result.1 }
-        ensures own { self.new.own ≡ self.old.own }
     {
         let (found, offer) = self.slot_word(table, number, place);
         (found, pair_in(found, offer))
@@ -306,7 +298,7 @@ impl<'a, K: Hash + Eq, V, S: BuildHasher> Window<'a, K, V, S> {
         given: &mut OwnSteps<CapacityCause>,
     ) -> Result<(Pushed<Table<K, V, S>>, Pen), Refused>
         requires size { IsSize len limit }
-        ensures sees { Sees self.old self.new }
+        ensures sees { Observes self.old self.new }
         ensures err { IfErr result (λ e. (e ≡ Refused.Memory)
             ⊎ ((e ≡ Refused.Capacity) × IsFull given.new.done)) }
         ensures ok { IfOk result (λ r. given.new.done ≡ given.old.done) }
@@ -314,7 +306,6 @@ impl<'a, K: Hash + Eq, V, S: BuildHasher> Window<'a, K, V, S> {
         ensures made { IfOk result (λ r. IsMade self.new r.0.value) }
         ensures placed { IfOk result (λ r. IsIn self.old (TableNamed r.0)) }
         ensures pen { IfOk result (λ r. Seals self.old.book.now r.1 r.0.value) }
-        ensures own { self.new.own ≡ self.old.own }
     {
         let Some((table, seal)) = self
             .book
@@ -336,10 +327,9 @@ impl<'a, K: Hash + Eq, V, S: BuildHasher> Window<'a, K, V, S> {
         requires placed { IsIn self.old (TableNamed table.now) }
         requires made { IsMade self.old table.now.value }
         requires pen { Seals self.old.book.now seal.old table.now.value }
-        ensures sees { Sees self.old self.new }
+        ensures sees { Observes self.old self.new }
         ensures tried { Opens self.old self.new table.now result.0 }
         ensures held { IsTable self.new (root_then table.now result.0) result.1.now }
-        ensures own { self.new.own ≡ self.old.own }
     {
         self.sight.learn(&self.book.begun);
         let (found, offer) = self.book.open(table, seal, &mut self.sight);

@@ -15,7 +15,7 @@ use Rattle.papaya_book.specs.declared.window.Window.{Window}
 use Rattle.papaya_book.specs.Calls.{IsTable}
 use Rattle.papaya_book.specs.Parts.{begun_of}
 use Rattle.papaya_book.specs.Sheets.{Sheet}
-use Rattle.papaya_book.specs.Windows.{Sees}
+use Rattle.papaya_book.specs.Windows.{Observes}
 use Rattle.papaya_book.proofs.Loaded.{table_since}
 use Rattle.papaya_change.specs.declared.copier.Copier.{Copier}
 use Rattle.papaya_change.specs.declared.settling.Halt.{Halt}
@@ -52,7 +52,7 @@ module _ {K V S H : Type 0} {d : keyed.Ghosts S K H} (w : Window K V S H d) wher
 
   module _ (w' : Window K V S H d) where
     -- by what is seen later too
-    pub placed_on : Sees w w' → (site : Site K V S H) → IsPlacedAt w site → IsPlacedAt w' site
+    pub placed_on : Observes w w' → (site : Site K V S H) → IsPlacedAt w site → IsPlacedAt w' site
     placed_on sees site placed = record {
       table = table_since w.sight.log w'.sight.log site.chunk.cursor.from site.table.now sees.log placed.table;
       standing = placed.standing;

@@ -7,7 +7,7 @@ ghost use Rattle.papaya_chain.specs.Machine.{IsFit};
 ghost use Rattle.papaya_call_law.specs.Told.{or_last};
 ghost use Rattle.papaya_book.specs.Limits.{IsFull};
 ghost use Rattle.papaya_book.specs.Logs.{pair_named};
-ghost use Rattle.papaya_book.specs.Windows.{HasCome, IsHint, IsIn, IsLawful, IsTable, MayHint, Sees};
+ghost use Rattle.papaya_book.specs.Windows.{HasCome, IsHint, IsIn, IsLawful, IsTable, MayHint, Observes};
 ghost use Rattle.papaya_change.specs.Copier.{tried_answer};
 ghost use Rattle.papaya_book.specs.declared.rule.own.CapacityCause.TheVariants.{Sum};
 ghost use Rattle.papaya_change.specs.Window.Copier.{CanAnswer, CanExchange, CanJoin, CanReach, CanTryFor, Answers, Carries};
@@ -90,8 +90,7 @@ impl<K: Hash + Eq, V, S: BuildHasher> Copier<K, V, S> {
         window: &mut Window<'a, K, V, S>,
     ) -> Answer
         requires can { CanAnswer window.old asked self.old }
-        ensures sees { Sees window.old window.new }
-        ensures own { window.new.own ≡ window.old.own }
+        ensures sees { Observes window.old window.new }
         ensures fit { IsFit result }
         ensures answers { Answers asked window.old self.old window.new self.new result }
     {
@@ -141,8 +140,7 @@ impl<K: Hash + Eq, V, S: BuildHasher> Copier<K, V, S> {
     /// Loads the word of a place, and keeps the pair that it names.
     fn load<'a>(&mut self, at: At, window: &mut Window<'a, K, V, S>) -> u64
         requires reach { CanReach window.old at }
-        ensures sees { Sees window.old window.new }
-        ensures own { window.new.own ≡ window.old.own }
+        ensures sees { Observes window.old window.new }
         ensures as_loaded { Loads at result window.old self.old window.new self.new }
         ensures rest { self.new ≡ record self.old { last = self.new.last } }
     {
@@ -181,8 +179,7 @@ impl<K: Hash + Eq, V, S: BuildHasher> Copier<K, V, S> {
     ) -> u64
         requires table { IsTable window.old number table.now }
         requires place { place < length table.now.slots }
-        ensures sees { Sees window.old window.new }
-        ensures own { window.new.own ≡ window.old.own }
+        ensures sees { Observes window.old window.new }
         ensures as_loaded { Loads (Slot number place) result window.old self.old window.new
             self.new }
         ensures rest { self.new ≡ record self.old { last = self.new.last } }
@@ -195,8 +192,7 @@ impl<K: Hash + Eq, V, S: BuildHasher> Copier<K, V, S> {
     /// Tries to link the new table after another one; returns the number found.
     fn link<'a>(&mut self, number: u64, window: &mut Window<'a, K, V, S>) -> u64
         requires can { (new : ℕ) × CanJoin window.old number new self.old }
-        ensures sees { Sees window.old window.new }
-        ensures own { window.new.own ≡ window.old.own }
+        ensures sees { Observes window.old window.new }
         ensures joins { (new : ℕ) → CanJoin window.old number new self.old → Joins number new
             window.old self.old window.new result }
         ensures rest { self.new ≡ record self.old { fresh = self.new.fresh } }
@@ -217,8 +213,7 @@ impl<K: Hash + Eq, V, S: BuildHasher> Copier<K, V, S> {
         window: &mut Window<'a, K, V, S>,
     ) -> Answer
         requires can { CanExchange window.old at kind words self.old }
-        ensures sees { Sees window.old window.new }
-        ensures own { window.new.own ≡ window.old.own }
+        ensures sees { Observes window.old window.new }
         ensures fit { IsFit result }
         ensures answers { Exchanges at kind words window.old self.old window.new self.new result }
     {
@@ -259,8 +254,7 @@ impl<K: Hash + Eq, V, S: BuildHasher> Copier<K, V, S> {
         requires table { IsTable window.old number table.now }
         requires place { place < length table.now.slots }
         requires can { CanTryFor window.old (Slot number place) kind words self.now }
-        ensures sees { Sees window.old window.new }
-        ensures own { window.new.own ≡ window.old.own }
+        ensures sees { Observes window.old window.new }
         ensures tried { TriesFor (Slot number place) kind words window.old self.now window.new
             result }
     {
@@ -282,8 +276,7 @@ impl<K: Hash + Eq, V, S: BuildHasher> Copier<K, V, S> {
         requires table { IsTable window.old number table.now }
         requires place { place < length table.now.slots }
         requires can { CanTryFor window.old (Slot number place) kind words self.old }
-        ensures sees { Sees window.old window.new }
-        ensures own { window.new.own ≡ window.old.own }
+        ensures sees { Observes window.old window.new }
         ensures tried { HasTried (Slot number place) kind words window.old self.old window.new
             self.new result }
         ensures rest { self.new ≡ record self.old { last = self.new.last } }
@@ -355,8 +348,7 @@ impl<K: Hash + Eq, V, S: BuildHasher> Copier<K, V, S> {
     ) -> Result<u64, Refused>
         requires come { follows ≢ 0 → HasCome window.old follows }
         requires size { IsSize size.0 size.1 }
-        ensures sees { Sees window.old window.new }
-        ensures own { window.new.own ≡ window.old.own }
+        ensures sees { Observes window.old window.new }
         ensures lawful { IsLawful window.new }
         ensures made { IfOk result (λ number. HasMade number follows chunks window.new
             self.new) }
@@ -388,8 +380,7 @@ pub(crate) fn load_hint_at<'a, K: Hash + Eq, V, S: BuildHasher>(
 ) -> u64
     requires table { IsTable window.old number table.now }
     requires place { place < length table.now.slots }
-    ensures sees { Sees window.old window.new }
-    ensures own { window.new.own ≡ window.old.own }
+    ensures sees { Observes window.old window.new }
     ensures hint { IsHint window.old window.new number place result }
 {
     window.hint(table, number, place)
@@ -402,8 +393,7 @@ fn load_hint<'a, K: Hash + Eq, V, S: BuildHasher>(
     window: &mut Window<'a, K, V, S>,
 ) -> u64
     requires reach { CanReach window.old (Slot number place) }
-    ensures sees { Sees window.old window.new }
-    ensures own { window.new.own ≡ window.old.own }
+    ensures sees { Observes window.old window.new }
     ensures hint { IsHint window.old window.new number place result }
 {
     let table = window.table(number);
@@ -422,8 +412,7 @@ pub(crate) fn write_hint_at<'a, K: Hash + Eq, V, S: BuildHasher>(
     requires table { IsTable window.old number table.now }
     requires place { place < length table.now.slots }
     requires hint { MayHint window.old number place hint }
-    ensures sees { Sees window.old window.new }
-    ensures own { window.new.own ≡ window.old.own }
+    ensures sees { Observes window.old window.new }
     ensures lawful { IsLawful window.new }
 {
     window.learn();
@@ -439,8 +428,7 @@ fn write_hint<'a, K: Hash + Eq, V, S: BuildHasher>(
 )
     requires reach { CanReach window.old (Slot number place) }
     requires hint { MayHint window.old number place hint }
-    ensures sees { Sees window.old window.new }
-    ensures own { window.new.own ≡ window.old.own }
+    ensures sees { Observes window.old window.new }
     ensures lawful { IsLawful window.new }
 {
     let table = window.table(number);
@@ -457,8 +445,7 @@ pub(crate) fn size_at<'a, K: Hash + Eq, V, S: BuildHasher>(
     window: &mut Window<'a, K, V, S>,
 ) -> (usize, usize)
     requires table { IsTable window.old number table.now }
-    ensures sees { Sees window.old window.new }
-    ensures own { window.new.own ≡ window.old.own }
+    ensures sees { Observes window.old window.new }
     ensures size { IsSizeOf number window.old window.new result }
     ensures fit { IsSize result.0 result.1 }
 {
@@ -474,8 +461,7 @@ fn size<'a, K: Hash + Eq, V, S: BuildHasher>(
     window: &mut Window<'a, K, V, S>,
 ) -> (usize, usize)
     requires come { HasCome window.old number }
-    ensures sees { Sees window.old window.new }
-    ensures own { window.new.own ≡ window.old.own }
+    ensures sees { Observes window.old window.new }
     ensures size { IsSizeOf number window.old window.new result }
     ensures fit { IsSize result.0 result.1 }
 {
@@ -499,8 +485,7 @@ fn turn<'a, K: Hash + Eq, V, S: BuildHasher, R: Wait>(
 ) -> ((usize, usize), Option<Room<K, V, S>>)
     requires come { follows ≢ 0 → HasCome window.old follows }
     requires size { IsSize size.0 size.1 }
-    ensures sees { Sees window.old window.new }
-    ensures own { window.new.own ≡ window.old.own }
+    ensures sees { Observes window.old window.new }
     ensures size { IsSize result.0.0 result.0.1 }
 {
     if follows == 0 {

@@ -9,7 +9,7 @@ ghost use Rattle.papaya_chain.specs.Machine.{IsStanding, after, kind_of_ask, sta
 ghost use Rattle.papaya_chain.specs.declared.ask.Answer.TheVariants.{Call};
 ghost use Rattle.papaya_chain.specs.declared.machine.Phase.TheVariants.{Calling};
 ghost use Rattle.papaya_call_law.specs.Told.{or_last};
-ghost use Rattle.papaya_book.specs.Windows.{CanTrySlot, Does, IsHint, MayHint, Sees};
+ghost use Rattle.papaya_book.specs.Windows.{CanTrySlot, Does, IsHint, MayHint, Observes, Sees};
 ghost use Rattle.papaya_change.specs.Doing.{was_made};
 ghost use Rattle.papaya_change.specs.Window.Driver.{Holds, Loads};
 ghost use Rattle.papaya_change.specs.Window.LookingOn.{CanLookOn, GoesOver, LooksOn};
@@ -130,8 +130,7 @@ impl<'a, K: Hash + Eq, V, S: BuildHasher> Driver<'a, K, V, S> {
     #[inline(always)]
     pub fn load(&mut self, at: At, window: &mut Window<'a, K, V, S>) -> u64
         requires held { Holds at window.old self.old }
-        ensures sees { Sees window.old window.new }
-        ensures own { window.new.own ≡ window.old.own }
+        ensures sees { Observes window.old window.new }
         ensures as_loaded { Loads at result window.old self.old window.new self.new }
         ensures rest { self.new ≡ record self.old {
           table = self.new.table;
@@ -163,8 +162,7 @@ impl<'a, K: Hash + Eq, V, S: BuildHasher> Driver<'a, K, V, S> {
     #[inline(always)]
     pub fn hint(&self, number: u64, place: usize, window: &mut Window<'a, K, V, S>) -> u64
         requires { Holds (Slot number place) window.old self.now }
-        ensures sees { Sees window.old window.new }
-        ensures own { window.new.own ≡ window.old.own }
+        ensures sees { Observes window.old window.new }
         ensures hint { IsHint window.old window.new number place result }
     {
         let Some(table) = self.table else {
@@ -200,8 +198,7 @@ impl<'a, K: Hash + Eq, V, S: BuildHasher> Driver<'a, K, V, S> {
     /// Tries to take the number of a further pair.
     pub fn take(&self, words: (u64, u64), window: &mut Window<'a, K, V, S>) -> CallAnswer
         requires can { CanTake window.old self.now words }
-        ensures sees { Sees window.old window.new }
-        ensures own { window.new.own ≡ window.old.own }
+        ensures sees { Observes window.old window.new }
         ensures takes { Takes window.old self.now words window.new result }
     {
         let kind = self.machine.kind();

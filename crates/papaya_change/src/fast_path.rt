@@ -13,7 +13,7 @@ ghost use Rattle.papaya_words.specs.Word.{kind_of, pair_of};
 ghost use Rattle.papaya_words.specs.declared.word.Kind.TheVariants.{Live};
 ghost use Rattle.papaya_book.specs.declared.rule.entry.Named.TheVariants.{Pair as PairNamed};
 ghost use Rattle.papaya_book.specs.Pairs.{IsKeyIn};
-ghost use Rattle.papaya_book.specs.Windows.{CanTrySlot, Does, IsIn, IsLawful, IsTable, Sees};
+ghost use Rattle.papaya_book.specs.Windows.{CanTrySlot, Does, IsIn, IsLawful, IsTable, Observes, Sees};
 ghost use Rattle.papaya_book.specs.Windows.{TriesSlot};
 ghost use Rattle.papaya_lookup.specs.Drivers.{own, past};
 ghost use Rattle.papaya_lookup.specs.History.{key_of};
@@ -150,8 +150,7 @@ fn read_at<'a, K: Hash + Eq, V, S: BuildHasher>(
 ) -> Turn<Live<'a, K, V>>
     requires within { IsWithin at }
     requires stands { ReadsAt window.old key.now table.now at }
-    ensures sees { Sees window.old window.new }
-    ensures own { window.new.own ≡ window.old.own }
+    ensures sees { Observes window.old window.new }
     ensures turns { Turns window.old window.new key.now table.now (Searching (Reading at)) result }
     ensures next { (next : _) → result ≡ Next next → IsWithin next }
     ensures stays { (next : _) → result ≡ Next next → next ≡ record at { probe = next.probe } }
@@ -192,8 +191,7 @@ fn look_at<'a, K: Hash + Eq, V, S: BuildHasher>(
     requires within { IsWithin at }
     requires hashed { hash ≡ ⟦<S as Hashed<K>>⟧.hash window.old.book.now.parts.hasher key.now }
     requires stands { LooksAt window.old key.now table.now at }
-    ensures sees { Sees window.old window.new }
-    ensures own { window.new.own ≡ window.old.own }
+    ensures sees { Observes window.old window.new }
     ensures turns { Turns window.old window.new key.now table.now (Searching (Looking at)) result }
     ensures next { (next : _) → result ≡ Next next → IsWithin next }
     ensures stays { (next : _) → result ≡ Next next → next ≡ record at { probe = next.probe } }
@@ -220,8 +218,7 @@ fn seek<'a, K: Hash + Eq, V, S: BuildHasher>(
     requires within { IsWithin at }
     requires hashed { hash ≡ ⟦<S as Hashed<K>>⟧.hash window.old.book.now.parts.hasher key.now }
     requires stands { LooksAt window.old key.now table.now at }
-    ensures sees { Sees window.old window.new }
-    ensures own { window.new.own ≡ window.old.own }
+    ensures sees { Observes window.old window.new }
     ensures turns { Turns window.old window.new key.now table.now (Searching (Looking at)) result }
 {
     let mut place = at;
@@ -244,8 +241,7 @@ pub(crate) fn pass_over<K: Hash + Eq, V, S: BuildHasher>(
     requires within { IsWithin at }
     requires hashed { hash ≡ ⟦<S as Hashed<K>>⟧.hash window.old.book.now.parts.hasher key.now }
     requires stands { LooksAt window.old key.now table.now at }
-    ensures sees { Sees window.old window.new }
-    ensures own { window.new.own ≡ window.old.own }
+    ensures sees { Observes window.old window.new }
     ensures within { IsWithin result }
     ensures stays { result ≡ record at { probe = result.probe } }
     ensures turns { Turns window.old window.new key.now table.now (Searching (Looking at))
@@ -279,8 +275,7 @@ pub fn find_place<'a, K: Hash + Eq, V, S: BuildHasher>(
 ) -> Option<Spot<'a, K, V, S>>
     requires lawful { IsLawful window.old }
     requires hashed { hash ≡ ⟦<S as Hashed<K>>⟧.hash window.old.book.now.parts.hasher key.now }
-    ensures sees { Sees window.old window.new }
-    ensures own { window.new.own ≡ window.old.own }
+    ensures sees { Observes window.old window.new }
     ensures found { (spot : _) → result ≡ Some spot → IsFoundFor window.old window.new key.now
         spot.table.now spot.turn }
 {

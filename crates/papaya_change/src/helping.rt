@@ -7,7 +7,7 @@ ghost use Rattle.papaya_chain.specs.declared.machine.Phase.TheVariants as phases
 ghost use Rattle.papaya_chain.specs.declared.machine.Phase.TheVariants.{Calling};
 ghost use Rattle.papaya_copy.specs.declared.settle.Settle.TheVariants.{Looking};
 ghost use Rattle.papaya_copy.specs.Link.{IsFitCopyAsk};
-ghost use Rattle.papaya_book.specs.Windows.{HasCome, IsLawful, IsTable, Sees};
+ghost use Rattle.papaya_book.specs.Windows.{HasCome, IsLawful, IsTable, Observes};
 ghost use Rattle.papaya_change.specs.Window.Driver.{CanGoOn, Copies, GoesOn, Helps};
 ghost use Rattle.papaya_change.specs.Window.Going.{GoesBy};
 ghost use Rattle.papaya_change.specs.Helping.{IsEntering};
@@ -91,8 +91,7 @@ impl<'a, K: Hash + Eq, V, S: BuildHasher> Driver<'a, K, V, S> {
     fn arrive(&mut self, window: &mut Window<'a, K, V, S>)
         requires lawful { IsLawful window.old }
         requires come { (n : ℕ) → IsEntering self.old.machine n → HasCome window.old n }
-        ensures sees { Sees window.old window.new }
-        ensures own { window.new.own ≡ window.old.own }
+        ensures sees { Observes window.old window.new }
         ensures lawful { IsLawful window.new }
         ensures held { (n : ℕ) → IsEntering self.old.machine n
             → MatchOption self.new.table ⊥ (λ r. IsTable window.new n r.now) }
@@ -123,8 +122,7 @@ impl<'a, K: Hash + Eq, V, S: BuildHasher> Driver<'a, K, V, S> {
         requires can { CanGoOn window.old self.old }
         requires asks { ask_of self.old.machine ≡ Copy ask }
         requires fit { IsFitCopyAsk ask }
-        ensures sees { Sees window.old window.new }
-        ensures own { window.new.own ≡ window.old.own }
+        ensures sees { Observes window.old window.new }
         ensures standing { IsStanding self.new.machine }
         ensures fit { IsFit result }
         ensures goes { GoesBy window.old self.old window.new self.new result }
@@ -147,8 +145,7 @@ impl<'a, K: Hash + Eq, V, S: BuildHasher> Driver<'a, K, V, S> {
         requires standing { IsStanding self.old.machine }
         requires can { CanGoOn window.old self.old }
         requires phase { self.old.machine.phase ≡ phases.Copying (at_slot aim chunk Looking) }
-        ensures sees { Sees window.old window.new }
-        ensures own { window.new.own ≡ window.old.own }
+        ensures sees { Observes window.old window.new }
         ensures standing { IsStanding self.new.machine }
         ensures fit { IsFit result }
         ensures goes { GoesBy window.old self.old window.new self.new result }
@@ -177,8 +174,7 @@ impl<'a, K: Hash + Eq, V, S: BuildHasher> Driver<'a, K, V, S> {
         requires can { CanGoOn window.old self.old }
         requires asks { ask_of self.old.machine ≡ Copy ask }
         requires fit { IsFitCopyAsk ask }
-        ensures sees { Sees window.old window.new }
-        ensures own { window.new.own ≡ window.old.own }
+        ensures sees { Observes window.old window.new }
         ensures fit { IsFit result }
         ensures copies { Copies window.old self.old window.new self.new result }
         ensures rest { self.new ≡ record self.old { copier = self.new.copier } }

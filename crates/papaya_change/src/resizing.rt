@@ -8,7 +8,7 @@ ghost use Rattle.papaya_chain.specs.declared.resizer.State.TheVariants.{Opening,
 ghost use Rattle.papaya_chain.specs.declared.resizer.State.TheVariants as stages;
 ghost use Rattle.papaya_copy.specs.declared.settle.Settle.TheVariants.{Looking};
 ghost use Rattle.papaya_book.specs.Limits.{tables_of};
-ghost use Rattle.papaya_book.specs.Windows.{IsLawful, Sees};
+ghost use Rattle.papaya_book.specs.Windows.{IsLawful, Observes};
 ghost use Rattle.papaya_change.specs.Window.Resizing.{CanResize, GoesOnAfter};
 ghost use Rattle.papaya_change.specs.Resizing.{HasNoRoomFor, HasRoomFor};
 ghost use Rattle.papaya_change.specs.Settling.{at_slot};
@@ -53,8 +53,7 @@ impl<K: Hash + Eq, V, S: BuildHasher> Resizing<K, V, S> {
         requires standing { IsStandingResizer self.old.machine }
         requires can { CanResize window.old self.old }
         requires asks { ask_of self.old.machine ≡ Some ask }
-        ensures sees { Sees window.old window.new }
-        ensures own { window.new.own ≡ window.old.own }
+        ensures sees { Observes window.old window.new }
         ensures fit { IsFit result }
         ensures standing { IsStandingResizer self.new.machine }
         ensures machine { self.new.machine ≡ record self.old.machine {
@@ -86,8 +85,7 @@ impl<K: Hash + Eq, V, S: BuildHasher> Resizing<K, V, S> {
         requires can { CanResize window.old self.old }
         requires asks { ask_of self.old.machine ≡ Some ask }
         requires closed { (n : ℕ) → self.old.machine.state ≡ Opening n → ⊥ }
-        ensures sees { Sees window.old window.new }
-        ensures own { window.new.own ≡ window.old.own }
+        ensures sees { Observes window.old window.new }
         ensures fit { IsFit result }
         ensures machine { self.new.machine ≡ self.old.machine }
         ensures goes_on { GoesOnAfter window.new self.new result }
@@ -112,8 +110,7 @@ impl<K: Hash + Eq, V, S: BuildHasher> Resizing<K, V, S> {
         requires standing { IsStandingResizer self.old.machine }
         requires can { CanResize window.old self.old }
         requires state { self.old.machine.state ≡ stages.Copying from (at_slot aim chunk Looking) }
-        ensures sees { Sees window.old window.new }
-        ensures own { window.new.own ≡ window.old.own }
+        ensures sees { Observes window.old window.new }
         ensures fit { IsFit result }
         ensures standing { IsStandingResizer self.new.machine }
         ensures machine { self.new.machine ≡ record self.old.machine {
@@ -132,8 +129,7 @@ impl<K: Hash + Eq, V, S: BuildHasher> Resizing<K, V, S> {
         requires standing { IsStandingResizer self.old.machine }
         requires can { CanResize window.old self.old }
         requires opens { (n : _) × (self.old.machine.state ≡ Opening n) }
-        ensures sees { Sees window.old window.new }
-        ensures own { window.new.own ≡ window.old.own }
+        ensures sees { Observes window.old window.new }
         ensures fit { IsFit result }
         ensures machine { self.new.machine ≡ self.old.machine }
         ensures goes_on { GoesOnAfter window.new self.new result }
@@ -172,9 +168,8 @@ pub fn resize<'a, R: Wait, K: Hash + Eq, V, S: BuildHasher>(
     resize: Resize,
 ) -> Result<(), Refused>
     requires initial { IsPowerOfTwo initial }
-    ensures sees { Sees window.old window.new }
+    ensures sees { Observes window.old window.new }
     ensures lawful { IsLawful window.new }
-    ensures own { window.new.own ≡ window.old.own }
     ensures done { IfOk result (λ _. HasRoomFor resize (tables_of window.new.sight.log)
         given.new.done) }
     ensures refused { IfErr result (λ refused. IsMemoryOrCapacity refused) }

@@ -2,7 +2,6 @@
 //! has the machine.
 ghost use Rattle.std.specs.Prelude.{◌≡◌, List, None};
 ghost use mathlib.Core.List.{IsPrefix};
-ghost use Rattle.papaya_ask.specs.Search.{IsWithin};
 ghost use Rattle.papaya_chain.specs.Machine.{IsFit};
 ghost use Rattle.papaya_copy.specs.Copying.{IsStandingCopying};
 ghost use Rattle.papaya_copy.specs.Settle.{copied_as, marked_as};
@@ -11,9 +10,10 @@ ghost use Rattle.papaya_copy.specs.declared.carry.Carry.TheVariants as carries;
 ghost use Rattle.papaya_copy.specs.declared.settle.Settle.TheVariants as settles;
 ghost use Rattle.papaya_words.specs.Word.{live_word, pair_of};
 ghost use Rattle.papaya_book.specs.declared.rule.entry.Event.{Event};
-ghost use Rattle.papaya_book.specs.Windows.{IsTable, Sees};
+ghost use Rattle.papaya_book.specs.Windows.{Observes};
 ghost use Rattle.papaya_change.specs.Settling.{at_slot};
-ghost use Rattle.papaya_change.specs.Window.Settling.{CanLead, CanLeadAt, Ends, IsPlacedAt, Leaves, LeavesFrom, LooksOn, WaitsAt, stop_in, stop_seen};
+ghost use Rattle.papaya_change.specs.Window.Settling.{CanLead, CanLeadAt, Ends, IsAt, IsPlacedAt, Leaves, LeavesFrom};
+ghost use Rattle.papaya_change.specs.Window.Settling.{LooksOn, WaitsAt, looking, placing, reading, stop_in, stop_seen};
 
 use crate::copier::{Copier, load_hint_at, size_at, write_hint_at};
 use papaya_ask::ask::{Answer as CallAnswer, At, StepKind};
@@ -54,6 +54,16 @@ pub struct Site<'a, K: Hash + Eq, V, S: BuildHasher> {
     pub mode: ResizeMode,
 }
 
+/// A pair that moves to the next table: the marked word that names it, the hash of its key, and the
+/// place that it is tried at.
+#[derive(Drop)]
+pub struct Moving<'a, K: Hash + Eq, V, S: BuildHasher> {
+    pub to: &'a Table<K, V, S>,
+    pub marked: u64,
+    pub hash: u64,
+    pub place: Place,
+}
+
 /// Returns this word, with its pair marked.
 #[inline(always)]
 fn with_mark(word: u64) -> u64
@@ -90,8 +100,7 @@ impl<K: Hash + Eq, V, S: BuildHasher> Copier<K, V, S> {
     ) -> Option<Halt>
         requires placed { IsPlacedAt window.old site.now }
         requires can { CanLeadAt window.old site.now (settles.Finishing marked) self.old }
-        ensures sees { Sees window.old window.new }
-        ensures own { window.new.own ≡ window.old.own }
+        ensures sees { Observes window.old window.new }
         ensures leaves { Leaves window.old site.now (settles.Finishing marked) self.old window.new
             self.new result }
     {
@@ -114,37 +123,31 @@ impl<K: Hash + Eq, V, S: BuildHasher> Copier<K, V, S> {
     fn fill<'a>(
         &mut self,
         site: &Site<'a, K, V, S>,
-        to: &'a Table<K, V, S>,
-        marked: u64,
-        hash: u64,
-        place: Place,
+        moving: &Moving<'a, K, V, S>,
         window: &mut Window<'a, K, V, S>,
     ) -> Option<Halt>
         requires placed { IsPlacedAt window.old site.now }
-        requires within { IsWithin place }
-        requires table { IsTable window.old place.table to.now }
-        requires can { CanLeadAt window.old site.now
-            (settles.Carrying marked (carries.Placing hash place)) self.old }
-        ensures sees { Sees window.old window.new }
-        ensures own { window.new.own ≡ window.old.own }
-        ensures leaves { Leaves window.old site.now
-            (settles.Carrying marked (carries.Placing hash place)) self.old window.new self.new
+        requires at { IsAt window.old moving.now }
+        requires can { CanLeadAt window.old site.now (placing moving.now) self.old }
+        ensures sees { Observes window.old window.new }
+        ensures leaves { Leaves window.old site.now (placing moving.now) self.old window.new self.new
             result }
     {
         let kind = Some(StepKind::Place);
-        let live = with_life(marked);
+        let (hash, place) = (moving.hash, moving.place);
+        let live = with_life(moving.marked);
         let words = (0, live);
-        let found = self.exchange_slot(to, place.table, place.probe.i, kind, words, window);
+        let found = self.exchange_slot(moving.to, place.table, place.probe.i, kind, words, window);
         if found != 0 {
             return Some(Halt {
-                settle: Settle::Carrying(marked, Carry::Placing { hash, place }),
+                settle: Settle::Carrying(moving.marked, Carry::Placing { hash, place }),
                 answer: Answer::Call(CallAnswer::Found(found)),
             });
         }
         let byte = hint(hash);
-        write_hint_at(to, place.table, place.probe.i, byte, window);
+        write_hint_at(moving.to, place.table, place.probe.i, byte, window);
         match site.mode {
-            ResizeMode::Incremental(_) => self.finish(site, marked, window),
+            ResizeMode::Incremental(_) => self.finish(site, moving.marked, window),
             ResizeMode::Blocking => None,
         }
     }
@@ -154,31 +157,25 @@ impl<K: Hash + Eq, V, S: BuildHasher> Copier<K, V, S> {
     fn put<'a>(
         &mut self,
         site: &Site<'a, K, V, S>,
-        to: &'a Table<K, V, S>,
-        marked: u64,
-        hash: u64,
-        place: Place,
+        moving: &Moving<'a, K, V, S>,
         window: &mut Window<'a, K, V, S>,
     ) -> Option<Halt>
         requires placed { IsPlacedAt window.old site.now }
-        requires within { IsWithin place }
-        requires table { IsTable window.old place.table to.now }
-        requires can { CanLeadAt window.old site.now
-            (settles.Carrying marked (carries.Reading hash place)) self.old }
-        ensures sees { Sees window.old window.new }
-        ensures own { window.new.own ≡ window.old.own }
-        ensures leaves { Leaves window.old site.now
-            (settles.Carrying marked (carries.Reading hash place)) self.old window.new self.new
+        requires at { IsAt window.old moving.now }
+        requires can { CanLeadAt window.old site.now (reading moving.now) self.old }
+        ensures sees { Observes window.old window.new }
+        ensures leaves { Leaves window.old site.now (reading moving.now) self.old window.new self.new
             result }
     {
-        let word = self.load_slot(to, place.table, place.probe.i, window);
+        let (hash, place) = (moving.hash, moving.place);
+        let word = self.load_slot(moving.to, place.table, place.probe.i, window);
         if word != 0 {
             return Some(Halt {
-                settle: Settle::Carrying(marked, Carry::Reading { hash, place }),
+                settle: Settle::Carrying(moving.marked, Carry::Reading { hash, place }),
                 answer: Answer::Call(CallAnswer::Word(word)),
             });
         }
-        self.fill(site, to, marked, hash, place, window)
+        self.fill(site, moving, window)
     }
 
     /// Looks at one place of the next table for the pair that moves.
@@ -186,62 +183,49 @@ impl<K: Hash + Eq, V, S: BuildHasher> Copier<K, V, S> {
     fn look<'a>(
         &mut self,
         site: &Site<'a, K, V, S>,
-        to: &'a Table<K, V, S>,
-        marked: u64,
-        hash: u64,
-        place: Place,
+        moving: &Moving<'a, K, V, S>,
         window: &mut Window<'a, K, V, S>,
     ) -> Look
         requires placed { IsPlacedAt window.old site.now }
-        requires within { IsWithin place }
-        requires table { IsTable window.old place.table to.now }
-        requires can { CanLeadAt window.old site.now
-            (settles.Carrying marked (carries.Looking hash place)) self.old }
-        ensures sees { Sees window.old window.new }
-        ensures own { window.new.own ≡ window.old.own }
-        ensures looks { LooksOn window.old site.now to.now marked hash place self.old window.new self.new
-            result }
+        requires at { IsAt window.old moving.now }
+        requires can { CanLeadAt window.old site.now (looking moving.now) self.old }
+        ensures sees { Observes window.old window.new }
+        ensures looks { LooksOn window.old site.now moving.now self.old window.new self.new result }
     {
-        let found = load_hint_at(to, place.table, place.probe.i, window);
+        let (hash, place) = (moving.hash, moving.place);
+        let found = load_hint_at(moving.to, place.table, place.probe.i, window);
         match place.hinted(hash, found) {
             Probed::On(Search::Looking(next)) => Look::Next(next),
             Probed::On(Search::Reading(_)) => {
-                let left = self.put(site, to, marked, hash, place, window);
+                let left = self.put(site, moving, window);
                 Look::Left(left)
             }
             _ => Look::Left(Some(Halt {
-                settle: Settle::Carrying(marked, Carry::Looking { hash, place }),
+                settle: Settle::Carrying(moving.marked, Carry::Looking { hash, place }),
                 answer: Answer::Call(CallAnswer::Word(found)),
             })),
         }
     }
 
-    /// Searches the next table for an empty place for the pair that moves, from this one on.
+    /// Searches the next table for an empty place for the pair that moves, from its place on.
     #[inline(always)]
     fn seek<'a>(
         &mut self,
         site: &Site<'a, K, V, S>,
-        to: &'a Table<K, V, S>,
-        marked: u64,
-        hash: u64,
-        first: Place,
+        first: Moving<'a, K, V, S>,
         window: &mut Window<'a, K, V, S>,
     ) -> Option<Halt>
         requires placed { IsPlacedAt window.old site.now }
-        requires within { IsWithin first }
-        requires table { IsTable window.old first.table to.now }
-        requires can { CanLeadAt window.old site.now
-            (settles.Carrying marked (carries.Looking hash first)) self.old }
-        ensures sees { Sees window.old window.new }
-        ensures own { window.new.own ≡ window.old.own }
-        ensures leaves { Leaves window.old site.now
-            (settles.Carrying marked (carries.Looking hash first)) self.old window.new self.new
-            result }
+        requires at { IsAt window.old first }
+        requires can { CanLeadAt window.old site.now (looking first) self.old }
+        ensures sees { Observes window.old window.new }
+        ensures leaves { Leaves window.old site.now (looking first.entry) self.old window.new
+            self.new result }
     {
-        let mut place = first;
+        let mut moving = first;
         loop {
-            match self.look(site, to, marked, hash, place, window) {
-                Look::Next(next) => place = next,
+            match self.look(site, &moving, window) {
+                Look::Next(next) => moving.place = next,
                 Look::Left(left) => return left,
             }
         }
@@ -258,8 +242,7 @@ impl<K: Hash + Eq, V, S: BuildHasher> Copier<K, V, S> {
         requires placed { IsPlacedAt window.old site.now }
         requires can { CanLeadAt window.old site.now
             (settles.Carrying marked (carries.Hashing site.now.chunk.cursor.to)) self.old }
-        ensures sees { Sees window.old window.new }
-        ensures own { window.new.own ≡ window.old.own }
+        ensures sees { Observes window.old window.new }
         ensures leaves { Leaves window.old site.now
             (settles.Carrying marked (carries.Hashing site.now.chunk.cursor.to)) self.old window.new
             self.new result }
@@ -267,8 +250,14 @@ impl<K: Hash + Eq, V, S: BuildHasher> Copier<K, V, S> {
         let hash = self.carry(window);
         let to = window.table(site.chunk.cursor.to);
         let (len, limit) = size_at(to, site.chunk.cursor.to, window);
-        let first = Place::first(hash, site.chunk.cursor.to, len, limit);
-        self.seek(site, to, marked, hash, first, window)
+        let place = Place::first(hash, site.chunk.cursor.to, len, limit);
+        let first = Moving {
+            to,
+            marked,
+            hash,
+            place,
+        };
+        self.seek(site, first, window)
     }
 
     /// Marks the pair of the slot, which this word names, and moves it to the next table.
@@ -281,8 +270,7 @@ impl<K: Hash + Eq, V, S: BuildHasher> Copier<K, V, S> {
     ) -> Option<Halt>
         requires placed { IsPlacedAt window.old site.now }
         requires can { CanLeadAt window.old site.now (settles.Marking word) self.old }
-        ensures sees { Sees window.old window.new }
-        ensures own { window.new.own ≡ window.old.own }
+        ensures sees { Observes window.old window.new }
         ensures leaves { Leaves window.old site.now (settles.Marking word) self.old window.new
             self.new result }
     {
@@ -315,8 +303,7 @@ impl<K: Hash + Eq, V, S: BuildHasher> Copier<K, V, S> {
     ) -> Option<Halt>
         requires placed { IsPlacedAt window.old site.now }
         requires can { CanLeadAt window.old site.now settles.Closing self.old }
-        ensures sees { Sees window.old window.new }
-        ensures own { window.new.own ≡ window.old.own }
+        ensures sees { Observes window.old window.new }
         ensures leaves { Leaves window.old site.now settles.Closing self.old window.new self.new
             result }
     {
@@ -355,8 +342,7 @@ impl<K: Hash + Eq, V, S: BuildHasher> Copier<K, V, S> {
     ) -> Option<Halt>
         requires placed { IsPlacedAt window.old site.now }
         requires waits { WaitsAt window.old site.now self.old }
-        ensures sees { Sees window.old window.new }
-        ensures own { window.new.own ≡ window.old.own }
+        ensures sees { Observes window.old window.new }
         ensures leaves { (seen : List (Event _ _ _)) → IsPrefix seen window.old.sight.log
             → LeavesFrom (stop_seen seen site.now self.old) window.new site.now self.new result }
     {
@@ -385,8 +371,7 @@ impl<K: Hash + Eq, V, S: BuildHasher> Copier<K, V, S> {
         requires standing { IsStandingChunk chunk }
         requires can { CanLead window.old mode
             (stop_in window.old (at_slot aim chunk settles.Looking) self.old) }
-        ensures sees { Sees window.old window.new }
-        ensures own { window.new.own ≡ window.old.own }
+        ensures sees { Observes window.old window.new }
         ensures standing { IsStandingCopying result.0 }
         ensures fit { IsFit result.1 }
         ensures ends { Ends window.old mode (at_slot aim chunk settles.Looking) self.old window.new

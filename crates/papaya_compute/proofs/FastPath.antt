@@ -14,8 +14,8 @@ use Rattle.papaya_book.specs.Logs.{Stored, steps_of}
 use Rattle.papaya_book.specs.Own.{last_if}
 use Rattle.papaya_book.specs.declared.rule.own.CapacityCause.{CapacityCause}
 use Rattle.papaya_book.specs.Sheets.{Sheet}
-use Rattle.papaya_book.specs.Windows.{Does, IsLawful, Sees}
-use Rattle.papaya_book.proofs.Windows.{sees_trans}
+use Rattle.papaya_book.specs.Windows.{Does, IsLawful, Observes}
+use Rattle.papaya_book.proofs.Windows.{observed, sees_trans}
 use Rattle.papaya_lookup.specs.Drivers.{own, past}
 use Rattle.papaya_lookup.specs.History.{Change, Makes, changes_by, key_of}
 use Rattle.papaya_change.specs.Changes.{IsChangeOf}
@@ -27,7 +27,7 @@ use Rattle.papaya_change.specs.declared.fast_path.Turn.{Turn}
 use Rattle.papaya_change.proofs.Doing.{idles}
 use Rattle.papaya_change.proofs.Logged.{makes_since}
 use Rattle.papaya_lookup.specs.declared.lookup.Met.{Met}
-use Rattle.papaya_compute.specs.FastPath.{ComesTo, DoesAtOnce, HasLooked, IfOn, IfOver, IsAtOnce, IsLed, IsOnItsWay}
+use Rattle.papaya_compute.specs.FastPath.{ComesTo, DoesAtOnce, IfOn, IfOver, IsAtOnce, IsLed, IsOnItsWay}
 use Rattle.papaya_compute.specs.ComputeAnswers.{IsOperated, changes}
 use Rattle.papaya_compute.specs.declared.fast_path.Start.{Start}
 use Rattle.papaya_compute.specs.Computing.{IsReplied}
@@ -109,10 +109,10 @@ module _ {K V T : Type 0} (eq : K → K → Bool) (key : K) (old new : List (Cha
 
 -- a call of which nothing was asked yet
 module _ {K V S H A C : Type 0} {d : keyed.Ghosts S K H} (changed : Result A Cause → Bool) (w : Window K V S H d) where
-  pub comes_asked_nothing : (is_right : Result A Cause → Type 0) (may_start : C → Type 0) (w' : Window K V S H d) (x : C) → HasLooked w w' → may_start x
+  pub comes_asked_nothing : (is_right : Result A Cause → Type 0) (may_start : C → Type 0) (w' : Window K V S H d) (x : C) → Observes w w' → may_start x
       → ComesTo changed is_right may_start w w' (On x)
   comes_asked_nothing is_right may_start w' x looked h = record {
-    sees = looked.sees;
+    sees = observed looked;
     lawful = tt;
     made = tt;
     refused = λ cause e. absurd (cc e);
@@ -123,10 +123,10 @@ module _ {K V S H A C : Type 0} {d : keyed.Ghosts S K H} (changed : Result A Cau
 
   -- and one that has looked before
   pub comes_since : (is_right is_right' : Result A Cause → Type 0) (may_start may_start' : C → Type 0) (mid w' : Window K V S H d)
-      (x : First C (Result A Cause)) → HasLooked w mid → ((a : Result A Cause) → is_right a → is_right' a) → ((y : C) → may_start y → may_start' y)
+      (x : First C (Result A Cause)) → Observes w mid → ((a : Result A Cause) → is_right a → is_right' a) → ((y : C) → may_start y → may_start' y)
       → ComesTo changed is_right may_start mid w' x → ComesTo changed is_right' may_start' w w' x
   comes_since is_right is_right' may_start may_start' mid w' x looked f h c = record {
-    sees = sees_trans w mid w' looked.sees c.sees;
+    sees = sees_trans w mid w' (observed looked) c.sees;
     lawful = c.lawful;
     made = subst (λ o. IfOver x (λ a. Makes (changed a) (changes_by o.done) (own w') (past w'))) looked.own c.made;
     refused = c.refused;
@@ -136,8 +136,8 @@ module _ {K V S H A C : Type 0} {d : keyed.Ghosts S K H} (changed : Result A Cau
   }
 
 -- a call that has learned what there is, and then looked for its key
-module _ {K V S H A C : Type 0} {d : keyed.Ghosts S K H} (changed : Result A Cause → Bool) (before first w : Window K V S H d) (learned : Sees before first)
-    (same : first.own ≡ before.own) (is_right : Result A Cause → Type 0) (may_start : C → Type 0) (x : First C (Result A Cause))
+module _ {K V S H A C : Type 0} {d : keyed.Ghosts S K H} (changed : Result A Cause → Bool) (before first w : Window K V S H d) (learned : Observes before first)
+    (is_right : Result A Cause → Type 0) (may_start : C → Type 0) (x : First C (Result A Cause))
     (c : ComesTo changed is_right may_start first w x) where
   -- it is over
   module _ (answer : Result A Cause) (is : x ≡ Over answer) where
@@ -146,9 +146,9 @@ module _ {K V S H A C : Type 0} {d : keyed.Ghosts S K H} (changed : Result A Cau
 
     pub over_ends : Ends (changed answer) before w
     over_ends = record {
-      sees = sees_trans _ _ _ learned c.sees;
+      sees = sees_trans _ _ _ (observed learned) c.sees;
       lawful = subst (λ (z : First C (Result A Cause)). IfOver z (λ a. IsLawful w)) is c.lawful;
-      made = makes_since (changed answer) before first w (idles before first same)
+      made = makes_since (changed answer) before first w (idles before first learned.own)
           (subst (λ (z : First C (Result A Cause)). IfOver z (λ a. Makes (changed a) (own first) (own w) (past w))) is c.made);
     }
 
@@ -165,13 +165,13 @@ module _ {K V S H A C : Type 0} {d : keyed.Ghosts S K H} (changed : Result A Cau
 
     pub on_ends : (b : Bool) (w' : Window K V S H d) → Ends b w w' → Ends b before w'
     on_ends b w' e = record {
-      sees = sees_trans _ _ _ (sees_trans _ _ _ learned c.sees) e.sees;
+      sees = sees_trans _ _ _ (sees_trans _ _ _ (observed learned) c.sees) e.sees;
       lawful = e.lawful;
-      made = makes_since b before w w' (does_since before first w same (subst (λ (z : First C (Result A Cause)). IfOn z (λ s. Does false first w)) is c.idle)) e.made;
+      made = makes_since b before w w' (does_since before first w learned.own (subst (λ (z : First C (Result A Cause)). IfOn z (λ s. Does false first w)) is c.idle)) e.made;
     }
 
 -- A call that was shown once what the search found, and has answered: it is right where that follows of what it replies.
-module _ {K V S T H O : Type 0} {d : keyed.Ghosts S K H} (w mid then : Window K V S H d) (looked : HasLooked w mid) (key : K) (hash : ℕ) (table : Sheet)
+module _ {K V S T H O : Type 0} {d : keyed.Ghosts S K H} (w mid then : Window K V S H d) (looked : Observes w mid) (key : K) (hash : ℕ) (table : Sheet)
     (turn : Turn (Met K V)) (led : IsLed mid key hash w.sight.log table turn) (says : O → Option (Stored K V) → Operation V T → O → Type 0)
     (first left : O) (done : Operation V T) (said : says first (met_by turn) done left) where
   pub comes_once : (is_right : Result (Computed K V T) Cause → Type 0)

@@ -21,8 +21,8 @@ use Rattle.papaya_book.specs.declared.window.Window.{Window}
 use Rattle.papaya_book.specs.Limits.{HasNoRoom, tables_of}
 use Rattle.papaya_book.specs.Logs.{Stored}
 use Rattle.papaya_book.specs.Parts.{begun_of}
-use Rattle.papaya_book.specs.Windows.{Does, Sees}
-use Rattle.papaya_book.proofs.Windows.{sees_trans}
+use Rattle.papaya_book.specs.Windows.{Does, Observes, Sees}
+use Rattle.papaya_book.proofs.Windows.{observed, sees_trans}
 use Rattle.papaya_lookup.specs.Drivers.{past}
 use Rattle.papaya_lookup.proofs.Histories.{history_since}
 use Rattle.papaya_change.specs.Doing.{Answers, has_changed}
@@ -38,7 +38,7 @@ use Rattle.papaya_compute.specs.ComputeAnswers.{changes}
 use Rattle.papaya_compute.specs.Computes.{CanCompute, CanTake, HasReplied, HasTurned, Hears, IsTold}
 use Rattle.papaya_compute.specs.Computing as computing
 use Rattle.papaya_compute.specs.Computing.{IsReplied}
-use Rattle.papaya_compute.specs.FastPath.{HasLooked, IsOnItsWay, StartsAt}
+use Rattle.papaya_compute.specs.FastPath.{IsOnItsWay, StartsAt}
 use Rattle.papaya_compute.proofs.ComputeReplies.{replied_since}
 
 -- no step is made where the closure or the rule is shown what there is
@@ -80,13 +80,13 @@ module _ {K V S T H O : Type 0} {d : keyed.Ghosts S K H} (says : O → Option (S
       × HasSaid says first heard op)
 
   module _ (way : (since : Window K V S H d) × (key : K) × (first : O) × IsOnItsWay since start_window key says first asked start) where
-    pub begins : (w : Window K V S H d) (x : Computing K V S T H) → HasLooked start_window w → StartsAt initial start_window start w x → IsRunning w x asked
+    pub begins : (w : Window K V S H d) (x : Computing K V S T H) → Observes start_window w → StartsAt initial start_window start w x → IsRunning w x asked
     begins w x looked starts = let ahead = starts.ahead in (
       (λ since key first h. (h.0, starts.goes key since.sight.log h.0 h.1, h.2)),
       ahead.standing,
       ahead.calling,
       ahead.initial_is,
-      looked.sees,
+      observed looked,
       subst (λ (changed : Bool). Does changed start_window w) (sym ahead.unchanged) (idles start_window w looked.own),
       (let on = starts.goes way.1 way.0.sight.log way.3.0 way.3.1 in (way.1, on.0, way.3.0, on.2)),
     )

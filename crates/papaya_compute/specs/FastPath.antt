@@ -59,11 +59,6 @@ abbrev pub IsAtOnce : Refused → Type 0
 IsAtOnce cause = (cause ≡ Memory) ⊎ (cause ≡ RemoveNothing)
 
 module _ {K V S H : Type 0} {d : keyed.Ghosts S K H} where
-  -- it has seen more of the same book, and done nothing
-  pub record HasLooked (w w' : Window K V S H d) : Type 0 where
-    pub sees : Sees w w'
-    pub own : w'.own ≡ w.own
-
   -- How a first look ends. Where the call is over, it has made one change, if its answer tells of
   -- one, and that answer is right. Else it has made none, and its machine may start so.
   pub record ComesTo {A C : Type 0} (changed : Result A Refused → Bool)

@@ -1,7 +1,7 @@
 //! Computes: their machine, whose asks are performed by steps on the book and by a closure.
 ghost use Rattle.papaya_compute.specs.FastPath.{IsAhead};
 ghost use Rattle.papaya_book.specs.declared.rule.entry.Named.TheVariants.{Pair as PairNamed};
-ghost use Rattle.papaya_book.specs.Windows.{Does, IsIn as IsInWindow, IsLawful, Sees};
+ghost use Rattle.papaya_book.specs.Windows.{Does, IsIn as IsInWindow, IsLawful, Observes, Sees};
 ghost use Rattle.papaya_book.specs.Books.{IsIn};
 ghost use Rattle.papaya_book.specs.Logs.{pair_named};
 ghost use Rattle.papaya_compute.specs.Computes.{CanCompute, CanTake, Computes, HasReplied, HasTurned, Hears, IsAnyCompute, IsBegun, IsTold, Replies};
@@ -437,8 +437,7 @@ impl<'a, K: Hash + Eq + Drop, V: Drop, S: BuildHasher, T: Drop> Computing<'a, K,
         requires standing { IsStanding self.old.writer.call.machine }
         requires asks { (ask_of self.old.writer.call.machine ≡ Call ask) × IsWriters ask }
         requires fit { IsFitAsk ask }
-        ensures sees { Sees window.old window.new }
-        ensures own { window.new.own ≡ window.old.own }
+        ensures sees { Observes window.old window.new }
         ensures machine { self.new.writer.call.machine ≡ self.old.writer.call.machine }
         ensures computes { Computes window.old self.old window.new self.new (Some result) }
     {

@@ -7,10 +7,10 @@ ghost use Rattle.papaya_call.specs.declared.answers.Operation.{Operation};
 ghost use Rattle.papaya_book.specs.Books.{IsLoggedAs};
 ghost use Rattle.papaya_book.specs.Logs.{Stored};
 ghost use Rattle.papaya_book.specs.PairParts.{IsKeyPartIn, key_in};
-ghost use Rattle.papaya_book.specs.Windows.{IsLawful};
+ghost use Rattle.papaya_book.specs.Windows.{IsLawful, Observes};
 ghost use Rattle.papaya_change.specs.Showings.{AreOf};
 ghost use Rattle.papaya_change.specs.declared.fast_path.Turn.TheVariants.{Empty, Met as MetPair};
-ghost use Rattle.papaya_compute.specs.FastPath.{DoesAtOnce, HasHeard, HasLooked, IsLed, StartsAt};
+ghost use Rattle.papaya_compute.specs.FastPath.{DoesAtOnce, HasHeard, IsLed, StartsAt};
 
 use crate::computing::Computing;
 use papaya_ask::search::Place;
@@ -74,7 +74,7 @@ pub fn look<'a, K: Hash + Eq, V, S: BuildHasher>(
 ) -> Option<Spot<'a, K, V, S>>
     requires lawful { IsLawful window.old }
     requires hashed { hash ≡ ⟦<S as Hashed<K>>⟧.hash window.old.book.now.parts.hasher key.now }
-    ensures looked { HasLooked window.old window.new }
+    ensures looked { Observes window.old window.new }
     ensures led { (spot : _) → result ≡ Some spot → IsLed window.new key.now hash
         window.old.sight.log spot.table.now spot.turn }
 {
@@ -93,7 +93,7 @@ pub fn machine_of<'a, K: Hash + Eq + Drop, V: Drop, S: BuildHasher, T: Drop>(
     requires initial { IsPowerOfTwo initial }
     requires can { (key : K) × (begun : _) × (heard : List (Option (Stored K V) × Operation V T))
         × HasHeard window.old key begun start heard }
-    ensures looked { HasLooked window.old window.new }
+    ensures looked { Observes window.old window.new }
     ensures starts { StartsAt initial window.old start window.new result }
 {
     match start {

@@ -6,7 +6,7 @@ ghost use Rattle.papaya_ask.specs.Search.{IsWithin};
 ghost use Rattle.papaya_call.specs.declared.machine.State.TheVariants.{Searching};
 ghost use Rattle.papaya_ask.specs.declared.search.Search.TheVariants.{Looking, Reading};
 ghost use Rattle.papaya_book.specs.Books.{IsLawfulLog};
-ghost use Rattle.papaya_book.specs.Windows.{IsLawful, Sees};
+ghost use Rattle.papaya_book.specs.Windows.{IsLawful, Observes};
 ghost use Rattle.papaya_lookup.specs.Answers.{IsAnsweredBetween, IsHitAnsweredBetween};
 ghost use Rattle.papaya_lookup.specs.Answers.{IsPairAnsweredBetween};
 ghost use Rattle.papaya_lookup.specs.History.{history_of};
@@ -91,8 +91,7 @@ fn read_at<'a, K: Hash + Eq, V, S: BuildHasher, Q: Equivalent<K>>(
     requires within { IsWithin at }
     requires reads { (hash : _) × Reads (⟦<S as Asked<K, Q>>⟧.query key.now) window.old hash
         (Searching (Reading at)) table.now }
-    ensures sees { Sees window.old window.new }
-    ensures own { window.new.own ≡ window.old.own }
+    ensures sees { Observes window.old window.new }
     ensures leads { (hash : _) → Leads (⟦<S as Asked<K, Q>>⟧.query key.now) window.old window.new
         hash (Searching (Reading at)) table.now result }
     ensures fewer { left_after window.old result < left_of (Searching (Reading at)) }
@@ -136,8 +135,7 @@ fn look_at<'a, K: Hash + Eq, V, S: BuildHasher, Q: Equivalent<K>>(
     requires within { IsWithin at }
     requires reads { Reads (⟦<S as Asked<K, Q>>⟧.query key.now) window.old hash
         (Searching (Looking at)) table.now }
-    ensures sees { Sees window.old window.new }
-    ensures own { window.new.own ≡ window.old.own }
+    ensures sees { Observes window.old window.new }
     ensures leads { Leads (⟦<S as Asked<K, Q>>⟧.query key.now) window.old window.new hash
         (Searching (Looking at)) table.now result }
     ensures fewer { left_after window.old result < left_of (Searching (Looking at)) }
@@ -162,8 +160,7 @@ fn search<'a, K: Hash + Eq, V, S: BuildHasher, Q: Equivalent<K>>(
     requires within { IsWithin at }
     requires reads { Reads (⟦<S as Asked<K, Q>>⟧.query key.now) window.old hash
         (Searching (Looking at)) table.now }
-    ensures sees { Sees window.old window.new }
-    ensures own { window.new.own ≡ window.old.own }
+    ensures sees { Observes window.old window.new }
     ensures leads { Leads (⟦<S as Asked<K, Q>>⟧.query key.now) window.old window.new hash
         (Searching (Looking at)) table.now result }
     ensures over { (at : _) → result ≡ Next at → ⊥ }
@@ -189,8 +186,7 @@ pub fn find<'a, K: Hash + Eq, V, S: BuildHasher, Q: Equivalent<K>>(
     window: &mut Window<'a, K, V, S>,
     key: &Q,
 ) -> Found<'a, K, V, S>
-    ensures sees { Sees window.old window.new }
-    ensures own { window.new.own ≡ window.old.own }
+    ensures sees { Observes window.old window.new }
     ensures lawful { IsLawful window.new }
     ensures answered { IsHitAnsweredBetween K.eq (Q.matches key.now) (past window.old)
         (past window.new) result.hit }
@@ -240,8 +236,7 @@ pub fn look_up_pair<'a, K: Hash + Eq, V, S: BuildHasher, Q: Equivalent<K>>(
     window: &mut Window<'a, K, V, S>,
     key: &Q,
 ) -> Option<(&'a K, &'a V)>
-    ensures sees { Sees window.old window.new }
-    ensures own { window.new.own ≡ window.old.own }
+    ensures sees { Observes window.old window.new }
     ensures lawful { IsLawful window.new }
     ensures answered { IsPairAnsweredBetween K.eq (Q.matches key.now) (past window.old)
         (past window.new) result }
@@ -286,8 +281,7 @@ pub fn look_up<'a, K: Hash + Eq, V, S: BuildHasher, Q: Equivalent<K>>(
     window: &mut Window<'a, K, V, S>,
     key: &Q,
 ) -> Option<&'a V>
-    ensures sees { Sees window.old window.new }
-    ensures own { window.new.own ≡ window.old.own }
+    ensures sees { Observes window.old window.new }
     ensures lawful { IsLawful window.new }
     ensures answered { IsAnsweredBetween K.eq (Q.matches key.now) (past window.old)
         (past window.new) result }

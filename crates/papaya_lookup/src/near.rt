@@ -7,7 +7,7 @@ ghost use Rattle.papaya_ask.specs.Search.{IsWithin};
 ghost use Rattle.papaya_call.specs.declared.machine.State.TheVariants.{Searching};
 ghost use Rattle.papaya_ask.specs.declared.search.Search.TheVariants.{Looking, Reading};
 ghost use Rattle.papaya_book.specs.Sheets.{word_named};
-ghost use Rattle.papaya_book.specs.Windows.{IsHint, IsLawful, IsSlotWord, Sees};
+ghost use Rattle.papaya_book.specs.Windows.{IsHint, IsLawful, IsSlotWord, Observes};
 ghost use Rattle.papaya_lookup.specs.Answers.{IsAnsweredBetween};
 ghost use Rattle.papaya_lookup.specs.Drivers.{IsNear, IsReadingAt, IsSlotAt, Reads, past};
 ghost use Rattle.papaya_lookup.specs.declared.near.Near.TheVariants.{On};
@@ -43,9 +43,8 @@ fn hint_of<K: Hash + Eq, V, S: BuildHasher>(
     place: usize,
 ) -> u64
     requires slot { IsSlotAt window.old number place slot.now }
-    ensures sees { Sees window.old window.new }
+    ensures sees { Observes window.old window.new }
     ensures hint { IsHint window.old window.new number place result }
-    ensures own { window.new.own ≡ window.old.own }
 {
     window.sight.learn(&window.book.begun);
     let hint = slot.hint().load(&mut window.sight);
@@ -62,9 +61,8 @@ pub fn word_of<K: Hash + Eq, V, S: BuildHasher>(
     place: usize,
 ) -> (u64, Offer<K, V, S>)
     requires slot { IsSlotAt window.old number place slot.now }
-    ensures sees { Sees window.old window.new }
+    ensures sees { Observes window.old window.new }
     ensures slot { IsSlotWord window.old window.new number place result.0 result.1.state }
-    ensures own { window.new.own ≡ window.old.own }
 {
     window.sight.learn(&window.book.begun);
     let sought = Sought {
@@ -105,8 +103,7 @@ fn read_slot<'a, K: Hash + Eq, V, S: BuildHasher, Q: Equivalent<K>>(
 ) -> Near<Met<K, V>, (&'a K, &'a V)>
     requires within { IsWithin at }
     requires slot { IsSlotAt window.old at.table at.probe.i slot.now }
-    ensures sees { Sees window.old window.new }
-    ensures own { window.new.own ≡ window.old.own }
+    ensures sees { Observes window.old window.new }
     ensures near { (began : _) (hash : _) (table : _)
         → IsReadingAt (⟦<S as Asked<K, Q>>⟧.query key.now) began window.old hash
         (Searching (Reading at)) table
@@ -148,8 +145,7 @@ fn look_at_slot<'a, K: Hash + Eq, V, S: BuildHasher, Q: Equivalent<K>>(
 ) -> Near<Met<K, V>, (&'a K, &'a V)>
     requires within { IsWithin at }
     requires slot { IsSlotAt window.old at.table at.probe.i slot.now }
-    ensures sees { Sees window.old window.new }
-    ensures own { window.new.own ≡ window.old.own }
+    ensures sees { Observes window.old window.new }
     ensures near { (began : _) (table : _)
         → IsReadingAt (⟦<S as Asked<K, Q>>⟧.query key.now) began window.old hash
         (Searching (Looking at)) table
@@ -175,8 +171,7 @@ fn search_slots<'a, K: Hash + Eq, V, S: BuildHasher, Q: Equivalent<K>>(
     requires limit { at.limit ≡ table.now.limit }
     requires reads { Reads (⟦<S as Asked<K, Q>>⟧.query key.now) window.old hash
         (Searching (Looking at)) table.now }
-    ensures sees { Sees window.old window.new }
-    ensures own { window.new.own ≡ window.old.own }
+    ensures sees { Observes window.old window.new }
     ensures ends { result ≡ On → ⊥ }
     ensures near { (began : _) → IsReadingAt (⟦<S as Asked<K, Q>>⟧.query key.now) began window.old
         hash (Searching (Looking at)) table.now
@@ -204,8 +199,7 @@ pub(crate) fn search_near<'a, K: Hash + Eq, V, S: BuildHasher, Q: Equivalent<K>>
     window: &mut Window<'a, K, V, S>,
     key: &Q,
 ) -> Option<Option<&'a V>>
-    ensures sees { Sees window.old window.new }
-    ensures own { window.new.own ≡ window.old.own }
+    ensures sees { Observes window.old window.new }
     ensures lawful { IsLawful window.new }
     ensures answered { MatchOption result (Unit {0}) (IsAnsweredBetween K.eq (Q.matches key.now)
         (past window.old) (past window.new)) }

@@ -2,7 +2,7 @@
 ghost use Rattle.std.specs.Prelude.{◌≡◌, Err, IfErr, IfOk, MatchOption};
 ghost use Rattle.std.specs.Int.{IsPowerOfTwo};
 ghost use Rattle.papaya_book.specs.Limits.{HasNoRoom, tables_of};
-ghost use Rattle.papaya_book.specs.Windows.{IsLawful, IsTable, Sees};
+ghost use Rattle.papaya_book.specs.Windows.{IsLawful, IsTable, Observes};
 ghost use Rattle.papaya_change.specs.Writing.{IsMemoryOrCapacity};
 ghost use Rattle.papaya_scan.specs.TableScans.{IsTaken, root_of};
 
@@ -29,9 +29,8 @@ pub fn take_root<'a, R: Wait, K: Hash + Eq, V, S: BuildHasher>(
     given: &mut OwnSteps<CapacityCause>,
 ) -> Result<Option<(u64, &'a Table<K, V, S>)>, Refused>
     requires initial { IsPowerOfTwo initial }
-    ensures sees { Sees window.old window.new }
+    ensures sees { Observes window.old window.new }
     ensures lawful { IsLawful window.new }
-    ensures own { window.new.own ≡ window.old.own }
     ensures table { IfOk result (λ found. MatchOption found Unit (λ root. IsTable window.new root.0
         root.1.now)) }
     ensures taken { IfOk result (λ found. MatchOption found Unit (λ root. IsTaken

@@ -2,7 +2,7 @@
 ghost use Rattle.std.specs.Prelude.{◌≡◌, ◌<◌, ◌==◌, true, false, Some, length};
 ghost use Rattle.papaya_words.specs.Word.{kind_of};
 ghost use Rattle.papaya_words.specs.declared.word.Kind.TheVariants.{Live};
-ghost use Rattle.papaya_book.specs.Windows.{Does, IsLawful, IsSlot, IsTable, Sees};
+ghost use Rattle.papaya_book.specs.Windows.{Does, IsLawful, IsSlot, IsTable, Observes, Sees};
 ghost use Rattle.papaya_scan.specs.TableScans.{IsBuried, IsMet, IsTaken};
 
 use papaya_book::count::Shard;
@@ -22,9 +22,8 @@ pub fn load<'a, K: Hash + Eq, V, S: BuildHasher>(
 ) -> (u64, Option<Stored<K, V>>)
     requires table { IsTable window.old number table.now }
     requires place { place < length table.now.slots }
-    ensures sees { Sees window.old window.new }
+    ensures sees { Observes window.old window.new }
     ensures lawful { IsLawful window.new }
-    ensures own { window.new.own ≡ window.old.own }
     ensures slot { IsSlot window.old window.new number place result.0 result.1 }
     ensures met { (began : _) → IsTaken began window.old number
         → IsMet began window.new result.0 result.1 }

@@ -1,10 +1,9 @@
 -- Slots that are copied one after another, by what is seen of the map.
-use Rattle.std.specs.Prelude.{ℕ, ◌<◌, Option, List}
+use Rattle.std.specs.Prelude.{◌<◌, Option, List}
 use mathlib.Core.List.{IsPrefix}
 use Rattle.papaya_words.specs.declared.probe.ResizeMode.{ResizeMode}
-use Rattle.papaya_ask.specs.declared.search.Place.{Place}
 use Rattle.papaya_ask.specs.Search.{IsWithin}
-use Rattle.papaya_copy.specs.declared.carry.Carry.TheVariants.{Looking as Looking_at}
+use Rattle.papaya_copy.specs.declared.carry.Carry.TheVariants.{Looking as Looking_at, Placing, Reading}
 use Rattle.papaya_copy.specs.declared.copying.Copying.{Copying}
 use Rattle.papaya_copy.specs.declared.settle.Settle.{Settle}
 use Rattle.papaya_copy.specs.declared.settle.Settle.TheVariants.{Carrying, Looking}
@@ -14,12 +13,12 @@ use Rattle.papaya_book.specs.declared.keyed.Keyed as keyed
 use Rattle.papaya_book.specs.declared.rule.entry.Event.{Event}
 use Rattle.papaya_book.specs.declared.window.Window.{Window}
 use Rattle.papaya_book.specs.Parts.{begun_of}
-use Rattle.papaya_book.specs.Sheets.{Sheet}
 use Rattle.papaya_book.specs.Windows.{IsTable}
 use Rattle.papaya_change.specs.declared.copier.Copier.{Copier}
 use Rattle.papaya_change.specs.declared.settling.Halt.{Halt}
 use Rattle.papaya_change.specs.declared.settling.Look.{Look}
 use Rattle.papaya_change.specs.declared.settling.Look.TheVariants.{Left, Next}
+use Rattle.papaya_change.specs.declared.settling.Moving.{Moving}
 use Rattle.papaya_change.specs.declared.settling.Site.{Site}
 use Rattle.papaya_change.specs.Seeking.{left_at}
 use Rattle.papaya_change.specs.Settling.{Stop, at_slot}
@@ -34,9 +33,15 @@ stop_seen seen site h = record {
   loaded = h;
 }
 
--- the carry of the slot's pair looks at this place of a table
-abbrev pub looking : (marked hash : ℕ) → Place → Settle
-looking marked hash at = Carrying marked (Looking_at hash at)
+-- the carry of the slot's pair looks at its place: the hint, then the word, then it is put there
+abbrev pub looking : {K V S H : Type 0} → Moving K V S H → Settle
+looking m = Carrying m.marked (Looking_at m.hash m.place)
+
+abbrev pub reading : {K V S H : Type 0} → Moving K V S H → Settle
+reading m = Carrying m.marked (Reading m.hash m.place)
+
+abbrev pub placing : {K V S H : Type 0} → Moving K V S H → Settle
+placing m = Carrying m.marked (Placing m.hash m.place)
 
 module _ {K V S H : Type 0} {d : keyed.Ghosts S K H} where
   abbrev pub CanLead : Window K V S H d → ResizeMode → Stop K V S H → Type 0
@@ -55,6 +60,11 @@ module _ {K V S H : Type 0} {d : keyed.Ghosts S K H} where
   pub record IsPlacedAt (w : Window K V S H d) (site : Site K V S H) : Type 0 where
     pub table : IsTable w site.chunk.cursor.from site.table.now
     pub standing : IsStandingChunk site.chunk
+
+  -- the place that the pair is tried at is one of the table at hand
+  pub record IsAt (w : Window K V S H d) (m : Moving K V S H) : Type 0 where
+    pub within : IsWithin m.place
+    pub table : IsTable w m.place.table m.to.now
 
   abbrev pub CanLeadAt : Window K V S H d → Site K V S H → Settle → Copier K V S H → Type 0
   CanLeadAt w site settle h = CanLead w site.mode (stop_at w site settle h)
@@ -80,13 +90,12 @@ module _ {K V S H : Type 0} {d : keyed.Ghosts S K H} where
       w.book.now.begun.book mode s t
 
   -- a look at this place leads to a later one, or the slot is settled, or its copy was left
-  abbrev pub LooksOn : Window K V S H d → Site K V S H → Sheet → (marked hash : ℕ) → Place
-      → Copier K V S H → Window K V S H d → Copier K V S H → Look → Type 0
-  LooksOn w site to marked hash at h w' h' (Next next) = IsWithin next × IsTable w' next.table to
-      × Leads w' site.mode (stop_at w site (looking marked hash at) h)
-      (stop_at w' site (looking marked hash next) h') × (left_at next < left_at at)
-  LooksOn w site to marked hash at h w' h' (Left halt) = Leaves w site (looking marked hash at) h w'
-      h' halt
+  abbrev pub LooksOn : Window K V S H d → Site K V S H → Moving K V S H → Copier K V S H
+      → Window K V S H d → Copier K V S H → Look → Type 0
+  LooksOn w site m h w' h' (Next next) = IsAt w' (record m { place = next })
+      × Leads w' site.mode (stop_at w site (looking m) h)
+      (stop_at w' site (looking (record m { place = next })) h') × (left_at next < left_at m.place)
+  LooksOn w site m h w' h' (Left halt) = Leaves w site (looking m) h w' h' halt
 
   -- answers led to this copy, and the last one is still to be told
   abbrev pub Ends : Window K V S H d → ResizeMode → Copying → Copier K V S H → Window K V S H d

@@ -13,7 +13,7 @@ use Rattle.papaya_change.proofs.Doing.{makes}
 use Rattle.papaya_change.proofs.RemovingHits.{ended, hit_can, hit_changed, hit_held, hit_was, hit_went, one_shown, stays}
 use Rattle.papaya_change.proofs.RemovingReplies.{removal_since}
 use Rattle.papaya_change.proofs.Showings.{held_wider}
-use Rattle.papaya_book.proofs.Windows.{sees_trans}
+use Rattle.papaya_book.proofs.Windows.{observed, sees_trans}
 use Rattle.papaya_change.proofs.fast_removal.remove_fast.Goals as goal
 
 pub returns-then-not-agrees-clause-removed : goal.returns-then-not-agrees-clause-removed
@@ -140,7 +140,7 @@ returns-in_default-clause-removed g c =
 
 pub returns-clause-ends : goal.returns-clause-ends
 returns-clause-ends g c = record {
-  sees = sees_trans _ _ _ c.find-hit.ensures.sees c.bury_met.ensures.sees;
+  sees = sees_trans _ _ _ (observed c.find-hit.ensures.sees) c.bury_met.ensures.sees;
   lawful = search rules;
   made =
       let lawful : IsQuery g.K.PartialEq.eq g.K.Hash.hash_input (g.Q.Equivalent.matches c.args.key.now)
@@ -160,7 +160,7 @@ returns-clause-ends g c = record {
       let went : put.result ≡ true = search rules in
       let is : (t.found == met.word) ≡ true = sym t.went_is ∙ went in
       let does = subst (λ (z : Bool). Does z c.find-hit.new.window put.new.window) went put.ensures.does in
-      rw (sym c.find-hit.ensures.own) (makes g.K.PartialEq.eq None h.0 t.before None
+      rw (sym c.find-hit.ensures.sees.own) (makes g.K.PartialEq.eq None h.0 t.before None
       (ended g.K.PartialEq.eq g.K.Hash.hash_input g.S.BuildHasher.build_hasher g.S.Hasher.Hasher.write g.S.Hasher.Hasher.finish g.met.K.Eq.laws
       g.met.K.Hash.respects_eq b w.begun.book (g.Q.Equivalent.matches c.args.key.now) (g.Q.Hash.hash_input c.args.key.now) lawful (Judges g.F.FnMut)
       c.args.agrees.now h.0 log h.2.0 w.chunked c.fits.ensures hit.table met h.2.3 live c.agrees.new.self judged put.new.window.sight.log

@@ -24,7 +24,7 @@ use Rattle.papaya_change.specs.Doing.{has_changed}
 use Rattle.papaya_change.specs.Showings.{Judges}
 use Rattle.papaya_change.proofs.Doing.{does_on, does_still, idles, makes, replied}
 use Rattle.papaya_lookup.proofs.Histories.{history_since}
-use Rattle.papaya_book.proofs.Windows.{sees_trans}
+use Rattle.papaya_book.proofs.Windows.{observed, sees_trans}
 use Rattle.papaya_change.proofs.RemovingReplies.{answered, begins, can_tell, removal_since, told_refused, told_went}
 use Rattle.papaya_change.proofs.removal.remove_slow.Goals as goal
 
@@ -46,10 +46,10 @@ loop-init g c =
       c.new.ensures.standing,
       ap (λ (m : Machine). m.phase) machine,
       ap (λ (m : Machine). m.call.initial) machine,
-      c.learn.ensures.sees,
+      observed c.learn.ensures.sees,
       c.requires.callable,
       subst (λ (m : Machine). Does (has_changed m) c.args.window.now c.learn.new.self) (sym machine)
-          (idles c.args.window.now c.learn.new.self c.learn.ensures.own),
+          (idles c.args.window.now c.learn.new.self c.learn.ensures.sees.own),
     )
 
 pub answer-requires-in-Some-answer-clause-fit : goal.answer-requires-in-Some-answer-clause-fit

@@ -1,14 +1,13 @@
 use Rattle.std.proofs.Common.{◌≡◌}
 use Rattle.papaya_chain.specs.Resizer.{IsStandingResizer}
-use Rattle.papaya_book.specs.Windows.{Sees}
+use Rattle.papaya_book.specs.Windows.{Observes}
 use Rattle.papaya_change.specs.Window.Resizing.{CanResize}
 use Rattle.papaya_change.proofs.resizing.resize.Given as goal
 
 -- it relies on what is seen by now
 abbrev pub invariant-loop : goal.invariant-loop
 invariant-loop g l = record {
-  sees : Sees l.fn.window l.window;
-  own : l.window.own ≡ l.fn.window.own;
+  sees : Observes l.fn.window l.window;
   standing : IsStandingResizer l.resizing.machine;
   can : CanResize l.window l.resizing;
   resize : l.resizing.machine.resize ≡ l.fn.resize;

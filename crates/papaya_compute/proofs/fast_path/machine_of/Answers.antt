@@ -30,7 +30,7 @@ returns-in-Filled-clause-starts g c = record {
 }
 
 pub returns-in-Filled-clause-looked : goal.returns-in-Filled-clause-looked
-returns-in-Filled-clause-looked g c = record { sees = record { book = refl; log = ([], append-nil c.args.window.now.sight.log) }; own = refl }
+returns-in-Filled-clause-looked g c = record { book = refl; log = ([], append-nil c.args.window.now.sight.log); own = refl }
 
 pub returns-in-Replaced-clause-starts : goal.returns-in-Replaced-clause-starts
 returns-in-Replaced-clause-starts g c = record {
@@ -49,7 +49,7 @@ returns-in-Replaced-clause-starts g c = record {
 }
 
 pub returns-in-Replaced-clause-looked : goal.returns-in-Replaced-clause-looked
-returns-in-Replaced-clause-looked g c = record { sees = record { book = refl; log = ([], append-nil c.args.window.now.sight.log) }; own = refl }
+returns-in-Replaced-clause-looked g c = record { book = refl; log = ([], append-nil c.args.window.now.sight.log); own = refl }
 
 pub returns-in-Removing-clause-starts : goal.returns-in-Removing-clause-starts
 returns-in-Removing-clause-starts g c = record {
@@ -68,10 +68,10 @@ returns-in-Removing-clause-starts g c = record {
 }
 
 pub returns-in-Removing-clause-looked : goal.returns-in-Removing-clause-looked
-returns-in-Removing-clause-looked g c = record { sees = record { book = refl; log = ([], append-nil c.args.window.now.sight.log) }; own = refl }
+returns-in-Removing-clause-looked g c = record { book = refl; log = ([], append-nil c.args.window.now.sight.log); own = refl }
 
 pub returns-in-Anew-clause-looked : goal.returns-in-Anew-clause-looked
-returns-in-Anew-clause-looked g c = record { sees = c.learn.ensures.sees; own = c.learn.ensures.own }
+returns-in-Anew-clause-looked g c = c.learn.ensures.sees
 
 pub returns-in-Anew-clause-starts : goal.returns-in-Anew-clause-starts
 returns-in-Anew-clause-starts g c = record {

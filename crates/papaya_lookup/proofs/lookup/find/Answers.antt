@@ -54,7 +54,7 @@ loop-held-init g c =
         log = prefix_trans c.args.window.now.sight.log c.learn.new.self.sight.log
             root.new.self.sight.log c.learn.ensures.sees.log root.ensures.sees.log;
       },
-      root.ensures.own ∙ c.learn.ensures.own,
+      root.ensures.sees.own ∙ c.learn.ensures.sees.own,
     )
 
 pub search-requires-clause-reads : goal.search-requires-clause-reads
@@ -133,7 +133,7 @@ loop-held-preserved g c =
             (prefix_trans c.args.window.now.sight.log c.loop-held.window.sight.log c.search.new.window.sight.log sees.log c.search.ensures.sees.log)
             there.sees.log;
       },
-      there.own ∙ (c.search.ensures.own ∙ c.loop-held.invariant.5),
+      there.sees.own ∙ (c.search.ensures.sees.own ∙ c.loop-held.invariant.5),
     )
 
 pub returns-in-Blocking-clause-answered : goal.returns-in-Blocking-clause-answered

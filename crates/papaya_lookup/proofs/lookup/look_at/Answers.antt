@@ -6,7 +6,7 @@ use Rattle.papaya_ask.specs.Search.{IsProbed, hinted}
 use Rattle.papaya_call.specs.declared.machine.State.TheVariants.{Searching}
 use Rattle.papaya_book.specs.Logs.{exchanges_of}
 use Rattle.papaya_book.specs.Parts.{begun_of}
-use Rattle.papaya_book.proofs.Windows.{sees_trans}
+use Rattle.papaya_book.proofs.Windows.{observes_trans}
 use Rattle.papaya_lookup.specs.Lookups.{led_to, left_of}
 use Rattle.papaya_lookup.proofs.Readings.{IsQuery}
 use Rattle.papaya_lookup.proofs.Turning.{hint_passed, hint_there, word_next}
@@ -48,9 +48,7 @@ returns g c =
     let reads : hinted c.args.at c.args.hash h.result ≡ On (Reading c.in-On-Reading.field-0-0) = search rules in
     let less = subst (λ (z : _). left_of (led_to z.now.parts.mode 0 r.result) < left_of (Searching (Reading c.args.at))) h.ensures.sees.book r.ensures.fewer in
     record {
-      sees = sees_trans _ _ _ h.ensures.sees r.ensures.sees;
-      own = r.ensures.own
-          ∙ h.ensures.own;
+      sees = observes_trans _ _ _ h.ensures.sees r.ensures.sees;
       leads = λ began reading. r.ensures.leads c.args.hash began
           (rw h.ensures.sees.book
           (word_next g.K.PartialEq.eq g.K.Hash.hash_input g.S.BuildHasher.build_hasher g.S.Hasher.Hasher.write g.S.Hasher.Hasher.finish g.met.K.Eq.laws

@@ -64,7 +64,6 @@ returns-in-On-Comparing g c =
     let r = c.requires.reads in
     record {
       sees = s.ensures.sees;
-      own = s.ensures.own;
       leads = λ hash began reading. rw (s.ensures.sees.book, c.without.ensures, c.at_yes-compared.ensures.value) (other_pair g.K.PartialEq.eq g.K.Hash.hash_input g.S.BuildHasher.build_hasher g.S.Hasher.Hasher.write g.S.Hasher.Hasher.finish
           g.met.K.Eq.laws g.met.K.Hash.respects_eq (begun_of w.parts) (g.Q.Equivalent.matches c.args.key.now) (g.Q.Hash.hash_input c.args.key.now) lawful
           (exchanges_of began) hash w.begun.book c.args.window.now.sight.log c.args.at c.requires.within c.args.table.now reading

@@ -1,7 +1,7 @@
 use Rattle.std.proofs.Common.{◌<◌, refl, sym, ◌∙◌, subst, arith}
 use Rattle.papaya_call.specs.declared.machine.State.TheVariants.{Searching}
 use Rattle.papaya_ask.specs.declared.search.Search.TheVariants.{Looking}
-use Rattle.papaya_book.proofs.Windows.{sees_trans}
+use Rattle.papaya_book.proofs.Windows.{observed, observes_trans, sees_trans}
 use Rattle.papaya_lookup.specs.Lookups.{led_to, left_of}
 use Rattle.papaya_lookup.proofs.lookup.search.Goals as goal
 
@@ -21,8 +21,8 @@ loop-next-preserved g c =
     let most = inv.1 in (
       λ began reading. let t = inv.0 began reading in rw (sym c.in-Next.is) (looked.leads began (t.lent, t.lent_is, t.pair, t.reading)),
       omega (arith, less, most),
-      sees_trans _ _ _ inv.2 looked.sees,
-      looked.own ∙ inv.3,
+      sees_trans _ _ _ inv.2 (observed looked.sees),
+      looked.sees.own ∙ inv.3,
     )
 
 pub returns-in_default : goal.returns-in_default
@@ -32,8 +32,7 @@ returns-in_default g c =
     looked.fewer in
     let most = inv.1 in
     record {
-      sees = sees_trans _ _ _ inv.2 looked.sees;
-      own = looked.own ∙ inv.3;
+      sees = observes_trans _ _ _ (record { book = inv.2.book; log = inv.2.log; own = inv.3 }) looked.sees;
       leads = λ began reading. let t = inv.0 began reading in looked.leads began (t.lent, t.lent_is, t.pair, t.reading);
       over = c.in_default.not-Next;
       fewer = omega (arith, less, most);

@@ -5,7 +5,6 @@ use Rattle.papaya_ask.specs.Search.{next_place}
 use Rattle.papaya_book.specs.Logs.{exchanges_of}
 use Rattle.papaya_book.specs.Parts.{begun_of}
 use Rattle.papaya_book.proofs.Logs.{prefix_trans}
-use Rattle.papaya_book.proofs.Windows.{sees_trans}
 use Rattle.papaya_lookup.proofs.Nearing.{went_on}
 use Rattle.papaya_lookup.proofs.Readings.{IsQuery}
 use Rattle.papaya_lookup.proofs.Slots.{named_at, named_len}
@@ -67,15 +66,18 @@ loop-turned-preserved g c =
           went_on _ at _ c.look_at_slot.result c.in-On.is more is (looked.near began c.args.table.now (u.lent, u.lent_is, u.pair, u.reading)),
       c.loop-turned.invariant.1,
       record { book = looked.sees.book ∙ seen.book; log = prefix_trans _ _ _ seen.log looked.sees.log },
-      looked.own ∙ c.loop-turned.invariant.3,
+      looked.sees.own ∙ c.loop-turned.invariant.3,
     )
 
 pub returns-in_default : goal.returns-in_default
 returns-in_default g c =
     let looked = c.look_at_slot.ensures in let inv = c.loop-turned.invariant in
     record {
-      sees = sees_trans _ _ _ inv.2 looked.sees;
-      own = looked.own ∙ inv.3;
+      sees = record {
+        book = looked.sees.book ∙ inv.2.book;
+        log = prefix_trans _ _ _ inv.2.log looked.sees.log;
+        own = looked.sees.own ∙ inv.3;
+      };
       ends = c.in_default.not-On;
       near = λ began reading. let t = inv.0 began reading in
           (c.loop-turned.place, looked.near began c.args.table.now (t.lent, t.lent_is, t.pair, t.reading));

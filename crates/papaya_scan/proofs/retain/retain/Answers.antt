@@ -7,7 +7,7 @@ use Rattle.papaya_book.specs.Parts.{begun_of}
 use Rattle.papaya_book.specs.Rule.{IsLawfulLog}
 use Rattle.papaya_book.specs.Windows.{IsTable}
 use Rattle.papaya_book.proofs.Logs.{prefix_trans}
-use Rattle.papaya_book.proofs.Windows.{sees_trans}
+use Rattle.papaya_book.proofs.Windows.{observed, sees_trans}
 use Rattle.papaya_lookup.specs.Drivers.{own}
 use Rattle.papaya_change.specs.Showings.{Judges}
 use Rattle.papaya_scan.specs.TableScans.{Scans}
@@ -25,16 +25,16 @@ loop-init g c = record {
 
 pub returns-in_err-number-clause-kept : goal.returns-in_err-number-clause-kept
 returns-in_err-number-clause-kept g c =
-    let before = shown_on c.args.window.now.sight.log (Judges g.F.FnMut) c.loop.window c.take_root.new.window c.take_root.ensures.sees
-    (ap (λ o. o.done) c.take_root.ensures.own) (own c.args.window.now) c.args.stays c.loop.stays c.loop.invariant.shown.0 c.loop.invariant.shown.1 in
+    let before = shown_on c.args.window.now.sight.log (Judges g.F.FnMut) c.loop.window c.take_root.new.window (observed c.take_root.ensures.sees)
+    (ap (λ o. o.done) c.take_root.ensures.sees.own) (own c.args.window.now) c.args.stays c.loop.stays c.loop.invariant.shown.0 c.loop.invariant.shown.1 in
     record { left = c.loop.stays; said = c.loop.invariant.shown.0; shown = before; leaves = search rules }
 
 pub returns-in_default-clause-kept : goal.returns-in_default-clause-kept
 returns-in_default-clause-kept g c =
     let log = c.take_root.new.window.sight.log in
     let zero : (state_of log).root ≡ 0 = search rules in
-    let before = shown_on c.args.window.now.sight.log (Judges g.F.FnMut) c.loop.window c.take_root.new.window c.take_root.ensures.sees
-    (ap (λ o. o.done) c.take_root.ensures.own) (own c.args.window.now) c.args.stays c.loop.stays c.loop.invariant.shown.0 c.loop.invariant.shown.1 in
+    let before = shown_on c.args.window.now.sight.log (Judges g.F.FnMut) c.loop.window c.take_root.new.window (observed c.take_root.ensures.sees)
+    (ap (λ o. o.done) c.take_root.ensures.sees.own) (own c.args.window.now) c.args.stays c.loop.stays c.loop.invariant.shown.0 c.loop.invariant.shown.1 in
     record {
       left = c.loop.stays;
       said = c.loop.invariant.shown.0;
@@ -63,10 +63,10 @@ returns-then-not-scan_table-clause-kept g c =
     let taken : IsTaken b c.loop.window.sight.log w.sight.log t = search rules in
     let over : c.scan_table.result ≡ false = search rules in
     let table : IsTable w t c.in-Some-2.table.now = search rules in
-    let sees = sees_trans w met c.learn.new.self c.scan_table.ensures.sees c.learn.ensures.sees in
+    let sees = sees_trans w met c.learn.new.self c.scan_table.ensures.sees (observed c.learn.ensures.sees) in
     let since = prefix_trans old c.loop.window.sight.log taken.at c.loop.invariant.sees.log taken.since in
-    let before = shown_on c.args.window.now.sight.log (Judges g.F.FnMut) c.loop.window c.take_root.new.window c.take_root.ensures.sees
-    (ap (λ o. o.done) c.take_root.ensures.own) (own c.args.window.now) c.args.stays c.loop.stays c.loop.invariant.shown.0 c.loop.invariant.shown.1 in
+    let before = shown_on c.args.window.now.sight.log (Judges g.F.FnMut) c.loop.window c.take_root.new.window (observed c.take_root.ensures.sees)
+    (ap (λ o. o.done) c.take_root.ensures.sees.own) (own c.args.window.now) c.args.stays c.loop.stays c.loop.invariant.shown.0 c.loop.invariant.shown.1 in
     let scans : Scans c.args.window.now.sight.log (Judges g.F.FnMut) c.take_root.new.window c.loop.stays c.scan_table.new.window
     c.scan_table.new.stays c.in-Some-2.number 0 (length c.in-Some-2.table.now.slots) (c.scan_table.result ≡ false) = c.scan_table.ensures.scans
     c.args.window.now.sight.log (taken_earlier (begun_of c.take_root.new.window.book.now.parts) c.args.window.now.sight.log c.loop.window.sight.log
@@ -86,7 +86,7 @@ returns-then-not-scan_table-clause-kept g c =
     record {
       left = c.scan_table.new.stays;
       said = one.0;
-      shown = shown_on c.args.window.now.sight.log (Judges g.F.FnMut) met c.learn.new.self c.learn.ensures.sees (ap (λ o. o.done) c.learn.ensures.own)
+      shown = shown_on c.args.window.now.sight.log (Judges g.F.FnMut) met c.learn.new.self (observed c.learn.ensures.sees) (ap (λ o. o.done) c.learn.ensures.sees.own)
           (own c.args.window.now) c.args.stays c.scan_table.new.stays one.0 one.1;
       leaves = scanned_all g.K.PartialEq.eq g.K.Hash.hash_input g.S.BuildHasher.build_hasher g.S.Hasher.Hasher.write g.S.Hasher.Hasher.finish
           g.met.K.Eq.laws g.met.K.Hash.respects_eq b old log lawful t then' c.in-Some-2.table.now
@@ -98,8 +98,8 @@ pub returns-in_err-resize-clause-kept : goal.returns-in_err-resize-clause-kept
 returns-in_err-resize-clause-kept g c =
     let taken : IsTaken (begun_of c.take_root.new.window.book.now.parts) c.loop.window.sight.log c.take_root.new.window.sight.log c.in-Some-2.number =
     search rules in
-    let before = shown_on c.args.window.now.sight.log (Judges g.F.FnMut) c.loop.window c.take_root.new.window c.take_root.ensures.sees
-    (ap (λ o. o.done) c.take_root.ensures.own) (own c.args.window.now) c.args.stays c.loop.stays c.loop.invariant.shown.0 c.loop.invariant.shown.1 in
+    let before = shown_on c.args.window.now.sight.log (Judges g.F.FnMut) c.loop.window c.take_root.new.window (observed c.take_root.ensures.sees)
+    (ap (λ o. o.done) c.take_root.ensures.sees.own) (own c.args.window.now) c.args.stays c.loop.stays c.loop.invariant.shown.0 c.loop.invariant.shown.1 in
     let scans : Scans c.args.window.now.sight.log (Judges g.F.FnMut) c.take_root.new.window c.loop.stays c.scan_table.new.window
     c.scan_table.new.stays c.in-Some-2.number 0 (length c.in-Some-2.table.now.slots) (c.scan_table.result ≡ false) = c.scan_table.ensures.scans
     c.args.window.now.sight.log (taken_earlier (begun_of c.take_root.new.window.book.now.parts) c.args.window.now.sight.log c.loop.window.sight.log
@@ -108,8 +108,8 @@ returns-in_err-resize-clause-kept g c =
     record {
       left = c.scan_table.new.stays;
       said = one.0;
-      shown = shown_on c.args.window.now.sight.log (Judges g.F.FnMut) c.scan_table.new.window c.resize.new.window c.resize.ensures.sees
-          (ap (λ o. o.done) c.resize.ensures.own) (own c.args.window.now) c.args.stays c.scan_table.new.stays one.0 one.1;
+      shown = shown_on c.args.window.now.sight.log (Judges g.F.FnMut) c.scan_table.new.window c.resize.new.window (observed c.resize.ensures.sees)
+          (ap (λ o. o.done) c.resize.ensures.sees.own) (own c.args.window.now) c.args.stays c.scan_table.new.stays one.0 one.1;
       leaves = search rules;
     }
 
@@ -117,20 +117,20 @@ pub loop-preserved : goal.loop-preserved
 loop-preserved g c =
     let taken : IsTaken (begun_of c.take_root.new.window.book.now.parts) c.loop.window.sight.log c.take_root.new.window.sight.log c.in-Some-2.number =
     search rules in
-    let before = shown_on c.args.window.now.sight.log (Judges g.F.FnMut) c.loop.window c.take_root.new.window c.take_root.ensures.sees
-    (ap (λ o. o.done) c.take_root.ensures.own) (own c.args.window.now) c.args.stays c.loop.stays c.loop.invariant.shown.0 c.loop.invariant.shown.1 in
+    let before = shown_on c.args.window.now.sight.log (Judges g.F.FnMut) c.loop.window c.take_root.new.window (observed c.take_root.ensures.sees)
+    (ap (λ o. o.done) c.take_root.ensures.sees.own) (own c.args.window.now) c.args.stays c.loop.stays c.loop.invariant.shown.0 c.loop.invariant.shown.1 in
     let scans : Scans c.args.window.now.sight.log (Judges g.F.FnMut) c.take_root.new.window c.loop.stays c.scan_table.new.window
     c.scan_table.new.stays c.in-Some-2.number 0 (length c.in-Some-2.table.now.slots) (c.scan_table.result ≡ false) = c.scan_table.ensures.scans
     c.args.window.now.sight.log (taken_earlier (begun_of c.take_root.new.window.book.now.parts) c.args.window.now.sight.log c.loop.window.sight.log
     c.take_root.new.window.sight.log c.in-Some-2.number c.loop.invariant.sees.log taken) in
     let one = scans c.args.stays (own c.args.window.now) c.loop.invariant.shown.0 before in
     let met = sees_trans c.args.window.now c.take_root.new.window c.scan_table.new.window
-    (sees_trans c.args.window.now c.loop.window c.take_root.new.window c.loop.invariant.sees c.take_root.ensures.sees) c.scan_table.ensures.sees in record {
-      sees = sees_trans c.args.window.now c.scan_table.new.window c.resize.new.window met c.resize.ensures.sees;
+    (sees_trans c.args.window.now c.loop.window c.take_root.new.window c.loop.invariant.sees (observed c.take_root.ensures.sees)) c.scan_table.ensures.sees in record {
+      sees = sees_trans c.args.window.now c.scan_table.new.window c.resize.new.window met (observed c.resize.ensures.sees);
       callable = c.scan_table.ensures.callable;
       shown = (
         one.0,
-        shown_on c.args.window.now.sight.log (Judges g.F.FnMut) c.scan_table.new.window c.resize.new.window c.resize.ensures.sees
-            (ap (λ o. o.done) c.resize.ensures.own) (own c.args.window.now) c.args.stays c.scan_table.new.stays one.0 one.1,
+        shown_on c.args.window.now.sight.log (Judges g.F.FnMut) c.scan_table.new.window c.resize.new.window (observed c.resize.ensures.sees)
+            (ap (λ o. o.done) c.resize.ensures.sees.own) (own c.args.window.now) c.args.stays c.scan_table.new.stays one.0 one.1,
       );
     }

@@ -9,7 +9,7 @@ use Rattle.papaya_book.specs.Logs.{Stored, steps_of}
 use Rattle.papaya_book.specs.Own.{last_if}
 use Rattle.papaya_book.specs.Parts.{begun_of}
 use Rattle.papaya_book.specs.Rule.{IsLawfulLog}
-use Rattle.papaya_book.proofs.Windows.{sees_trans}
+use Rattle.papaya_book.proofs.Windows.{observed, sees_trans}
 use Rattle.papaya_lookup.specs.Drivers.{own}
 use Rattle.papaya_lookup.specs.History.{history_of}
 use Rattle.papaya_change.specs.Showings.{Judges}
@@ -20,14 +20,14 @@ use Rattle.papaya_scan.proofs.retain.scan_slot.Goals as goal
 
 pub loop-init : goal.loop-init
 loop-init g c = record {
-  sees = c.load-word.ensures.sees;
+  sees = observed c.load-word.ensures.sees;
   callable = c.requires.callable;
   stands = c.load-word.ensures.slot;
   met = c.load-word.ensures.met;
   scans = λ began taken. scans_on began (Judges g.F.FnMut) c.args.number c.args.window.now c.args.window.now c.load-word.new.window c.args.stays.now
       c.args.stays.now c.args.place c.args.place (Unit {0})
-      (scans_none began (Judges g.F.FnMut) c.args.number c.args.window.now c.args.stays.now c.args.place) c.load-word.ensures.sees
-      (ap (λ o. o.done) c.load-word.ensures.own);
+      (scans_none began (Judges g.F.FnMut) c.args.number c.args.window.now c.args.stays.now c.args.place) (observed c.load-word.ensures.sees)
+      (ap (λ o. o.done) c.load-word.ensures.sees.own);
 }
 
 pub returns-in-Marked-clause-scans : goal.returns-in-Marked-clause-scans

@@ -6,7 +6,7 @@ use Rattle.papaya_copy.specs.declared.settle.Settle.TheVariants.{Looking}
 use Rattle.papaya_copy.specs.declared.step.Step.TheVariants.{Advancing}
 use Rattle.papaya_book.specs.Hashes.{hash_of}
 use Rattle.papaya_book.specs.Parts.{begun_of}
-use Rattle.papaya_book.proofs.Windows.{sees_trans}
+use Rattle.papaya_book.proofs.Windows.{observes_trans}
 use Rattle.papaya_change.specs.Window.Settling.{CanLead, LeavesFrom, stop_in, stop_seen}
 use Rattle.papaya_change.specs.Settling.{Ends, Leads, Stop, at_slot, past_slot}
 use Rattle.papaya_change.proofs.SettlingTurns.{can_later, ends_here, ends_then, leads_none, leads_then, past_last, past_next}
@@ -27,7 +27,6 @@ loop-halt-init g c =
     let w = c.args.window.now in let w' = c.table-table.new.self in let same = c.table-table.ensures.sees.book in
     let s : Stop _ _ _ _ = stop_in w (at_slot c.args.aim c.args.chunk Looking) c.args.self.now in record {
       sees = c.table-table.ensures.sees;
-      own = c.table-table.ensures.own;
       mode = refl;
       placed = record { table = c.table-table.ensures.table; standing = c.requires.standing };
       seen = w.sight.log;
@@ -165,8 +164,7 @@ loop-halt-preserved g c =
     let may = can_later eq hash b name site.mode t past can it in
     let more : site.chunk.at + 1 < site.chunk.end = omega arith in
     let next = past_next site.aim site.chunk more in record {
-      sees = sees_trans _ _ _ l.invariant.sees one.ensures.sees;
-      own = one.ensures.own ∙ l.invariant.own;
+      sees = observes_trans _ _ _ l.invariant.sees one.ensures.sees;
       mode = l.invariant.mode;
       placed = record {
         table = (placed_on w w' one.ensures.sees site l.invariant.placed).table;

@@ -2,7 +2,7 @@ use Rattle.std.proofs.Common.{◌≡◌, ◌-◌, List}
 use mathlib.Core.List.{IsPrefix}
 use Rattle.papaya_copy.specs.declared.settle.Settle.TheVariants.{Looking}
 use Rattle.papaya_book.specs.declared.rule.entry.Event.{Event}
-use Rattle.papaya_book.specs.Windows.{Sees}
+use Rattle.papaya_book.specs.Windows.{Observes}
 use Rattle.papaya_change.specs.Window.Settling.{CanLead, IsPlacedAt, Leads, stop_in, stop_seen}
 use Rattle.papaya_change.specs.Settling.{at_slot}
 use Rattle.papaya_change.proofs.copier.Copier.copy_slots.Given as goal
@@ -10,8 +10,7 @@ use Rattle.papaya_change.proofs.copier.Copier.copy_slots.Given as goal
 -- answers so far led on from the first slot to this one, as was seen by now
 abbrev pub invariant-loop-halt : goal.invariant-loop-halt
 invariant-loop-halt g l = record {
-  sees : Sees l.fn.window l.window;
-  own : l.window.own ≡ l.fn.window.own;
+  sees : Observes l.fn.window l.window;
   mode : l.site.mode ≡ l.fn.mode;
   placed : IsPlacedAt l.window l.site;
   seen : List (Event _ _ _);

@@ -1,7 +1,7 @@
 use Rattle.std.proofs.Common.{[], append-nil, refl, ◌∙◌, subst}
 use Rattle.papaya_book.specs.Hashes.{hash_of}
 use Rattle.papaya_book.specs.Parts.{begun_of}
-use Rattle.papaya_book.proofs.Windows.{sees_trans}
+use Rattle.papaya_book.proofs.Windows.{observes_trans}
 use Rattle.papaya_change.specs.Window.Settling.{LooksOn, looking, stop_at}
 use Rattle.papaya_change.specs.Settling.{Stop}
 use Rattle.papaya_change.proofs.SettlingTurns.{can_later, leads_none, leads_then, leaves_led}
@@ -10,15 +10,13 @@ use Rattle.papaya_change.proofs.copier.Copier.seek.Goals as goal
 
 pub loop-next-init : goal.loop-next-init
 loop-next-init g c = record {
-  sees = record { book = refl; log = ([], append-nil c.args.window.now.sight.log) };
-  own = refl;
+  sees = record { book = refl; log = ([], append-nil c.args.window.now.sight.log); own = refl };
   placed = c.requires.placed;
-  within = c.requires.within;
-  table = c.requires.table;
+  at = c.requires.at;
   can = c.requires.can;
   leads = leads_none g.K.PartialEq.eq (hash_of g.K.Hash.hash_input g.S.BuildHasher.build_hasher g.S.Hasher.Hasher.write g.S.Hasher.Hasher.finish)
       (begun_of c.args.window.now.book.now.parts) c.args.window.now.book.now.begun.book c.args.site.now.mode
-      (stop_at c.args.window.now c.args.site.now (looking c.args.marked c.args.hash c.args.first) c.args.self.now);
+      (stop_at c.args.window.now c.args.site.now (looking c.args.first) c.args.self.now);
 }
 
 pub loop-next-preserved : goal.loop-next-preserved
@@ -26,19 +24,17 @@ loop-next-preserved g c =
     let l = c.loop-next in let w₀ = c.args.window.now in let w = l.window in let site = c.args.site.now in let look = c.look in let w' = look.new.window in
     let eq = g.K.PartialEq.eq in let hash = hash_of g.K.Hash.hash_input g.S.BuildHasher.build_hasher g.S.Hasher.Hasher.write g.S.Hasher.Hasher.finish
     in let b = begun_of w'.book.now.parts in let name = w'.book.now.begun.book in
-    let s : Stop _ _ _ _ = stop_at w₀ site (looking c.args.marked c.args.hash c.args.first) c.args.self.now in
-    let t : Stop _ _ _ _ = stop_at w site (looking c.args.marked c.args.hash l.place) l.self in
+    let s : Stop _ _ _ _ = stop_at w₀ site (looking c.args.first) c.args.self.now in
+    let t : Stop _ _ _ _ = stop_at w site (looking l.moving) l.self in
     let led = leads_still w w' look.ensures.sees.book site.mode s t l.invariant.leads in
-    let on = subst (λ (z : _). LooksOn w site c.args.to.now c.args.marked c.args.hash l.place l.self w' look.new.self z) c.in-Next.is look.ensures.looks in
-    let u : Stop _ _ _ _ = stop_at w' site (looking c.args.marked c.args.hash c.in-Next.next) look.new.self in
+    let on = subst (λ (z : _). LooksOn w site l.moving l.self w' look.new.self z) c.in-Next.is look.ensures.looks in
+    let u : Stop _ _ _ _ = stop_at w' site (looking (record l.moving { place = c.in-Next.next })) look.new.self in
     record {
-      sees = sees_trans _ _ _ l.invariant.sees look.ensures.sees;
-      own = look.ensures.own ∙ l.invariant.own;
+      sees = observes_trans _ _ _ l.invariant.sees look.ensures.sees;
       placed = placed_on w w' look.ensures.sees site l.invariant.placed;
-      within = on.0;
-      table = on.1;
-      can = can_later eq hash b name site.mode t u (can_still w w' look.ensures.sees.book site.mode t l.invariant.can) on.2;
-      leads = leads_then eq hash b name site.mode s t u led on.2;
+      at = on.0;
+      can = can_later eq hash b name site.mode t u (can_still w w' look.ensures.sees.book site.mode t l.invariant.can) on.1;
+      leads = leads_then eq hash b name site.mode s t u led on.1;
     }
 
 pub loop-next-smaller : goal.loop-next-smaller
@@ -46,20 +42,20 @@ loop-next-smaller g c =
     let l = c.loop-next in let w₀ = c.args.window.now in let w = l.window in let site = c.args.site.now in let look = c.look in let w' = look.new.window in
     let eq = g.K.PartialEq.eq in let hash = hash_of g.K.Hash.hash_input g.S.BuildHasher.build_hasher g.S.Hasher.Hasher.write g.S.Hasher.Hasher.finish
     in let b = begun_of w'.book.now.parts in let name = w'.book.now.begun.book in
-    let s : Stop _ _ _ _ = stop_at w₀ site (looking c.args.marked c.args.hash c.args.first) c.args.self.now in
-    let t : Stop _ _ _ _ = stop_at w site (looking c.args.marked c.args.hash l.place) l.self in
+    let s : Stop _ _ _ _ = stop_at w₀ site (looking c.args.first) c.args.self.now in
+    let t : Stop _ _ _ _ = stop_at w site (looking l.moving) l.self in
     let led = leads_still w w' look.ensures.sees.book site.mode s t l.invariant.leads in
-    let on = subst (λ (z : _). LooksOn w site c.args.to.now c.args.marked c.args.hash l.place l.self w' look.new.self z) c.in-Next.is look.ensures.looks in
-    let u : Stop _ _ _ _ = stop_at w' site (looking c.args.marked c.args.hash c.in-Next.next) look.new.self in
-    on.3
+    let on = subst (λ (z : _). LooksOn w site l.moving l.self w' look.new.self z) c.in-Next.is look.ensures.looks in
+    let u : Stop _ _ _ _ = stop_at w' site (looking (record l.moving { place = c.in-Next.next })) look.new.self in
+    on.2
 
 pub returns-in-Left-clause-leaves : goal.returns-in-Left-clause-leaves
 returns-in-Left-clause-leaves g c =
     let l = c.loop-next in let w₀ = c.args.window.now in let w = l.window in let site = c.args.site.now in let look = c.look in let w' = look.new.window in
     let eq = g.K.PartialEq.eq in let hash = hash_of g.K.Hash.hash_input g.S.BuildHasher.build_hasher g.S.Hasher.Hasher.write g.S.Hasher.Hasher.finish
     in let b = begun_of w'.book.now.parts in let name = w'.book.now.begun.book in
-    let s : Stop _ _ _ _ = stop_at w₀ site (looking c.args.marked c.args.hash c.args.first) c.args.self.now in
-    let t : Stop _ _ _ _ = stop_at w site (looking c.args.marked c.args.hash l.place) l.self in
+    let s : Stop _ _ _ _ = stop_at w₀ site (looking c.args.first) c.args.self.now in
+    let t : Stop _ _ _ _ = stop_at w site (looking l.moving) l.self in
     let led = leads_still w w' look.ensures.sees.book site.mode s t l.invariant.leads in
-    let left = subst (λ (z : _). LooksOn w site c.args.to.now c.args.marked c.args.hash l.place l.self w' look.new.self z) c.in-Left.is look.ensures.looks in
+    let left = subst (λ (z : _). LooksOn w site l.moving l.self w' look.new.self z) c.in-Left.is look.ensures.looks in
     leaves_led eq hash b name site.mode site.aim site.chunk s t w'.sight.log look.new.self c.in-Left.left led left

@@ -45,8 +45,8 @@ seek-requires-clause-placed g c =
     placed_on (c.table-to.new.self) (c.size_at-len.new.window) c.size_at-len.ensures.sees site
     (placed_on w (c.table-to.new.self) c.table-to.ensures.sees site c.requires.placed)
 
-pub seek-requires-clause-table : goal.seek-requires-clause-table
-seek-requires-clause-table g c =
+pub seek-requires-clause-at : goal.seek-requires-clause-at
+seek-requires-clause-at g c =
     let w = c.args.window.now in let site = c.args.site.now in let h = c.args.self.now in
     let eq = g.K.PartialEq.eq in let hash = hash_of g.K.Hash.hash_input g.S.BuildHasher.build_hasher g.S.Hasher.Hasher.write g.S.Hasher.Hasher.finish in
     let one = c.carry-hash in let h1 = one.new.self in
@@ -62,13 +62,16 @@ seek-requires-clause-table g c =
     let size_of = subst (λ (z : _). IsSizeOf eq hash (begun_of z.now.parts) z.now.begun.book site.chunk.cursor.to w2.sight.log two.result)
     c.table-to.ensures.sees.book two.ensures.size in
     let pre = prefix_trans w.sight.log w1.sight.log w2.sight.log c.table-to.ensures.sees.log two.ensures.sees.log in
-    let within : IsWithin first = subst IsWithin c.first-first.ensures.value c.first-first.ensures.within in
+    let within : IsWithin first = subst IsWithin c.first-place.ensures.value c.first-place.ensures.within in
     let on : TurnsBy w site.mode (stop_at w site (Carrying c.args.marked (Sizing c.carry-hash.result site.chunk.cursor.to)) h1)
     (stop_at w2 site (Carrying c.args.marked (Looking_at c.carry-hash.result first)) h1) = sizes_next eq hash (begun_of w.book.now.parts)
     w.book.now.begun.book site.mode site.aim site.chunk c.requires.placed.standing w.sight.log h1 w2.sight.log h1 pre c.args.marked one.result
     site.chunk.cursor.to two.result size_of refl within in
-    rw c.first-first.ensures.value (table_since w1.sight.log w2.sight.log site.chunk.cursor.to c.table-to.result.now two.ensures.sees.log
-    c.table-to.ensures.table)
+    record {
+      within = c.first-place.ensures.within;
+      table = rw c.first-place.ensures.value (table_since w1.sight.log w2.sight.log site.chunk.cursor.to c.table-to.result.now two.ensures.sees.log
+          c.table-to.ensures.table);
+    }
 
 pub seek-requires-clause-can : goal.seek-requires-clause-can
 seek-requires-clause-can g c =
@@ -87,12 +90,12 @@ seek-requires-clause-can g c =
     let size_of = subst (λ (z : _). IsSizeOf eq hash (begun_of z.now.parts) z.now.begun.book site.chunk.cursor.to w2.sight.log two.result)
     c.table-to.ensures.sees.book two.ensures.size in
     let pre = prefix_trans w.sight.log w1.sight.log w2.sight.log c.table-to.ensures.sees.log two.ensures.sees.log in
-    let within : IsWithin first = subst IsWithin c.first-first.ensures.value c.first-first.ensures.within in
+    let within : IsWithin first = subst IsWithin c.first-place.ensures.value c.first-place.ensures.within in
     let on : TurnsBy w site.mode (stop_at w site (Carrying c.args.marked (Sizing c.carry-hash.result site.chunk.cursor.to)) h1)
     (stop_at w2 site (Carrying c.args.marked (Looking_at c.carry-hash.result first)) h1) = sizes_next eq hash (begun_of w.book.now.parts)
     w.book.now.begun.book site.mode site.aim site.chunk c.requires.placed.standing w.sight.log h1 w2.sight.log h1 pre c.args.marked one.result
     site.chunk.cursor.to two.result size_of refl within in
-    rw c.first-first.ensures.value (can_on w w2 same site.mode
+    rw c.first-place.ensures.value (can_on w w2 same site.mode
     (stop_at w site (Carrying c.args.marked (Sizing c.carry-hash.result site.chunk.cursor.to)) h1)
     (stop_at w2 site (Carrying c.args.marked (Looking_at c.carry-hash.result first)) h1) can on)
 
@@ -113,14 +116,14 @@ returns-clause-leaves g c =
     let size_of = subst (λ (z : _). IsSizeOf eq hash (begun_of z.now.parts) z.now.begun.book site.chunk.cursor.to w2.sight.log two.result)
     c.table-to.ensures.sees.book two.ensures.size in
     let pre = prefix_trans w.sight.log w1.sight.log w2.sight.log c.table-to.ensures.sees.log two.ensures.sees.log in
-    let within : IsWithin first = subst IsWithin c.first-first.ensures.value c.first-first.ensures.within in
+    let within : IsWithin first = subst IsWithin c.first-place.ensures.value c.first-place.ensures.within in
     let on : TurnsBy w site.mode (stop_at w site (Carrying c.args.marked (Sizing c.carry-hash.result site.chunk.cursor.to)) h1)
     (stop_at w2 site (Carrying c.args.marked (Looking_at c.carry-hash.result first)) h1) = sizes_next eq hash (begun_of w.book.now.parts)
     w.book.now.begun.book site.mode site.aim site.chunk c.requires.placed.standing w.sight.log h1 w2.sight.log h1 pre c.args.marked one.result
     site.chunk.cursor.to two.result size_of refl within in
     let end = c.seek in let w3 = end.new.window in let all = end.ensures.sees.book ∙ same in
     let left = subst (λ (z : Place). Leaves w2 site (Carrying c.args.marked (Looking_at one.result z)) h1 w3 end.new.self end.result)
-    c.first-first.ensures.value end.ensures.leaves in
+    c.first-place.ensures.value end.ensures.leaves in
     leaves_on w w3 all site (stop_at w site (Carrying c.args.marked (Hashing site.chunk.cursor.to)) h)
     (stop_at w site (Carrying c.args.marked (Sizing c.carry-hash.result site.chunk.cursor.to)) h1) end.new.self end.result turn
     (leaves_on w w3 all site (stop_at w site (Carrying c.args.marked (Sizing c.carry-hash.result site.chunk.cursor.to)) h1)

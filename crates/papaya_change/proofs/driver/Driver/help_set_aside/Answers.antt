@@ -5,7 +5,7 @@ use Rattle.papaya_book.specs.Hashes.{hash_of}
 use Rattle.papaya_book.specs.Limits.{tables_of}
 use Rattle.papaya_book.specs.Parts.{begun_of}
 use Rattle.papaya_book.specs.Rule.{IsLawfulLog}
-use Rattle.papaya_book.proofs.Windows.{sees_trans}
+use Rattle.papaya_book.proofs.Windows.{observed, observes_trans}
 use Rattle.papaya_change.specs.declared.driver.Driver.{Driver}
 use Rattle.papaya_change.specs.Changing.{CanGoOn, GoesOn}
 use Rattle.papaya_change.specs.Going.{GoesBy}
@@ -18,8 +18,7 @@ pub loop-init : goal.loop-init
 loop-init g c =
     let w = c.args.window.now in let d = c.args.self.now in
     let hash = hash_of g.K.Hash.hash_input g.S.BuildHasher.build_hasher g.S.Hasher.Hasher.write g.S.Hasher.Hasher.finish in record {
-      sees = record { book = refl; log = ([], append-nil w.sight.log) };
-      own = refl;
+      sees = record { book = refl; log = ([], append-nil w.sight.log); own = refl };
       standing = stands_numbered d.machine c.next_start-self.result c.requires.standing;
       goes_on = goes_numbered g.K.PartialEq.eq hash (begun_of w.book.now.parts) w.book.now.begun.book w.sight.log d c.next_start-self.result;
       reached = inr (inl (aside_numbered g.K.PartialEq.eq hash (begun_of w.book.now.parts) w.book.now.begun.book w.sight.log d c.next_start-self.result
@@ -82,8 +81,7 @@ loop-preserved g c =
     (hash_of g.K.Hash.hash_input g.S.BuildHasher.build_hasher g.S.Hasher.Hasher.write g.S.Hasher.Hasher.finish) (begun_of z.now.parts)
     c.arrive.new.window.sight.log) book c.arrive.ensures.lawful in
     let is = c.arrive.ensures.rest in let rest = c.copy_on-answer.ensures.rest in record {
-      sees = sees_trans _ _ _ (sees_trans _ _ _ c.loop.invariant.sees c.copy_on-answer.ensures.sees) c.arrive.ensures.sees;
-      own = c.arrive.ensures.own ∙ (c.copy_on-answer.ensures.own ∙ c.loop.invariant.own);
+      sees = observes_trans _ _ _ (observes_trans _ _ _ c.loop.invariant.sees c.copy_on-answer.ensures.sees) c.arrive.ensures.sees;
       standing = subst IsStanding (sym (ap (λ (z : Driver _ _ _ _). z.machine) is)) c.answer.ensures.standing;
       goes_on = goes_further g.K.PartialEq.eq g.K.Hash.hash_input g.S.BuildHasher.build_hasher g.S.Hasher.Hasher.write g.S.Hasher.Hasher.finish
           g.met.K.Eq.laws g.met.K.Hash.respects_eq (begun_of c.args.window.now.book.now.parts) c.args.window.now.book.now.begun.book
@@ -104,8 +102,8 @@ loop-preserved g c =
 
 pub returns-in_default-clause-helps : goal.returns-in_default-clause-helps
 returns-in_default-clause-helps g c = record {
-  sees = c.loop.invariant.sees;
-  own = c.loop.invariant.own;
+  sees = observed c.loop.invariant.sees;
+  own = c.loop.invariant.sees.own;
   standing = c.loop.invariant.standing;
   calling = calls c.loop.self.machine (λ ask asked. c.in_default.not-Copy ask (c.ask.ensures.value ∙ asked));
   helped = helped c.args.self.now.machine c.loop.self.machine (tables_of c.loop.window.sight.log) c.loop.self.copier.given.done

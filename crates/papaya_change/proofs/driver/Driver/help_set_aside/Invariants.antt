@@ -1,7 +1,7 @@
 use Rattle.std.proofs.Common.{◌≡◌}
 use Rattle.papaya_chain.specs.Machine.{IsStanding}
 use Rattle.papaya_book.specs.Limits.{tables_of}
-use Rattle.papaya_book.specs.Windows.{Sees}
+use Rattle.papaya_book.specs.Windows.{Observes}
 use Rattle.papaya_change.specs.Window.Driver.{GoesOn}
 use Rattle.papaya_change.proofs.HelpingArrives.{HasReached}
 use Rattle.papaya_change.proofs.driver.Driver.help_set_aside.Given as goal
@@ -9,8 +9,7 @@ use Rattle.papaya_change.proofs.driver.Driver.help_set_aside.Given as goal
 -- the call relies on what is seen by now, and what was answered for the copy has led it here
 abbrev pub invariant-loop : goal.invariant-loop
 invariant-loop g l = record {
-  sees : Sees l.fn.window l.window;
-  own : l.window.own ≡ l.fn.window.own;
+  sees : Observes l.fn.window l.window;
   standing : IsStanding l.self.machine;
   goes_on : GoesOn l.fn.window l.fn.self l.window l.self;
   reached : HasReached l.fn.self.machine l.self.machine (tables_of l.window.sight.log) l.self.copier.given.done;

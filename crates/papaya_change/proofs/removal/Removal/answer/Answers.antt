@@ -264,13 +264,13 @@ returns-in-AddToShard-clause-removes g c = λ first begun r.
 pub returns-in-Load-clause-answers : goal.returns-in-Load-clause-answers
 returns-in-Load-clause-answers g c = let asks : ask_of c.args.self.now.call.machine ≡ Call (Load c.in-Load.at) = search rules in
     idle (Load c.in-Load.at) _ (sym (call_asks c.args.self.now.call.machine _ asks).1) tt (Some (Word c.load.result)) c.args.window.now
-    c.load.new.window c.load.ensures.own
+    c.load.new.window c.load.ensures.sees.own
 
 pub returns-in-LoadHint-clause-answers : goal.returns-in-LoadHint-clause-answers
 returns-in-LoadHint-clause-answers g c = let asks : ask_of c.args.self.now.call.machine ≡ Call
     (LoadHint c.in-LoadHint.number c.in-LoadHint.place) = search rules in
     idle (LoadHint c.in-LoadHint.number c.in-LoadHint.place) _ (sym (call_asks c.args.self.now.call.machine _ asks).1) tt (Some (Word c.hint.result))
-    c.args.window.now c.hint.new.window c.hint.ensures.own
+    c.args.window.now c.hint.new.window c.hint.ensures.sees.own
 
 pub returns-in-SizeOf-clause-answers : goal.returns-in-SizeOf-clause-answers
 returns-in-SizeOf-clause-answers g c = let some : (n : ℕ) × (ask_of c.args.self.now.call.machine ≡ Call (SizeOf n)) = search rules in

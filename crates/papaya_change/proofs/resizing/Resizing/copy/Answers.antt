@@ -32,7 +32,6 @@ returns g c = let hash = hash_of g.K.Hash.hash_input g.S.BuildHasher.build_hashe
     c.args.ask o c.follows.result c.args.window.now.sight.log c.args.self.now.copier log h c.answer.result) c.kind.ensures c.answer.ensures.answers)
     in record {
       sees = c.answer.ensures.sees;
-      own = c.answer.ensures.own;
       fit = c.answer.ensures.fit;
       machine = refl;
       goes_on = subst (λ (z : _). IsResizing g.K.PartialEq.eq hash (begun_of z.now.parts) z.now.begun.book log

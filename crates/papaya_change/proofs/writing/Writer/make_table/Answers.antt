@@ -5,14 +5,14 @@ use Rattle.papaya_book.specs.Parts.{begun_of}
 use Rattle.papaya_book.specs.Rule.{IsLawfulLog}
 use Rattle.papaya_book.proofs.Brings.{made_since}
 use Rattle.papaya_book.proofs.Logs.{prefix_trans}
-use Rattle.papaya_book.proofs.Windows.{sees_trans}
+use Rattle.papaya_book.proofs.Windows.{observed, observes_trans}
 use Rattle.papaya_change.proofs.Written.{table_made, table_unmade, with_given}
 use Rattle.papaya_change.proofs.writing.Writer.make_table.Goals as goal
 
 pub returns-in-Ok : goal.returns-in-Ok
 returns-in-Ok g c = record {
   steps = record {
-    sees = sees_trans _ _ _ c.make_table-made.ensures.sees c.learn.ensures.sees;
+    sees = observed (observes_trans _ _ _ c.make_table-made.ensures.sees c.learn.ensures.sees);
     own = search rules;
     machine = search rules;
     value = search rules;
@@ -38,7 +38,7 @@ returns-in-Ok g c = record {
 pub returns-in-Err : goal.returns-in-Err
 returns-in-Err g c = record {
   steps = record {
-    sees = sees_trans _ _ _ c.make_table-made.ensures.sees c.learn.ensures.sees;
+    sees = observed (observes_trans _ _ _ c.make_table-made.ensures.sees c.learn.ensures.sees);
     own = search rules;
     machine = search rules;
     value = search rules;
