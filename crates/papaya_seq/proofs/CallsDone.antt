@@ -21,7 +21,7 @@ use Rattle.papaya_timeline.specs.declared.outcome.Outcome.{Outcome}
 use Rattle.papaya_store.specs.Store.{StoreState, Stored}
 use Rattle.papaya_store.proofs.Logs.{pair_number}
 use Rattle.papaya_timeline.proofs.SoloTimeline.{lookup_alike}
-use Rattle.papaya_seq.specs.Calls.{AreCalled, IsCalled, IsDone, IsJudged, IsListed, IsSaid, MayRefuse}
+use Rattle.papaya_seq.specs.Calls.{AreCalled, IsCalled, IsDone, IsJudged, IsLeftAlone, IsListed, IsSaid, MayRefuse}
 use Rattle.papaya_seq.specs.Map.{Grows, HasNone, Holds, IsMakeRefusal, Keeps, MapState, Unchanged}
 use Rattle.papaya_seq.specs.Removes.{IsRemoval, IsRemovalBy}
 use Rattle.papaya_seq.specs.Resizes.{IsCopyCause, IsReserveCause}
@@ -176,20 +176,22 @@ module _ {K V S A : Type 0} (eq : K → K → Bool) (classes : IsEquivalence eq)
         tables = λ j is. grows;
       }
 
-module _ {K V S A : Type 0} (eq : K → K → Bool) (says : Says K V A) (outcome : Outcome) (call : Call K V A) (now s' : MapState K V S)
-    (called : IsCalled eq says now call (reply_told outcome) s') (lists : IsListed eq call now.store outcome) where
+module _ {K V S A : Type 0} (eq : K → K → Bool) (hash : S → K → ℕ) (says : Says K V A) (outcome : Outcome) (call : Call K V A) (now s' : MapState K V S)
+    (called : IsCalled eq says now call (reply_told outcome) s') (alone : IsLeftAlone eq hash now call (reply_told outcome) s')
+    (lists : IsListed eq call now.store outcome) where
   -- one more call is made
-  pub called_more : (s : MapState K V S) (calls : List (Call K V A)) (outcomes : List Outcome) → AreCalled eq says s calls outcomes now
-      → AreCalled eq says s (calls ++ call ∷ []) (outcomes ++ outcome ∷ []) s'
+  pub called_more : (s : MapState K V S) (calls : List (Call K V A)) (outcomes : List Outcome) → AreCalled eq hash says s calls outcomes now
+      → AreCalled eq hash says s (calls ++ call ∷ []) (outcomes ++ outcome ∷ []) s'
   called_more s [] [] e = (
     s',
     subst (λ (y : MapState K V S). IsCalled eq says y call (reply_told outcome) s') e called,
+    subst (λ (y : MapState K V S). IsLeftAlone eq hash y call (reply_told outcome) s') e alone,
     subst (λ (y : MapState K V S). IsListed eq call y.store outcome) e lists,
     refl,
   )
   called_more s [] (o ∷ outcomes) e = absurd e
   called_more s (c ∷ calls) [] e = absurd e
-  called_more s (c ∷ calls) (o ∷ outcomes) (middle, first, listed, rest) = (middle, first, listed, called_more middle calls outcomes rest)
+  called_more s (c ∷ calls) (o ∷ outcomes) (middle, first, left, listed, rest) = (middle, first, left, listed, called_more middle calls outcomes rest)
 
 module _ {K V S A : Type 0} (eq : K → K → Bool) (says : Says K V A) (call : Call K V A) (no_key : key_of call ≡ None) (s s' : MapState K V S)
     (keeps : Keeps s s') (said : (reply : Reply) → IsSaid eq says call s reply s'.store)

@@ -14,13 +14,14 @@ use Rattle.papaya_chain.specs.Machine.{ask_of}
 use Rattle.papaya_keys.specs.Hashes.{hash_of}
 use Rattle.papaya_store.specs.Store.{StoreState}
 use Rattle.papaya_timeline.specs.Advances.{reply_in}
+use Rattle.papaya_seq.specs.MadeAlone.{IsRemovalMade}
 use Rattle.papaya_seq.specs.Map.{IsLawfulMap, IsResizing, KeepsRemoving, MapState, next_of}
 use Rattle.papaya_seq.specs.Removes.{IsRemovalBy, Judges}
 use Rattle.papaya_seq.specs.Resizes.{IsCopyCause}
 use Rattle.papaya_seq.proofs.Alone.{map_answered, map_lawful}
 use Rattle.papaya_seq.proofs.RemovalReply.{removal_done, removal_none}
 use Rattle.papaya_seq.proofs.RemovalRun.{matched_judged, matched_over}
-use Rattle.papaya_seq.proofs.RemovalWays.{HasMatch, HasNoMatch, IsQuery, IsUnderWay, key_of, slots_kept, unrefused}
+use Rattle.papaya_seq.proofs.RemovalWays.{HasMatch, HasNoMatch, IsQuery, IsUnderWay, key_by, key_of, slots_kept, unrefused}
 use Rattle.papaya_seq.proofs.Removing.{log_kept, removal_by}
 use Rattle.papaya_seq.proofs.SeekLaw.{seek_ends, seek_lawful}
 use Rattle.papaya_seq.proofs.Turns.{IsOver}
@@ -31,6 +32,7 @@ pub record RemovalDone {K V S F : Type 0} (g : Mut F (Bor K × (Bor V × Unit {0
   pub whole : IsRemovalBy eq matches (Judges g agrees) map.store reply s'.store
   pub cause : (refused : Refused) → reply ≡ Reply_refused refused → IsCopyCause map refused s'
   pub keeps : KeepsRemoving map s'
+  pub alone : IsRemovalMade eq hash matches map reply s'
   pub orderly : IsLawfulMap eq (hash s'.store.hasher) s'.store s'.mode s'.initial
 
 module _ {K V S H F : Type 0} (g : Mut F (Bor K × (Bor V × Unit {0})) Bool) (eq : K → K → Bool) (input : K → List (List ℕ)) (build : S → H)
@@ -77,6 +79,10 @@ module _ {K V S H F : Type 0} (g : Mut F (Bor K × (Bor V × Unit {0})) Bool) (e
           (λ (lacks : HasNoMatch g eq hash matches hashed map agrees later m). lacks.seeking.long.made)
           (now.way query),
     );
+    alone = λ k matched. record {
+      runs = (matched_over g eq hash matches hashed map agrees k (key_by g eq hash matches hashed map agrees query k matched) later f m
+          (now.keyed query k matched) reply ends).ran;
+    };
     orderly = ⊎_elim
         (λ (has : HasMatch g eq hash matches hashed map agrees later f m).
         map_lawful eq input build write finish classes respects map (removal_by has.one.pair.key) reply later query.lawful (made has))

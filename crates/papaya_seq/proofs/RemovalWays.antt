@@ -56,14 +56,17 @@ module _ {K V S F : Type 0} (g : Mut F (Bor K × (Bor V × Unit {0})) Bool) (eq 
     pub fits : hashed < 2 ^ 64
 
   -- so a key that matches stands for it
-  pub key_of : IsQuery → (one : IsMatched map.store matches) → IsKey g eq hash matches hashed map agrees one.pair.key
-  key_of query one = record {
+  pub key_by : IsQuery → (k : K) → matches k ≡ true → IsKey g eq hash matches hashed map agrees k
+  key_by query k matched = record {
     keys = query.keys;
     lawful = query.lawful;
-    alike = query.alike one.pair.key one.matched;
-    hashes = query.hashes one.pair.key one.matched;
+    alike = query.alike k matched;
+    hashes = query.hashes k matched;
     fits = query.fits;
   }
+
+  pub key_of : IsQuery → (one : IsMatched map.store matches) → IsKey g eq hash matches hashed map agrees one.pair.key
+  key_of query one = key_by query one.pair.key one.matched
 
   -- A logged pair matches.
   pub record HasMatch (s : StoreState K V S) (f : F) (m : Machine) : Type 0 where
@@ -80,6 +83,8 @@ module _ {K V S F : Type 0} (g : Mut F (Bor K × (Bor V × Unit {0})) Bool) (eq 
   pub record IsUnderWay (s : StoreState K V S) (f : F) (m : Machine) : Type 0 where
     pub log : IsLogOf map.store s
     pub way : (query : IsQuery) → HasMatch s f m ⊎ HasNoMatch s m
+    -- it came there as one by each key that matches
+    pub keyed : IsQuery → (k : K) → matches k ≡ true → IsMatchedRun g eq hash matches hashed map agrees k s f m
     pub counting : IsCounting eq hash g matches map s m
     pub refusal : IsQuery → (refused : Refused) → reply_in (ask_of m) ≡ Some (Reply_refused refused) → IsNoTableRefusal (record map { store = s }) refused
 
@@ -98,6 +103,7 @@ module _ {K V S F : Type 0} (g : Mut F (Bor K × (Bor V × Unit {0})) Bool) (eq 
               in_root_begun map.store hashed map.mode.resize map.initial number map.mode.limit;
         }))
         (decided map.store matches);
+    keyed = λ query k matched. matched_begun g eq hash matches hashed map agrees number k (key_by query k matched);
     counting = counting_begun eq hash g matches map hashed number;
     refusal = λ query refused e. absurd cc;
   }
@@ -149,6 +155,8 @@ module _ {K V S F : Type 0} (g : Mut F (Bor K × (Bor V × Unit {0})) Bool) (eq 
             rooted = λ single. rooted_more query lacks single;
           }))
           (now.way query);
+      keyed = λ query k matched. matched_more g eq hash matches hashed map agrees k (key_by query k matched) s f m (now.keyed query k matched) now.log
+          answer s' f' told;
       counting = counting_more eq hash g matches map s f m answer s' f' told now.counting;
       refusal = λ query refused e. cause_table eq hash g matches map s f m answer s' f' told now.counting refused (unnumbered query) (caused query refused e);
     }

@@ -1,10 +1,10 @@
 -- What the reply of a removal says of the pair that is shown for it.
-use Rattle.std.proofs.Common.{◌≡◌, ℕ, Bool, true, false, Option, Some, None, Result, Ok, Err, MatchOption, Bor, sym, ◌∙◌, ap, subst, option_map}
+use Rattle.std.proofs.Common.{◌≡◌, ℕ, Bool, true, false, Option, Some, None, Result, Ok, Err, MatchOption, Bor, sym, ◌∙◌, ap, refl, subst, option_map}
 use Rattle.papaya_words.specs.declared.probe.Refused.{Refused}
 use Rattle.papaya_ask.specs.declared.call.Reply.TheVariants as replies
 use Rattle.papaya_store.specs.Store.{StoreState, Stored, pair_of}
 use Rattle.papaya_seq.specs.Answered.{entry_answered}
-use Rattle.papaya_seq.specs.Map.{HasNone, Holds, KeepsRemoving, MapState, Removes, deref_pair, entry_of}
+use Rattle.papaya_seq.specs.Map.{HasNone, Holds, KeepsRemoving, MapState, Removes, Unchanged, deref_pair, entry_of}
 use Rattle.papaya_seq.specs.Removes.{IsHeld, IsJudged, IsRemoval, IsRemoved}
 
 module _ {K V S : Type 0} (eq : K → K → Bool) (matches : K → Bool) (said : Stored K V → Bool → Type 0) (s s' : MapState K V S) (n : ℕ) where
@@ -36,6 +36,26 @@ module _ {K V S : Type 0} (eq : K → K → Bool) (matches : K → Bool) (said :
   kept_shown f (p, held, same, denied) keeps shown =
       let is = entry_is p f (keeps.0.pairs n p held.logged) shown in
       ((p, is, held.held, denied, same, keeps), (p, held.held, denied, ap (λ (e : K × V). e.0) is, ap (λ (e : K × V). e.1) is))
+
+  -- one that has neither removed nor kept a pair, and is not refused, found none
+  pub none_removed : (reply : _) → IsRemoval eq matches said s.store reply s'.store → ((m : ℕ) → reply ≡ replies.Removed m → ⊥)
+      → ((m : ℕ) → reply ≡ replies.Kept m → ⊥) → ((refused : Refused) → reply ≡ replies.Refused refused → ⊥)
+      → HasNone eq matches s.store × Unchanged eq s.store s'.store
+  none_removed replies.Absent d removed kept refused = d
+  none_removed (replies.Removed m) d removed kept refused = absurd (removed m refl)
+  none_removed (replies.Kept m) d removed kept refused = absurd (kept m refl)
+  none_removed (replies.Refused r) d removed kept refused = absurd (refused r refl)
+  none_removed (replies.Aborted t) d removed kept refused = absurd d
+  none_removed replies.Done d removed kept refused = absurd d
+  none_removed (replies.Found m) d removed kept refused = absurd d
+  none_removed (replies.Inserted m) d removed kept refused = absurd d
+  none_removed (replies.Replaced m o) d removed kept refused = absurd d
+  none_removed (replies.Occupied m) d removed kept refused = absurd d
+
+  -- nor has one kept a pair whose closure agrees to each
+  pub never_kept : (reply : _) → IsRemoval eq matches said s.store reply s'.store → ((p : Stored K V) → said p false → ⊥) → (m : ℕ)
+      → reply ≡ replies.Kept m → ⊥
+  never_kept reply d agrees m is = let kept = subst (λ r. IsRemoval eq matches said s.store r s'.store) is d in agrees kept.0 kept.3
 
   -- the same of a reply that is known to be this one
   pub removed_by : (reply : _) (found : Option (Bor K × Bor V)) → reply ≡ replies.Removed n → IsRemoval eq matches said s.store reply s'.store
@@ -71,3 +91,12 @@ module _ {K V S : Type 0} (eq : K → K → Bool) (matches : K → Bool) (s s' :
       let r = subst (λ o. IsRemoved eq matches entry_of s (entry_answered o) s') (was ∙ ap Ok one) h in
       let is = ap (λ (e : K × V). e.1) r.1 in
       ((r.0, is, r.2, r.3), (r.0, r.2.held, is))
+
+  -- of none, and of a refusal
+  pub removed_no_value : (result : Result (Option (Bor K × Bor V)) Refused) (found : Option (Bor K × Bor V)) → result ≡ Ok found → found ≡ None
+      → IsRemoved eq matches entry_of s (entry_answered result) s' → IsRemoved {R = V} eq matches (λ p. p.value) s (Ok None) s'
+  removed_no_value result found was none h = subst (λ o. IsRemoved eq matches entry_of s (entry_answered o) s') (was ∙ ap Ok none) h
+
+  pub removed_refused : (result : Result (Option (Bor K × Bor V)) Refused) (refused : Refused) → result ≡ Err refused
+      → IsRemoved eq matches entry_of s (entry_answered result) s' → IsRemoved {R = V} eq matches (λ p. p.value) s (Err refused) s'
+  removed_refused result refused was h = subst (λ o. IsRemoved eq matches entry_of s (entry_answered o) s') was h

@@ -1,7 +1,7 @@
 -- Why a call that resizes the map is refused, and where it leaves all words as they are.
-use Rattle.std.proofs.Common.{◌≡◌, inl, inr, ℕ, zero, suc, ◌+◌, ◌^◌, ◌==◌, ◌<◌, ◌≤◌, Bool, false}
+use Rattle.std.proofs.Common.{◌≡◌, inl, inr, ℕ, zero, suc, ◌+◌, ◌*◌, ◌^◌, ◌==◌, ◌<◌, ◌≤◌, nat_le, max, Bool, false}
 use Rattle.std.proofs.Common.{[], length, Option, None, Some, refl, sym, ◌∙◌, ap, subst, arith}
-use Rattle.std.proofs.Common.{eqb-true}
+use Rattle.std.proofs.Common.{eqb-true, leb-false}
 use Rattle.std.proofs.lemmas.Bool.{cond_both}
 use Rattle.papaya_words.specs.Counter.{count_of}
 use Rattle.papaya_words.specs.Table.{TableWords, length_after}
@@ -22,7 +22,8 @@ use Rattle.papaya_chain.specs.declared.resizer.Resizer.{Resizer}
 use Rattle.papaya_chain.specs.declared.resizer.State.{State}
 use Rattle.papaya_chain.specs.declared.resizer.State.TheVariants as stages
 use Rattle.papaya_chain.specs.Resizer.{after, after_in, ask_of, asks_in, at_next, at_root, judges, makes, reply_in, reply_of}
-use Rattle.papaya_chain.specs.Room.{room_of}
+use Rattle.papaya_chain.specs.Room.{entries_of, room_of, room_of_len}
+use Rattle.papaya_chain.proofs.Room.{entries_are, has_room}
 use Rattle.papaya_chain_law.specs.Resizers.{HasLink, IsResizeCause, IsTooMuchRoom, WasNotMade, WouldBeTooLong}
 use Rattle.papaya_chain_law.proofs.CopyRefusals.{copying_asks}
 use Rattle.papaya_store.specs.Copies.{PerformsCopy}
@@ -33,12 +34,12 @@ use Rattle.papaya_timeline.specs.Content.{content, pairs_from}
 use Rattle.papaya_timeline.proofs.CallersLemmas.{same_item}
 use Rattle.papaya_timeline.proofs.KeptTables.{HasMoreTables}
 use Rattle.papaya_timeline.proofs.SoloResizes.{counts}
-use Rattle.papaya_seq.specs.Map.{MapState, next_of}
-use Rattle.papaya_seq.specs.Resizes.{IsPastLimit, IsReserveCause}
+use Rattle.papaya_seq.specs.Map.{MapState, next_of, slots_in, slots_of}
+use Rattle.papaya_seq.specs.Resizes.{IsPastLimit, IsReserveCause, IsRoomThere}
 use Rattle.papaya_seq.proofs.Causes.{HasSlots, IsNoTableRefusal, table_long, table_refused}
 use Rattle.papaya_seq.proofs.ResizerSizes.{IsSizedStage, stage_beside, stage_has, stage_sized}
 use Rattle.papaya_seq.proofs.Sizes.{sized_as}
-use Rattle.papaya_seq.proofs.Rooms.{much_is, much_more, much_none}
+use Rattle.papaya_seq.proofs.Rooms.{entries_few, much_is, much_more, much_none}
 use Rattle.papaya_seq.proofs.Unmarked.{last_next}
 
 -- there is no pair where there is no table
@@ -65,6 +66,14 @@ IsEarly (stages.Counting root len) = Unit {0}
 IsEarly (stages.Refused refused) = refused ≡ Capacity
 IsEarly _ = ⊥
 
+-- where there is room for so many pairs, it ends when they are counted
+abbrev pub IsIdle : (root slots : ℕ) → State → Type 0
+IsIdle root slots stages.AtRoot = Unit {0}
+IsIdle root slots (stages.Sizing t) = t ≡ root
+IsIdle root slots (stages.Counting t len) = len ≡ slots
+IsIdle root slots stages.Done = Unit {0}
+IsIdle root slots _ = ⊥
+
 -- where no pairs are being moved, the end of a resize looks for the table after the root alone
 abbrev pub IsCalm : (root : ℕ) → State → Type 0
 IsCalm root stages.AtRoot = Unit {0}
@@ -85,6 +94,7 @@ module _ {K V S : Type 0} (eq : K → K → Bool) (hash : S → K → ℕ) (s : 
     pub sized : IsSizedStage (HasSlots store) z.state
     pub caused : (refused : Refused) → reply_of z ≡ Some (Reply_refused refused) → IsCauseOf resize refused (record s { store = store })
     pub early : IsPastLimit eq resize s.store → (store ≡ s.store) × IsEarly z.state
+    pub idle : IsRoomThere eq resize s.store → (store ≡ s.store) × IsIdle s.store.words.root (slots_of s.store) z.state
     pub calm : resize ≡ resizes.CopyAll → next_of s.store ≡ 0 → (store ≡ s.store) × IsCalm s.store.words.root z.state
 
   -- as it begins
@@ -93,10 +103,11 @@ module _ {K V S : Type 0} (eq : K → K → Bool) (hash : S → K → ℕ) (s : 
     sized = subst (IsSizedStage (HasSlots s.store)) (sym at_root) tt;
     caused = λ refused e. let f : None ≡ Some (Reply_refused refused) = sym (ap (λ stage. reply_in stage) at_root) ∙ e in absurd cc;
     early = λ late. (refl, subst IsEarly (sym at_root) tt);
+    idle = λ there. (refl, subst (IsIdle s.store.words.root (slots_of s.store)) (sym at_root) tt);
     calm = λ is last. (refl, subst (IsCalm s.store.words.root) (sym at_root) tt);
   }
 
-  module _ (pairs : count_of s.store.count.sum ≡ length (content eq s.store)) (store : StoreState K V S) (z : Resizer) (ask : CopyAsk)
+  module _ (pairs : count_of s.store.count.sum ≡ length (content eq s.store)) (most : slots_of s.store ≤ 2 ^ 32) (store : StoreState K V S) (z : Resizer) (ask : CopyAsk)
       (answer : Answer) (store' : StoreState K V S) (asked : ask_of z ≡ Some ask) (performs : PerformsCopy eq hash false ask store answer store')
       (grown : HasMoreTables store.words.tables store'.words.tables)
       (cause : (refused : Refused) → reply_of (after z answer) ≡ Some (Reply_refused refused) → IsResizeCause z answer refused)
@@ -226,6 +237,72 @@ module _ {K V S : Type 0} (eq : K → K → Bool) (hash : S → K → ℕ) (s : 
         (early_stage more (much_none (length (content eq s.store) + more) late) z.state refl same h)
     next_early _ is late h = absurd late
 
+    -- where there is room for them already, nothing is done either
+    idle_root : 8 ≤ slots_of s.store → (more r : ℕ) → r ≡ s.store.words.root
+        → IsIdle s.store.words.root (slots_of s.store) (at_root (resizes.Reserve more) r)
+    idle_root least more r is =
+        cond_both (r == 0) (makes (room_of more)) (stages.Sizing r) (IsIdle s.store.words.root (slots_of s.store))
+        (λ zeroed.
+        let none : slots_of s.store ≡ 0 = ap (λ n. slots_in (table_of s.store.words.tables n)) (sym is ∙ eqb-true r 0 zeroed) in
+        absurd (omega (arith, least, none)))
+        (λ _. is)
+
+    idle_sized : (more root : ℕ) → root ≡ s.store.words.root → (o : Option TableWords) → slots_in o ≡ slots_of s.store
+        → IsIdle s.store.words.root (slots_of s.store)
+        (after_in (resizes.Reserve more) z.mode z.initial z.number (answers.Call (size_of o)) (stages.Sizing root))
+    idle_sized more root here None slots = here
+    idle_sized more root here (Some table) slots = slots
+
+    idle_counted : 8 ≤ slots_of s.store → (pairs root len : ℕ) → entries_of pairs ≤ slots_of s.store → len ≡ slots_of s.store
+        → IsIdle s.store.words.root (slots_of s.store) (judges root len (room_of pairs))
+    idle_counted least pairs root len enough here =
+        let fits : entries_of pairs ≤ 2 ^ 32 = omega (arith, enough, most) in
+        let room = room_of_len (max (entries_of pairs) 8) in
+        subst (λ o. IsIdle s.store.words.root (slots_of s.store) (judges root len o)) (sym (has_room pairs fits))
+        (cond_both (nat_le room.len len) stages.Done (stages.Looking root len (Some room)) (IsIdle s.store.words.root (slots_of s.store)) (λ _. tt)
+        (λ short. let more : len < max (entries_of pairs) 8 = leb-false room.len len short in absurd (omega (arith, more, here, enough, least))))
+
+    idle_stage : 8 ≤ slots_of s.store → (more : ℕ) → entries_of (length (content eq s.store) + more) ≤ slots_of s.store → (stage : State)
+        → z.state ≡ stage → store ≡ s.store → IsIdle s.store.words.root (slots_of s.store) stage → (store' ≡ s.store)
+        × IsIdle s.store.words.root (slots_of s.store) (after_in (resizes.Reserve more) z.mode z.initial z.number answer stage)
+    idle_stage least more enough stages.AtRoot at same h =
+        let (is, stays) = performs_at (copies.Load Root) (ap asks_in at) in (
+          stays ∙ same,
+          subst (λ a. IsIdle s.store.words.root (slots_of s.store) (after_in (resizes.Reserve more) z.mode z.initial z.number a stages.AtRoot)) (sym is)
+              (idle_root least more store.words.root (ap (λ (y : StoreState K V S). y.words.root) same)),
+        )
+    idle_stage least more enough (stages.Sizing root) at same h =
+        let (is, stays) = performs_at (copies.SizeOf root) (ap asks_in at) in
+        let slots : slots_in (table_of store.words.tables root) ≡ slots_of s.store = ap (λ n. slots_in (table_of store.words.tables n)) h
+        ∙ ap (λ (y : StoreState K V S). slots_in (table_of y.words.tables s.store.words.root)) same in (
+          stays ∙ same,
+          subst (λ a. IsIdle s.store.words.root (slots_of s.store) (after_in (resizes.Reserve more) z.mode z.initial z.number a (stages.Sizing root)))
+              (sym is) (idle_sized more root h (table_of store.words.tables root) slots),
+        )
+    idle_stage least more enough (stages.Counting root len) at same h =
+        let (is, stays) = performs_at copies.Count (ap asks_in at) in
+        let all = counted in (
+          stays ∙ same,
+          subst (λ a. IsIdle s.store.words.root (slots_of s.store) (after_in (resizes.Reserve more) z.mode z.initial z.number a (stages.Counting root len)))
+              (sym is) (subst (λ n. IsIdle s.store.words.root (slots_of s.store) (judges root len (room_of (n + more)))) (sym all)
+              (idle_counted least (length (content eq s.store) + more) root len enough h)),
+        )
+    idle_stage least more enough stages.Done at same h = let f : None ≡ Some ask = sym (ap asks_in at) ∙ asked in absurd cc
+    idle_stage least more enough _ at same h = absurd h
+
+    next_idle : (y : Resize) → z.resize ≡ y → IsRoomThere eq y s.store
+        → (store ≡ s.store) × IsIdle s.store.words.root (slots_of s.store) z.state → (store' ≡ s.store)
+        × IsIdle s.store.words.root (slots_of s.store) (after z answer).state
+    next_idle (resizes.Reserve more) is (least, room) (same, h) =
+        let (entries, are, fit) = room in
+        let few : (length (content eq s.store) + more) * 8 < 2 ^ 64 = entries_few (length (content eq s.store) + more) entries are
+        (omega (arith, fit, most)) in
+        let enough : entries_of (length (content eq s.store) + more) ≤ slots_of s.store =
+        subst (λ n. n ≤ slots_of s.store) (sym (entries_are (length (content eq s.store) + more) entries few are)) fit in
+        subst (λ y. (store' ≡ s.store) × IsIdle s.store.words.root (slots_of s.store) (after_in y z.mode z.initial z.number answer z.state)) (sym is)
+        (idle_stage least more enough z.state refl same h)
+    next_idle _ is there h = absurd there
+
     -- and where no pairs are being moved, the end of a resize does nothing
     calm_stage : next_of s.store ≡ 0 → (stage : State) → z.state ≡ stage → store ≡ s.store → IsCalm s.store.words.root stage → (store' ≡ s.store)
         × IsCalm s.store.words.root (after_in resizes.CopyAll z.mode z.initial z.number answer stage)
@@ -254,6 +331,7 @@ module _ {K V S : Type 0} (eq : K → K → Bool) (hash : S → K → ℕ) (s : 
       sized = next_sized;
       caused = next_caused;
       early = λ late. next_early resize resize_is late (now.early late);
+      idle = λ there. next_idle resize resize_is there (now.idle there);
       calm = λ is last. subst (λ y. (store' ≡ s.store) × IsCalm s.store.words.root (after_in y z.mode z.initial z.number answer z.state))
           (sym (resize_is ∙ is)) (calm_stage last z.state refl (now.calm is last).0 (now.calm is last).1);
     }

@@ -1,6 +1,6 @@
 -- A call of a map for one caller that resizes it, from its begin to its reply.
 use Rattle.std.proofs.Common.{◌≡◌, ◌⊎◌, inl, inr, ⊎_elim, ℕ, ◌+◌, ◌^◌, ◌<◌, ◌≤◌, Bool, true, false}
-use Rattle.std.proofs.Common.{FitsSigned, List, [], length, None, Some, refl, sym, ◌∙◌, ap, subst}
+use Rattle.std.proofs.Common.{FitsSigned, List, [], length, Option, None, Some, Result, Ok, Err, refl, sym, ◌∙◌, ap, subst}
 use Rattle.std.proofs.Common.{arith}
 use Rattle.std.proofs.lemmas.Bool.{cases_eq}
 use Rattle.std.specs.Cmp.{IsEquivalence}
@@ -35,13 +35,15 @@ use Rattle.papaya_seq.proofs.LeftBy.{resized_same}
 use Rattle.papaya_timeline.proofs.KeptCore.{keys_lawful}
 use Rattle.papaya_timeline.proofs.ResizerStands.{resizer_fits}
 use Rattle.papaya_timeline.proofs.StoreLemmas.{performed_copy, unnumbered}
+use Rattle.papaya_seq.specs.MadeAlone.{IsDoneAlone, IsMadeAlone, IsResizedAlone}
 use Rattle.papaya_seq.specs.Map.{IsLawfulMap, IsResizing, Keeps, MapState, Unchanged, next_in, next_of, slots_in, slots_of}
-use Rattle.papaya_seq.specs.Resizes.{HasRoomFor, IsPastLimit, IsResizeRefusal, IsResizedTo}
+use Rattle.papaya_seq.specs.Resizes.{HasRoomFor, IsPastLimit, IsResizeRefusal, IsResizedTo, IsRoomThere}
 use Rattle.papaya_seq.proofs.Alone.{map_answered, map_hasher, map_lawful, map_logged}
 use Rattle.papaya_seq.proofs.Counting.{counted_sum}
 use Rattle.papaya_seq.proofs.Lawful.{core_root_there}
-use Rattle.papaya_seq.proofs.ResizerCauses.{IsCalm, IsCaused, IsCauseOf, IsEarly, caused_begun, caused_more}
-use Rattle.papaya_seq.proofs.ResizerSteps.{HasResizedTo, ResizeCall, asking_goes, call_for}
+use Rattle.papaya_seq.proofs.ResizerCauses.{IsCalm, IsCaused, IsCauseOf, IsEarly, IsIdle, caused_begun, caused_more}
+use Rattle.papaya_seq.proofs.DoneAlone.{made_done, made_refused}
+use Rattle.papaya_seq.proofs.ResizerSteps.{HasResizedTo, IsCallFor, ResizeCall, asking_goes, call_for}
 use Rattle.papaya_seq.proofs.ResizerSteps.{resize_begun, resize_caused, resize_grown, resize_more}
 use Rattle.papaya_seq.proofs.ResizerSteps.{resize_nears, resize_over, resizer_left}
 use Rattle.papaya_seq.proofs.Rooms.{room_is}
@@ -77,6 +79,14 @@ early_ends (stages.Sizing root) e early = absurd (cc e)
 early_ends (stages.Counting root len) e early = absurd (cc e)
 early_ends (stages.Refused refused) e early = ap (λ r. Some (Reply_refused r)) early
 early_ends _ e early = absurd early
+
+-- or is done
+idle_ends : (root slots : ℕ) (stage : State) → asks_in stage ≡ None → IsIdle root slots stage → reply_in stage ≡ Some Reply_done
+idle_ends root slots stages.AtRoot e idle = absurd (cc e)
+idle_ends root slots (stages.Sizing t) e idle = absurd (cc e)
+idle_ends root slots (stages.Counting t len) e idle = absurd (cc e)
+idle_ends root slots stages.Done e idle = refl
+idle_ends root slots _ e idle = absurd idle
 
 -- where all is calm it is not refused
 calm_unrefused : (root : ℕ) (stage : State) (refused : Refused) → reply_in stage ≡ Some (Reply_refused refused) → IsCalm root stage → ⊥
@@ -120,6 +130,14 @@ module _ {K V S H : Type 0} (eq : K → K → Bool) (input : K → List (List �
     pairs : count_of s.store.count.sum ≡ length (content eq s.store)
     pairs = ap count_of (counted_sum eq s.store lawful.counted fits)
 
+    -- and the root has slots within the limits
+    slots_most : slots_of s.store ≤ 2 ^ 32
+    slots_most = of_table (table_of s.store.words.tables s.store.words.root) refl
+      where
+        of_table : (o : Option TableWords) → table_of s.store.words.tables s.store.words.root ≡ o → slots_in o ≤ 2 ^ 32
+        of_table None is = omega arith
+        of_table (Some t) is = (lawful.lawful.core.sizes s.store.words.root t is).most
+
     module _ (store : StoreState K V S) (z : Resizer) (ask : CopyAsk) (answer : Answer) (store' : StoreState K V S) (asked : ask_of z ≡ Some ask)
         (performs : PerformsCopy eq hash false ask store answer store') (now : IsGoing store z) where
       -- the answer is within the limits
@@ -136,7 +154,7 @@ module _ {K V S H : Type 0} (eq : K → K → Bool) (input : K → List (List �
       resizing_more standing = record {
         call = now.call;
         came = resize_more eq input build write finish classes respects s resize now.call lawful store z ask answer store' asked performs now.came;
-        causes = caused_more eq hash s resize pairs store z ask answer store' asked performs
+        causes = caused_more eq hash s resize pairs slots_most store z ask answer store' asked performs
             (resize_grown eq input build write finish classes respects s resize now.call lawful store z ask answer store' asked performs now.came)
             (resize_caused eq input build write finish classes respects s resize now.call lawful store z ask answer store' asked performs now.came)
             now.came.resize_is now.came.initial_is now.came.logs now.causes;
@@ -156,6 +174,9 @@ module _ {K V S H : Type 0} (eq : K → K → Bool) (input : K → List (List �
         pub resized_answered : IsAnswered eq now.call.call (map_in eq s.store) reply (map_in eq store)
         resized_answered = map_answered eq input build write finish classes respects s now.call.call reply store lawful over
 
+        pub resized_made : IsMadeAlone eq hash s now.call.call reply (record s { store = store })
+        resized_made = record { runs = over.ran }
+
         pub resized_keeps : Keeps s (record s { store = store })
         resized_keeps = record {
           hasher = map_hasher eq input build write finish classes respects s now.call.call reply store lawful over;
@@ -163,6 +184,22 @@ module _ {K V S H : Type 0} (eq : K → K → Bool) (input : K → List (List �
           initial = refl;
           pairs = (map_logged eq input build write finish classes respects s now.call.call reply store lawful over).1;
         }
+
+      -- so what was wanted was done or refused alone
+      alone_by : {R : Type 0} (y : Resize) → IsCallFor y now.call.call → (answer : Result R Refused)
+          → IsDoneAlone eq hash s now.call.call answer (record s { store = store }) → IsResizedAlone eq hash y s answer (record s { store = store })
+      alone_by (resizes.Reserve more) is answer made = subst (λ call. IsDoneAlone eq hash s call answer (record s { store = store })) is made
+      alone_by resizes.CopyAll is answer made = subst (λ call. IsDoneAlone eq hash s call answer (record s { store = store })) is made
+      alone_by resizes.Chunk is answer made = tt
+
+      pub resized_done_alone : reply_of z ≡ Some Reply_done → IsResizedAlone eq hash {R = Unit {0}} resize s (Ok tt) (record s { store = store })
+      resized_done_alone told = alone_by {R = Unit {0}} resize now.call.call_is (Ok (tt {0}))
+          (made_done eq hash s (record s { store = store }) now.call.call Reply_done (resized_made Reply_done told) (tt {0}))
+
+      pub resized_refused_alone : (refused : Refused) → reply_of z ≡ Some (Reply_refused refused)
+          → IsResizedAlone eq hash {R = Unit {0}} resize s (Err refused) (record s { store = store })
+      resized_refused_alone refused told = alone_by {R = Unit {0}} resize now.call.call_is (Err refused)
+          (made_refused eq hash s (record s { store = store }) now.call.call (Reply_refused refused) (resized_made (Reply_refused refused) told) refused refl)
 
       -- the root's table is there, and has slots within the limits
       root_table : IsLawfulMap eq (hash store.hasher) store s.mode s.initial → 0 < store.words.root → (t : TableWords)
@@ -214,6 +251,10 @@ module _ {K V S H : Type 0} (eq : K → K → Bool) (input : K → List (List �
       -- where no room is for so many pairs, it ends so, and nothing was done
       pub resized_past : IsPastLimit eq resize s.store → ask_of z ≡ None → (reply_of z ≡ Some (Reply_refused Capacity)) × (store ≡ s.store)
       resized_past late none = let early = now.causes.early late in (early_ends z.state none early.1, early.0)
+
+      -- where there is room for them already, it ends so, and nothing was done
+      pub resized_idle : IsRoomThere eq resize s.store → ask_of z ≡ None → (reply_of z ≡ Some Reply_done) × (store ≡ s.store)
+      resized_idle there none = let idle = now.causes.idle there in (idle_ends s.store.words.root (slots_of s.store) z.state none idle.1, idle.0)
 
       -- a call that resizes the map leaves it
       same_by : (IsLeftBy now.call.call (map_in eq s.store) (map_in eq store) → Same (map_in eq s.store) (map_in eq store))

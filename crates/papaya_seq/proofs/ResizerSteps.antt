@@ -61,9 +61,16 @@ use Rattle.papaya_seq.proofs.RootStays.{root_stays}
 use Rattle.papaya_seq.proofs.SeekTurns.{turn_words}
 use Rattle.papaya_seq.proofs.Turns.{IsOver, begins_so, last_entry, made_over, seated_work, start}
 
+-- the call that resizes the map so
+abbrev pub IsCallFor : {K V : Type 0} → Resize → Call K V (Unit {0}) → Type 0
+IsCallFor resizes.Chunk call = Unit {0}
+IsCallFor resizes.CopyAll call = call ≡ calls.CopyAll
+IsCallFor (resizes.Reserve more) call = call ≡ calls.Reserve more
+
 -- a call that resizes the map so, and begins at the root
 pub record ResizeCall (K V : Type 0) (resize : Resize) : Type 0 where
   pub call : Call K V (Unit {0})
+  pub call_is : IsCallFor resize call
   pub no_key : key_of call ≡ None
   pub begins : (hash : K → ℕ) (mode : Mode) (initial number : ℕ)
       → begun_work hash mode initial number call ≡ works.Resize (begun resize mode.resize initial number)
@@ -71,8 +78,14 @@ pub record ResizeCall (K V : Type 0) (resize : Resize) : Type 0 where
 
 pub call_for : {K V : Type 0} (resize : Resize) → (resize ≡ resizes.Chunk → ⊥) → ResizeCall K V resize
 call_for resizes.Chunk whole = absurd (whole refl)
-call_for resizes.CopyAll whole = record { call = calls.CopyAll; no_key = refl; begins = λ hash mode initial number. refl; at_root = refl }
-call_for (resizes.Reserve more) whole = record { call = calls.Reserve more; no_key = refl; begins = λ hash mode initial number. refl; at_root = refl }
+call_for resizes.CopyAll whole = record { call = calls.CopyAll; call_is = refl; no_key = refl; begins = λ hash mode initial number. refl; at_root = refl }
+call_for (resizes.Reserve more) whole = record {
+  call = calls.Reserve more;
+  call_is = refl;
+  no_key = refl;
+  begins = λ hash mode initial number. refl;
+  at_root = refl;
+}
 
 -- one that asks has not replied
 goes_in : (stage : State) (ask : CopyAsk) → asks_in stage ≡ Some ask → reply_in stage ≡ None

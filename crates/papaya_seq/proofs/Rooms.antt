@@ -56,6 +56,10 @@ room_is pairs slots most le = ⊎_elim
     ∙ has_room pairs (omega (arith, most, le)) in absurd cc)
     (cases_lt (pairs * 8) (2 ^ 64))
 
+-- so many pairs as ask for no more than 2^32 entries are few
+pub entries_few : (pairs entries : ℕ) → IsEntriesFor pairs entries → entries ≤ 2 ^ 32 → pairs * 8 < 2 ^ 64
+entries_few pairs entries (power, above, below) most = omega (arith, above, most)
+
 -- a power of two past 2^32 is 2^33 or more
 power_past : (p : ℕ) → IsPowerOfTwo p → 2 ^ 32 < p → 2 ^ 33 ≤ p
 power_past p (k, e) past = ⊎_elim

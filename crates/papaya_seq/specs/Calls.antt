@@ -17,6 +17,7 @@ use Rattle.papaya_timeline.specs.Solo.{IsAnswered, IsNewIn}
 use Rattle.papaya_timeline.specs.declared.outcome.Outcome.{Outcome}
 use Rattle.papaya_timeline.specs.declared.outcome.Outcome.TheVariants.{Replied, Walked}
 use Rattle.papaya_store.specs.Store.{StoreState, Stored, pair_of}
+use Rattle.papaya_seq.specs.MadeAlone.{IsRepliedAlone}
 use Rattle.papaya_seq.specs.Map.{IsResizing, IsTryCause, IsWriteCauseAt, Grows, Keeps, MapState, entry_of, next_of}
 use Rattle.papaya_seq.specs.Resizes.{HasRoomFor, IsCopyCause, IsReserveCause}
 
@@ -131,11 +132,30 @@ module _ {K V S A : Type 0} (eq : K → K → Bool) (says : Says K V A) where
     pub keeps : Keeps s s'
     pub tables : (k : K) → key_of call ≡ Some k → Grows s s'
 
-  -- one outcome a call
-  abbrev pub AreCalled : MapState K V S → List (Call K V A) → List Outcome → MapState K V S → Type 0
-  AreCalled s [] [] s' = s' ≡ s
-  AreCalled s [] (outcome ∷ outcomes) s' = ⊥
-  AreCalled s (call ∷ calls) [] s' = ⊥
-  AreCalled s (call ∷ calls) (outcome ∷ outcomes) s' = (middle : MapState K V S)
-      × IsCalled s call (reply_told outcome) middle × IsListed eq call s.store outcome
-      × AreCalled middle calls outcomes s'
+module _ {K V S A : Type 0} (eq : K → K → Bool) (hash : S → K → ℕ) where
+  -- The tables, words, log, numbers and count that a call leaves are those that a core's own call
+  -- leaves, made alone from the map before. A lookup and a walk change nothing. Of what a clear and
+  -- a retain leave this says nothing.
+  abbrev pub IsLeftAlone : MapState K V S → Call K V A → Reply → MapState K V S → Type 0
+  IsLeftAlone s (Get k) reply s' = s' ≡ s
+  IsLeftAlone s (Insert k v) reply s' = IsRepliedAlone eq hash s (Insert k v) reply s'
+  IsLeftAlone s (TryInsert k v) reply s' = IsRepliedAlone eq hash s (TryInsert k v) reply s'
+  IsLeftAlone s (RemoveIf k a) reply s' = IsRepliedAlone eq hash s (RemoveIf k tt) reply s'
+  IsLeftAlone s (Compute k a) reply s' = IsRepliedAlone eq hash s (Compute k tt) reply s'
+  IsLeftAlone s (Reserve more) reply s' = IsRepliedAlone eq hash s (Reserve more) reply s'
+  IsLeftAlone s CopyAll reply s' = IsRepliedAlone eq hash s CopyAll reply s'
+  IsLeftAlone s Clear reply s' = Unit {0}
+  IsLeftAlone s (Retain a) reply s' = Unit {0}
+  IsLeftAlone s Walk reply s' = s' ≡ s
+
+  module _ (says : Says K V A) where
+    -- one outcome a call
+    abbrev pub AreCalled : MapState K V S → List (Call K V A) → List Outcome → MapState K V S
+        → Type 0
+    AreCalled s [] [] s' = s' ≡ s
+    AreCalled s [] (outcome ∷ outcomes) s' = ⊥
+    AreCalled s (call ∷ calls) [] s' = ⊥
+    AreCalled s (call ∷ calls) (outcome ∷ outcomes) s' = (middle : MapState K V S)
+        × IsCalled eq says s call (reply_told outcome) middle
+        × IsLeftAlone s call (reply_told outcome) middle × IsListed eq call s.store outcome
+        × AreCalled middle calls outcomes s'

@@ -1,10 +1,12 @@
 -- A call of a map for one caller, as a core makes it that has just this call.
-use Rattle.std.specs.Prelude.{◌≡◌, ℕ, Bool, None, [], ◌∷◌, Result, Err}
+use Rattle.std.specs.Prelude.{◌≡◌, ℕ, Bool, true, None, [], ◌∷◌, Result, Err}
 use Rattle.papaya_words.specs.declared.probe.Refused as words
 use Rattle.papaya_ask.specs.declared.call.Call.{Call}
-use Rattle.papaya_ask.specs.declared.call.Call.TheVariants.{Compute}
+use Rattle.papaya_ask.specs.declared.call.Call.TheVariants.{Compute, CopyAll, RemoveIf, Reserve}
 use Rattle.papaya_ask.specs.declared.call.Reply.{Reply}
 use Rattle.papaya_ask.specs.declared.call.Reply.TheVariants.{Refused}
+use Rattle.papaya_chain.specs.declared.resizer.Resize.{Resize}
+use Rattle.papaya_chain.specs.declared.resizer.Resize.TheVariants as resizes
 use Rattle.papaya_timeline.specs.Core.{CoreState}
 use Rattle.papaya_timeline.specs.Solo.{RunsAlone}
 use Rattle.papaya_seq.specs.Map.{MapState, core_of}
@@ -44,3 +46,28 @@ module _ {K V S : Type 0} (eq : K → K → Bool) (hash : S → K → ℕ) where
   abbrev pub IsComputedAlone : {R : Type 0} → MapState K V S → K → Result R words.Refused
       → MapState K V S → Type 0
   IsComputedAlone s k answer s' = IsDoneAlone s (Compute k tt) answer s'
+
+  -- the same of a call that has a reply
+  pub record IsRepliedAlone (s : MapState K V S) (call : Call K V (Unit {0})) (reply : Reply)
+      (s' : MapState K V S) : Type 0 where
+    pub told : Reply
+    pub alone : IsMadeAlone s call told s'
+    pub refused : (refused : words.Refused) → reply ≡ Refused refused → told ≡ Refused refused
+
+  -- the core's call that resizes the map so does so
+  abbrev pub IsResizedAlone : {R : Type 0} → Resize → MapState K V S → Result R words.Refused
+      → MapState K V S → Type 0
+  IsResizedAlone (resizes.Reserve more) s answer s' = IsDoneAlone s (Reserve more) answer s'
+  IsResizedAlone resizes.CopyAll s answer s' = IsDoneAlone s CopyAll answer s'
+  IsResizedAlone resizes.Chunk s answer s' = Unit {0}
+
+  -- So does the core's removal by each key of the map's own type that matches. Of its closure's
+  -- answer nothing is asked.
+  abbrev pub IsRemovalMade : (K → Bool) → MapState K V S → Reply → MapState K V S → Type 0
+  IsRemovalMade matches s reply s' = (k : K) → matches k ≡ true
+      → IsMadeAlone s (RemoveIf k tt) reply s'
+
+  abbrev pub IsRemovalAlone : {R : Type 0} → (K → Bool) → MapState K V S → Result R words.Refused
+      → MapState K V S → Type 0
+  IsRemovalAlone matches s answer s' = (k : K) → matches k ≡ true
+      → IsDoneAlone s (RemoveIf k tt) answer s'

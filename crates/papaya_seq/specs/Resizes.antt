@@ -1,6 +1,7 @@
 -- Calls that make room ahead, or end a resize.
 use Rattle.std.specs.Prelude.{◌≡◌, ◌⊎◌, ℕ, ◌+◌, ◌≤◌, Bool, length}
 use Rattle.papaya_words.specs.Probe.{IsEntriesFor}
+use Rattle.papaya_words.specs.declared.limits.TheConstants.{LEAST_TABLE_LEN}
 use Rattle.papaya_words.specs.declared.probe.Refused.{Refused}
 use Rattle.papaya_words.specs.declared.probe.Refused.TheVariants.{Memory, Capacity}
 use Rattle.papaya_chain.specs.declared.resizer.Resize.{Resize}
@@ -19,6 +20,10 @@ module _ {K V S : Type 0} (eq : K → K → Bool) where
   abbrev pub HasRoomFor : StoreState K V S → (more : ℕ) → StoreState K V S → Type 0
   HasRoomFor s more s' = (entries : ℕ) × IsEntriesFor (pairs_with s more) entries
       × (entries ≤ slots_of s')
+
+  -- it has as many already, and no fewer than the least table
+  abbrev pub HasRoomAlready : StoreState K V S → (more : ℕ) → Type 0
+  HasRoomAlready s more = (LEAST_TABLE_LEN ≤ slots_of s) × HasRoomFor s more s
 
   -- Why room is refused: for want of memory, as no table has so many slots, or as there is no
   -- next table.
@@ -44,6 +49,11 @@ module _ {K V S : Type 0} (eq : K → K → Bool) where
   IsResizeRefusal (Reserve more) s refused s' = IsReserveCause eq s more refused s'
   IsResizeRefusal CopyAll s refused s' = IsCopyCause s refused s'
   IsResizeRefusal _ s refused s' = Unit {0}
+
+  -- room is wanted that is there already
+  abbrev pub IsRoomThere : Resize → StoreState K V S → Type 0
+  IsRoomThere (Reserve more) s = HasRoomAlready eq s more
+  IsRoomThere _ s = ⊥
 
   -- room is wanted for more pairs than a table may have slots for
   abbrev pub IsPastLimit : Resize → StoreState K V S → Type 0

@@ -98,6 +98,9 @@ impl<K: Hash + Eq + Drop, V: Drop, S: BuildHasher> HashMap<K, V, S> {
         ensures* computes { sem 𝓛 (ends_so K.row V.row S.row S.Hasher.row K.Hash S.BuildHasher
             S.Hasher.Hasher self.entry (λ after. (answer : _)
             × ComputesBy K.eq key entry_of (Says (F.post f)) self.old answer after
+            × IsComputedAlone K.eq
+            (hash_of K.hash_input S.build_hasher S.Hasher.write S.Hasher.finish) self.old key answer
+            after
             × IsParted answer (compute_answered result) aborted.old aborted.new)) }
         ensures parted { (answer : _) × (after : MapState _ _ _)
             × ComputesBy K.eq key entry_of (Says (F.post f)) self.old answer after
@@ -140,8 +143,11 @@ impl<K: Hash + Eq + Drop, V: Drop, S: BuildHasher> HashMap<K, V, S> {
     pub fn update<F: Fn(&V) -> V>(&mut self, key: K, f: F) -> Result<Option<&V>, Refused>
         requires { F.IsAlwaysCallable f }
         ensures* updates { sem 𝓛 (ends_so K.row V.row S.row S.Hasher.row K.Hash S.BuildHasher
-            S.Hasher.Hasher self.entry (IsUpdated K.eq key (FnReturnsAt F.Fn f) self.old
-            (old_answered result))) }
+            S.Hasher.Hasher self.entry (λ after. IsUpdated K.eq key (FnReturnsAt F.Fn f) self.old
+            (old_answered result) after
+            × IsComputedAlone K.eq
+            (hash_of K.hash_input S.build_hasher S.Hasher.write S.Hasher.finish) self.old key
+            (old_answered result) after)) }
         ensures new { IfOk result (λ new. MatchOption new (map_in K.eq self.old.store key ≡ None)
             (λ v. (p : _) × (map_in K.eq self.old.store key ≡ Some p)
             × FnReturnsAt F.Fn f p.value v.now)) }
@@ -181,8 +187,12 @@ impl<K: Hash + Eq + Drop, V: Drop, S: BuildHasher> HashMap<K, V, S> {
     ) -> Result<&V, Refused>
         requires { U.IsAlwaysCallable update }
         ensures* stores { sem 𝓛 (ends_so K.row V.row S.row S.Hasher.row K.Hash S.BuildHasher
-            S.Hasher.Hasher self.entry (IsUpdatedOrInserted K.eq key (FnReturnsAt U.Fn update)
-            (λ v. v ≡ value) self.old (value_answered result))) }
+            S.Hasher.Hasher self.entry (λ after.
+            IsUpdatedOrInserted K.eq key (FnReturnsAt U.Fn update) (λ v. v ≡ value) self.old
+            (value_answered result) after
+            × IsComputedAlone K.eq
+            (hash_of K.hash_input S.build_hasher S.Hasher.write S.Hasher.finish) self.old key
+            (value_answered result) after)) }
         ensures value { IfOk result (λ v. MatchOption (map_in K.eq self.old.store key)
             (v.now ≡ value) (λ p. FnReturnsAt U.Fn update p.value v.now)) }
         ensures err { IfErr result (IsStoreRefusal self.old) }
@@ -205,8 +215,12 @@ impl<K: Hash + Eq + Drop, V: Drop, S: BuildHasher> HashMap<K, V, S> {
         requires update { U.IsAlwaysCallable update }
         requires absent { map_in K.eq self.old.store key ≡ None → F.pre f }
         ensures* stores { sem 𝓛 (ends_so K.row V.row S.row S.Hasher.row K.Hash S.BuildHasher
-            S.Hasher.Hasher self.entry (IsUpdatedOrInserted K.eq key (FnReturnsAt U.Fn update)
-            (F.post f) self.old (value_answered result))) }
+            S.Hasher.Hasher self.entry (λ after.
+            IsUpdatedOrInserted K.eq key (FnReturnsAt U.Fn update) (F.post f) self.old
+            (value_answered result) after
+            × IsComputedAlone K.eq
+            (hash_of K.hash_input S.build_hasher S.Hasher.write S.Hasher.finish) self.old key
+            (value_answered result) after)) }
         ensures value { IfOk result (λ v. MatchOption (map_in K.eq self.old.store key)
             (F.post f v.now) (λ p. FnReturnsAt U.Fn update p.value v.now)) }
         ensures err { IfErr result (IsStoreRefusal self.old) }
@@ -248,8 +262,11 @@ impl<K: Hash + Eq + Drop, V: Drop, S: BuildHasher> HashMap<K, V, S> {
     ) -> Result<Result<&V, &V>, Refused>
         requires { map_in K.eq self.old.store key ≡ None → F.pre f }
         ensures* stores { sem 𝓛 (ends_so K.row V.row S.row S.Hasher.row K.Hash S.BuildHasher
-            S.Hasher.Hasher self.entry (IsTriedWith K.eq key (F.post f) self.old
-            (tried_answered result))) }
+            S.Hasher.Hasher self.entry (λ after. IsTriedWith K.eq key (F.post f) self.old
+            (tried_answered result) after
+            × IsComputedAlone K.eq
+            (hash_of K.hash_input S.build_hasher S.Hasher.write S.Hasher.finish) self.old key
+            (tried_answered result) after)) }
         ensures stored { IfOk result (λ tried. IfOk tried
             (λ v. F.post f v.now × (map_in K.eq self.old.store key ≡ None))) }
         ensures occupied { IfOk result (λ tried. IfErr tried
@@ -286,8 +303,11 @@ impl<K: Hash + Eq + Drop, V: Drop, S: BuildHasher> HashMap<K, V, S> {
     pub fn get_or_insert_with<F: FnOnce() -> V>(&mut self, key: K, f: F) -> Result<&V, Refused>
         requires { map_in K.eq self.old.store key ≡ None → F.pre f }
         ensures* stores { sem 𝓛 (ends_so K.row V.row S.row S.Hasher.row K.Hash S.BuildHasher
-            S.Hasher.Hasher self.entry (HasValueOf K.eq key (F.post f) self.old
-            (value_answered result))) }
+            S.Hasher.Hasher self.entry (λ after. HasValueOf K.eq key (F.post f) self.old
+            (value_answered result) after
+            × IsComputedAlone K.eq
+            (hash_of K.hash_input S.build_hasher S.Hasher.write S.Hasher.finish) self.old key
+            (value_answered result) after)) }
         ensures value { IfOk result (λ v. MatchOption (map_in K.eq self.old.store key)
             (F.post f v.now) (λ p. p.value ≡ v.now)) }
         ensures err { IfErr result (IsStoreRefusal self.old) }

@@ -6,6 +6,8 @@ ghost use Rattle.papaya_store.specs.Tables.{table_of, word_at};
 ghost use Rattle.papaya_seq.specs.Buries.{IsBuried, IsRemovedFast};
 ghost use Rattle.papaya_words.specs.declared.probe.Refused.{Refused};
 ghost use Rattle.papaya_store.specs.Store.{pair_of};
+ghost use Rattle.papaya_keys.specs.Hashes.{hash_of};
+ghost use Rattle.papaya_seq.specs.MadeAlone.{IsRemovalMade};
 ghost use Rattle.papaya_seq.specs.Map.{KeepsRemoving};
 ghost use Rattle.papaya_seq.specs.Resizes.{IsCopyCause};
 ghost use Rattle.papaya_seq.specs.Removes.{IsRemovalAnswer, IsRemovalAsk, IsRemovalBy, IsShown};
@@ -160,6 +162,9 @@ impl<K: Hash + Eq + Drop, V: Drop, S: BuildHasher> HashMap<K, V, S> {
             result self.new.store }
         ensures cause { (refused : Refused) → result ≡ Reply.Refused refused
             → IsCopyCause self.old refused self.new }
+        ensures alone { IsRemovalMade K.eq
+            (hash_of K.hash_input S.build_hasher S.Hasher.write S.Hasher.finish)
+            (Q.matches key.now) self.old result self.new }
         ensures keeps { KeepsRemoving self.old self.new }
     {
         let hash = self.store.hash(key);
@@ -181,6 +186,9 @@ impl<K: Hash + Eq + Drop, V: Drop, S: BuildHasher> HashMap<K, V, S> {
             result self.new.store }
         ensures cause { (refused : Refused) → result ≡ Reply.Refused refused
             → IsCopyCause self.old refused self.new }
+        ensures alone { IsRemovalMade K.eq
+            (hash_of K.hash_input S.build_hasher S.Hasher.write S.Hasher.finish)
+            (Q.matches key.now) self.old result self.new }
         ensures keeps { KeepsRemoving self.old self.new }
     {
         let hash = self.store.hash(key);

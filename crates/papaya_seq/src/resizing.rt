@@ -1,13 +1,16 @@
 //! Calls that resize the map: their machine, answered by the words of the tables.
-ghost use Rattle.std.specs.Prelude.{◌≡◌, ◌≢◌, Err, IfErr, OnOk};
+ghost use Rattle.std.specs.Prelude.{◌≡◌, ◌≢◌, Err, IfErr, Ok, OnOk};
 ghost use Rattle.papaya_keys.specs.Sizes.{IsTooMuch};
+ghost use Rattle.papaya_keys.specs.Hashes.{hash_of};
+ghost use Rattle.papaya_seq.specs.MadeAlone.{IsDoneAlone, IsResizedAlone};
 ghost use Rattle.papaya_seq.specs.Map.{Keeps, Unchanged, next_of};
-ghost use Rattle.papaya_seq.specs.Resizes.{HasRoomFor, IsCopyCause, IsPastLimit, IsReserveCause};
-ghost use Rattle.papaya_seq.specs.Resizes.{IsResizeRefusal, IsResizedTo, pairs_with};
+ghost use Rattle.papaya_seq.specs.Resizes.{HasRoomAlready, HasRoomFor, IsCopyCause, IsPastLimit};
+ghost use Rattle.papaya_seq.specs.Resizes.{IsReserveCause, IsResizeRefusal, IsResizedTo, IsRoomThere, pairs_with};
 
 use crate::chunk::copy_for_resizer;
 use crate::copies::copies_from;
 use crate::seq::HashMap;
+use papaya_ask::call::Call;
 use papaya_chain::resizer::{Resize, Resizer, State};
 use papaya_words::probe::Refused;
 use std::hash::{BuildHasher, Hash};
@@ -20,7 +23,12 @@ impl<K: Hash + Eq + Drop, V: Drop, S: BuildHasher> HashMap<K, V, S> {
         ensures err { IfErr result (λ e. IsResizeRefusal K.eq resize self.old e self.new) }
         ensures too_much { IsPastLimit K.eq resize self.old.store
             → (result ≡ Err Refused.Capacity) × (self.new ≡ self.old) }
+        ensures there { IsRoomThere K.eq resize self.old.store
+            → (result ≡ Ok tt) × (self.new ≡ self.old) }
         ensures map { Unchanged K.eq self.old.store self.new.store }
+        ensures alone { IsResizedAlone K.eq
+            (hash_of K.hash_input S.build_hasher S.Hasher.write S.Hasher.finish) resize
+            self.old result self.new }
         ensures words { self.new.store ≡ record self.old.store { words = self.new.store.words } }
         ensures keeps { Keeps self.old self.new }
     {
@@ -55,7 +63,12 @@ impl<K: Hash + Eq + Drop, V: Drop, S: BuildHasher> HashMap<K, V, S> {
         ensures err { IfErr result (λ e. IsReserveCause K.eq self.old additional e self.new) }
         ensures too_much { IsTooMuch (pairs_with K.eq self.old.store additional)
             → (result ≡ Err Refused.Capacity) × (self.new ≡ self.old) }
+        ensures there { HasRoomAlready K.eq self.old.store additional
+            → (result ≡ Ok tt) × (self.new ≡ self.old) }
         ensures map { Unchanged K.eq self.old.store self.new.store }
+        ensures alone { IsDoneAlone K.eq
+            (hash_of K.hash_input S.build_hasher S.Hasher.write S.Hasher.finish) self.old
+            (Call.Reserve additional) result self.new }
         ensures words { self.new.store ≡ record self.old.store { words = self.new.store.words } }
         ensures keeps { Keeps self.old self.new }
     {
@@ -72,6 +85,9 @@ impl<K: Hash + Eq + Drop, V: Drop, S: BuildHasher> HashMap<K, V, S> {
         ensures ok { OnOk result (next_of self.new.store ≡ 0) }
         ensures err { IfErr result (λ e. IsCopyCause self.old e self.new) }
         ensures map { Unchanged K.eq self.old.store self.new.store }
+        ensures alone { IsDoneAlone K.eq
+            (hash_of K.hash_input S.build_hasher S.Hasher.write S.Hasher.finish) self.old
+            Call.CopyAll result self.new }
         ensures keeps { Keeps self.old self.new }
     {
         self.resize_by(Resize::CopyAll)

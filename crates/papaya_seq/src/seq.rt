@@ -16,11 +16,11 @@ ghost use Rattle.papaya_keys.specs.Sizes.{IsAllowed};
 ghost use Rattle.papaya_store.specs.Store.{pair_of};
 ghost use Rattle.papaya_keys.specs.Hashes.{hash_of};
 ghost use Rattle.papaya_seq.specs.Answered.{entry_answered, judged_answered, old_answered, value_answered};
-ghost use Rattle.papaya_seq.specs.Calls.{AreCalled, IsCalled, IsListed};
+ghost use Rattle.papaya_seq.specs.Calls.{AreCalled, IsCalled, IsLeftAlone, IsListed};
 ghost use Rattle.papaya_seq.specs.Computes.{tried_answered};
 ghost use Rattle.papaya_seq.specs.Computing.{reply_of};
 ghost use Rattle.papaya_seq.specs.Looks.{LooksUp};
-ghost use Rattle.papaya_seq.specs.MadeAlone.{IsDoneAlone, IsRefusedAlone};
+ghost use Rattle.papaya_seq.specs.MadeAlone.{IsDoneAlone, IsRefusedAlone, IsRemovalAlone};
 ghost use Rattle.papaya_seq.specs.Removes.{IsJudged, IsRemoved, Judges};
 ghost use Rattle.papaya_seq.specs.Map.{HasNone, HasValue, Holds, IsInserted, IsMakeRefusal};
 ghost use Rattle.papaya_seq.specs.Map.{IsStoreRefusal};
@@ -525,8 +525,11 @@ impl<K: Hash + Eq + Drop, V: Drop, S: BuildHasher> HashMap<K, V, S> {
     /// Fails only during a resize, as an [`HashMap::insert`] that needs a next table does.
     pub fn remove<Q: Equivalent<K>>(&mut self, key: &Q) -> Result<Option<&V>, Refused>
         ensures* removes { sem 𝓛 (ends_so K.row V.row S.row S.Hasher.row K.Hash S.BuildHasher
-            S.Hasher.Hasher self.entry (IsRemoved K.eq (Q.matches key.now) (λ p. p.value) self.old
-            (old_answered result))) }
+            S.Hasher.Hasher self.entry (λ after. IsRemoved K.eq (Q.matches key.now) (λ p. p.value)
+            self.old (old_answered result) after
+            × IsRemovalAlone K.eq
+            (hash_of K.hash_input S.build_hasher S.Hasher.write S.Hasher.finish)
+            (Q.matches key.now) self.old (old_answered result) after)) }
         ensures removed { IfOk result (λ removed. MatchOption removed
             (HasNone K.eq (Q.matches key.now) self.old.store)
             (λ v. (p : _) × Holds K.eq (Q.matches key.now) self.old.store p × (p.value ≡ v.now))) }
@@ -546,8 +549,11 @@ impl<K: Hash + Eq + Drop, V: Drop, S: BuildHasher> HashMap<K, V, S> {
     /// Fails as [`HashMap::remove`] does.
     pub fn remove_entry<Q: Equivalent<K>>(&mut self, key: &Q) -> Result<Option<(&K, &V)>, Refused>
         ensures* removes { sem 𝓛 (ends_so K.row V.row S.row S.Hasher.row K.Hash S.BuildHasher
-            S.Hasher.Hasher self.entry (IsRemoved K.eq (Q.matches key.now) entry_of self.old
-            (entry_answered result))) }
+            S.Hasher.Hasher self.entry (λ after. IsRemoved K.eq (Q.matches key.now) entry_of self.old
+            (entry_answered result) after
+            × IsRemovalAlone K.eq
+            (hash_of K.hash_input S.build_hasher S.Hasher.write S.Hasher.finish)
+            (Q.matches key.now) self.old (entry_answered result) after)) }
         ensures removed { IfOk result (λ removed. MatchOption removed
             (HasNone K.eq (Q.matches key.now) self.old.store)
             (λ found. (p : _) × Holds K.eq (Q.matches key.now) self.old.store p
@@ -577,8 +583,11 @@ impl<K: Hash + Eq + Drop, V: Drop, S: BuildHasher> HashMap<K, V, S> {
     ) -> Result<Result<Option<(&K, &V)>, (&K, &V)>, Refused>
         requires { F.IsAlwaysCallable agrees }
         ensures* removes { sem 𝓛 (ends_so K.row V.row S.row S.Hasher.row K.Hash S.BuildHasher
-            S.Hasher.Hasher self.entry (IsJudged K.eq (Q.matches key.now) (Judges F.FnMut agrees)
-            self.old (judged_answered result))) }
+            S.Hasher.Hasher self.entry (λ after. IsJudged K.eq (Q.matches key.now)
+            (Judges F.FnMut agrees) self.old (judged_answered result) after
+            × IsRemovalAlone K.eq
+            (hash_of K.hash_input S.build_hasher S.Hasher.write S.Hasher.finish)
+            (Q.matches key.now) self.old (judged_answered result) after)) }
         ensures removed { IfOk result (λ answered. IfOk answered
             (λ removed. MatchOption removed (HasNone K.eq (Q.matches key.now) self.old.store)
             (λ found. (p : _) × Holds K.eq (Q.matches key.now) self.old.store p
@@ -603,6 +612,9 @@ impl<K: Hash + Eq + Drop, V: Drop, S: BuildHasher> HashMap<K, V, S> {
     /// Runs one call that is given as a value.
     fn call<A: Answers<K, V> + Drop>(&mut self, call: Call<K, V, A>) -> Outcome
         ensures called { IsCalled K.eq (record { op = A.op_gives; yes = A.yes_gives }) self.old call
+            (reply_told result) self.new }
+        ensures alone { IsLeftAlone K.eq
+            (hash_of K.hash_input S.build_hasher S.Hasher.write S.Hasher.finish) self.old call
             (reply_told result) self.new }
         ensures lists { IsListed K.eq call self.old.store result }
     {
@@ -646,6 +658,7 @@ impl<K: Hash + Eq + Drop, V: Drop, S: BuildHasher> HashMap<K, V, S> {
         calls: Vec<Call<K, V, A>>,
     ) -> Result<Vec<Outcome>, Refused>
         ensures ok { IfOk result (λ outcomes. AreCalled K.eq
+            (hash_of K.hash_input S.build_hasher S.Hasher.write S.Hasher.finish)
             (record { op = A.op_gives; yes = A.yes_gives }) self.old calls.items outcomes.items
             self.new) }
         ensures err { IfErr result (λ e. (e ≡ Refused.Memory) × (self.new ≡ self.old)) }

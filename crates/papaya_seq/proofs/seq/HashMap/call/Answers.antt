@@ -3,17 +3,18 @@ use Rattle.papaya_law.specs.Content.{AreApart, lookup}
 use Rattle.papaya_timeline.specs.Content.{content, map_in}
 use Rattle.papaya_store.specs.Store.{StoreState, Stored}
 use Rattle.papaya_keys.specs.Hashes.{hash_of}
-use Rattle.papaya_ask.specs.declared.call.Call.TheVariants.{Clear, CopyAll, Reserve, Retain}
+use Rattle.papaya_ask.specs.declared.call.Call.TheVariants.{Clear, Compute, CopyAll, Insert, RemoveIf, Reserve, Retain, TryInsert}
 use Rattle.papaya_ask.specs.declared.call.Reply.TheVariants.{Absent, Done, Found, Refused}
 use Rattle.papaya_timeline.proofs.CountedCore.{lawful_apart}
 use Rattle.papaya_call.specs.Answers.{Says}
-use Rattle.papaya_seq.specs.Calls.{IsCalled, IsSifted}
+use Rattle.papaya_seq.specs.Calls.{IsCalled, IsLeftAlone, IsSifted}
 use Rattle.papaya_seq.specs.Map.{HasNone, Holds, IsLawfulMap, core_of, insertion}
 use Rattle.papaya_seq.specs.Looks.{IsFound}
 use Rattle.papaya_seq.proofs.Answered.{insert_answered, try_answered}
 use Rattle.papaya_seq.proofs.CallLengths.{none_made}
 use Rattle.papaya_seq.proofs.CallsDone.{copy_makes, get_absent, get_found, keyed_undone, remove_called, reserve_makes, resized_called}
 use Rattle.papaya_seq.proofs.ComputeCalled.{compute_called}
+use Rattle.papaya_seq.proofs.DoneAlone.{computed_replied, done_replied, made_replied}
 use Rattle.papaya_seq.proofs.Sifted.{err_only, err_then, ok_then, on_err, on_ok, sifted_left, sifts}
 use Rattle.papaya_seq.proofs.seq.HashMap.call.Goals as goal
 use Rattle.papaya_seq.proofs.seq.HashMap.call.Given.{Over}
@@ -179,3 +180,39 @@ returns-in-Retain-clause-called g c =
     sifted (err_only c.retain.result c.retain.ensures.err (λ e cause. cause.0))
     (ok_then c.retain.result sifted (sifted_left g.K.PartialEq.eq g.met.K.Eq.laws says c.in-Retain.answers c.args.self.now.store c.retain.new.self.store))
     (err_then c.retain.result c.retain.ensures.err (λ e cause. λ j. inl (cause.1 j))))
+
+pub returns-in-Insert-clause-alone : goal.returns-in-Insert-clause-alone
+returns-in-Insert-clause-alone g c =
+    subst (λ call. IsLeftAlone g.K.PartialEq.eq (hash g) c.args.self.now call c.insert_by.result.0 c.insert_by.new.self)
+    (sym c.in-Insert.is) (made_replied g.K.PartialEq.eq (hash g) c.args.self.now c.insert_by.new.self
+    (Insert c.in-Insert.key c.in-Insert.value) c.insert_by.result.0 c.insert_by.ensures.alone)
+
+pub returns-in-TryInsert-clause-alone : goal.returns-in-TryInsert-clause-alone
+returns-in-TryInsert-clause-alone g c =
+    subst (λ call. IsLeftAlone g.K.PartialEq.eq (hash g) c.args.self.now call c.insert_by-in-TryInsert.result.0 c.insert_by-in-TryInsert.new.self)
+    (sym c.in-TryInsert.is) (made_replied g.K.PartialEq.eq (hash g) c.args.self.now c.insert_by-in-TryInsert.new.self
+    (TryInsert c.in-TryInsert.key c.in-TryInsert.value) c.insert_by-in-TryInsert.result.0 c.insert_by-in-TryInsert.ensures.alone)
+
+pub returns-in-RemoveIf-clause-alone : goal.returns-in-RemoveIf-clause-alone
+returns-in-RemoveIf-clause-alone g c =
+    subst (λ call. IsLeftAlone g.K.PartialEq.eq (hash g) c.args.self.now call c.remove_by.result c.remove_by.new.self)
+    (sym c.in-RemoveIf.is) (made_replied g.K.PartialEq.eq (hash g) c.args.self.now c.remove_by.new.self
+    (RemoveIf c.in-RemoveIf.key tt) c.remove_by.result (c.remove_by.ensures.alone c.in-RemoveIf.key (g.met.K.Eq.laws.refl c.in-RemoveIf.key)))
+
+pub returns-in-Compute-clause-alone : goal.returns-in-Compute-clause-alone
+returns-in-Compute-clause-alone g c =
+    subst (λ call. IsLeftAlone g.K.PartialEq.eq (hash g) c.args.self.now call c.replied.result c.compute_by.new.self)
+    (sym c.in-Compute.is) (computed_replied g.K.PartialEq.eq (hash g) c.args.self.now c.compute_by.new.self
+    (Compute c.in-Compute.key tt) c.compute_by.result.1 c.compute_by.ensures.alone c.replied.result c.replied.ensures)
+
+pub returns-in-Reserve-clause-alone : goal.returns-in-Reserve-clause-alone
+returns-in-Reserve-clause-alone g c =
+    subst (λ call. IsLeftAlone g.K.PartialEq.eq (hash g) c.args.self.now call c.resized.result c.reserve.new.self)
+    (sym c.in-Reserve.is) (done_replied g.K.PartialEq.eq (hash g) c.args.self.now c.reserve.new.self
+    (Reserve c.in-Reserve.more) c.reserve.result c.reserve.ensures.alone c.resized.result c.resized.ensures)
+
+pub returns-in-CopyAll-clause-alone : goal.returns-in-CopyAll-clause-alone
+returns-in-CopyAll-clause-alone g c =
+    subst (λ call. IsLeftAlone g.K.PartialEq.eq (hash g) c.args.self.now call c.resized-in-CopyAll.result c.copy_all.new.self)
+    (sym c.in-CopyAll.is) (done_replied g.K.PartialEq.eq (hash g) c.args.self.now c.copy_all.new.self
+    CopyAll c.copy_all.result c.copy_all.ensures.alone c.resized-in-CopyAll.result c.resized-in-CopyAll.ensures)

@@ -19,17 +19,16 @@ returns-in_err-computed g c =
     let p = err_from_is_err_and c.from_residual.result c.from_residual.ensures.1 in
     let r = computes_shown _ g.K.PartialEq.eq g.met.K.Eq.laws c.args.key c.args.self.now c.compute_numbered.new.self c.compute_numbered.result
     (Err c.in_err-computed.field-0.0) (Err c.in_err-computed.field-0.0) c.in_err-computed.was c.compute_numbered.ensures.computes refl in
+    let made = alone_refused g.K.PartialEq.eq (hash g) c.args.self.now c.compute_numbered.new.self (Compute c.args.key tt) c.compute_numbered.result c.compute_numbered.ensures.alone c.in_err-computed.field-0.0 c.in_err-computed.was in
     rw (p.1, p.2) (
-      (refl, λ _. tt, (Err c.in_err-computed.field-0.0, r, (refl, refl))),
+      (refl, λ _. tt, (Err c.in_err-computed.field-0.0, r, made, (refl, refl))),
       record {
         computes = tt;
         parted = (
           Err c.in_err-computed.field-0.0,
           c.compute_numbered.new.self,
           r,
-          alone_refused g.K.PartialEq.eq (hash g)
-              c.args.self.now c.compute_numbered.new.self (Compute c.args.key tt) c.compute_numbered.result c.compute_numbered.ensures.alone c.in_err-computed.field-0.0
-              c.in_err-computed.was,
+          made,
           (refl, refl),
         );
       },
@@ -49,17 +48,16 @@ pub returns-in-Inserted : goal.returns-in-Inserted
 returns-in-Inserted g c =
     let r = computes_shown _ g.K.PartialEq.eq g.met.K.Eq.laws c.args.key c.args.self.now c.compute_numbered.new.self c.compute_numbered.result
     (Ok (Inserted c.in-Inserted.pair)) (Ok (Inserted (deref_pair c.entry.result))) (c.in_ok-computed.was ∙ ap Ok c.in-Inserted.is)
-    c.compute_numbered.ensures.computes c.entry.ensures in (
-      (refl, λ _. tt, (Ok (Inserted (deref_pair c.entry.result)), r, (refl, refl))),
+    c.compute_numbered.ensures.computes c.entry.ensures in
+    let made = alone_done g.K.PartialEq.eq (hash g) c.args.self.now c.compute_numbered.new.self (Compute c.args.key tt) c.compute_numbered.result c.compute_numbered.ensures.alone (Inserted (deref_pair c.entry.result)) in (
+      (refl, λ _. tt, (Ok (Inserted (deref_pair c.entry.result)), r, made, (refl, refl))),
       record {
         computes = tt;
         parted = (
           Ok (Inserted (deref_pair c.entry.result)),
           c.compute_numbered.new.self,
           r,
-          alone_done g.K.PartialEq.eq
-              (hash g) c.args.self.now c.compute_numbered.new.self (Compute c.args.key tt) c.compute_numbered.result c.compute_numbered.ensures.alone
-              (Inserted (deref_pair c.entry.result)),
+          made,
           (refl, refl),
         );
       },
@@ -69,17 +67,16 @@ pub returns-in-Updated : goal.returns-in-Updated
 returns-in-Updated g c =
     let r = computes_shown _ g.K.PartialEq.eq g.met.K.Eq.laws c.args.key c.args.self.now c.compute_numbered.new.self c.compute_numbered.result
     (Ok (Updated c.in-Updated.old c.in-Updated.new)) (Ok (Updated (deref_pair c.entry-in-Updated.result) (deref_pair c.entry-in-Updated-2.result)))
-    (c.in_ok-computed.was ∙ ap Ok c.in-Updated.is) c.compute_numbered.ensures.computes (c.entry-in-Updated.ensures, c.entry-in-Updated-2.ensures) in (
-      (refl, λ _. tt, (Ok (Updated (deref_pair c.entry-in-Updated.result) (deref_pair c.entry-in-Updated-2.result)), r, (refl, refl))),
+    (c.in_ok-computed.was ∙ ap Ok c.in-Updated.is) c.compute_numbered.ensures.computes (c.entry-in-Updated.ensures, c.entry-in-Updated-2.ensures) in
+    let made = alone_done g.K.PartialEq.eq (hash g) c.args.self.now c.compute_numbered.new.self (Compute c.args.key tt) c.compute_numbered.result c.compute_numbered.ensures.alone (Updated (deref_pair c.entry-in-Updated.result) (deref_pair c.entry-in-Updated-2.result)) in (
+      (refl, λ _. tt, (Ok (Updated (deref_pair c.entry-in-Updated.result) (deref_pair c.entry-in-Updated-2.result)), r, made, (refl, refl))),
       record {
         computes = tt;
         parted = (
           Ok (Updated (deref_pair c.entry-in-Updated.result) (deref_pair c.entry-in-Updated-2.result)),
           c.compute_numbered.new.self,
           r,
-          alone_done g.K.PartialEq.eq (hash g) c.args.self.now c.compute_numbered.new.self (Compute c.args.key tt)
-              c.compute_numbered.result c.compute_numbered.ensures.alone
-              (Updated (deref_pair c.entry-in-Updated.result) (deref_pair c.entry-in-Updated-2.result)),
+          made,
           (refl, refl),
         );
       },
@@ -89,17 +86,16 @@ pub returns-in-Removed : goal.returns-in-Removed
 returns-in-Removed g c =
     let r = computes_shown _ g.K.PartialEq.eq g.met.K.Eq.laws c.args.key c.args.self.now c.compute_numbered.new.self c.compute_numbered.result
     (Ok (Removed c.in-Removed.pair)) (Ok (Removed (deref_pair c.entry-in-Removed.result))) (c.in_ok-computed.was ∙ ap Ok c.in-Removed.is)
-    c.compute_numbered.ensures.computes c.entry-in-Removed.ensures in (
-      (refl, λ _. tt, (Ok (Removed (deref_pair c.entry-in-Removed.result)), r, (refl, refl))),
+    c.compute_numbered.ensures.computes c.entry-in-Removed.ensures in
+    let made = alone_done g.K.PartialEq.eq (hash g) c.args.self.now c.compute_numbered.new.self (Compute c.args.key tt) c.compute_numbered.result c.compute_numbered.ensures.alone (Removed (deref_pair c.entry-in-Removed.result)) in (
+      (refl, λ _. tt, (Ok (Removed (deref_pair c.entry-in-Removed.result)), r, made, (refl, refl))),
       record {
         computes = tt;
         parted = (
           Ok (Removed (deref_pair c.entry-in-Removed.result)),
           c.compute_numbered.new.self,
           r,
-          alone_done
-              g.K.PartialEq.eq (hash g) c.args.self.now c.compute_numbered.new.self (Compute c.args.key tt) c.compute_numbered.result c.compute_numbered.ensures.alone
-              (Removed (deref_pair c.entry-in-Removed.result)),
+          made,
           (refl, refl),
         );
       },
@@ -109,16 +105,16 @@ pub returns-in-Aborted : goal.returns-in-Aborted
 returns-in-Aborted g c =
     let r = computes_shown _ g.K.PartialEq.eq g.met.K.Eq.laws c.args.key c.args.self.now c.compute_numbered.new.self c.compute_numbered.result
     (Ok (Aborted c.in-Aborted.with)) (Ok (Aborted c.in-Aborted.with)) (c.in_ok-computed.was ∙ ap Ok c.in-Aborted.is)
-    c.compute_numbered.ensures.computes refl in (
-      (refl, λ _. tt, (Ok (Aborted c.in-Aborted.with), r, (refl, refl))),
+    c.compute_numbered.ensures.computes refl in
+    let made = alone_done g.K.PartialEq.eq (hash g) c.args.self.now c.compute_numbered.new.self (Compute c.args.key tt) c.compute_numbered.result c.compute_numbered.ensures.alone (Aborted c.in-Aborted.with) in (
+      (refl, λ _. tt, (Ok (Aborted c.in-Aborted.with), r, made, (refl, refl))),
       record {
         computes = tt;
         parted = (
           Ok (Aborted c.in-Aborted.with),
           c.compute_numbered.new.self,
           r,
-          alone_done g.K.PartialEq.eq (hash g)
-              c.args.self.now c.compute_numbered.new.self (Compute c.args.key tt) c.compute_numbered.result c.compute_numbered.ensures.alone (Aborted c.in-Aborted.with),
+          made,
           (refl, refl),
         );
       },

@@ -55,3 +55,6 @@ returns-in-Some-clause-cause g c = (done g (goal.at.returns-in-Some-clause-cause
 
 pub returns-in-Some-clause-keeps : goal.returns-in-Some-clause-keeps
 returns-in-Some-clause-keeps g c = (done g (goal.at.returns-in-Some-clause-keeps g c).In-Some).keeps
+
+pub returns-in-Some-clause-alone : goal.returns-in-Some-clause-alone
+returns-in-Some-clause-alone g c = (done g (goal.at.returns-in-Some-clause-alone g c).In-Some).alone

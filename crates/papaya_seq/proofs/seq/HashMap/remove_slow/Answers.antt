@@ -1,9 +1,11 @@
 use Rattle.std.proofs.Common.{◌≡◌, ℕ, ◌<◌, ◌≤◌, arith, fold, sym, ◌∙◌, ap, subst}
 use Rattle.papaya_ask.specs.declared.ask.Ask.TheVariants.{Done as Ask_done}
+use Rattle.papaya_ask.specs.declared.call.Call.TheVariants.{RemoveIf}
 use Rattle.papaya_chain.specs.declared.ask.Ask.TheVariants as asks
 use Rattle.papaya_chain.specs.Machine.{IsFitAsk, IsStanding, ask_of}
 use Rattle.papaya_keys.specs.Hashes.{hash_of}
 use Rattle.papaya_timeline.proofs.KeptCore.{keys_lawful}
+use Rattle.papaya_seq.specs.MadeAlone.{IsMadeAlone}
 use Rattle.papaya_seq.specs.Map.{IsLawfulMap, MapState}
 use Rattle.papaya_seq.specs.Resizes.{IsCopyCause}
 use Rattle.papaya_seq.proofs.Ending.{left_of}
@@ -203,6 +205,12 @@ returns-in-Done-clause-cause g c = λ refused is.
     let at = goal.at.returns-in-Done-clause-cause g c in
     subst (IsCopyCause c.args.self.now refused) (left_is g at.After-drop-agrees)
     ((finished g at.After-drop-agrees (query g at.After-new-machine)).cause refused is)
+
+pub returns-in-Done-clause-alone : goal.returns-in-Done-clause-alone
+returns-in-Done-clause-alone g c = λ k matched.
+    let at = goal.at.returns-in-Done-clause-alone g c in
+    subst (IsMadeAlone g.K.PartialEq.eq (hashes g) c.args.self.now (RemoveIf k tt) c.in-Done.reply) (left_is g at.After-drop-agrees)
+    ((finished g at.After-drop-agrees (query g at.After-new-machine)).alone k matched)
 
 pub returns-in-Done-clause-keeps : goal.returns-in-Done-clause-keeps
 returns-in-Done-clause-keeps g c =

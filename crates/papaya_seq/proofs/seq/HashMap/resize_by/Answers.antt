@@ -1,4 +1,4 @@
-use Rattle.std.proofs.Common.{◌≡◌, ℕ, ◌<◌, ◌≤◌, arith, FitsSigned, None, Some, refl, sym, ◌∙◌, ap, subst}
+use Rattle.std.proofs.Common.{◌≡◌, ℕ, ◌<◌, ◌≤◌, arith, FitsSigned, None, Some, refl, sym, ◌∙◌, ap, subst, Ok, Err}
 use Rattle.std.specs.Int.{w64}
 use Rattle.papaya_ask.specs.declared.call.Reply.TheVariants.{Done as Reply_done, Refused as Reply_refused}
 use Rattle.papaya_words.specs.declared.probe.Refused.{Refused}
@@ -7,10 +7,12 @@ use Rattle.papaya_chain.specs.declared.resizer.Resizer.{Resizer}
 use Rattle.papaya_chain.specs.declared.resizer.State.TheVariants.{Refused as Was_refused}
 use Rattle.papaya_chain.specs.Resizer.{IsStandingResizer, after, ask_of, reply_in, reply_of}
 use Rattle.papaya_keys.specs.Hashes.{hash_of}
+use Rattle.papaya_store.specs.Store.{StoreState}
+use Rattle.papaya_seq.specs.MadeAlone.{IsResizedAlone}
 use Rattle.papaya_seq.specs.Map.{IsLawfulMap, Keeps, MapState}
-use Rattle.papaya_seq.specs.Resizes.{IsPastLimit, IsResizeRefusal}
+use Rattle.papaya_seq.specs.Resizes.{IsPastLimit, IsResizeRefusal, IsRoomThere}
 use Rattle.papaya_seq.proofs.ResizerRun.{IsResizingTo, resized_done, resized_keeps, resized_lawful}
-use Rattle.papaya_seq.proofs.ResizerRun.{resized_past, resized_refused, resized_replied}
+use Rattle.papaya_seq.proofs.ResizerRun.{resized_done_alone, resized_idle, resized_past, resized_refused, resized_refused_alone, resized_replied}
 use Rattle.papaya_seq.proofs.ResizerRun.{resized_unchanged, resizing_begun, resizing_fit}
 use Rattle.papaya_seq.proofs.ResizerRun.{resizing_more, resizing_nears, unrefused_done}
 use Rattle.papaya_seq.proofs.ResizerSteps.{resizer_left}
@@ -143,6 +145,22 @@ past g c orderly fit late =
     g.met.K.Hash.respects_eq c.args.self.now c.args.resize orderly fit c.loop-ask.self-inside.store c.loop-ask.resizer c.loop-ask.invariant.0 late
     (sym c.ask.ensures ∙ c.in_default.is)
 
+-- where there is room for them already
+there : (g : Over) (c : In_default g) → IsLawfulMap g.K.PartialEq.eq (hash g c.args.self.now.store.hasher) c.args.self.now.store c.args.self.now.mode
+    c.args.self.now.initial → FitsSigned w64 c.args.self.now.store.count.sum → IsRoomThere g.K.PartialEq.eq c.args.resize c.args.self.now.store
+    → (reply_of c.loop-ask.resizer ≡ Some Reply_done) × (c.loop-ask.self-inside.store ≡ c.args.self.now.store)
+there g c orderly fit room =
+    resized_idle g.K.PartialEq.eq g.K.Hash.hash_input g.S.BuildHasher.build_hasher g.S.Hasher.Hasher.write g.S.Hasher.Hasher.finish
+    g.met.K.Eq.laws g.met.K.Hash.respects_eq c.args.self.now c.args.resize orderly fit c.loop-ask.self-inside.store c.loop-ask.resizer
+    c.loop-ask.invariant.0 room (sym c.ask.ensures ∙ c.in_default.is)
+
+pub returns-in-Refused-clause-there : goal.returns-in-Refused-clause-there
+returns-in-Refused-clause-there g c = λ room.
+    let n = (goal.at.returns-in-Refused-clause-there g c).After-new-resizer in
+    let f : Some (Reply_refused c.in-Refused.refused) ≡ Some Reply_done = sym (refused_by c.loop-ask.resizer c.in-Refused.refused c.in-Refused.is)
+    ∙ (there g (goal.at.returns-in-Refused-clause-there g c).In_default (lawful g n) (fits g n) room).0 in
+    absurd cc
+
 pub returns-in-Refused-clause-err : goal.returns-in-Refused-clause-err
 returns-in-Refused-clause-err g c =
     let n = (goal.at.returns-in-Refused-clause-err g c).After-new-resizer in
@@ -162,6 +180,15 @@ returns-in-Refused-clause-map g c =
 pub returns-in-Refused-clause-words : goal.returns-in-Refused-clause-words
 returns-in-Refused-clause-words g c = c.loop-ask.invariant.0.came.logs
 
+pub returns-in-Refused-clause-alone : goal.returns-in-Refused-clause-alone
+returns-in-Refused-clause-alone g c =
+    let n = (goal.at.returns-in-Refused-clause-alone g c).After-new-resizer in
+    subst (IsResizedAlone g.K.PartialEq.eq (hash g) {R = Unit {0}} c.args.resize c.args.self.now (Err c.in-Refused.refused))
+    (left_is g (goal.at.returns-in-Refused-clause-alone g c).In_default)
+    (resized_refused_alone g.K.PartialEq.eq g.K.Hash.hash_input g.S.BuildHasher.build_hasher g.S.Hasher.Hasher.write g.S.Hasher.Hasher.finish
+    g.met.K.Eq.laws g.met.K.Hash.respects_eq c.args.self.now c.args.resize (lawful g n) (fits g n) c.loop-ask.self-inside.store c.loop-ask.resizer
+    c.loop-ask.invariant.0 c.in-Refused.refused (refused_by c.loop-ask.resizer c.in-Refused.refused c.in-Refused.is))
+
 pub returns-in_default-state : goal.returns-in_default-state
 returns-in_default-state g c =
     let n = (goal.at.returns-in_default-state g c).After-new-resizer in
@@ -174,9 +201,17 @@ returns-in_default-state g c =
           c.loop-ask.invariant.0 done;
       err = tt;
       too_much = λ late. let f : Some Reply_done ≡ Some (Reply_refused Capacity) = sym done ∙ (past g end (lawful g n) (fits g n) late).0 in absurd cc;
+      there = λ room. (
+        refl,
+        sym (left_is g end) ∙ ap (λ (store : StoreState _ _ _). record c.args.self.now { store = store }) (there g end (lawful g n) (fits g n) room).1,
+      );
       map = resized_unchanged g.K.PartialEq.eq g.K.Hash.hash_input g.S.BuildHasher.build_hasher g.S.Hasher.Hasher.write g.S.Hasher.Hasher.finish
           g.met.K.Eq.laws g.met.K.Hash.respects_eq c.args.self.now c.args.resize (lawful g n) (fits g n) c.loop-ask.self-inside.store c.loop-ask.resizer
           c.loop-ask.invariant.0 none;
+      alone = subst (IsResizedAlone g.K.PartialEq.eq (hash g) {R = Unit {0}} c.args.resize c.args.self.now (Ok tt)) (left_is g end)
+          (resized_done_alone g.K.PartialEq.eq g.K.Hash.hash_input g.S.BuildHasher.build_hasher g.S.Hasher.Hasher.write g.S.Hasher.Hasher.finish
+          g.met.K.Eq.laws g.met.K.Hash.respects_eq c.args.self.now c.args.resize (lawful g n) (fits g n) c.loop-ask.self-inside.store c.loop-ask.resizer
+          c.loop-ask.invariant.0 done);
       words = c.loop-ask.invariant.0.came.logs;
       keeps = subst (Keeps c.args.self.now) (left_is g end) (keeps g end (lawful g n) (fits g n));
     }
