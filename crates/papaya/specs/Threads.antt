@@ -6,11 +6,11 @@ pub use Rattle.papaya_lookup.specs.Answers.{IsAnsweredBetween, IsPairAnsweredBet
 pub use Rattle.papaya_change.specs.Changes.{IsChangeOf, IsPut, key_kept}
 pub use Rattle.papaya_change.specs.Writing.{IsMemoryOrCapacity}
 pub use Rattle.papaya_map.specs.Limited.{IsPlainRefusal, IsWriteRefusal}
-pub use Rattle.papaya_map.specs.Plain.{IsOfHistory}
-pub use Rattle.papaya_change.specs.RemovalAnswers.{IsJudged, IsRemovalBy, IsRemoved}
-pub use Rattle.papaya_change.specs.Showings.{AreShown, HasSaid, Judges, Operates, WasHeld, WasLast}
-pub use Rattle.papaya_compute.specs.ComputeAnswers.{IsComputeBy, IsOperated}
+pub use Rattle.papaya_map.specs.Plain.{IsOfHistory, IsOfHistorySince}
+pub use Rattle.papaya_change.specs.RemovalAnswers.{IsJudged, IsRemovalBy, IsRemoved, took, went}
+pub use Rattle.papaya_change.specs.Showings.{AllShown, AreShown, HasSaid, Judges, Operates, WasHeld, WasLast}
+pub use Rattle.papaya_compute.specs.ComputeAnswers.{IsComputeBy, IsOperated, changes}
 pub use Rattle.papaya_map.specs.Storing.{IsCurrent, IsInPlace, IsStored, IsThereBy, IsTried, IsTriedWith, IsUpdated, IsUpserted}
 pub use Rattle.papaya_chain_law.specs.ScanTold.{IsLastAnswer}
-pub use Rattle.papaya_scan.specs.Leaving.{HasDropped, HasKept, IsCleared, IsRetained, WasTakenOut}
+pub use Rattle.papaya_scan.specs.Leaving.{AreDropped, Drops, HasDropped, HasKept, IsCleared, IsRetained, WasTakenOut}
 pub use Rattle.papaya_map.specs.Known.{Known}

@@ -57,7 +57,7 @@ impl<'a, H: Wait, S: BuildHasher + Drop> Caller<'a, H, S> {
     }
 
     /// Stores a pair, and returns what is printed of it.
-    #[tactic(auto, using(crate::proofs::SharedLemmas::plain))]
+    #[tactic(auto, using(crate::proofs::SharedLemmas::plain, crate::proofs::SharedLemmas::stored))]
     fn insert(&self, key: u64, value: u64) -> Printed
         ensures { Obeys (asked.Insert key value) result }
     {
@@ -69,6 +69,7 @@ impl<'a, H: Wait, S: BuildHasher + Drop> Caller<'a, H, S> {
     }
 
     /// Looks a key up, and returns what is printed of it.
+    #[tactic(auto, using(crate::proofs::SharedLemmas::looked_up))]
     fn look_up(&self, key: u64) -> Printed
         ensures { Obeys (asked.Get key) result }
     {
@@ -79,6 +80,7 @@ impl<'a, H: Wait, S: BuildHasher + Drop> Caller<'a, H, S> {
     }
 
     /// Removes a key, and returns what is printed of it.
+    #[tactic(auto, using(crate::proofs::SharedLemmas::gone))]
     fn remove(&self, key: u64) -> Printed
         ensures { Obeys (asked.Remove key) result }
     {

@@ -195,3 +195,7 @@ six_facts 𝓤 {φ₁} {φ₂} {φ₃} {φ₄} {φ₅} {φ₆} = let rest : SPro
     fact_use 𝓤 φ₁ (fst∗ 𝓤 (fact 𝓤 φ₁) rest) (λ x₁.
     via 𝓤 rest (snd∗ 𝓤 (fact 𝓤 φ₁) rest) (fact_use 𝓤 (φ₂ × φ₃ × φ₄ × φ₅ × φ₆) (five_facts 𝓤)
     (λ x. fact_i 𝓤 (φ₁ × φ₂ × φ₃ × φ₄ × φ₅ × φ₆) rest (x₁, x.0, x.1, x.2, x.3, x.4))))
+
+-- those after the first, which says what the callee made
+pub past_first : {M : Type 1} (𝓤 : Ura M) (made : Type 0) {rest said : SProp 𝓤} → ent 𝓤 rest said → ent 𝓤 (sep 𝓤 (fact 𝓤 made) rest) said
+past_first 𝓤 made {rest} says = via 𝓤 rest (snd∗ 𝓤 (fact 𝓤 made) rest) says

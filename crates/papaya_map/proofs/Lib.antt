@@ -3,6 +3,10 @@ pub mod Ruled
 pub mod FirstTable
 -- where no pair stays, none is left
 pub mod Cleared
+-- the steps that a pass made, as entries of the log
+mod OwnEntries
+-- which lifetimes are within those of a book's entries
+mod Lives
 -- an answer that is told; the walk of a call that hands it on; and how that call meets its contract
 pub mod Earlier
 pub mod Telling

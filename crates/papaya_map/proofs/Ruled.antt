@@ -6,8 +6,7 @@ use Rattle.papaya_words.specs.declared.probe.Refused.{Refused as Cause}
 use Rattle.papaya_call.specs.declared.answers.Operation.{Operation}
 use Rattle.papaya_call.specs.declared.answers.Operation.TheVariants as operation
 use Rattle.papaya_book.specs.Logs.{Member, Stored}
-use Rattle.papaya_lookup.specs.History.{Change, IsLegalHistory, key_of}
-use Rattle.papaya_map.specs.Plain.{IsOfHistory}
+use Rattle.papaya_lookup.specs.History.{Change, key_of}
 use Rattle.papaya_change.specs.Changes.{IsChangeOf}
 use Rattle.papaya_change.specs.Showings.{HasNoNone, HasSaid, IsNoneOnce, IsSamePair, WasHeld, WasLast}
 use Rattle.papaya_change.specs.Writing.{IsMemoryCapacityOrLimit}
@@ -23,7 +22,6 @@ use Rattle.papaya_compute.specs.Rules.{Gives, IsGiven, Updates, Upserts}
 use Rattle.papaya_compute.specs.declared.rules.Ready.{Ready}
 use Rattle.papaya_keys.specs.declared.occupied.NotInserted.{NotInserted}
 use Rattle.papaya_keys.specs.declared.occupied.NotInserted.TheVariants.{Value, Logged}
-use Rattle.std.specs.Prelude.{IfOk}
 use Rattle.papaya_map.specs.Storing.{IsBack, IsCurrent, IsInPlace, IsStored}
 use Rattle.papaya_compute.proofs.ComputeShows.{none_unsaid}
 
@@ -301,10 +299,3 @@ module _ {V : Type 0} (value : V) (supply : Option (Ready V)) (spare : Option (B
       let e : result ≡ Logged h.1.0 = subst (λ z. MatchOption z ⊥ (λ r. result ≡ Logged r)) h.1.1 lost in
       subst (IsBack value) (sym e) h.1.2)
       back
-
--- what a call says by a pass that had seen nothing is so of a history
-module _ {K V A E : Type 0} (eq : K → K → Bool) (old new : List (Change K (Stored K V))) (seen : old ≡ []) (legal : IsLegalHistory eq key_of new)
-    (says : List (Change K (Stored K V)) → List (Change K (Stored K V)) → A → Type 0) where
-  pub of_history : (r : Result A E) → IfOk r (says old new) → IfOk r (λ a. IsOfHistory eq (λ h. says [] h a))
-  of_history (Ok a) told = record { history = new; legal = legal; told = subst (λ z. says z new a) seen told }
-  of_history (Err e) told = tt

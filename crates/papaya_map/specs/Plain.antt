@@ -1,29 +1,23 @@
 -- What a call says that takes no pass.
-use Rattle.std.specs.Prelude.{◌≡◌, Bool, ℕ, Option, Ok, Err, List, Result, is_some}
+use Rattle.std.specs.Prelude.{◌≡◌, Bool, ℕ, Option, List, is_some}
 use mathlib.Core.List.{IsPrefix}
 use base.Fml.{Fml, fex, fsep}
 use base.Stored.{Gv}
 use denote.Bor.{Bor}
 use Rattle.logbook.specs.Kept.{Rules, fact, rules, seen_owns}
 use Rattle.logbook.specs.declared.tokens.Rule.{Ghosts}
-use Rattle.papaya_words.specs.declared.probe.Refused.{Refused}
 use Rattle.papaya_lookup.specs.Answers.{IsAnsweredBetween}
 use Rattle.papaya_lookup.specs.History.{Change, IsLegalHistory, history_of, key_of}
 use Rattle.papaya_book.specs.Logs.{Stored}
 use Rattle.papaya_book.specs.declared.rule.entry.Event.{Event}
 use Rattle.papaya_map.specs.Fixed.{Fixed, Pinned}
 
--- This is so of a history, as of the one that a pass has seen which is made for that call alone.
+-- This is so of a history, of whichever map.
 pub record IsOfHistory {K V : Type 0} (eq : K → K → Bool)
     (tells : List (Change K (Stored K V)) → Type 0) : Type 0 where
   pub history : List (Change K (Stored K V))
   pub legal : IsLegalHistory eq key_of history
   pub told : tells history
-
--- it is not refused, and this holds of what it answers
-abbrev pub IsDone : {A : Type 0} → Result A Refused → (A → Type 0) → Type 0
-IsDone (Ok answer) says = says answer
-IsDone (Err refused) says = ⊥
 
 -- the rule of a book, by what its impl says of it
 abbrev pub rule_of : {P E A : Type 0} → Ghosts P E A → Rules E
@@ -33,6 +27,12 @@ rule_of g = rules g.holds g.shows g.keeps
 abbrev pub IsSince : {K V S : Type 0} → Pinned K V S → (eq : K → K → Bool)
     → (tells : List (Change K (Stored K V)) → Type 0) → List (Change K (Stored K V)) → Type 0
 IsSince map eq tells h = IsLegalHistory eq key_of h × IsPrefix map.seen h × tells h
+
+-- This is so of such a history, as of the one that the pass has seen which is made for that call
+-- alone.
+abbrev pub IsOfHistorySince : {K V S : Type 0} → Pinned K V S → (eq : K → K → Bool)
+    → (tells : List (Change K (Stored K V)) → Type 0) → Type 0
+IsOfHistorySince {K} {V} map eq tells = (h : List (Change K (Stored K V))) × IsSince map eq tells h
 
 -- This is so of a history of that very map since it was pinned: its book, kept by this rule, has
 -- reached a log with such a history.

@@ -105,16 +105,18 @@ impl<K: Hash + Eq, V, S: BuildHasher> Model for Pass<K, V, S> {
 }
 
 impl<K: Hash + Eq, V, S: BuildHasher> Pass<K, V, S> {
-    /// Returns a result, with evidence of the history that the pass has observed. A call that
-    /// creates its own pass shows by this which history its result is of: see [`Told`].
+    /// Returns a result, with evidence of the history that the pass has observed, and with the
+    /// changes made by it. A call that creates its own pass shows by this which history its result
+    /// is of, and which changes it made: see [`Told`].
     #[inline(always)]
     pub fn tell<B>(&self, answer: B) -> Told<B, Event<K, V, S>, Named<K, V>, Law<K, V, S>>
         ensures answer { result.answer ≡ answer }
         ensures book { result.book ≡ self.now.book }
         ensures history { history_of result.log ≡ self.now.history }
         ensures legal { IsLegalHistory K.eq key_of (history_of result.log) }
+        ensures made { history_of result.made ≡ self.now.made }
     {
-        tell(answer, &self.sight)
+        tell(answer, &self.sight, &self.own)
     }
 
     /// Takes over what a call observed and did through its window. Does nothing at run time.
@@ -163,10 +165,12 @@ impl<'a, K: Hash + Eq, V, S: BuildHasher> Drop for HashMapRef<'a, K, V, S> {
 }
 
 impl<K: Hash + Eq, V, S: BuildHasher> HashMap<K, V, S> {
-    /// Pins the map, and returns the reference on which calls are made. It writes no word.
+    /// Pins the map, and returns the reference on which calls are made. It writes no word. It has
+    /// observed the history up to the map's creation: see [`HashMapRef::after`].
     #[inline]
     pub fn pin(&self) -> HashMapRef<'_, K, V, S>
-        ensures { result.map ≡ self.now }
+        ensures map { result.map ≡ self.now }
+        ensures seen { IsPrefix self.now.seen result.seen }
     {
         let kept = self.book.keep_root();
         let mut seen = self.book.unseen();
@@ -181,7 +185,8 @@ impl<K: Hash + Eq, V, S: BuildHasher> HashMap<K, V, S> {
     /// Pins the map as [`HashMap::pin`] does: `pin_owned` of 0.2.5, whose reference may be sent to
     /// another thread. Here every pinned map may, as it holds no guard.
     pub fn pin_owned(&self) -> HashMapRef<'_, K, V, S>
-        ensures { result.map ≡ self.now }
+        ensures map { result.map ≡ self.now }
+        ensures seen { IsPrefix self.now.seen result.seen }
     {
         self.pin()
     }
@@ -282,6 +287,24 @@ impl<'a, K: Hash + Eq, V, S: BuildHasher> HashMapRef<'a, K, V, S> {
             map: self.map,
             kept: self.kept.again(),
             seen: self.seen.again(),
+        }
+    }
+
+    /// Returns the same pinned map, which has observed what this pass has as well. So a result of
+    /// its calls is correct for a state after all that the pass had observed. Does nothing at run
+    /// time.
+    pub fn after(&self, pass: &Pass<K, V, S>) -> HashMapRef<'a, K, V, S>
+        requires { pass.now.book ≡ self.now.map.book }
+        ensures map { result.map ≡ self.now.map }
+        ensures seen { IsPrefix self.now.seen result.seen }
+        ensures passed { IsPrefix pass.now.history result.seen }
+    {
+        let mut seen = self.seen.again();
+        seen.learn(&pass.sight);
+        HashMapRef {
+            map: self.map,
+            kept: self.kept.again(),
+            seen,
         }
     }
 

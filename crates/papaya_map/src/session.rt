@@ -83,6 +83,15 @@ impl<'a, K: Hash + Eq, V, S: BuildHasher> Session<'a, K, V, S> {
         self.map.map()
     }
 
+    /// Returns the pinned map, for calls without a history. It has observed what the session has:
+    /// a result of its calls is correct for a state after all that. Does nothing at run time.
+    pub fn pinned(&self) -> HashMapRef<'a, K, V, S>
+        ensures map { result.map ≡ self.now.map }
+        ensures seen { IsPrefix self.now.history result.seen }
+    {
+        self.map.after(&self.pass)
+    }
+
     /// Returns the number of entries counted: `len` of 0.2.5. A change is counted one step after it
     /// is made.
     pub fn len(&self) -> usize {
@@ -106,14 +115,16 @@ impl<'a, K: Hash + Eq, V, S: BuildHasher> Session<'a, K, V, S> {
         } = self.pass.tell(());
     }
 
-    /// Returns a result, with evidence of the history that the session has observed. A call that
-    /// creates its own session shows by this which history its result is of: see [`Told`].
+    /// Returns a result, with evidence of the history that the session has observed, and with the
+    /// changes made by it. A call that creates its own session shows by this which history its
+    /// result is of, and which changes it made: see [`Told`].
     #[inline(always)]
     pub fn tell<B>(&self, answer: B) -> Saying<B, K, V, S>
         ensures answer { result.answer ≡ answer }
         ensures book { result.book ≡ self.now.map.book }
         ensures history { history_of result.log ≡ self.now.history }
         ensures legal { IsLegalHistory K.eq key_of (history_of result.log) }
+        ensures made { history_of result.made ≡ self.now.made }
     {
         self.pass.tell(answer)
     }

@@ -5,7 +5,7 @@
 //! [`Session::tell`](crate::session::Session::tell). Its second half returns the same result. Its
 //! contract states, by that evidence, that the result is of a history of that very map
 //! (`of_its_history`).
-ghost use Rattle.std.specs.Prelude.{◌≡◌, ℕ, List};
+ghost use Rattle.std.specs.Prelude.{◌≡◌, ℕ, List, map};
 ghost use base.Stored.{coded_list};
 ghost use Rattle.logbook.specs.Pages.{Book, book_coded};
 ghost use Rattle.logbook.specs.Kept.{rules, seen_owns};
@@ -13,16 +13,19 @@ ghost use Rattle.logbook.specs.Kept.{rules, seen_owns};
 use logbook::{Rule, Seen};
 use papaya_book::rule::entry::{Event, Named};
 use papaya_book::rule::law::Law;
+use papaya_book::rule::own::OwnSteps;
 use std::marker::{Model, PhantomData};
 
 /// A result, with evidence that a book has reached a log: contracts see that book and that log.
-/// At run time it holds only the result.
+/// They also see the entries that the call's own pass made, oldest first. At run time it holds
+/// only the result.
 pub struct Told<B, E, A, P: Rule<E, A>> {
     pub answer: B,
     pub marker: PhantomData<(E, A, P)>,
     pub ghost book: { Book } by { book_coded },
     pub ghost names: { List ℕ },
     pub ghost log: { List E } by { coded_list E.code },
+    pub ghost made: { List E } by { coded_list E.code },
 }
 
 /// A result of a map, with evidence that the map's book has reached a log.
@@ -33,12 +36,20 @@ impl<B, E, A, P: Rule<E, A>> Model for Told<B, E, A, P> {
         t.names t.log };
 }
 
-/// Returns the result, with what was observed. Does nothing at run time.
-pub fn tell<B, E, A, P: Rule<E, A>>(answer: B, seen: &Seen<E, A, P>) -> Told<B, E, A, P>
+/// Returns the result, with what was observed, and with the steps of the call's own pass, each as
+/// an entry of the log. Does nothing at run time.
+pub(crate) fn tell<B, E, A, P: Rule<E, A>, T>(
+    answer: B,
+    seen: &Seen<E, A, P>,
+    own: &OwnSteps<T>,
+) -> Told<B, E, A, P>
+    ghost entry: { T → E }
     ensures { (result.answer ≡ answer) × (result.book ≡ seen.now.book)
-        × (result.names ≡ seen.now.names) × (result.log ≡ seen.now.log) }
+        × (result.names ≡ seen.now.names) × (result.log ≡ seen.now.log)
+        × (result.made ≡ map entry own.now.done) }
 {
     let _ = seen;
+    let _ = own;
     Told {
         answer,
         marker: PhantomData,

@@ -38,6 +38,6 @@ module _ {F W K : Type 0} (g : Mut F (Bor K × Unit {0}) Bool) (h : Mut W (Bor K
   -- by a pass that had made no change
   pub kept_since : {A : Type 0} (eq : K → K → Bool) (old new made made' : List (Change K (Stored K (Unit {0})))) (first : W)
       (result : Result A Refused) → made ≡ [] → HasKept eq old new made made' (Judges h) first result
-      → (made'' : List (Change K (Stored K (Unit {0})))) × HasKept eq old new [] made'' (JudgesKey g) (of first) result
+      → HasKept eq old new [] made' (JudgesKey g) (of first) result
   kept_since eq old new made made' first result none
-      k = (made', subst (λ z. HasKept eq old new z made' (JudgesKey g) (of first) result) none (kept eq old new made made' first result k))
+      k = subst (λ z. HasKept eq old new z made' (JudgesKey g) (of first) result) none (kept eq old new made made' first result k)

@@ -1,14 +1,14 @@
 -- What calls on the set that threads share answer, by a history of the map of its keys to
 -- unit values.
-use Rattle.std.specs.Prelude.{◌≡◌, [], Bool, List, Option, Ok, is_none, is_some, option_map}
+use Rattle.std.specs.Prelude.{◌≡◌, Bool, false, List, Option, Result, Ok, Err, is_none, is_some, option_map}
 use Rattle.std.specs.Borrow.{Bor}
 use Rattle.std.specs.Fn.{Called, Mut}
 use Rattle.papaya_book.specs.Logs.{Stored}
+use Rattle.papaya_words.specs.declared.probe.Refused.{Refused}
 use Rattle.papaya_change.specs.Changes.{IsPut}
 use Rattle.papaya_change.specs.RemovalAnswers.{IsRemoved}
 use Rattle.papaya_lookup.specs.Answers.{IsPairAnsweredBetween}
 use Rattle.papaya_lookup.specs.History.{Change, key_of}
-use Rattle.papaya_map.specs.Plain.{IsOfHistory}
 use Rattle.papaya_map.specs.Plain as map
 
 module _ {K : Type 0} (eq : K → K → Bool) where
@@ -36,18 +36,10 @@ module _ {K : Type 0} (eq : K → K → Bool) where
   IsRemovedKeyBetween matches old new was = (taken : Option (Bor (Unit {0})))
       × (was ≡ is_some taken) × IsRemoved eq matches old new (Ok taken)
 
-  -- each of these is so of some history
-  abbrev pub IsContained : (K → Bool) → Bool → Type 0
-  IsContained matches has = IsOfHistory eq (λ h. IsContainedBetween matches [] h has)
-
-  abbrev pub IsKeyFound : (K → Bool) → Option (Bor K) → Type 0
-  IsKeyFound matches answer = IsOfHistory eq (λ h. IsKeyFoundBetween matches [] h answer)
-
-  abbrev pub IsInserted : K → Bool → Type 0
-  IsInserted key is_new = IsOfHistory eq (λ h. IsInsertedBetween key [] h is_new)
-
-  abbrev pub IsRemovedKey : (K → Bool) → Bool → Type 0
-  IsRemovedKey matches was = IsOfHistory eq (λ h. IsRemovedKeyBetween matches [] h was)
+-- a removal took a key out
+abbrev pub was_taken : Result Bool Refused → Bool
+was_taken (Ok was) = was
+was_taken (Err refused) = false
 
 -- the closure is shown a pair's key, answers this, and is g then
 abbrev pub JudgesKey : {F K : Type 0} → Mut F (Bor K × Unit {0}) Bool → F → Stored K (Unit {0})

@@ -8,13 +8,12 @@ ghost use denote.Struct.Field.{unit-field};
 ghost use mathlib.Core.List.{IsPrefix};
 ghost use Rattle.papaya_book.specs.contracts.rule.entry.Event.{the_row as EventOf};
 ghost use Rattle.papaya_change.specs.Writing.{IsMemoryOrCapacity};
-ghost use Rattle.papaya_lookup.specs.History.{IsLegalHistory, history_of, key_of};
+ghost use Rattle.papaya_lookup.specs.History.{IsLegalHistory, Makes, history_of, key_of};
 ghost use Rattle.papaya_map.specs.Limited.{IsPlainRefusal};
-ghost use Rattle.papaya_map.specs.Plain.{IsDone, IsOfHistory, of_its_history, rule_of, unpinned};
-ghost use Rattle.papaya_scan.specs.Leaving.{HasKept, IsCleared};
-ghost use Rattle.papaya_set.specs.Shared.{IsContained, IsInserted, IsKeyFound, IsRemovedKey};
+ghost use Rattle.papaya_map.specs.Plain.{IsOfHistorySince, of_its_history, rule_of, unpinned};
+ghost use Rattle.papaya_scan.specs.Leaving.{HasDropped, HasKept, IsCleared};
 ghost use Rattle.papaya_set.specs.Shared.{IsContainedBetween, IsInsertedBetween};
-ghost use Rattle.papaya_set.specs.Shared.{IsKeyFoundBetween, IsRemovedKeyBetween, JudgesKey};
+ghost use Rattle.papaya_set.specs.Shared.{IsKeyFoundBetween, IsRemovedKeyBetween, JudgesKey, was_taken};
 
 use crate::iter::Iter;
 use crate::set::HashSet;
@@ -55,13 +54,14 @@ impl<K: Hash + Eq, S: BuildHasher> HashSet<K, S> {
         self.map.verify(guard)
     }
 
-    /// Returns a refusal, with the history observed up to the set's creation.
+    /// Returns a refusal, with the history observed up to the set's creation, and no change.
     #[inline(always)]
     fn tell_refused<B>(&self, refused: Refused) -> Saying<Result<B, Refused>, K, (), S>
         ensures answer { result.answer ≡ Err refused }
         ensures book { result.book ≡ self.now.book }
         ensures legal { IsLegalHistory K.eq key_of (history_of result.log) }
         ensures seen { IsPrefix self.now.seen (history_of result.log) }
+        ensures made { history_of result.made ≡ [] }
     {
         let pass = self.map.begun(None);
         pass.tell(Err(refused))
@@ -74,6 +74,7 @@ impl<K: Hash + Eq, S: BuildHasher> HashSet<K, S> {
         key: &Q,
         guard: &G,
     ) -> Saying<Result<bool, Refused>, K, (), S>
+        ensures made { history_of result.made ≡ [] }
         ensures book { result.book ≡ self.now.book }
         ensures legal { IsLegalHistory K.eq key_of (history_of result.log) }
         ensures seen { IsPrefix self.now.seen (history_of result.log) }
@@ -103,8 +104,10 @@ impl<K: Hash + Eq, S: BuildHasher> HashSet<K, S> {
             (rule_of ⟦<Law<K, (), S> as Rule<Event<K, (), S>, Named<K, ()>>>⟧) (unpinned self.now)
             K.eq (λ h. IfOk result (IsContainedBetween K.eq (Q.matches key.now)
             self.now.seen h))) }
+        ensures contained { IsOfHistorySince (unpinned self.now) K.eq
+            (λ h. IfOk result (IsContainedBetween K.eq (Q.matches key.now) self.now.seen h)) }
         ensures right { G.collector_number guard.now ≡ self.now.collector
-            → IsDone result (IsContained K.eq (Q.matches key.now)) }
+            → is_ok result ≡ true }
         ensures wrong { (G.collector_number guard.now ≡ self.now.collector → ⊥)
             → result ≡ Err Refused.WrongGuard }
     {
@@ -119,6 +122,7 @@ impl<K: Hash + Eq, S: BuildHasher> HashSet<K, S> {
         key: &Q,
         guard: &'g G,
     ) -> Saying<Result<Option<&'g K>, Refused>, K, (), S>
+        ensures made { history_of result.made ≡ [] }
         ensures book { result.book ≡ self.now.book }
         ensures legal { IsLegalHistory K.eq key_of (history_of result.log) }
         ensures seen { IsPrefix self.now.seen (history_of result.log) }
@@ -154,8 +158,10 @@ impl<K: Hash + Eq, S: BuildHasher> HashSet<K, S> {
             (rule_of ⟦<Law<K, (), S> as Rule<Event<K, (), S>, Named<K, ()>>>⟧) (unpinned self.now)
             K.eq (λ h. IfOk result (IsKeyFoundBetween K.eq (Q.matches key.now)
             self.now.seen h))) }
+        ensures found { IsOfHistorySince (unpinned self.now) K.eq
+            (λ h. IfOk result (IsKeyFoundBetween K.eq (Q.matches key.now) self.now.seen h)) }
         ensures right { G.collector_number guard.now ≡ self.now.collector
-            → IsDone result (IsKeyFound K.eq (Q.matches key.now)) }
+            → is_ok result ≡ true }
         ensures wrong { (G.collector_number guard.now ≡ self.now.collector → ⊥)
             → result ≡ Err Refused.WrongGuard }
     {
@@ -171,6 +177,8 @@ impl<K: Hash + Eq, S: BuildHasher> HashSet<K, S> {
         key: &Q,
         guard: &G,
     ) -> Saying<Result<bool, Refused>, K, (), S>
+        ensures made { Makes (was_taken result.answer) [] (history_of result.made)
+            (history_of result.log) }
         ensures book { result.book ≡ self.now.book }
         ensures legal { IsLegalHistory K.eq key_of (history_of result.log) }
         ensures seen { IsPrefix self.now.seen (history_of result.log) }
@@ -205,8 +213,8 @@ impl<K: Hash + Eq, S: BuildHasher> HashSet<K, S> {
             (rule_of ⟦<Law<K, (), S> as Rule<Event<K, (), S>, Named<K, ()>>>⟧) (unpinned self.now)
             K.eq (λ h. IfOk result (IsRemovedKeyBetween K.eq (Q.matches key.now)
             self.now.seen h))) }
-        ensures removed { G.collector_number guard.now ≡ self.now.collector
-            → IfOk result (IsRemovedKey K.eq (Q.matches key.now)) }
+        ensures removed { IsOfHistorySince (unpinned self.now) K.eq
+            (λ h. IfOk result (IsRemovedKeyBetween K.eq (Q.matches key.now) self.now.seen h)) }
         ensures right { G.collector_number guard.now ≡ self.now.collector
             → IfErr result IsMemoryOrCapacity }
         ensures wrong { (G.collector_number guard.now ≡ self.now.collector → ⊥)
@@ -241,6 +249,10 @@ impl<K: Hash + Eq, S: BuildHasher> HashSet<K, S> {
         rt: &R,
         guard: &G,
     ) -> Saying<Result<(), Refused>, K, (), S>
+        ensures made { (G.collector_number guard.now ≡ self.now.collector
+            → HasDropped K.eq self.now.seen (history_of result.log) []
+            (history_of result.made)) × ((G.collector_number guard.now ≡ self.now.collector
+            → ⊥) → history_of result.made ≡ []) }
         ensures book { result.book ≡ self.now.book }
         ensures legal { IsLegalHistory K.eq key_of (history_of result.log) }
         ensures seen { IsPrefix self.now.seen (history_of result.log) }
@@ -267,6 +279,8 @@ impl<K: Hash + Eq, S: BuildHasher> HashSet<K, S> {
         ensures* own { sem 𝓛 (of_its_history (EventOf K.row unit-field.row S.row).coded.code
             (rule_of ⟦<Law<K, (), S> as Rule<Event<K, (), S>, Named<K, ()>>>⟧) (unpinned self.now)
             K.eq (λ h. IfOk result (λ _. IsCleared K.eq self.now.seen h))) }
+        ensures cleared { IsOfHistorySince (unpinned self.now) K.eq
+            (λ h. IfOk result (λ _. IsCleared K.eq self.now.seen h)) }
         ensures right { G.collector_number guard.now ≡ self.now.collector
             → IfErr result IsMemoryOrCapacity }
         ensures wrong { (G.collector_number guard.now ≡ self.now.collector → ⊥)
@@ -285,11 +299,13 @@ impl<K: Hash + Eq, S: BuildHasher> HashSet<K, S> {
         guard: &G,
     ) -> Saying<Result<(), Refused>, K, (), S>
         requires { F.IsAlwaysCallable stays }
+        ensures made { (G.collector_number guard.now ≡ self.now.collector → ⊥)
+            → history_of result.made ≡ [] }
         ensures book { result.book ≡ self.now.book }
         ensures legal { IsLegalHistory K.eq key_of (history_of result.log) }
         ensures seen { IsPrefix self.now.seen (history_of result.log) }
         ensures kept { G.collector_number guard.now ≡ self.now.collector
-            → (made : _) × HasKept K.eq self.now.seen (history_of result.log) [] made
+            → HasKept K.eq self.now.seen (history_of result.log) [] (history_of result.made)
             (JudgesKey F.FnMut) stays result.answer }
         ensures right { G.collector_number guard.now ≡ self.now.collector
             → IfErr result.answer IsMemoryOrCapacity }
@@ -319,9 +335,9 @@ impl<K: Hash + Eq, S: BuildHasher> HashSet<K, S> {
             (rule_of ⟦<Law<K, (), S> as Rule<Event<K, (), S>, Named<K, ()>>>⟧) (unpinned self.now)
             K.eq (λ h. G.collector_number guard.now ≡ self.now.collector
             → (made : _) × HasKept K.eq self.now.seen h [] made (JudgesKey F.FnMut) stays result)) }
-        ensures kept { G.collector_number guard.now ≡ self.now.collector
-            → IsOfHistory K.eq (λ h. (made : _) × HasKept K.eq [] h [] made (JudgesKey F.FnMut)
-            stays result) }
+        ensures kept { IsOfHistorySince (unpinned self.now) K.eq
+            (λ h. G.collector_number guard.now ≡ self.now.collector → (made : _) × HasKept K.eq
+            self.now.seen h [] made (JudgesKey F.FnMut) stays result) }
         ensures right { G.collector_number guard.now ≡ self.now.collector
             → IfErr result IsMemoryOrCapacity }
         ensures wrong { (G.collector_number guard.now ≡ self.now.collector → ⊥)
@@ -359,6 +375,8 @@ impl<K: Hash + Eq + Drop, S: BuildHasher> HashSet<K, S> {
         key: K,
         guard: &G,
     ) -> Saying<Result<bool, Refused>, K, (), S>
+        ensures made { Makes (is_ok result.answer) [] (history_of result.made)
+            (history_of result.log) }
         ensures book { result.book ≡ self.now.book }
         ensures legal { IsLegalHistory K.eq key_of (history_of result.log) }
         ensures seen { IsPrefix self.now.seen (history_of result.log) }
@@ -388,7 +406,8 @@ impl<K: Hash + Eq + Drop, S: BuildHasher> HashSet<K, S> {
         ensures* own { sem 𝓛 (of_its_history (EventOf K.row unit-field.row S.row).coded.code
             (rule_of ⟦<Law<K, (), S> as Rule<Event<K, (), S>, Named<K, ()>>>⟧) (unpinned self.now)
             K.eq (λ h. IfOk result (IsInsertedBetween K.eq key self.now.seen h))) }
-        ensures put { IfOk result (IsInserted K.eq key) }
+        ensures put { IsOfHistorySince (unpinned self.now) K.eq
+            (λ h. IfOk result (IsInsertedBetween K.eq key self.now.seen h)) }
         ensures right { G.collector_number guard.now ≡ self.now.collector
             → IfErr result (IsPlainRefusal self.now.begun.limit) }
         ensures wrong { (G.collector_number guard.now ≡ self.now.collector → ⊥)

@@ -1,19 +1,18 @@
 //! The calls of a pinned set. Each creates a pass that has observed the history up to the pin, and
 //! its result is of that very set's own history since. For calls whose histories continue from one
 //! to the next use [`HashSet::map`] and its calls by a pass.
-ghost use Rattle.std.specs.Prelude.{◌≡◌, [], IfErr, IfOk};
+ghost use Rattle.std.specs.Prelude.{◌≡◌, [], IfErr, IfOk, is_ok};
 ghost use Rattle.std.specs.Borrow.{sem};
 ghost use denote.Struct.Field.{unit-field};
 ghost use mathlib.Core.List.{IsPrefix};
 ghost use Rattle.papaya_book.specs.contracts.rule.entry.Event.{the_row as EventOf};
 ghost use Rattle.papaya_change.specs.Writing.{IsMemoryOrCapacity};
-ghost use Rattle.papaya_lookup.specs.History.{IsLegalHistory, history_of, key_of};
+ghost use Rattle.papaya_lookup.specs.History.{IsLegalHistory, Makes, history_of, key_of};
 ghost use Rattle.papaya_map.specs.Limited.{IsPlainRefusal};
-ghost use Rattle.papaya_map.specs.Plain.{IsOfHistory, of_its_history, rule_of};
-ghost use Rattle.papaya_scan.specs.Leaving.{HasKept, IsCleared};
-ghost use Rattle.papaya_set.specs.Shared.{IsContained, IsInserted, IsKeyFound, IsRemovedKey};
+ghost use Rattle.papaya_map.specs.Plain.{IsOfHistorySince, of_its_history, rule_of};
+ghost use Rattle.papaya_scan.specs.Leaving.{HasDropped, HasKept, IsCleared};
 ghost use Rattle.papaya_set.specs.Shared.{IsContainedBetween, IsInsertedBetween};
-ghost use Rattle.papaya_set.specs.Shared.{IsKeyFoundBetween, IsRemovedKeyBetween, JudgesKey};
+ghost use Rattle.papaya_set.specs.Shared.{IsKeyFoundBetween, IsRemovedKeyBetween, JudgesKey, was_taken};
 
 use crate::iter::Iter;
 use crate::set::{HashSet, HashSetRef};
@@ -62,6 +61,7 @@ impl<'a, K: Hash + Eq, S: BuildHasher> HashSetRef<'a, K, S> {
     /// Performs [`HashSetRef::contains`], and returns the observed history as well.
     #[inline(always)]
     fn contains_told<Q: Equivalent<K>>(&self, key: &Q) -> Saying<bool, K, (), S>
+        ensures made { history_of result.made ≡ [] }
         ensures book { result.book ≡ self.now.map.book }
         ensures legal { IsLegalHistory K.eq key_of (history_of result.log) }
         ensures seen { IsPrefix self.now.seen (history_of result.log) }
@@ -80,7 +80,8 @@ impl<'a, K: Hash + Eq, S: BuildHasher> HashSetRef<'a, K, S> {
         ensures* own { sem 𝓛 (of_its_history (EventOf K.row unit-field.row S.row).coded.code
             (rule_of ⟦<Law<K, (), S> as Rule<Event<K, (), S>, Named<K, ()>>>⟧) self.now K.eq
             (λ h. IsContainedBetween K.eq (Q.matches key.now) self.now.seen h result)) }
-        ensures contained { IsContained K.eq (Q.matches key.now) result }
+        ensures contained { IsOfHistorySince self.now K.eq
+            (λ h. IsContainedBetween K.eq (Q.matches key.now) self.now.seen h result) }
     {
         let Told { answer, marker: _ } = self.contains_told(key);
         answer
@@ -89,6 +90,7 @@ impl<'a, K: Hash + Eq, S: BuildHasher> HashSetRef<'a, K, S> {
     /// Performs [`HashSetRef::get`], and returns the observed history as well.
     #[inline(always)]
     fn get_told<Q: Equivalent<K>>(&self, key: &Q) -> Saying<Option<&'a K>, K, (), S>
+        ensures made { history_of result.made ≡ [] }
         ensures book { result.book ≡ self.now.map.book }
         ensures legal { IsLegalHistory K.eq key_of (history_of result.log) }
         ensures seen { IsPrefix self.now.seen (history_of result.log) }
@@ -109,7 +111,8 @@ impl<'a, K: Hash + Eq, S: BuildHasher> HashSetRef<'a, K, S> {
         ensures* own { sem 𝓛 (of_its_history (EventOf K.row unit-field.row S.row).coded.code
             (rule_of ⟦<Law<K, (), S> as Rule<Event<K, (), S>, Named<K, ()>>>⟧) self.now K.eq
             (λ h. IsKeyFoundBetween K.eq (Q.matches key.now) self.now.seen h result)) }
-        ensures found { IsKeyFound K.eq (Q.matches key.now) result }
+        ensures found { IsOfHistorySince self.now K.eq
+            (λ h. IsKeyFoundBetween K.eq (Q.matches key.now) self.now.seen h result) }
     {
         let Told { answer, marker: _ } = self.get_told(key);
         answer
@@ -122,6 +125,8 @@ impl<'a, K: Hash + Eq, S: BuildHasher> HashSetRef<'a, K, S> {
         rt: &R,
         key: &Q,
     ) -> Saying<Result<bool, Refused>, K, (), S>
+        ensures made { Makes (was_taken result.answer) [] (history_of result.made)
+            (history_of result.log) }
         ensures book { result.book ≡ self.now.map.book }
         ensures legal { IsLegalHistory K.eq key_of (history_of result.log) }
         ensures seen { IsPrefix self.now.seen (history_of result.log) }
@@ -145,7 +150,8 @@ impl<'a, K: Hash + Eq, S: BuildHasher> HashSetRef<'a, K, S> {
         ensures* own { sem 𝓛 (of_its_history (EventOf K.row unit-field.row S.row).coded.code
             (rule_of ⟦<Law<K, (), S> as Rule<Event<K, (), S>, Named<K, ()>>>⟧) self.now K.eq
             (λ h. IfOk result (IsRemovedKeyBetween K.eq (Q.matches key.now) self.now.seen h))) }
-        ensures removed { IfOk result (IsRemovedKey K.eq (Q.matches key.now)) }
+        ensures removed { IsOfHistorySince self.now K.eq
+            (λ h. IfOk result (IsRemovedKeyBetween K.eq (Q.matches key.now) self.now.seen h)) }
         ensures refused { IfErr result IsMemoryOrCapacity }
     {
         let Told { answer, marker: _ } = self.remove_told(rt, key);
@@ -167,6 +173,8 @@ impl<'a, K: Hash + Eq, S: BuildHasher> HashSetRef<'a, K, S> {
     /// Performs [`HashSetRef::clear`], and returns the observed history as well.
     #[inline(always)]
     fn clear_told<R: Wait>(&self, rt: &R) -> Saying<Result<(), Refused>, K, (), S>
+        ensures made { HasDropped K.eq self.now.seen (history_of result.log) []
+            (history_of result.made) }
         ensures book { result.book ≡ self.now.map.book }
         ensures legal { IsLegalHistory K.eq key_of (history_of result.log) }
         ensures seen { IsPrefix self.now.seen (history_of result.log) }
@@ -188,6 +196,8 @@ impl<'a, K: Hash + Eq, S: BuildHasher> HashSetRef<'a, K, S> {
         ensures* own { sem 𝓛 (of_its_history (EventOf K.row unit-field.row S.row).coded.code
             (rule_of ⟦<Law<K, (), S> as Rule<Event<K, (), S>, Named<K, ()>>>⟧) self.now K.eq
             (λ h. IfOk result (λ _. IsCleared K.eq self.now.seen h))) }
+        ensures cleared { IsOfHistorySince self.now K.eq
+            (λ h. IfOk result (λ _. IsCleared K.eq self.now.seen h)) }
         ensures refused { IfErr result IsMemoryOrCapacity }
     {
         let Told { answer, marker: _ } = self.clear_told(rt);
@@ -205,8 +215,8 @@ impl<'a, K: Hash + Eq, S: BuildHasher> HashSetRef<'a, K, S> {
         ensures book { result.book ≡ self.now.map.book }
         ensures legal { IsLegalHistory K.eq key_of (history_of result.log) }
         ensures seen { IsPrefix self.now.seen (history_of result.log) }
-        ensures kept { (made : _) × HasKept K.eq self.now.seen (history_of result.log) [] made
-            (JudgesKey F.FnMut) stays result.answer }
+        ensures kept { HasKept K.eq self.now.seen (history_of result.log) []
+            (history_of result.made) (JudgesKey F.FnMut) stays result.answer }
         ensures refused { IfErr result.answer IsMemoryOrCapacity }
     {
         let mut session = self.keys.begun_session(None);
@@ -228,8 +238,9 @@ impl<'a, K: Hash + Eq, S: BuildHasher> HashSetRef<'a, K, S> {
             (rule_of ⟦<Law<K, (), S> as Rule<Event<K, (), S>, Named<K, ()>>>⟧) self.now K.eq
             (λ h. (made : _) × HasKept K.eq self.now.seen h [] made (JudgesKey F.FnMut)
             stays result)) }
-        ensures kept { IsOfHistory K.eq (λ h. (made : _) × HasKept K.eq [] h [] made
-            (JudgesKey F.FnMut) stays result) }
+        ensures kept { IsOfHistorySince self.now K.eq
+            (λ h. (made : _) × HasKept K.eq self.now.seen h [] made (JudgesKey F.FnMut) stays
+            result) }
         ensures refused { IfErr result IsMemoryOrCapacity }
     {
         let Told { answer, marker: _ } = self.retain_told(rt, stays);
@@ -256,6 +267,8 @@ impl<'a, K: Hash + Eq + Drop, S: BuildHasher> HashSetRef<'a, K, S> {
     /// Performs [`HashSetRef::insert`], and returns the observed history as well.
     #[inline(always)]
     fn insert_told<R: Wait>(&self, rt: &R, key: K) -> Saying<Result<bool, Refused>, K, (), S>
+        ensures made { Makes (is_ok result.answer) [] (history_of result.made)
+            (history_of result.log) }
         ensures book { result.book ≡ self.now.map.book }
         ensures legal { IsLegalHistory K.eq key_of (history_of result.log) }
         ensures seen { IsPrefix self.now.seen (history_of result.log) }
@@ -282,7 +295,8 @@ impl<'a, K: Hash + Eq + Drop, S: BuildHasher> HashSetRef<'a, K, S> {
         ensures* own { sem 𝓛 (of_its_history (EventOf K.row unit-field.row S.row).coded.code
             (rule_of ⟦<Law<K, (), S> as Rule<Event<K, (), S>, Named<K, ()>>>⟧) self.now K.eq
             (λ h. IfOk result (IsInsertedBetween K.eq key self.now.seen h))) }
-        ensures put { IfOk result (IsInserted K.eq key) }
+        ensures put { IsOfHistorySince self.now K.eq
+            (λ h. IfOk result (IsInsertedBetween K.eq key self.now.seen h)) }
         ensures refused { IfErr result (IsPlainRefusal self.now.map.begun.limit) }
     {
         let Told { answer, marker: _ } = self.insert_told(rt, key);

@@ -1,13 +1,13 @@
 //! The calls whose closure returns what becomes of a key's entry: by a pass, without one, and with
 //! a guard.
-ghost use Rattle.std.specs.Prelude.{◌≡◌, Err, IsSome, Some, []};
+ghost use Rattle.std.specs.Prelude.{◌≡◌, Err, IsSome, Some};
 ghost use Rattle.std.specs.Borrow.{sem};
 ghost use mathlib.Core.List.{IsPrefix};
 ghost use Rattle.papaya_book.specs.Limits.{HasNoRoom};
 ghost use Rattle.papaya_change.specs.Showings.{Operates};
 ghost use Rattle.papaya_compute.specs.ComputeAnswers.{IsComputeBy, changes};
 ghost use Rattle.papaya_lookup.specs.History.{Makes};
-ghost use Rattle.papaya_map.specs.Plain.{IsOfHistory, of_its_history, rule_of, unpinned};
+ghost use Rattle.papaya_map.specs.Plain.{IsOfHistorySince, of_its_history, rule_of, unpinned};
 ghost use Rattle.papaya_book.specs.contracts.rule.entry.Event.{the_row as EventOf};
 
 use crate::computing::compute;
@@ -90,8 +90,8 @@ impl<'a, K: Hash + Eq + Drop, V: Drop, S: BuildHasher> HashMapRef<'a, K, V, S> {
         ensures* own { sem 𝓛 (of_its_history (EventOf K.row V.row S.row).coded.code
             (rule_of ⟦<Law<K, V, S> as Rule<Event<K, V, S>, Named<K, V>>>⟧) self.now K.eq
             (λ h. IsComputeBy K.eq key self.now.seen h (Operates F.FnMut) f result)) }
-        ensures computed { IsOfHistory K.eq (λ h. IsComputeBy K.eq key [] h (Operates F.FnMut) f
-            result) }
+        ensures computed { IsOfHistorySince self.now K.eq
+            (λ h. IsComputeBy K.eq key self.now.seen h (Operates F.FnMut) f result) }
         ensures limited { result ≡ Err Refused.Limit → IsSome self.now.map.begun.limit }
     {
         let Told { answer, marker: _ } = self.compute_told(rt, key, f);
@@ -117,9 +117,9 @@ impl<K: Hash + Eq + Drop, V: Drop, S: BuildHasher> HashMap<K, V, S> {
             (rule_of ⟦<Law<K, V, S> as Rule<Event<K, V, S>, Named<K, V>>>⟧) (unpinned self.now) K.eq
             (λ h. G.collector_number guard.now ≡ self.now.collector
             → IsComputeBy K.eq key self.now.seen h (Operates F.FnMut) f result)) }
-        ensures right { G.collector_number guard.now ≡ self.now.collector
-            → IsOfHistory K.eq
-            (λ h. IsComputeBy K.eq key [] h (Operates F.FnMut) f result) }
+        ensures computed { IsOfHistorySince (unpinned self.now) K.eq
+            (λ h. G.collector_number guard.now ≡ self.now.collector
+            → IsComputeBy K.eq key self.now.seen h (Operates F.FnMut) f result) }
         ensures limited { result ≡ Err Refused.Limit → IsSome self.now.begun.limit }
         ensures wrong { (G.collector_number guard.now ≡ self.now.collector → ⊥)
             → result ≡ Err Refused.WrongGuard }

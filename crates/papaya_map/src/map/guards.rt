@@ -57,13 +57,14 @@ impl<K: Hash + Eq, V, S: BuildHasher> HashMap<K, V, S> {
         Ok(self.begun(Some(guard.number())))
     }
 
-    /// Returns a refusal, with the history observed up to the map's creation.
+    /// Returns a refusal, with the history observed up to the map's creation, and no change.
     #[inline(always)]
     pub(crate) fn tell_refused<B>(&self, refused: Refused) -> Saying<Result<B, Refused>, K, V, S>
         ensures answer { result.answer ≡ Err refused }
         ensures book { result.book ≡ self.now.book }
         ensures legal { IsLegalHistory K.eq key_of (history_of result.log) }
         ensures seen { IsPrefix self.now.seen (history_of result.log) }
+        ensures made { history_of result.made ≡ [] }
     {
         let pass = self.begun(None);
         pass.tell(Err(refused))

@@ -1,13 +1,13 @@
 //! The calls that store a value, always or only if the key has none: by a pass, without one, and
 //! with a guard.
-ghost use Rattle.std.specs.Prelude.{◌≡◌, Err, IfErr, IfOk, [], is_ok};
+ghost use Rattle.std.specs.Prelude.{◌≡◌, Err, IfErr, IfOk, is_ok};
 ghost use Rattle.std.specs.Borrow.{sem};
 ghost use mathlib.Core.List.{IsPrefix};
 ghost use Rattle.papaya_book.specs.Limits.{HasNoRoom};
 ghost use Rattle.papaya_change.specs.Changes.{IsPut};
 ghost use Rattle.papaya_lookup.specs.History.{Makes};
 ghost use Rattle.papaya_map.specs.Limited.{IsPlainRefusal, IsWriteRefusal};
-ghost use Rattle.papaya_map.specs.Plain.{IsOfHistory, of_its_history, rule_of, unpinned};
+ghost use Rattle.papaya_map.specs.Plain.{IsOfHistorySince, of_its_history, rule_of, unpinned};
 ghost use Rattle.papaya_map.specs.Storing.{IsThere, IsTried, IsTriedWith};
 ghost use Rattle.papaya_book.specs.contracts.rule.entry.Event.{the_row as EventOf};
 
@@ -81,8 +81,8 @@ impl<'a, K: Hash + Eq + Drop, V: Drop, S: BuildHasher> HashMapRef<'a, K, V, S> {
         ensures* own { sem 𝓛 (of_its_history (EventOf K.row V.row S.row).coded.code
             (rule_of ⟦<Law<K, V, S> as Rule<Event<K, V, S>, Named<K, V>>>⟧) self.now K.eq
             (λ h. IfOk result (IsPut K.eq key value self.now.seen h))) }
-        ensures put { IfOk result (λ answer. IsOfHistory K.eq (λ h. IsPut K.eq key value [] h
-            answer)) }
+        ensures put { IsOfHistorySince self.now K.eq
+            (λ h. IfOk result (IsPut K.eq key value self.now.seen h)) }
         ensures refused { IfErr result (IsPlainRefusal self.now.map.begun.limit) }
     {
         let Told { answer, marker: _ } = self.insert_told(rt, key, value);
@@ -104,8 +104,8 @@ impl<'a, K: Hash + Eq + Drop, V: Drop, S: BuildHasher> HashMapRef<'a, K, V, S> {
         ensures* own { sem 𝓛 (of_its_history (EventOf K.row V.row S.row).coded.code
             (rule_of ⟦<Law<K, V, S> as Rule<Event<K, V, S>, Named<K, V>>>⟧) self.now K.eq
             (λ h. IfOk result (IsTried K.eq key self.now.seen h value))) }
-        ensures tried { IfOk result (λ tried. IsOfHistory K.eq (λ h. IsTried K.eq key [] h value
-            tried)) }
+        ensures tried { IsOfHistorySince self.now K.eq
+            (λ h. IfOk result (IsTried K.eq key self.now.seen h value)) }
         ensures refused { IfErr result (IsPlainRefusal self.now.map.begun.limit) }
     {
         let Told { answer, marker: _ } = self.try_insert_told(rt, key, value);
@@ -127,8 +127,8 @@ impl<'a, K: Hash + Eq + Drop, V: Drop, S: BuildHasher> HashMapRef<'a, K, V, S> {
         ensures* own { sem 𝓛 (of_its_history (EventOf K.row V.row S.row).coded.code
             (rule_of ⟦<Law<K, V, S> as Rule<Event<K, V, S>, Named<K, V>>>⟧) self.now K.eq
             (λ h. IfOk result (IsTriedWith K.eq key self.now.seen h (F.post f)))) }
-        ensures tried { IfOk result (λ tried. IsOfHistory K.eq (λ h. IsTriedWith K.eq key [] h
-            (F.post f) tried)) }
+        ensures tried { IsOfHistorySince self.now K.eq
+            (λ h. IfOk result (IsTriedWith K.eq key self.now.seen h (F.post f))) }
         ensures refused { IfErr result (IsPlainRefusal self.now.map.begun.limit) }
     {
         let Told { answer, marker: _ } = self.try_insert_with_told(rt, key, f);
@@ -143,8 +143,8 @@ impl<'a, K: Hash + Eq + Drop, V: Drop, S: BuildHasher> HashMapRef<'a, K, V, S> {
         ensures* own { sem 𝓛 (of_its_history (EventOf K.row V.row S.row).coded.code
             (rule_of ⟦<Law<K, V, S> as Rule<Event<K, V, S>, Named<K, V>>>⟧) self.now K.eq
             (λ h. IfOk result (IsThere K.eq key self.now.seen h (λ w. w ≡ value)))) }
-        ensures there { IfOk result (λ there. IsOfHistory K.eq (λ h. IsThere K.eq key [] h
-            (λ w. w ≡ value) there)) }
+        ensures there { IsOfHistorySince self.now K.eq
+            (λ h. IfOk result (IsThere K.eq key self.now.seen h (λ w. w ≡ value))) }
         ensures refused { IfErr result (IsPlainRefusal self.now.map.begun.limit) }
     {
         let Told { answer, marker: _ } = self.get_or_insert_told(rt, key, value);
@@ -166,8 +166,8 @@ impl<'a, K: Hash + Eq + Drop, V: Drop, S: BuildHasher> HashMapRef<'a, K, V, S> {
         ensures* own { sem 𝓛 (of_its_history (EventOf K.row V.row S.row).coded.code
             (rule_of ⟦<Law<K, V, S> as Rule<Event<K, V, S>, Named<K, V>>>⟧) self.now K.eq
             (λ h. IfOk result (IsThere K.eq key self.now.seen h (F.post f)))) }
-        ensures there { IfOk result (λ there. IsOfHistory K.eq (λ h. IsThere K.eq key [] h
-            (F.post f) there)) }
+        ensures there { IsOfHistorySince self.now K.eq
+            (λ h. IfOk result (IsThere K.eq key self.now.seen h (F.post f))) }
         ensures refused { IfErr result (IsPlainRefusal self.now.map.begun.limit) }
     {
         let Told { answer, marker: _ } = self.get_or_insert_with_told(rt, key, f);
@@ -191,8 +191,8 @@ impl<K: Hash + Eq + Drop, V: Drop, S: BuildHasher> HashMap<K, V, S> {
         ensures* own { sem 𝓛 (of_its_history (EventOf K.row V.row S.row).coded.code
             (rule_of ⟦<Law<K, V, S> as Rule<Event<K, V, S>, Named<K, V>>>⟧) (unpinned self.now) K.eq
             (λ h. IfOk result (IsPut K.eq key value self.now.seen h))) }
-        ensures put { IfOk result (λ answer. IsOfHistory K.eq
-            (λ h. IsPut K.eq key value [] h answer)) }
+        ensures put { IsOfHistorySince (unpinned self.now) K.eq
+            (λ h. IfOk result (IsPut K.eq key value self.now.seen h)) }
         ensures right { G.collector_number guard.now ≡ self.now.collector
             → IfErr result (IsPlainRefusal self.now.begun.limit) }
         ensures wrong { (G.collector_number guard.now ≡ self.now.collector → ⊥)
@@ -217,8 +217,8 @@ impl<K: Hash + Eq + Drop, V: Drop, S: BuildHasher> HashMap<K, V, S> {
         ensures* own { sem 𝓛 (of_its_history (EventOf K.row V.row S.row).coded.code
             (rule_of ⟦<Law<K, V, S> as Rule<Event<K, V, S>, Named<K, V>>>⟧) (unpinned self.now) K.eq
             (λ h. IfOk result (λ tried. IsTried K.eq key self.now.seen h value tried))) }
-        ensures tried { IfOk result (λ tried. IsOfHistory K.eq (λ h. IsTried K.eq key [] h value
-            tried)) }
+        ensures tried { IsOfHistorySince (unpinned self.now) K.eq
+            (λ h. IfOk result (λ tried. IsTried K.eq key self.now.seen h value tried)) }
         ensures right { G.collector_number guard.now ≡ self.now.collector
             → IfErr result (IsPlainRefusal self.now.begun.limit) }
         ensures wrong { (G.collector_number guard.now ≡ self.now.collector → ⊥)
@@ -244,8 +244,8 @@ impl<K: Hash + Eq + Drop, V: Drop, S: BuildHasher> HashMap<K, V, S> {
         ensures* own { sem 𝓛 (of_its_history (EventOf K.row V.row S.row).coded.code
             (rule_of ⟦<Law<K, V, S> as Rule<Event<K, V, S>, Named<K, V>>>⟧) (unpinned self.now) K.eq
             (λ h. IfOk result (λ tried. IsTriedWith K.eq key self.now.seen h (F.post f) tried))) }
-        ensures tried { IfOk result (λ tried. IsOfHistory K.eq (λ h. IsTriedWith K.eq key [] h
-            (F.post f) tried)) }
+        ensures tried { IsOfHistorySince (unpinned self.now) K.eq
+            (λ h. IfOk result (λ tried. IsTriedWith K.eq key self.now.seen h (F.post f) tried)) }
         ensures right { G.collector_number guard.now ≡ self.now.collector
             → IfErr result (IsPlainRefusal self.now.begun.limit) }
         ensures wrong { (G.collector_number guard.now ≡ self.now.collector → ⊥)
@@ -269,8 +269,8 @@ impl<K: Hash + Eq + Drop, V: Drop, S: BuildHasher> HashMap<K, V, S> {
         ensures* own { sem 𝓛 (of_its_history (EventOf K.row V.row S.row).coded.code
             (rule_of ⟦<Law<K, V, S> as Rule<Event<K, V, S>, Named<K, V>>>⟧) (unpinned self.now) K.eq
             (λ h. IfOk result (IsThere K.eq key self.now.seen h (λ w. w ≡ value)))) }
-        ensures there { IfOk result (λ there. IsOfHistory K.eq (λ h. IsThere K.eq key [] h
-            (λ w. w ≡ value) there)) }
+        ensures there { IsOfHistorySince (unpinned self.now) K.eq
+            (λ h. IfOk result (IsThere K.eq key self.now.seen h (λ w. w ≡ value))) }
         ensures right { G.collector_number guard.now ≡ self.now.collector
             → IfErr result (IsPlainRefusal self.now.begun.limit) }
         ensures wrong { (G.collector_number guard.now ≡ self.now.collector → ⊥)
@@ -296,8 +296,8 @@ impl<K: Hash + Eq + Drop, V: Drop, S: BuildHasher> HashMap<K, V, S> {
         ensures* own { sem 𝓛 (of_its_history (EventOf K.row V.row S.row).coded.code
             (rule_of ⟦<Law<K, V, S> as Rule<Event<K, V, S>, Named<K, V>>>⟧) (unpinned self.now) K.eq
             (λ h. IfOk result (IsThere K.eq key self.now.seen h (F.post f)))) }
-        ensures there { IfOk result (λ there. IsOfHistory K.eq (λ h. IsThere K.eq key [] h
-            (F.post f) there)) }
+        ensures there { IsOfHistorySince (unpinned self.now) K.eq
+            (λ h. IfOk result (IsThere K.eq key self.now.seen h (F.post f))) }
         ensures right { G.collector_number guard.now ≡ self.now.collector
             → IfErr result (IsPlainRefusal self.now.begun.limit) }
         ensures wrong { (G.collector_number guard.now ≡ self.now.collector → ⊥)

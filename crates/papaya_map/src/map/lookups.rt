@@ -1,9 +1,9 @@
 //! Lookups: by a pass, without one, and with a guard.
-ghost use Rattle.std.specs.Prelude.{◌≡◌, Err, IfOk, Option, [], is_some};
-ghost use Rattle.std.specs.Borrow.{Bor, sem};
+ghost use Rattle.std.specs.Prelude.{◌≡◌, Err, IfOk, is_ok, true};
+ghost use Rattle.std.specs.Borrow.{sem};
 ghost use mathlib.Core.List.{IsPrefix};
 ghost use Rattle.papaya_lookup.specs.Answers.{IsAnsweredBetween, IsPairAnsweredBetween};
-ghost use Rattle.papaya_map.specs.Plain.{IsContained, IsDone, IsOfHistory, of_its_history, rule_of, unpinned};
+ghost use Rattle.papaya_map.specs.Plain.{IsContained, IsOfHistorySince, of_its_history, rule_of, unpinned};
 ghost use Rattle.papaya_book.specs.contracts.rule.entry.Event.{the_row as EventOf};
 
 use crate::map::{HashMap, HashMapRef, Pass};
@@ -41,8 +41,8 @@ impl<'a, K: Hash + Eq, V, S: BuildHasher> HashMapRef<'a, K, V, S> {
         ensures* own { sem 𝓛 (of_its_history (EventOf K.row V.row S.row).coded.code
             (rule_of ⟦<Law<K, V, S> as Rule<Event<K, V, S>, Named<K, V>>>⟧) self.now K.eq
             (λ h. IsAnsweredBetween K.eq (Q.matches key.now) self.now.seen h result)) }
-        ensures answered { IsOfHistory K.eq (λ h. IsAnsweredBetween K.eq (Q.matches key.now) [] h
-            result) }
+        ensures answered { IsOfHistorySince self.now K.eq
+            (λ h. IsAnsweredBetween K.eq (Q.matches key.now) self.now.seen h result) }
     {
         let Told { answer, marker: _ } = self.get_told(key);
         answer
@@ -55,8 +55,8 @@ impl<'a, K: Hash + Eq, V, S: BuildHasher> HashMapRef<'a, K, V, S> {
         ensures* own { sem 𝓛 (of_its_history (EventOf K.row V.row S.row).coded.code
             (rule_of ⟦<Law<K, V, S> as Rule<Event<K, V, S>, Named<K, V>>>⟧) self.now K.eq
             (λ h. IsPairAnsweredBetween K.eq (Q.matches key.now) self.now.seen h result)) }
-        ensures answered { IsOfHistory K.eq (λ h. IsPairAnsweredBetween K.eq (Q.matches key.now) []
-            h result) }
+        ensures answered { IsOfHistorySince self.now K.eq
+            (λ h. IsPairAnsweredBetween K.eq (Q.matches key.now) self.now.seen h result) }
     {
         let Told { answer, marker: _ } = self.get_key_value_told(key);
         answer
@@ -68,8 +68,8 @@ impl<'a, K: Hash + Eq, V, S: BuildHasher> HashMapRef<'a, K, V, S> {
         ensures* own { sem 𝓛 (of_its_history (EventOf K.row V.row S.row).coded.code
             (rule_of ⟦<Law<K, V, S> as Rule<Event<K, V, S>, Named<K, V>>>⟧) self.now K.eq
             (λ h. IsContained K.eq (Q.matches key.now) self.now.seen h result)) }
-        ensures answered { (found : Option (Bor V)) × (result ≡ is_some found) × IsOfHistory K.eq
-            (λ h. IsAnsweredBetween K.eq (Q.matches key.now) [] h found) }
+        ensures answered { IsOfHistorySince self.now K.eq
+            (λ h. IsContained K.eq (Q.matches key.now) self.now.seen h result) }
     {
         let Told { answer, marker: _ } = self.contains_key_told(key);
         answer
@@ -90,9 +90,10 @@ impl<K: Hash + Eq, V, S: BuildHasher> HashMap<K, V, S> {
         ensures* own { sem 𝓛 (of_its_history (EventOf K.row V.row S.row).coded.code
             (rule_of ⟦<Law<K, V, S> as Rule<Event<K, V, S>, Named<K, V>>>⟧) (unpinned self.now) K.eq
             (λ h. IfOk result (IsAnsweredBetween K.eq (Q.matches key.now) self.now.seen h))) }
+        ensures answered { IsOfHistorySince (unpinned self.now) K.eq
+            (λ h. IfOk result (IsAnsweredBetween K.eq (Q.matches key.now) self.now.seen h)) }
         ensures right { G.collector_number guard.now ≡ self.now.collector
-            → IsDone result (λ answer. IsOfHistory K.eq
-            (λ h. IsAnsweredBetween K.eq (Q.matches key.now) [] h answer)) }
+            → is_ok result ≡ true }
         ensures wrong { (G.collector_number guard.now ≡ self.now.collector → ⊥)
             → result ≡ Err Refused.WrongGuard }
     {
@@ -114,9 +115,10 @@ impl<K: Hash + Eq, V, S: BuildHasher> HashMap<K, V, S> {
         ensures* own { sem 𝓛 (of_its_history (EventOf K.row V.row S.row).coded.code
             (rule_of ⟦<Law<K, V, S> as Rule<Event<K, V, S>, Named<K, V>>>⟧) (unpinned self.now) K.eq
             (λ h. IfOk result (IsPairAnsweredBetween K.eq (Q.matches key.now) self.now.seen h))) }
+        ensures answered { IsOfHistorySince (unpinned self.now) K.eq
+            (λ h. IfOk result (IsPairAnsweredBetween K.eq (Q.matches key.now) self.now.seen h)) }
         ensures right { G.collector_number guard.now ≡ self.now.collector
-            → IsDone result (λ answer. IsOfHistory K.eq
-            (λ h. IsPairAnsweredBetween K.eq (Q.matches key.now) [] h answer)) }
+            → is_ok result ≡ true }
         ensures wrong { (G.collector_number guard.now ≡ self.now.collector → ⊥)
             → result ≡ Err Refused.WrongGuard }
     {
@@ -137,9 +139,10 @@ impl<K: Hash + Eq, V, S: BuildHasher> HashMap<K, V, S> {
         ensures* own { sem 𝓛 (of_its_history (EventOf K.row V.row S.row).coded.code
             (rule_of ⟦<Law<K, V, S> as Rule<Event<K, V, S>, Named<K, V>>>⟧) (unpinned self.now) K.eq
             (λ h. IfOk result (IsContained K.eq (Q.matches key.now) self.now.seen h))) }
+        ensures answered { IsOfHistorySince (unpinned self.now) K.eq
+            (λ h. IfOk result (IsContained K.eq (Q.matches key.now) self.now.seen h)) }
         ensures right { G.collector_number guard.now ≡ self.now.collector
-            → IsDone result (λ has. (found : Option (Bor V)) × (has ≡ is_some found)
-            × IsOfHistory K.eq (λ h. IsAnsweredBetween K.eq (Q.matches key.now) [] h found)) }
+            → is_ok result ≡ true }
         ensures wrong { (G.collector_number guard.now ≡ self.now.collector → ⊥)
             → result ≡ Err Refused.WrongGuard }
     {

@@ -1,12 +1,12 @@
 //! The calls that remove a key's entry: by a pass, without one, and with a guard.
-ghost use Rattle.std.specs.Prelude.{◌≡◌, Err, [], true};
+ghost use Rattle.std.specs.Prelude.{◌≡◌, Err, true};
 ghost use Rattle.std.specs.Borrow.{sem};
 ghost use mathlib.Core.List.{IsPrefix};
 ghost use Rattle.papaya_book.specs.Limits.{HasNoRoom};
 ghost use Rattle.papaya_change.specs.RemovalAnswers.{IsEntryRemoved, IsRemovalBy, IsRemoved, took, went};
 ghost use Rattle.papaya_change.specs.Showings.{Judges};
 ghost use Rattle.papaya_lookup.specs.History.{Makes};
-ghost use Rattle.papaya_map.specs.Plain.{IsOfHistory, of_its_history, rule_of, unpinned};
+ghost use Rattle.papaya_map.specs.Plain.{IsOfHistorySince, of_its_history, rule_of, unpinned};
 ghost use Rattle.papaya_book.specs.contracts.rule.entry.Event.{the_row as EventOf};
 
 use crate::map::{HashMap, HashMapRef, Pass};
@@ -85,8 +85,9 @@ impl<'a, K: Hash + Eq, V, S: BuildHasher> HashMapRef<'a, K, V, S> {
             (rule_of ⟦<Law<K, V, S> as Rule<Event<K, V, S>, Named<K, V>>>⟧) self.now K.eq
             (λ h. IsRemovalBy K.eq (Q.matches key.now) self.now.seen h (Judges F.FnMut)
             should_remove result)) }
-        ensures removed { IsOfHistory K.eq (λ h. IsRemovalBy K.eq (Q.matches key.now) [] h
-            (Judges F.FnMut) should_remove result) }
+        ensures removed { IsOfHistorySince self.now K.eq
+            (λ h. IsRemovalBy K.eq (Q.matches key.now) self.now.seen h (Judges F.FnMut)
+            should_remove result) }
     {
         let Told { answer, marker: _ } = self.remove_if_told(rt, key, should_remove);
         answer
@@ -140,7 +141,8 @@ impl<'a, K: Hash + Eq, V, S: BuildHasher> HashMapRef<'a, K, V, S> {
         ensures* own { sem 𝓛 (of_its_history (EventOf K.row V.row S.row).coded.code
             (rule_of ⟦<Law<K, V, S> as Rule<Event<K, V, S>, Named<K, V>>>⟧) self.now K.eq
             (λ h. IsRemoved K.eq (Q.matches key.now) self.now.seen h result)) }
-        ensures removed { IsOfHistory K.eq (λ h. IsRemoved K.eq (Q.matches key.now) [] h result) }
+        ensures removed { IsOfHistorySince self.now K.eq
+            (λ h. IsRemoved K.eq (Q.matches key.now) self.now.seen h result) }
     {
         let Told { answer, marker: _ } = self.remove_told(rt, key);
         answer
@@ -158,8 +160,8 @@ impl<'a, K: Hash + Eq, V, S: BuildHasher> HashMapRef<'a, K, V, S> {
         ensures* own { sem 𝓛 (of_its_history (EventOf K.row V.row S.row).coded.code
             (rule_of ⟦<Law<K, V, S> as Rule<Event<K, V, S>, Named<K, V>>>⟧) self.now K.eq
             (λ h. IsEntryRemoved K.eq (Q.matches key.now) self.now.seen h result)) }
-        ensures removed { IsOfHistory K.eq (λ h. IsEntryRemoved K.eq (Q.matches key.now) [] h
-            result) }
+        ensures removed { IsOfHistorySince self.now K.eq
+            (λ h. IsEntryRemoved K.eq (Q.matches key.now) self.now.seen h result) }
     {
         let Told { answer, marker: _ } = self.remove_entry_told(rt, key);
         answer
@@ -185,9 +187,10 @@ impl<K: Hash + Eq, V, S: BuildHasher> HashMap<K, V, S> {
             (λ h. G.collector_number guard.now ≡ self.now.collector
             → IsRemovalBy K.eq (Q.matches key.now) self.now.seen h
             (Judges F.FnMut) should_remove result)) }
-        ensures right { G.collector_number guard.now ≡ self.now.collector
-            → IsOfHistory K.eq
-            (λ h. IsRemovalBy K.eq (Q.matches key.now) [] h (Judges F.FnMut) should_remove result) }
+        ensures removed { IsOfHistorySince (unpinned self.now) K.eq
+            (λ h. G.collector_number guard.now ≡ self.now.collector
+            → IsRemovalBy K.eq (Q.matches key.now) self.now.seen h
+            (Judges F.FnMut) should_remove result) }
         ensures wrong { (G.collector_number guard.now ≡ self.now.collector → ⊥)
             → result ≡ Err Refused.WrongGuard }
     {
@@ -209,9 +212,9 @@ impl<K: Hash + Eq, V, S: BuildHasher> HashMap<K, V, S> {
             (rule_of ⟦<Law<K, V, S> as Rule<Event<K, V, S>, Named<K, V>>>⟧) (unpinned self.now) K.eq
             (λ h. G.collector_number guard.now ≡ self.now.collector
             → IsRemoved K.eq (Q.matches key.now) self.now.seen h result)) }
-        ensures right { G.collector_number guard.now ≡ self.now.collector
-            → IsOfHistory K.eq
-            (λ h. IsRemoved K.eq (Q.matches key.now) [] h result) }
+        ensures removed { IsOfHistorySince (unpinned self.now) K.eq
+            (λ h. G.collector_number guard.now ≡ self.now.collector
+            → IsRemoved K.eq (Q.matches key.now) self.now.seen h result) }
         ensures wrong { (G.collector_number guard.now ≡ self.now.collector → ⊥)
             → result ≡ Err Refused.WrongGuard }
     {
@@ -233,9 +236,9 @@ impl<K: Hash + Eq, V, S: BuildHasher> HashMap<K, V, S> {
             (rule_of ⟦<Law<K, V, S> as Rule<Event<K, V, S>, Named<K, V>>>⟧) (unpinned self.now) K.eq
             (λ h. G.collector_number guard.now ≡ self.now.collector
             → IsEntryRemoved K.eq (Q.matches key.now) self.now.seen h result)) }
-        ensures right { G.collector_number guard.now ≡ self.now.collector
-            → IsOfHistory K.eq
-            (λ h. IsEntryRemoved K.eq (Q.matches key.now) [] h result) }
+        ensures removed { IsOfHistorySince (unpinned self.now) K.eq
+            (λ h. G.collector_number guard.now ≡ self.now.collector
+            → IsEntryRemoved K.eq (Q.matches key.now) self.now.seen h result) }
         ensures wrong { (G.collector_number guard.now ≡ self.now.collector → ⊥)
             → result ≡ Err Refused.WrongGuard }
     {

@@ -5,7 +5,7 @@ ghost use mathlib.Core.List.{IsPrefix};
 ghost use Rattle.papaya_book.specs.Limits.{HasNoRoom};
 ghost use Rattle.papaya_change.specs.Showings.{Judges};
 ghost use Rattle.papaya_change.specs.Writing.{IsMemoryOrCapacity};
-ghost use Rattle.papaya_map.specs.Plain.{IsOfHistory, of_its_history, rule_of, unpinned};
+ghost use Rattle.papaya_map.specs.Plain.{IsOfHistorySince, of_its_history, rule_of, unpinned};
 ghost use Rattle.papaya_scan.specs.Leaving.{HasKept, IsCleared};
 ghost use Rattle.papaya_book.specs.contracts.rule.entry.Event.{the_row as EventOf};
 
@@ -36,9 +36,8 @@ impl<'a, K: Hash + Eq, V, S: BuildHasher> HashMapRef<'a, K, V, S> {
             (rule_of ⟦<Law<K, V, S> as Rule<Event<K, V, S>, Named<K, V>>>⟧) self.now K.eq
             (λ h. (made : _) × HasKept K.eq self.now.seen h [] made (Judges F.FnMut) stays
             result)) }
-        ensures kept { IsOfHistory K.eq (λ h. (made : _) × HasKept K.eq [] h [] made (Judges
-            F.FnMut)
-            stays result) }
+        ensures kept { IsOfHistorySince self.now K.eq
+            (λ h. (made : _) × HasKept K.eq self.now.seen h [] made (Judges F.FnMut) stays result) }
         ensures refused { IfErr result (λ refused. IsMemoryOrCapacity refused) }
     {
         let Told { answer, marker: _ } = self.retain_told(rt, stays);
@@ -54,6 +53,8 @@ impl<'a, K: Hash + Eq, V, S: BuildHasher> HashMapRef<'a, K, V, S> {
         ensures* own { sem 𝓛 (of_its_history (EventOf K.row V.row S.row).coded.code
             (rule_of ⟦<Law<K, V, S> as Rule<Event<K, V, S>, Named<K, V>>>⟧) self.now K.eq
             (λ h. IfOk result (λ _. IsCleared K.eq self.now.seen h))) }
+        ensures cleared { IsOfHistorySince self.now K.eq
+            (λ h. IfOk result (λ _. IsCleared K.eq self.now.seen h)) }
         ensures refused { IfErr result (λ refused. IsMemoryOrCapacity refused) }
     {
         let Told { answer, marker: _ } = self.clear_told(rt);
@@ -163,9 +164,9 @@ impl<K: Hash + Eq, V, S: BuildHasher> HashMap<K, V, S> {
             (rule_of ⟦<Law<K, V, S> as Rule<Event<K, V, S>, Named<K, V>>>⟧) (unpinned self.now) K.eq
             (λ h. G.collector_number guard.now ≡ self.now.collector
             → (made : _) × HasKept K.eq self.now.seen h [] made (Judges F.FnMut) stays result)) }
-        ensures kept { G.collector_number guard.now ≡ self.now.collector
-            → IsOfHistory K.eq (λ h. (made : _) × HasKept K.eq [] h [] made (Judges F.FnMut) stays
-            result) }
+        ensures kept { IsOfHistorySince (unpinned self.now) K.eq
+            (λ h. G.collector_number guard.now ≡ self.now.collector
+            → (made : _) × HasKept K.eq self.now.seen h [] made (Judges F.FnMut) stays result) }
         ensures right { G.collector_number guard.now ≡ self.now.collector
             → IfErr result (λ refused. IsMemoryOrCapacity refused) }
         ensures wrong { (G.collector_number guard.now ≡ self.now.collector → ⊥)
@@ -183,6 +184,8 @@ impl<K: Hash + Eq, V, S: BuildHasher> HashMap<K, V, S> {
         ensures* own { sem 𝓛 (of_its_history (EventOf K.row V.row S.row).coded.code
             (rule_of ⟦<Law<K, V, S> as Rule<Event<K, V, S>, Named<K, V>>>⟧) (unpinned self.now) K.eq
             (λ h. IfOk result (λ _. IsCleared K.eq self.now.seen h))) }
+        ensures cleared { IsOfHistorySince (unpinned self.now) K.eq
+            (λ h. IfOk result (λ _. IsCleared K.eq self.now.seen h)) }
         ensures right { G.collector_number guard.now ≡ self.now.collector
             → IfErr result (λ refused. IsMemoryOrCapacity refused) }
         ensures wrong { (G.collector_number guard.now ≡ self.now.collector → ⊥)

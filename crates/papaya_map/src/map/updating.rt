@@ -1,11 +1,11 @@
 //! The calls that replace a key's value by what a closure makes of it: without a pass, and with a
 //! guard.
-ghost use Rattle.std.specs.Prelude.{◌≡◌, Err, IfErr, IfOk, []};
+ghost use Rattle.std.specs.Prelude.{◌≡◌, Err, IfErr, IfOk};
 ghost use Rattle.std.specs.Borrow.{sem};
 ghost use Rattle.std.specs.Fn.{FnReturnsAt};
 ghost use Rattle.papaya_map.specs.Limited.{IsPlainRefusal};
-ghost use Rattle.papaya_map.specs.Plain.{IsOfHistory, of_its_history, rule_of, unpinned};
-ghost use Rattle.papaya_map.specs.Storing.{IsUpdated, IsUpserted, stored};
+ghost use Rattle.papaya_map.specs.Plain.{IsOfHistorySince, of_its_history, rule_of, unpinned};
+ghost use Rattle.papaya_map.specs.Storing.{IsUpdated, IsUpserted};
 ghost use Rattle.papaya_book.specs.contracts.rule.entry.Event.{the_row as EventOf};
 
 use crate::map::{HashMap, HashMapRef};
@@ -35,8 +35,8 @@ impl<'a, K: Hash + Eq + Drop, V: Drop, S: BuildHasher> HashMapRef<'a, K, V, S> {
         ensures* own { sem 𝓛 (of_its_history (EventOf K.row V.row S.row).coded.code
             (rule_of ⟦<Law<K, V, S> as Rule<Event<K, V, S>, Named<K, V>>>⟧) self.now K.eq
             (λ h. IfOk result (IsUpdated K.eq key self.now.seen h (FnReturnsAt F.Fn f)))) }
-        ensures updated { IfOk result (λ updated. IsOfHistory K.eq (λ h. IsUpdated K.eq key [] h
-            (FnReturnsAt F.Fn f) updated)) }
+        ensures updated { IsOfHistorySince self.now K.eq
+            (λ h. IfOk result (IsUpdated K.eq key self.now.seen h (FnReturnsAt F.Fn f))) }
         ensures refused { IfErr result (IsPlainRefusal self.now.map.begun.limit) }
     {
         let Told { answer, marker: _ } = self.update_told(rt, key, f);
@@ -59,8 +59,9 @@ impl<'a, K: Hash + Eq + Drop, V: Drop, S: BuildHasher> HashMapRef<'a, K, V, S> {
             (rule_of ⟦<Law<K, V, S> as Rule<Event<K, V, S>, Named<K, V>>>⟧) self.now K.eq
             (λ h. IfOk result (IsUpserted K.eq key self.now.seen h (FnReturnsAt F.Fn update)
             (λ w. w ≡ value)))) }
-        ensures upserted { IfOk result (λ stored. IsOfHistory K.eq (λ h. IsUpserted K.eq key [] h
-            (FnReturnsAt F.Fn update) (λ w. w ≡ value) stored)) }
+        ensures upserted { IsOfHistorySince self.now K.eq
+            (λ h. IfOk result (IsUpserted K.eq key self.now.seen h (FnReturnsAt F.Fn update)
+            (λ w. w ≡ value))) }
         ensures refused { IfErr result (IsPlainRefusal self.now.map.begun.limit) }
     {
         let Told { answer, marker: _ } = self.update_or_insert_told(rt, key, update, value);
@@ -85,8 +86,9 @@ impl<'a, K: Hash + Eq + Drop, V: Drop, S: BuildHasher> HashMapRef<'a, K, V, S> {
             (rule_of ⟦<Law<K, V, S> as Rule<Event<K, V, S>, Named<K, V>>>⟧) self.now K.eq
             (λ h. IfOk result (IsUpserted K.eq key self.now.seen h (FnReturnsAt U.Fn update)
             (F.post f)))) }
-        ensures upserted { IfOk result (λ stored. IsOfHistory K.eq (λ h. IsUpserted K.eq key [] h
-            (FnReturnsAt U.Fn update) (F.post f) stored)) }
+        ensures upserted { IsOfHistorySince self.now K.eq
+            (λ h. IfOk result (IsUpserted K.eq key self.now.seen h (FnReturnsAt U.Fn update)
+            (F.post f))) }
         ensures refused { IfErr result (IsPlainRefusal self.now.map.begun.limit) }
     {
         let Told { answer, marker: _ } = self.update_or_insert_with_told(rt, key, update, f);
@@ -111,8 +113,8 @@ impl<K: Hash + Eq + Drop, V: Drop, S: BuildHasher> HashMap<K, V, S> {
         ensures* own { sem 𝓛 (of_its_history (EventOf K.row V.row S.row).coded.code
             (rule_of ⟦<Law<K, V, S> as Rule<Event<K, V, S>, Named<K, V>>>⟧) (unpinned self.now) K.eq
             (λ h. IfOk result (IsUpdated K.eq key self.now.seen h (FnReturnsAt F.Fn f)))) }
-        ensures updated { IfOk result (λ updated. IsOfHistory K.eq (λ h. IsUpdated K.eq key [] h
-            (FnReturnsAt F.Fn f) updated)) }
+        ensures updated { IsOfHistorySince (unpinned self.now) K.eq
+            (λ h. IfOk result (IsUpdated K.eq key self.now.seen h (FnReturnsAt F.Fn f))) }
         ensures right { G.collector_number guard.now ≡ self.now.collector
             → IfErr result (IsPlainRefusal self.now.begun.limit) }
         ensures wrong { (G.collector_number guard.now ≡ self.now.collector → ⊥)
@@ -139,8 +141,9 @@ impl<K: Hash + Eq + Drop, V: Drop, S: BuildHasher> HashMap<K, V, S> {
             (rule_of ⟦<Law<K, V, S> as Rule<Event<K, V, S>, Named<K, V>>>⟧) (unpinned self.now) K.eq
             (λ h. IfOk result (IsUpserted K.eq key self.now.seen h (FnReturnsAt F.Fn update)
             (λ w. w ≡ value)))) }
-        ensures upserted { IfOk result (λ stored. IsOfHistory K.eq (λ h. IsUpserted K.eq key [] h
-            (FnReturnsAt F.Fn update) (λ w. w ≡ value) stored)) }
+        ensures upserted { IsOfHistorySince (unpinned self.now) K.eq
+            (λ h. IfOk result (IsUpserted K.eq key self.now.seen h (FnReturnsAt F.Fn update)
+            (λ w. w ≡ value))) }
         ensures right { G.collector_number guard.now ≡ self.now.collector
             → IfErr result (IsPlainRefusal self.now.begun.limit) }
         ensures wrong { (G.collector_number guard.now ≡ self.now.collector → ⊥)
@@ -169,8 +172,9 @@ impl<K: Hash + Eq + Drop, V: Drop, S: BuildHasher> HashMap<K, V, S> {
             (rule_of ⟦<Law<K, V, S> as Rule<Event<K, V, S>, Named<K, V>>>⟧) (unpinned self.now) K.eq
             (λ h. IfOk result (IsUpserted K.eq key self.now.seen h (FnReturnsAt U.Fn update)
             (F.post f)))) }
-        ensures upserted { IfOk result (λ stored. IsOfHistory K.eq (λ h. IsUpserted K.eq key [] h
-            (FnReturnsAt U.Fn update) (F.post f) stored)) }
+        ensures upserted { IsOfHistorySince (unpinned self.now) K.eq
+            (λ h. IfOk result (IsUpserted K.eq key self.now.seen h (FnReturnsAt U.Fn update)
+            (F.post f))) }
         ensures right { G.collector_number guard.now ≡ self.now.collector
             → IfErr result (IsPlainRefusal self.now.begun.limit) }
         ensures wrong { (G.collector_number guard.now ≡ self.now.collector → ⊥)

@@ -29,7 +29,7 @@ pub returns-in-Ok-Some-remove-clause-done : goal.returns-in-Ok-Some-remove-claus
 returns-in-Ok-Some-remove-clause-done g c = rw c.in-Remove.is (
   old_answered c.remove.result,
   sym (ap (λ r. of_removal (old_answered r)) (c.in-Ok-Some-remove.is ∙ ap Ok c.in-Ok-Some-remove.field-0-is)),
-  c.remove.follows.holds-at-none,
+  c.remove.follows.holds-at-none.0,
   λ single. answered c.remove.result (c.remove.ensures.never single),
 )
 
@@ -37,7 +37,7 @@ pub returns-in-Ok-None-remove-clause-done : goal.returns-in-Ok-None-remove-claus
 returns-in-Ok-None-remove-clause-done g c = rw c.in-Remove.is (
   old_answered c.remove.result,
   sym (ap (λ r. of_removal (old_answered r)) (c.in-Ok-None-remove.is ∙ ap Ok c.in-Ok-None-remove.field-0-is)),
-  c.remove.follows.holds-at-none,
+  c.remove.follows.holds-at-none.0,
   λ single. answered c.remove.result (c.remove.ensures.never single),
 )
 
@@ -45,7 +45,7 @@ pub returns-in-Err-remove-clause-done : goal.returns-in-Err-remove-clause-done
 returns-in-Err-remove-clause-done g c = rw c.in-Remove.is (
   old_answered c.remove.result,
   sym (ap (λ r. of_removal (old_answered r)) c.in-Err-remove.is),
-  c.remove.follows.holds-at-none,
+  c.remove.follows.holds-at-none.0,
   λ single.
       answered c.remove.result (c.remove.ensures.never single),
 )
@@ -54,14 +54,14 @@ pub returns-in-Ok-Some-update-clause-done : goal.returns-in-Ok-Some-update-claus
 returns-in-Ok-Some-update-clause-done g c = rw c.in-Update.is (
   old_answered c.update.result,
   sym (ap (λ r. of_update (old_answered r)) (c.in-Ok-Some-update.is ∙ ap Ok c.in-Ok-Some-update.field-0-is)),
-  followed _ _ _ _ (λ shown next is. is) c.args.map.now (old_answered c.update.result) _ c.update.follows.holds-at-none,
+  followed _ _ _ _ (λ shown next is. is) c.args.map.now (old_answered c.update.result) _ c.update.follows.holds-at-none.0,
 )
 
 pub returns-in-Ok-None-update-clause-done : goal.returns-in-Ok-None-update-clause-done
 returns-in-Ok-None-update-clause-done g c = rw c.in-Update.is (
   old_answered c.update.result,
   sym (ap (λ r. of_update (old_answered r)) (c.in-Ok-None-update.is ∙ ap Ok c.in-Ok-None-update.field-0-is)),
-  followed _ _ _ _ (λ shown next is. is) c.args.map.now (old_answered c.update.result) _ c.update.follows.holds-at-none,
+  followed _ _ _ _ (λ shown next is. is) c.args.map.now (old_answered c.update.result) _ c.update.follows.holds-at-none.0,
 )
 
 pub returns-in-Err-update-clause-done : goal.returns-in-Err-update-clause-done
@@ -69,5 +69,5 @@ returns-in-Err-update-clause-done g c = rw c.in-Update.is (
   old_answered c.update.result,
   sym (ap (λ r. of_update (old_answered r)) (c.in-Err-update.is)),
   followed _ _ _ _ (λ shown next is. is)
-      c.args.map.now (old_answered c.update.result) _ c.update.follows.holds-at-none,
+      c.args.map.now (old_answered c.update.result) _ c.update.follows.holds-at-none.0,
 )

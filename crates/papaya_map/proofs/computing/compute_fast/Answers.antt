@@ -18,11 +18,11 @@ use Rattle.papaya_map.proofs.computing.compute_fast.Goals as goal
 
 pub returns-in_default-clause-comes : goal.returns-in_default-clause-comes
 returns-in_default-clause-comes g c =
-    comes_asked_nothing changes c.args.window.now _ _ c.look.new.window _ c.look.ensures.looked ([], ((refl, refl), c.look.ensures.looked.sees.log, tt), refl)
+    comes_asked_nothing changes c.args.window.now _ _ c.look.new.window _ c.look.ensures.looked ([], ((refl, refl), c.look.ensures.looked.log, tt), refl)
 
 pub returns-in_default-turn-clause-comes : goal.returns-in_default-turn-clause-comes
 returns-in_default-turn-clause-comes g c =
-    comes_asked_nothing changes c.args.window.now _ _ c.look.new.window _ c.look.ensures.looked ([], ((refl, refl), c.look.ensures.looked.sees.log, tt), refl)
+    comes_asked_nothing changes c.args.window.now _ _ c.look.new.window _ c.look.ensures.looked ([], ((refl, refl), c.look.ensures.looked.log, tt), refl)
 
 pub fill-requires : goal.fill-requires
 fill-requires g c =
@@ -71,6 +71,6 @@ entry-old-requires g c =
     let there = pair_placed g.K.PartialEq.eq g.K.Hash.hash_input g.S.BuildHasher.build_hasher g.S.Hasher.Hasher.write g.S.Hasher.Hasher.finish
     g.met.K.Eq.laws g.met.K.Hash.respects_eq (begun_of mid.book.now.parts) mid.book.now.begun.book key log mid.sight.log spot.table.now met.place
     met.word p (led.found Computes (Showing (record { place = met.place; word = met.word })) refl) in
-    let placed = subst (λ (k : _). IsPlaced (begun_of k.now.parts) (Some k.now.begun.book) (names.Pair p)) c.look.ensures.looked.sees.book there in
+    let placed = subst (λ (k : _). IsPlaced (begun_of k.now.parts) (Some k.now.begun.book) (names.Pair p)) c.look.ensures.looked.book there in
     let there = subst (λ (z : Met _ _). IsPlaced (begun_of w.book.now.parts) (Some w.book.now.begun.book) (names.Pair z.stored)) (sym c.in-Met.live-is) placed in
     rw c.pair.ensures (record { key = there.1; value = there.2 })

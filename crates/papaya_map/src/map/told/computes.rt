@@ -1,9 +1,9 @@
 //! The first halves of the calls whose closure returns what becomes of a key's entry.
-ghost use Rattle.std.specs.Prelude.{◌≡◌, Err, IsSome};
+ghost use Rattle.std.specs.Prelude.{◌≡◌, Err, IsSome, []};
 ghost use mathlib.Core.List.{IsPrefix};
 ghost use Rattle.papaya_change.specs.Showings.{Operates};
-ghost use Rattle.papaya_compute.specs.ComputeAnswers.{IsComputeBy};
-ghost use Rattle.papaya_lookup.specs.History.{IsLegalHistory, history_of, key_of};
+ghost use Rattle.papaya_compute.specs.ComputeAnswers.{IsComputeBy, changes};
+ghost use Rattle.papaya_lookup.specs.History.{IsLegalHistory, Makes, history_of, key_of};
 
 use crate::map::{HashMap, HashMapRef};
 use crate::told::Saying;
@@ -23,6 +23,8 @@ impl<'a, K: Hash + Eq + Drop, V: Drop, S: BuildHasher> HashMapRef<'a, K, V, S> {
         F: FnMut(Option<(&'a K, &'a V)>) -> Operation<V, T>,
     >(&self, rt: &R, key: K, f: F) -> Saying<Result<Compute<'a, K, V, T>, Refused>, K, V, S>
         requires { F.IsAlwaysCallable f }
+        ensures made { Makes (changes result.answer) [] (history_of result.made)
+            (history_of result.log) }
         ensures book { result.book ≡ self.now.map.book }
         ensures legal { IsLegalHistory K.eq key_of (history_of result.log) }
         ensures seen { IsPrefix self.now.seen (history_of result.log) }
@@ -53,6 +55,8 @@ impl<K: Hash + Eq + Drop, V: Drop, S: BuildHasher> HashMap<K, V, S> {
         guard: &'g G,
     ) -> Saying<Result<Compute<'g, K, V, T>, Refused>, K, V, S>
         requires { F.IsAlwaysCallable f }
+        ensures made { Makes (changes result.answer) [] (history_of result.made)
+            (history_of result.log) }
         ensures book { result.book ≡ self.now.book }
         ensures legal { IsLegalHistory K.eq key_of (history_of result.log) }
         ensures seen { IsPrefix self.now.seen (history_of result.log) }

@@ -1,10 +1,10 @@
 //! The first halves of the calls that store a value.
-ghost use Rattle.std.specs.Prelude.{◌≡◌, Err, IfErr, IfOk};
+ghost use Rattle.std.specs.Prelude.{◌≡◌, Err, IfErr, IfOk, [], is_ok};
 ghost use mathlib.Core.List.{IsPrefix};
 ghost use Rattle.papaya_change.specs.Changes.{IsPut};
-ghost use Rattle.papaya_lookup.specs.History.{IsLegalHistory, history_of, key_of};
+ghost use Rattle.papaya_lookup.specs.History.{IsLegalHistory, Makes, history_of, key_of};
 ghost use Rattle.papaya_map.specs.Limited.{IsPlainRefusal};
-ghost use Rattle.papaya_map.specs.Storing.{IsThere, IsTried, IsTriedWith};
+ghost use Rattle.papaya_map.specs.Storing.{IsThereBy, IsTried, IsTriedWith, stored};
 
 use crate::map::{HashMap, HashMapRef};
 use crate::told::Saying;
@@ -23,6 +23,8 @@ impl<'a, K: Hash + Eq + Drop, V: Drop, S: BuildHasher> HashMapRef<'a, K, V, S> {
         key: K,
         value: V,
     ) -> Saying<Result<Option<&'a V>, Refused>, K, V, S>
+        ensures made { Makes (is_ok result.answer) [] (history_of result.made)
+            (history_of result.log) }
         ensures book { result.book ≡ self.now.map.book }
         ensures legal { IsLegalHistory K.eq key_of (history_of result.log) }
         ensures seen { IsPrefix self.now.seen (history_of result.log) }
@@ -43,6 +45,8 @@ impl<'a, K: Hash + Eq + Drop, V: Drop, S: BuildHasher> HashMapRef<'a, K, V, S> {
         key: K,
         value: V,
     ) -> Saying<Result<Result<&'a V, OccupiedError<'a, V>>, Refused>, K, V, S>
+        ensures made { Makes (stored result.answer) [] (history_of result.made)
+            (history_of result.log) }
         ensures book { result.book ≡ self.now.map.book }
         ensures legal { IsLegalHistory K.eq key_of (history_of result.log) }
         ensures seen { IsPrefix self.now.seen (history_of result.log) }
@@ -64,6 +68,8 @@ impl<'a, K: Hash + Eq + Drop, V: Drop, S: BuildHasher> HashMapRef<'a, K, V, S> {
         f: F,
     ) -> Saying<Result<Result<&'a V, &'a V>, Refused>, K, V, S>
         requires { F.IsAlwaysCallable f }
+        ensures made { Makes (stored result.answer) [] (history_of result.made)
+            (history_of result.log) }
         ensures book { result.book ≡ self.now.map.book }
         ensures legal { IsLegalHistory K.eq key_of (history_of result.log) }
         ensures seen { IsPrefix self.now.seen (history_of result.log) }
@@ -87,8 +93,8 @@ impl<'a, K: Hash + Eq + Drop, V: Drop, S: BuildHasher> HashMapRef<'a, K, V, S> {
         ensures book { result.book ≡ self.now.map.book }
         ensures legal { IsLegalHistory K.eq key_of (history_of result.log) }
         ensures seen { IsPrefix self.now.seen (history_of result.log) }
-        ensures there { IfOk result.answer (IsThere K.eq key self.now.seen (history_of result.log)
-            (λ w. w ≡ value)) }
+        ensures there { IsThereBy K.eq key self.now.seen (history_of result.log) (λ w. w ≡ value)
+            [] (history_of result.made) result.answer }
         ensures refused { IfErr result.answer (IsPlainRefusal self.now.map.begun.limit) }
     {
         let mut session = self.begun_session(None);
@@ -108,8 +114,8 @@ impl<'a, K: Hash + Eq + Drop, V: Drop, S: BuildHasher> HashMapRef<'a, K, V, S> {
         ensures book { result.book ≡ self.now.map.book }
         ensures legal { IsLegalHistory K.eq key_of (history_of result.log) }
         ensures seen { IsPrefix self.now.seen (history_of result.log) }
-        ensures there { IfOk result.answer (IsThere K.eq key self.now.seen (history_of result.log)
-            (F.post f)) }
+        ensures there { IsThereBy K.eq key self.now.seen (history_of result.log) (F.post f)
+            [] (history_of result.made) result.answer }
         ensures refused { IfErr result.answer (IsPlainRefusal self.now.map.begun.limit) }
     {
         let mut session = self.begun_session(None);
@@ -128,6 +134,8 @@ impl<K: Hash + Eq + Drop, V: Drop, S: BuildHasher> HashMap<K, V, S> {
         value: V,
         guard: &'g G,
     ) -> Saying<Result<Option<&'g V>, Refused>, K, V, S>
+        ensures made { Makes (is_ok result.answer) [] (history_of result.made)
+            (history_of result.log) }
         ensures book { result.book ≡ self.now.book }
         ensures legal { IsLegalHistory K.eq key_of (history_of result.log) }
         ensures seen { IsPrefix self.now.seen (history_of result.log) }
@@ -156,6 +164,8 @@ impl<K: Hash + Eq + Drop, V: Drop, S: BuildHasher> HashMap<K, V, S> {
         value: V,
         guard: &'g G,
     ) -> Saying<Result<Result<&'g V, OccupiedError<'g, V>>, Refused>, K, V, S>
+        ensures made { Makes (stored result.answer) [] (history_of result.made)
+            (history_of result.log) }
         ensures book { result.book ≡ self.now.book }
         ensures legal { IsLegalHistory K.eq key_of (history_of result.log) }
         ensures seen { IsPrefix self.now.seen (history_of result.log) }
@@ -185,6 +195,8 @@ impl<K: Hash + Eq + Drop, V: Drop, S: BuildHasher> HashMap<K, V, S> {
         guard: &'g G,
     ) -> Saying<Result<Result<&'g V, &'g V>, Refused>, K, V, S>
         requires { F.IsAlwaysCallable f }
+        ensures made { Makes (stored result.answer) [] (history_of result.made)
+            (history_of result.log) }
         ensures book { result.book ≡ self.now.book }
         ensures legal { IsLegalHistory K.eq key_of (history_of result.log) }
         ensures seen { IsPrefix self.now.seen (history_of result.log) }
@@ -216,8 +228,8 @@ impl<K: Hash + Eq + Drop, V: Drop, S: BuildHasher> HashMap<K, V, S> {
         ensures book { result.book ≡ self.now.book }
         ensures legal { IsLegalHistory K.eq key_of (history_of result.log) }
         ensures seen { IsPrefix self.now.seen (history_of result.log) }
-        ensures there { IfOk result.answer (IsThere K.eq key self.now.seen (history_of result.log)
-            (λ w. w ≡ value)) }
+        ensures there { IsThereBy K.eq key self.now.seen (history_of result.log) (λ w. w ≡ value)
+            [] (history_of result.made) result.answer }
         ensures right { G.collector_number guard.now ≡ self.now.collector
             → IfErr result.answer (IsPlainRefusal self.now.begun.limit) }
         ensures wrong { (G.collector_number guard.now ≡ self.now.collector → ⊥)
@@ -245,8 +257,8 @@ impl<K: Hash + Eq + Drop, V: Drop, S: BuildHasher> HashMap<K, V, S> {
         ensures book { result.book ≡ self.now.book }
         ensures legal { IsLegalHistory K.eq key_of (history_of result.log) }
         ensures seen { IsPrefix self.now.seen (history_of result.log) }
-        ensures there { IfOk result.answer (IsThere K.eq key self.now.seen (history_of result.log)
-            (F.post f)) }
+        ensures there { IsThereBy K.eq key self.now.seen (history_of result.log) (F.post f)
+            [] (history_of result.made) result.answer }
         ensures right { G.collector_number guard.now ≡ self.now.collector
             → IfErr result.answer (IsPlainRefusal self.now.begun.limit) }
         ensures wrong { (G.collector_number guard.now ≡ self.now.collector → ⊥)

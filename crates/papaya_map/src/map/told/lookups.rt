@@ -1,5 +1,5 @@
 //! The first halves of lookups.
-ghost use Rattle.std.specs.Prelude.{◌≡◌, Err, IfOk, is_ok, true};
+ghost use Rattle.std.specs.Prelude.{◌≡◌, Err, IfOk, [], is_ok, true};
 ghost use mathlib.Core.List.{IsPrefix};
 ghost use Rattle.papaya_lookup.specs.Answers.{IsAnsweredBetween, IsPairAnsweredBetween};
 ghost use Rattle.papaya_lookup.specs.History.{IsLegalHistory, history_of, key_of};
@@ -15,6 +15,7 @@ impl<'a, K: Hash + Eq, V, S: BuildHasher> HashMapRef<'a, K, V, S> {
     /// Performs [`HashMapRef::get`], and returns the observed history as well.
     #[inline(always)]
     pub(crate) fn get_told<Q: Equivalent<K>>(&self, key: &Q) -> Saying<Option<&'a V>, K, V, S>
+        ensures made { history_of result.made ≡ [] }
         ensures book { result.book ≡ self.now.map.book }
         ensures legal { IsLegalHistory K.eq key_of (history_of result.log) }
         ensures seen { IsPrefix self.now.seen (history_of result.log) }
@@ -32,6 +33,7 @@ impl<'a, K: Hash + Eq, V, S: BuildHasher> HashMapRef<'a, K, V, S> {
         &self,
         key: &Q,
     ) -> Saying<Option<(&'a K, &'a V)>, K, V, S>
+        ensures made { history_of result.made ≡ [] }
         ensures book { result.book ≡ self.now.map.book }
         ensures legal { IsLegalHistory K.eq key_of (history_of result.log) }
         ensures seen { IsPrefix self.now.seen (history_of result.log) }
@@ -46,6 +48,7 @@ impl<'a, K: Hash + Eq, V, S: BuildHasher> HashMapRef<'a, K, V, S> {
     /// Performs [`HashMapRef::contains_key`], and returns the observed history as well.
     #[inline(always)]
     pub(crate) fn contains_key_told<Q: Equivalent<K>>(&self, key: &Q) -> Saying<bool, K, V, S>
+        ensures made { history_of result.made ≡ [] }
         ensures book { result.book ≡ self.now.map.book }
         ensures legal { IsLegalHistory K.eq key_of (history_of result.log) }
         ensures seen { IsPrefix self.now.seen (history_of result.log) }
@@ -66,6 +69,7 @@ impl<K: Hash + Eq, V, S: BuildHasher> HashMap<K, V, S> {
         key: &Q,
         guard: &'g G,
     ) -> Saying<Result<Option<&'g V>, Refused>, K, V, S>
+        ensures made { history_of result.made ≡ [] }
         ensures book { result.book ≡ self.now.book }
         ensures legal { IsLegalHistory K.eq key_of (history_of result.log) }
         ensures seen { IsPrefix self.now.seen (history_of result.log) }
@@ -93,6 +97,7 @@ impl<K: Hash + Eq, V, S: BuildHasher> HashMap<K, V, S> {
         key: &Q,
         guard: &'g G,
     ) -> Saying<Result<Option<(&'g K, &'g V)>, Refused>, K, V, S>
+        ensures made { history_of result.made ≡ [] }
         ensures book { result.book ≡ self.now.book }
         ensures legal { IsLegalHistory K.eq key_of (history_of result.log) }
         ensures seen { IsPrefix self.now.seen (history_of result.log) }
@@ -120,6 +125,7 @@ impl<K: Hash + Eq, V, S: BuildHasher> HashMap<K, V, S> {
         key: &Q,
         guard: &G,
     ) -> Saying<Result<bool, Refused>, K, V, S>
+        ensures made { history_of result.made ≡ [] }
         ensures book { result.book ≡ self.now.book }
         ensures legal { IsLegalHistory K.eq key_of (history_of result.log) }
         ensures seen { IsPrefix self.now.seen (history_of result.log) }

@@ -1,9 +1,9 @@
 //! The first halves of the calls that remove a key's entry.
-ghost use Rattle.std.specs.Prelude.{◌≡◌, Err};
+ghost use Rattle.std.specs.Prelude.{◌≡◌, Err, []};
 ghost use mathlib.Core.List.{IsPrefix};
-ghost use Rattle.papaya_change.specs.RemovalAnswers.{IsEntryRemoved, IsRemovalBy, IsRemoved};
+ghost use Rattle.papaya_change.specs.RemovalAnswers.{IsEntryRemoved, IsRemovalBy, IsRemoved, took, went};
 ghost use Rattle.papaya_change.specs.Showings.{Judges};
-ghost use Rattle.papaya_lookup.specs.History.{IsLegalHistory, history_of, key_of};
+ghost use Rattle.papaya_lookup.specs.History.{IsLegalHistory, Makes, history_of, key_of};
 
 use crate::map::{HashMap, HashMapRef};
 use crate::told::Saying;
@@ -22,6 +22,8 @@ impl<'a, K: Hash + Eq, V, S: BuildHasher> HashMapRef<'a, K, V, S> {
         should_remove: F,
     ) -> Saying<Result<Result<Option<(&'a K, &'a V)>, (&'a K, &'a V)>, Refused>, K, V, S>
         requires { F.IsAlwaysCallable should_remove }
+        ensures made { Makes (went result.answer) [] (history_of result.made)
+            (history_of result.log) }
         ensures book { result.book ≡ self.now.map.book }
         ensures legal { IsLegalHistory K.eq key_of (history_of result.log) }
         ensures seen { IsPrefix self.now.seen (history_of result.log) }
@@ -41,6 +43,8 @@ impl<'a, K: Hash + Eq, V, S: BuildHasher> HashMapRef<'a, K, V, S> {
         rt: &R,
         key: &Q,
     ) -> Saying<Result<Option<&'a V>, Refused>, K, V, S>
+        ensures made { Makes (took result.answer) [] (history_of result.made)
+            (history_of result.log) }
         ensures book { result.book ≡ self.now.map.book }
         ensures legal { IsLegalHistory K.eq key_of (history_of result.log) }
         ensures seen { IsPrefix self.now.seen (history_of result.log) }
@@ -59,6 +63,8 @@ impl<'a, K: Hash + Eq, V, S: BuildHasher> HashMapRef<'a, K, V, S> {
         rt: &R,
         key: &Q,
     ) -> Saying<Result<Option<(&'a K, &'a V)>, Refused>, K, V, S>
+        ensures made { Makes (took result.answer) [] (history_of result.made)
+            (history_of result.log) }
         ensures book { result.book ≡ self.now.map.book }
         ensures legal { IsLegalHistory K.eq key_of (history_of result.log) }
         ensures seen { IsPrefix self.now.seen (history_of result.log) }
@@ -82,6 +88,8 @@ impl<K: Hash + Eq, V, S: BuildHasher> HashMap<K, V, S> {
         guard: &'g G,
     ) -> Saying<Result<Result<Option<(&'g K, &'g V)>, (&'g K, &'g V)>, Refused>, K, V, S>
         requires { F.IsAlwaysCallable should_remove }
+        ensures made { Makes (went result.answer) [] (history_of result.made)
+            (history_of result.log) }
         ensures book { result.book ≡ self.now.book }
         ensures legal { IsLegalHistory K.eq key_of (history_of result.log) }
         ensures seen { IsPrefix self.now.seen (history_of result.log) }
@@ -108,6 +116,8 @@ impl<K: Hash + Eq, V, S: BuildHasher> HashMap<K, V, S> {
         key: &Q,
         guard: &'g G,
     ) -> Saying<Result<Option<&'g V>, Refused>, K, V, S>
+        ensures made { Makes (took result.answer) [] (history_of result.made)
+            (history_of result.log) }
         ensures book { result.book ≡ self.now.book }
         ensures legal { IsLegalHistory K.eq key_of (history_of result.log) }
         ensures seen { IsPrefix self.now.seen (history_of result.log) }
@@ -134,6 +144,8 @@ impl<K: Hash + Eq, V, S: BuildHasher> HashMap<K, V, S> {
         key: &Q,
         guard: &'g G,
     ) -> Saying<Result<Option<(&'g K, &'g V)>, Refused>, K, V, S>
+        ensures made { Makes (took result.answer) [] (history_of result.made)
+            (history_of result.log) }
         ensures book { result.book ≡ self.now.book }
         ensures legal { IsLegalHistory K.eq key_of (history_of result.log) }
         ensures seen { IsPrefix self.now.seen (history_of result.log) }

@@ -4,7 +4,7 @@ ghost use mathlib.Core.List.{IsPrefix};
 ghost use Rattle.papaya_change.specs.Showings.{Judges};
 ghost use Rattle.papaya_change.specs.Writing.{IsMemoryOrCapacity};
 ghost use Rattle.papaya_lookup.specs.History.{IsLegalHistory, history_of, key_of};
-ghost use Rattle.papaya_scan.specs.Leaving.{HasKept, IsCleared};
+ghost use Rattle.papaya_scan.specs.Leaving.{HasDropped, HasKept, IsCleared};
 
 use crate::map::{HashMap, HashMapRef};
 use crate::told::Saying;
@@ -25,9 +25,8 @@ impl<'a, K: Hash + Eq, V, S: BuildHasher> HashMapRef<'a, K, V, S> {
         ensures book { result.book ≡ self.now.map.book }
         ensures legal { IsLegalHistory K.eq key_of (history_of result.log) }
         ensures seen { IsPrefix self.now.seen (history_of result.log) }
-        ensures kept { (made : _) × HasKept K.eq self.now.seen (history_of result.log) [] made
-            (Judges F.FnMut) stays
-            result.answer }
+        ensures kept { HasKept K.eq self.now.seen (history_of result.log) []
+            (history_of result.made) (Judges F.FnMut) stays result.answer }
         ensures refused { IfErr result.answer IsMemoryOrCapacity }
     {
         let mut session = self.begun_session(None);
@@ -38,6 +37,8 @@ impl<'a, K: Hash + Eq, V, S: BuildHasher> HashMapRef<'a, K, V, S> {
     /// Performs [`HashMapRef::clear`], and returns the observed history as well.
     #[inline(always)]
     pub(crate) fn clear_told<R: Wait>(&self, rt: &R) -> Saying<Result<(), Refused>, K, V, S>
+        ensures made { HasDropped K.eq self.now.seen (history_of result.log) []
+            (history_of result.made) }
         ensures book { result.book ≡ self.now.map.book }
         ensures legal { IsLegalHistory K.eq key_of (history_of result.log) }
         ensures seen { IsPrefix self.now.seen (history_of result.log) }
@@ -61,11 +62,13 @@ impl<K: Hash + Eq, V, S: BuildHasher> HashMap<K, V, S> {
         guard: &G,
     ) -> Saying<Result<(), Refused>, K, V, S>
         requires { F.IsAlwaysCallable stays }
+        ensures made { (G.collector_number guard.now ≡ self.now.collector → ⊥)
+            → history_of result.made ≡ [] }
         ensures book { result.book ≡ self.now.book }
         ensures legal { IsLegalHistory K.eq key_of (history_of result.log) }
         ensures seen { IsPrefix self.now.seen (history_of result.log) }
         ensures kept { G.collector_number guard.now ≡ self.now.collector
-            → (made : _) × HasKept K.eq self.now.seen (history_of result.log) [] made
+            → HasKept K.eq self.now.seen (history_of result.log) [] (history_of result.made)
             (Judges F.FnMut) stays result.answer }
         ensures right { G.collector_number guard.now ≡ self.now.collector
             → IfErr result.answer IsMemoryOrCapacity }
@@ -88,6 +91,10 @@ impl<K: Hash + Eq, V, S: BuildHasher> HashMap<K, V, S> {
         rt: &R,
         guard: &G,
     ) -> Saying<Result<(), Refused>, K, V, S>
+        ensures made { (G.collector_number guard.now ≡ self.now.collector
+            → HasDropped K.eq self.now.seen (history_of result.log) []
+            (history_of result.made)) × ((G.collector_number guard.now ≡ self.now.collector
+            → ⊥) → history_of result.made ≡ []) }
         ensures book { result.book ≡ self.now.book }
         ensures legal { IsLegalHistory K.eq key_of (history_of result.log) }
         ensures seen { IsPrefix self.now.seen (history_of result.log) }

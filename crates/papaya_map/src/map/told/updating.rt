@@ -1,8 +1,9 @@
 //! The first halves of the calls that replace a key's value by what a closure makes of it.
-ghost use Rattle.std.specs.Prelude.{◌≡◌, Err, IfErr, IfOk};
+ghost use Rattle.std.specs.Prelude.{◌≡◌, Err, IfErr, IfOk, [], is_ok};
 ghost use Rattle.std.specs.Fn.{FnReturnsAt};
 ghost use mathlib.Core.List.{IsPrefix};
-ghost use Rattle.papaya_lookup.specs.History.{IsLegalHistory, history_of, key_of};
+ghost use Rattle.papaya_change.specs.RemovalAnswers.{took};
+ghost use Rattle.papaya_lookup.specs.History.{IsLegalHistory, Makes, history_of, key_of};
 ghost use Rattle.papaya_map.specs.Limited.{IsPlainRefusal};
 ghost use Rattle.papaya_map.specs.Storing.{IsUpdated, IsUpserted};
 
@@ -23,6 +24,8 @@ impl<'a, K: Hash + Eq + Drop, V: Drop, S: BuildHasher> HashMapRef<'a, K, V, S> {
         f: F,
     ) -> Saying<Result<Option<&'a V>, Refused>, K, V, S>
         requires { F.IsAlwaysCallable f }
+        ensures made { Makes (took result.answer) [] (history_of result.made)
+            (history_of result.log) }
         ensures book { result.book ≡ self.now.map.book }
         ensures legal { IsLegalHistory K.eq key_of (history_of result.log) }
         ensures seen { IsPrefix self.now.seen (history_of result.log) }
@@ -45,6 +48,8 @@ impl<'a, K: Hash + Eq + Drop, V: Drop, S: BuildHasher> HashMapRef<'a, K, V, S> {
         value: V,
     ) -> Saying<Result<&'a V, Refused>, K, V, S>
         requires { F.IsAlwaysCallable update }
+        ensures made { Makes (is_ok result.answer) [] (history_of result.made)
+            (history_of result.log) }
         ensures book { result.book ≡ self.now.map.book }
         ensures legal { IsLegalHistory K.eq key_of (history_of result.log) }
         ensures seen { IsPrefix self.now.seen (history_of result.log) }
@@ -69,6 +74,8 @@ impl<'a, K: Hash + Eq + Drop, V: Drop, S: BuildHasher> HashMapRef<'a, K, V, S> {
     ) -> Saying<Result<&'a V, Refused>, K, V, S>
         requires update { U.IsAlwaysCallable update }
         requires make { F.IsAlwaysCallable f }
+        ensures made { Makes (is_ok result.answer) [] (history_of result.made)
+            (history_of result.log) }
         ensures book { result.book ≡ self.now.map.book }
         ensures legal { IsLegalHistory K.eq key_of (history_of result.log) }
         ensures seen { IsPrefix self.now.seen (history_of result.log) }
@@ -94,6 +101,8 @@ impl<K: Hash + Eq + Drop, V: Drop, S: BuildHasher> HashMap<K, V, S> {
         guard: &'g G,
     ) -> Saying<Result<Option<&'g V>, Refused>, K, V, S>
         requires { F.IsAlwaysCallable f }
+        ensures made { Makes (took result.answer) [] (history_of result.made)
+            (history_of result.log) }
         ensures book { result.book ≡ self.now.book }
         ensures legal { IsLegalHistory K.eq key_of (history_of result.log) }
         ensures seen { IsPrefix self.now.seen (history_of result.log) }
@@ -124,6 +133,8 @@ impl<K: Hash + Eq + Drop, V: Drop, S: BuildHasher> HashMap<K, V, S> {
         guard: &'g G,
     ) -> Saying<Result<&'g V, Refused>, K, V, S>
         requires { F.IsAlwaysCallable update }
+        ensures made { Makes (is_ok result.answer) [] (history_of result.made)
+            (history_of result.log) }
         ensures book { result.book ≡ self.now.book }
         ensures legal { IsLegalHistory K.eq key_of (history_of result.log) }
         ensures seen { IsPrefix self.now.seen (history_of result.log) }
@@ -161,6 +172,8 @@ impl<K: Hash + Eq + Drop, V: Drop, S: BuildHasher> HashMap<K, V, S> {
     ) -> Saying<Result<&'g V, Refused>, K, V, S>
         requires update { U.IsAlwaysCallable update }
         requires make { F.IsAlwaysCallable f }
+        ensures made { Makes (is_ok result.answer) [] (history_of result.made)
+            (history_of result.log) }
         ensures book { result.book ≡ self.now.book }
         ensures legal { IsLegalHistory K.eq key_of (history_of result.log) }
         ensures seen { IsPrefix self.now.seen (history_of result.log) }

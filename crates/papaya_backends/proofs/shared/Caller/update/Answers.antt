@@ -9,7 +9,7 @@ returns-in-Ok-Some g c = (
   c.update.result,
   sym (ap (λ r. of_update (old_answered r)) (c.in-Ok-Some.is ∙ ap Ok c.in-Ok-Some.field-0-is)),
   followed
-      c.args.key _ _ (λ shown next is. is) c.update.result c.update.ensures.updated,
+      c.args.key _ _ (λ shown next is. is) c.args.self.now.map c.update.result c.update.ensures.updated,
   plain _ c.update.result c.args.self.now.unlimited c.update.ensures.refused,
 )
 
@@ -18,7 +18,7 @@ returns-in-Ok-None g c = (
   c.update.result,
   sym (ap (λ r. of_update (old_answered r)) (c.in-Ok-None.is ∙ ap Ok c.in-Ok-None.field-0-is)),
   followed
-      c.args.key _ _ (λ shown next is. is) c.update.result c.update.ensures.updated,
+      c.args.key _ _ (λ shown next is. is) c.args.self.now.map c.update.result c.update.ensures.updated,
   plain _ c.update.result c.args.self.now.unlimited c.update.ensures.refused,
 )
 
@@ -26,7 +26,7 @@ pub returns-in-Err : goal.returns-in-Err
 returns-in-Err g c = (
   c.update.result,
   sym (ap (λ r. of_update (old_answered r)) c.in-Err.is),
-  followed c.args.key _ _ (λ shown next is. is)
+  followed c.args.key _ _ (λ shown next is. is) c.args.self.now.map
       c.update.result c.update.ensures.updated,
   plain _ c.update.result c.args.self.now.unlimited c.update.ensures.refused,
 )

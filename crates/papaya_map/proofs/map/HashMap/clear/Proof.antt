@@ -23,7 +23,7 @@ use Rattle.papaya_scan.specs.Leaving.{IsCleared}
 use Rattle.papaya_map.specs.Plain.{IsSince, rule_of, unpinned}
 use Rattle.papaya_map.proofs.Telling.{held_good, one_ref}
 use Rattle.papaya_map.proofs.ToldWalks.{walk_rrr}
-use Rattle.papaya_map.proofs.Handed.{meets, Answer, six_facts, handed_2}
+use Rattle.papaya_map.proofs.Handed.{meets, Answer, six_facts, handed_3, past_first}
 use Rattle.papaya_map.specs.contracts.map.HashMap as HashMap
 use Rattle.papaya_map.specs.contracts.map.HashMap.clear_told as callee
 use Rattle.papaya_map.specs.contracts.map.HashMap.clear_told.Key.{name as #callee}
@@ -53,11 +53,11 @@ clear_spec 𝓤 𝓛 𝓜 𝓡 wired K V S S-Hasher R G LK LV LS LH LR LG K-Hash
     × IfOk r.answer (λ _. IsCleared K-PartialEq.eq a.0.now.seen (history_of r.log))
     × ((G-Guard.collector_number a.1.1.0.now ≡ a.0.now.collector) → IfErr r.answer (λ refused. IsMemoryOrCapacity refused))
     × (((G-Guard.collector_number a.1.1.0.now ≡ a.0.now.collector) → ⊥) → r.answer ≡ Err WrongGuard))
-    (λ κs a u. (tt, id⊢ 𝓤 _)) (λ κs a u r ws. six_facts 𝓤)
-    (λ κs a u r ws f. handed_2 𝓛 E.coded.code (rule_of g) r.names r.log
+    (λ κs a u. (tt, id⊢ 𝓤 _)) (λ κs a u r ws. past_first 𝓤 _ (six_facts 𝓤))
+    (λ κs a u r ws f. handed_3 𝓛 E.coded.code (rule_of g) r.names r.log
     (λ log. IsSince (unpinned a.0.now) K-PartialEq.eq (λ h. IfOk r.answer (λ _. IsCleared K-PartialEq.eq a.0.now.seen h)) (history_of log)) f.0
     (f.1, f.2, f.3)
-    (f.4) f.5)
+    (history_of r.log, (f.1, f.2, f.3)) f.4 f.5)
     (λ κs. let ℓ : NamedLft = record { mir = named 0; lft = κs.0 } in result_laws unit-field.row RefusedRow unit_laws refused_laws)
     (λ κs x f. refl, (λ κs x f. refl, (λ κs x f. refl, tt))) (#self inst) (#callee inst) (inst_fn inst code.function)
     (code.unfolded 𝓤 𝓛.H 𝓜 𝓡 wired (K, (V, (S, (S-Hasher, (R, (G, tt)))))) K-Hash-dict K-Eq-dict K-PartialEq-dict S-BuildHasher-dict

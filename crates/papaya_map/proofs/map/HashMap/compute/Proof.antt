@@ -21,11 +21,10 @@ use Rattle.papaya_keys.specs.contracts.compute.Compute as Computed
 use Rattle.papaya_keys.proofs.compute.Compute.TheLaws.{the_row_laws as computed_laws}
 use Rattle.papaya_change.specs.Showings.{Operates}
 use Rattle.papaya_compute.specs.ComputeAnswers.{IsComputeBy}
-use Rattle.papaya_map.proofs.Earlier.{computed}
 use Rattle.papaya_map.specs.Plain.{IsSince, rule_of, unpinned}
 use Rattle.papaya_map.proofs.Telling.{held_good, one_of, one_ref}
 use Rattle.papaya_map.proofs.ToldWalks.{walk_rroor}
-use Rattle.papaya_map.proofs.Handed.{meets, Answer, six_facts, handed_3}
+use Rattle.papaya_map.proofs.Handed.{meets, Answer, six_facts, handed_3, past_first}
 use Rattle.papaya_map.specs.contracts.map.HashMap as HashMap
 use Rattle.papaya_map.specs.contracts.map.HashMap.compute_told as callee
 use Rattle.papaya_map.specs.contracts.map.HashMap.compute_told.Key.{name as #callee}
@@ -63,17 +62,12 @@ compute_spec 𝓤 𝓛 𝓜 𝓡 wired K V S S-Hasher R T F G LK LV LS LH LR LT 
     → IsComputeBy K-PartialEq.eq a.1.1.0 a.0.now.seen (history_of r.log) (Operates F-FnMut) a.1.1.1.0 r.answer)
     × (r.answer ≡ Err Limit → IsSome a.0.now.begun.limit)
     × (((G-Guard.collector_number a.1.1.1.1.0.now ≡ a.0.now.collector) → ⊥) → r.answer ≡ Err WrongGuard))
-    (λ κs a u. (tt, id⊢ 𝓤 _)) (λ κs a u r ws. six_facts 𝓤)
+    (λ κs a u. (tt, id⊢ 𝓤 _)) (λ κs a u r ws. past_first 𝓤 _ (six_facts 𝓤))
     (λ κs a u r ws f. handed_3 𝓛 E.coded.code (rule_of g) r.names r.log
     (λ log. IsSince (unpinned a.0.now) K-PartialEq.eq
     (λ h. (G-Guard.collector_number a.1.1.1.1.0.now ≡ a.0.now.collector)
     → IsComputeBy K-PartialEq.eq a.1.1.0 a.0.now.seen h (Operates F-FnMut) a.1.1.1.0 r.answer) (history_of log)) f.0 (f.1, f.2, f.3)
-    (λ right. record {
-      history = (history_of r.log);
-      legal = f.1;
-      told = computed a.0.now.seen (history_of r.log) K-PartialEq.eq a.1.1.0
-          (Operates F-FnMut) a.1.1.1.0 r.answer (f.3 right);
-    }) f.4 f.5)
+    (history_of r.log, (f.1, f.2, f.3)) f.4 f.5)
     (λ κs. let ℓ : NamedLft = record { mir = named 0; lft = κs.0 } in
     result_laws (Computed.the_row ℓ (param 0 K) (param 1 V) (param 5 T)) RefusedRow
     (computed_laws ℓ (param 0 K) (param 1 V) (param 5 T) (param_laws 0 K LK) (param_laws 1 V LV) (param_laws 5 T LT)) refused_laws)

@@ -19,11 +19,10 @@ use Rattle.papaya_lookup.specs.History.{IsLegalHistory, history_of, key_of}
 use denote.Struct.Field.{bool-field}
 use Rattle.papaya_map.specs.Plain.{IsContained}
 use Rattle.papaya_map.proofs.Telling.{bool_laws}
-use Rattle.papaya_map.proofs.Earlier.{done_of, found}
 use Rattle.papaya_map.specs.Plain.{IsSince, rule_of, unpinned}
 use Rattle.papaya_map.proofs.Telling.{held_good, one_ref}
 use Rattle.papaya_map.proofs.ToldWalks.{walk_rrr}
-use Rattle.papaya_map.proofs.Handed.{meets, Answer, six_facts, handed_2}
+use Rattle.papaya_map.proofs.Handed.{meets, Answer, six_facts, handed_3, past_first}
 use Rattle.papaya_map.specs.contracts.map.HashMap as HashMap
 use Rattle.papaya_map.specs.contracts.map.HashMap.contains_key_told as callee
 use Rattle.papaya_map.specs.contracts.map.HashMap.contains_key_told.Key.{name as #callee}
@@ -58,20 +57,11 @@ contains_key_spec 𝓤 𝓛 𝓜 𝓡 wired K V S S-Hasher Q G LK LV LS LH LQ LG
     × IfOk r.answer (IsContained K-PartialEq.eq (Q-Equivalent.matches a.1.0.now) a.0.now.seen (history_of r.log))
     × ((G-Guard.collector_number a.1.1.0.now ≡ a.0.now.collector) → is_ok r.answer ≡ true)
     × (((G-Guard.collector_number a.1.1.0.now ≡ a.0.now.collector) → ⊥) → r.answer ≡ Err WrongGuard))
-    (λ κs a u. (tt, id⊢ 𝓤 _)) (λ κs a u r ws. six_facts 𝓤)
-    (λ κs a u r ws f. handed_2 𝓛 E.coded.code (rule_of g) r.names r.log
+    (λ κs a u. (tt, id⊢ 𝓤 _)) (λ κs a u r ws. past_first 𝓤 _ (six_facts 𝓤))
+    (λ κs a u r ws f. handed_3 𝓛 E.coded.code (rule_of g) r.names r.log
     (λ log. IsSince (unpinned a.0.now) K-PartialEq.eq
     (λ h. IfOk r.answer (IsContained K-PartialEq.eq (Q-Equivalent.matches a.1.0.now) a.0.now.seen h)) (history_of log)) f.0 (f.1, f.2, f.3)
-    (λ right. done_of (λ answer is. (
-      is.0,
-      is.1,
-      record {
-        history = (history_of r.log);
-        legal = f.1;
-        told = found a.0.now.seen (history_of r.log) K-PartialEq.eq (Q-Equivalent.matches a.1.0.now)
-            (λ value p. value.now ≡ p.value.value) is.2;
-      },
-    )) r.answer f.3 (f.4 right)) f.5)
+    (history_of r.log, (f.1, f.2, f.3)) f.4 f.5)
     (λ κs. let ℓ : NamedLft = record { mir = named 0; lft = κs.0 } in result_laws bool-field.row RefusedRow bool_laws refused_laws)
     (λ κs x f. refl, (λ κs x f. refl, (λ κs x f. refl, tt))) (#self inst) (#callee inst) (inst_fn inst code.function)
     (code.unfolded 𝓤 𝓛.H 𝓜 𝓡 wired (K, (V, (S, (S-Hasher, (Q, (G, tt)))))) K-Hash-dict K-Eq-dict K-PartialEq-dict S-BuildHasher-dict

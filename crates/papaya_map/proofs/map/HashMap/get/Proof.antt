@@ -19,11 +19,10 @@ use Rattle.papaya_book.specs.contracts.rule.law.LawRuleEventNamed.TheImpl as Law
 use Rattle.papaya_lookup.specs.History.{IsLegalHistory, history_of, key_of}
 use Rattle.std.specs.contracts.option.Option as Option
 use Rattle.papaya_lookup.specs.Answers.{IsAnsweredBetween}
-use Rattle.papaya_map.proofs.Earlier.{done_of, found}
 use Rattle.papaya_map.specs.Plain.{IsSince, rule_of, unpinned}
 use Rattle.papaya_map.proofs.Telling.{held_good, one_ref, ref_laws, ref_row}
 use Rattle.papaya_map.proofs.ToldWalks.{walk_rrr}
-use Rattle.papaya_map.proofs.Handed.{meets, Answer, six_facts, handed_2}
+use Rattle.papaya_map.proofs.Handed.{meets, Answer, six_facts, handed_3, past_first}
 use Rattle.papaya_map.specs.contracts.map.HashMap as HashMap
 use Rattle.papaya_map.specs.contracts.map.HashMap.get_told as callee
 use Rattle.papaya_map.specs.contracts.map.HashMap.get_told.Key.{name as #callee}
@@ -58,16 +57,11 @@ get_spec 𝓤 𝓛 𝓜 𝓡 wired K V S S-Hasher Q G LK LV LS LH LQ LG K-Hash K
     × IfOk r.answer (IsAnsweredBetween K-PartialEq.eq (Q-Equivalent.matches a.1.0.now) a.0.now.seen (history_of r.log))
     × ((G-Guard.collector_number a.1.1.0.now ≡ a.0.now.collector) → is_ok r.answer ≡ true)
     × (((G-Guard.collector_number a.1.1.0.now ≡ a.0.now.collector) → ⊥) → r.answer ≡ Err WrongGuard))
-    (λ κs a u. (tt, id⊢ 𝓤 _)) (λ κs a u r ws. six_facts 𝓤)
-    (λ κs a u r ws f. handed_2 𝓛 E.coded.code (rule_of g) r.names r.log
+    (λ κs a u. (tt, id⊢ 𝓤 _)) (λ κs a u r ws. past_first 𝓤 _ (six_facts 𝓤))
+    (λ κs a u r ws f. handed_3 𝓛 E.coded.code (rule_of g) r.names r.log
     (λ log. IsSince (unpinned a.0.now) K-PartialEq.eq
     (λ h. IfOk r.answer (IsAnsweredBetween K-PartialEq.eq (Q-Equivalent.matches a.1.0.now) a.0.now.seen h)) (history_of log)) f.0 (f.1, f.2, f.3)
-    (λ right. done_of (λ answer is. record {
-      history = (history_of r.log);
-      legal = f.1;
-      told = found a.0.now.seen (history_of r.log) K-PartialEq.eq
-          (Q-Equivalent.matches a.1.0.now) (λ value p. value.now ≡ p.value.value) is;
-    }) r.answer f.3 (f.4 right)) f.5)
+    (history_of r.log, (f.1, f.2, f.3)) f.4 f.5)
     (λ κs. let ℓ : NamedLft = record { mir = named 0; lft = κs.0 } in
     result_laws (Option.the_row (ref_row ℓ 1 V)) RefusedRow (option_laws (ref_row ℓ 1 V) (ref_laws ℓ 1 V LV)) refused_laws)
     (λ κs x f. refl, (λ κs x f. refl, (λ κs x f. refl, tt))) (#self inst) (#callee inst) (inst_fn inst code.function)

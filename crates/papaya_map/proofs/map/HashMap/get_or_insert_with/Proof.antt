@@ -18,8 +18,8 @@ use Rattle.papaya_book.specs.contracts.rule.law.LawRuleEventNamed.TheImpl as Law
 use Rattle.papaya_lookup.specs.History.{IsLegalHistory, history_of, key_of}
 use Rattle.papaya_map.specs.Limited.{IsPlainRefusal}
 use Rattle.papaya_map.specs.contracts.map.HashMap.get_or_insert_with as contract
-use Rattle.papaya_map.specs.Storing.{IsThere}
-use Rattle.papaya_map.proofs.Earlier.{ok_of, there}
+use Rattle.papaya_map.specs.Storing.{IsThere, IsThereBy}
+use Rattle.papaya_map.proofs.Earlier.{there_by}
 use Rattle.papaya_map.specs.Plain.{IsSince, rule_of, unpinned}
 use Rattle.papaya_map.proofs.Telling.{held_good, one_of, one_ref, ref_laws, ref_row}
 use Rattle.papaya_map.proofs.ToldWalks.{walk_rroor}
@@ -56,28 +56,23 @@ get_or_insert_with_spec 𝓤 𝓛 𝓜 𝓡 wired K V S S-Hasher R F G LK LV LS 
     S-Hasher-Hasher S-Hasher-Hasher-dict K-Destruct-dict V-Destruct-dict S-Hasher-Destruct-dict R-Wait R-Wait-dict F-FnOnce F-FnOnce-dict G-Guard
     G-Guard-dict F-Destruct-dict 𝓛 𝓜.mem 𝓡.returns)
     (λ κs a r. (r.book ≡ a.0.now.book) × IsLegalHistory K-PartialEq.eq key_of (history_of r.log) × IsPrefix a.0.now.seen (history_of r.log)
-    × IfOk r.answer (IsThere K-PartialEq.eq a.1.1.0 a.0.now.seen (history_of r.log)
+    × IsThereBy K-PartialEq.eq a.1.1.0 a.0.now.seen (history_of r.log)
     (contract.F-post K V S S-Hasher R F G K-Hash K-Hash-dict K-Eq K-Eq-dict K-PartialEq K-PartialEq-dict S-BuildHasher S-BuildHasher-dict
     S-Hasher-Hasher S-Hasher-Hasher-dict K-Destruct-dict V-Destruct-dict S-Hasher-Destruct-dict R-Wait R-Wait-dict F-FnOnce F-FnOnce-dict G-Guard
-    G-Guard-dict F-Destruct-dict a.1.1.1.0))
+    G-Guard-dict F-Destruct-dict a.1.1.1.0) [] (history_of r.made) r.answer
     × ((G-Guard.collector_number a.1.1.1.1.0.now ≡ a.0.now.collector) → IfErr r.answer (IsPlainRefusal a.0.now.begun.limit))
     × (((G-Guard.collector_number a.1.1.1.1.0.now ≡ a.0.now.collector) → ⊥) → r.answer ≡ Err WrongGuard))
     (λ κs a u. (tt, id⊢ 𝓤 _)) (λ κs a u r ws. six_facts 𝓤)
-    (λ κs a u r ws f. handed_3 𝓛 E.coded.code (rule_of g) r.names r.log
+    (λ κs a u r ws f. let is = there_by a.0.now.seen (history_of r.log) K-PartialEq.eq a.1.1.0 (contract.F-post K V S S-Hasher R F G K-Hash K-Hash-dict K-Eq K-Eq-dict K-PartialEq K-PartialEq-dict S-BuildHasher S-BuildHasher-dict
+    S-Hasher-Hasher S-Hasher-Hasher-dict K-Destruct-dict V-Destruct-dict S-Hasher-Destruct-dict R-Wait R-Wait-dict F-FnOnce F-FnOnce-dict G-Guard
+    G-Guard-dict F-Destruct-dict a.1.1.1.0) [] (history_of r.made) r.answer f.3 in
+    handed_3 𝓛 E.coded.code (rule_of g) r.names r.log
     (λ log. IsSince (unpinned a.0.now) K-PartialEq.eq
     (λ h. IfOk r.answer (IsThere K-PartialEq.eq a.1.1.0 a.0.now.seen h
     (contract.F-post K V S S-Hasher R F G K-Hash K-Hash-dict K-Eq K-Eq-dict K-PartialEq K-PartialEq-dict S-BuildHasher S-BuildHasher-dict
     S-Hasher-Hasher S-Hasher-Hasher-dict K-Destruct-dict V-Destruct-dict S-Hasher-Destruct-dict R-Wait R-Wait-dict F-FnOnce F-FnOnce-dict G-Guard
-    G-Guard-dict F-Destruct-dict a.1.1.1.0))) (history_of log)) f.0 (f.1, f.2, f.3)
-    (ok_of K-PartialEq.eq f.1 (λ h answer. IsThere K-PartialEq.eq a.1.1.0 [] h
-    (contract.F-post K V S S-Hasher R F G K-Hash K-Hash-dict K-Eq K-Eq-dict K-PartialEq K-PartialEq-dict S-BuildHasher S-BuildHasher-dict
-    S-Hasher-Hasher S-Hasher-Hasher-dict K-Destruct-dict V-Destruct-dict S-Hasher-Destruct-dict R-Wait R-Wait-dict F-FnOnce F-FnOnce-dict G-Guard
-    G-Guard-dict F-Destruct-dict a.1.1.1.0) answer)
-    (λ answer is. there a.0.now.seen (history_of r.log) K-PartialEq.eq a.1.1.0
-    (contract.F-post K V S S-Hasher R F G K-Hash K-Hash-dict K-Eq K-Eq-dict K-PartialEq K-PartialEq-dict S-BuildHasher S-BuildHasher-dict
-    S-Hasher-Hasher S-Hasher-Hasher-dict K-Destruct-dict V-Destruct-dict S-Hasher-Destruct-dict R-Wait R-Wait-dict F-FnOnce F-FnOnce-dict G-Guard
-    G-Guard-dict F-Destruct-dict a.1.1.1.0) answer is) r.answer f.3)
-    (f.4) f.5)
+    G-Guard-dict F-Destruct-dict a.1.1.1.0))) (history_of log)) f.0 (f.1, f.2, is)
+    (history_of r.log, (f.1, f.2, is)) f.4 f.5)
     (λ κs. let ℓ : NamedLft = record { mir = named 0; lft = κs.0 } in result_laws (ref_row ℓ 1 V) RefusedRow (ref_laws ℓ 1 V LV) refused_laws)
     (λ κs x f. refl, (λ κs x f. refl, (λ κs x f. refl, (λ κs x f. refl, (λ κs x f. refl, tt))))) (#self inst) (#callee inst)
     (inst_fn inst code.function) (code.unfolded 𝓤 𝓛.H 𝓜 𝓡 wired (K, (V, (S, (S-Hasher, (R, (F, (G, tt))))))) K-Hash-dict K-Eq-dict K-PartialEq-dict

@@ -1,5 +1,5 @@
 -- `insert` with a guard answers what it is told, and hands over what shows the log. Assumes `Logic`.
-use Rattle.std.proofs.Common.{◌≡◌, ◌⊎◌, [], ◌∷◌, Err, refl}
+use Rattle.std.proofs.Common.{◌≡◌, [], ◌∷◌, Err, refl}
 use Rattle.std.specs.Prelude.{IfErr, IfOk}
 use mathlib.Core.List.{IsPrefix}
 use mir.Syntax.{a_type, dcons, dnil, named}
@@ -11,7 +11,7 @@ use Rattle.std.proofs.option.Option.TheLaws.{the_row_laws as option_laws}
 use Rattle.std.proofs.result.Result.TheLaws.{the_row_laws as result_laws}
 use Rattle.papaya_words.proofs.probe.Refused.TheLaws.{the_row_laws as refused_laws}
 use Rattle.papaya_words.specs.contracts.probe.Refused.{the_row as RefusedRow}
-use Rattle.papaya_words.specs.declared.probe.Refused.TheVariants.{Memory, Capacity, WrongGuard}
+use Rattle.papaya_words.specs.declared.probe.Refused.TheVariants.{WrongGuard}
 use Rattle.papaya_book.specs.contracts.rule.entry.Event as event
 use Rattle.papaya_book.specs.contracts.rule.entry.Named as naming
 use Rattle.papaya_book.specs.contracts.rule.law.Law as law
@@ -19,12 +19,11 @@ use Rattle.papaya_book.specs.contracts.rule.law.LawRuleEventNamed.TheImpl as Law
 use Rattle.papaya_lookup.specs.History.{IsLegalHistory, history_of, key_of}
 use Rattle.std.specs.contracts.option.Option as Option
 use Rattle.papaya_change.specs.Changes.{IsPut}
-use Rattle.papaya_map.proofs.Earlier.{ok_of, put}
 use Rattle.papaya_map.specs.Limited.{IsPlainRefusal}
 use Rattle.papaya_map.specs.Plain.{IsSince, rule_of, unpinned}
 use Rattle.papaya_map.proofs.Telling.{held_good, one_of, one_ref, ref_laws, ref_row}
 use Rattle.papaya_map.proofs.ToldWalks.{walk_rroor}
-use Rattle.papaya_map.proofs.Handed.{meets, Answer, six_facts, handed_3}
+use Rattle.papaya_map.proofs.Handed.{meets, Answer, six_facts, handed_3, past_first}
 use Rattle.papaya_map.specs.contracts.map.HashMap as HashMap
 use Rattle.papaya_map.specs.contracts.map.HashMap.insert_told as callee
 use Rattle.papaya_map.specs.contracts.map.HashMap.insert_told.Key.{name as #callee}
@@ -57,13 +56,11 @@ insert_spec 𝓤 𝓛 𝓜 𝓡 wired K V S S-Hasher R G LK LV LS LH LR LG K-Has
     × IfOk r.answer (IsPut K-PartialEq.eq a.1.1.0 a.1.1.1.0 a.0.now.seen (history_of r.log))
     × ((G-Guard.collector_number a.1.1.1.1.0.now ≡ a.0.now.collector) → IfErr r.answer (IsPlainRefusal a.0.now.begun.limit))
     × (((G-Guard.collector_number a.1.1.1.1.0.now ≡ a.0.now.collector) → ⊥) → r.answer ≡ Err WrongGuard))
-    (λ κs a u. (tt, id⊢ 𝓤 _)) (λ κs a u r ws. six_facts 𝓤)
+    (λ κs a u. (tt, id⊢ 𝓤 _)) (λ κs a u r ws. past_first 𝓤 _ (six_facts 𝓤))
     (λ κs a u r ws f. handed_3 𝓛 E.coded.code (rule_of g) r.names r.log
     (λ log. IsSince (unpinned a.0.now) K-PartialEq.eq (λ h. IfOk r.answer (IsPut K-PartialEq.eq a.1.1.0 a.1.1.1.0 a.0.now.seen h)) (history_of log))
     f.0 (f.1, f.2, f.3)
-    (ok_of K-PartialEq.eq f.1 (λ h answer. IsPut K-PartialEq.eq a.1.1.0 a.1.1.1.0 [] h answer)
-    (λ answer is. put a.0.now.seen (history_of r.log) K-PartialEq.eq a.1.1.0 a.1.1.1.0 answer is) r.answer f.3)
-    (f.4) f.5)
+    (history_of r.log, (f.1, f.2, f.3)) f.4 f.5)
     (λ κs. let ℓ : NamedLft = record { mir = named 0; lft = κs.0 } in
     result_laws (Option.the_row (ref_row ℓ 1 V)) RefusedRow (option_laws (ref_row ℓ 1 V) (ref_laws ℓ 1 V LV)) refused_laws)
     (λ κs x f. refl, (λ κs x f. refl, (λ κs x f. refl, (λ κs x f. refl, (λ κs x f. refl, tt))))) (#self inst) (#callee inst)

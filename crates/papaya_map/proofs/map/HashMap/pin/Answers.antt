@@ -1,5 +1,7 @@
-use Rattle.std.proofs.Common.{ap, ◌∙◌}
-use Rattle.papaya_lookup.proofs.Histories.{history_legal}
+use Rattle.std.proofs.Common.{ap, subst, ◌∙◌}
+use mathlib.Core.List.{IsPrefix}
+use Rattle.papaya_lookup.specs.History.{history_of}
+use Rattle.papaya_lookup.proofs.Histories.{history_legal, history_since}
 use Rattle.papaya_map.specs.Fixed.{Fixed}
 use Rattle.papaya_map.proofs.map.HashMap.pin.Goals as goal
 
@@ -11,3 +13,7 @@ invariant_of-result-2 g c =
           g.K.Hash.hash_input g.S.BuildHasher.build_hasher g.S.Hasher.Hasher.write g.S.Hasher.Hasher.finish g.met.K.Eq.laws g.met.K.Hash.respects_eq
           held.1.begun c.learn.new.self.log held.1.lawful,
     )
+
+pub returns-clause-seen : goal.returns-clause-seen
+returns-clause-seen g c = subst (λ (z : Fixed g.row.K.Denot g.row.V.Denot g.row.S.Denot). IsPrefix z.seen (history_of c.learn.new.self.log))
+    c.self.view_is (history_since c.self.inside.opened.log c.learn.new.self.log c.learn.ensures.3)

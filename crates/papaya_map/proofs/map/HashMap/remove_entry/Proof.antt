@@ -18,11 +18,10 @@ use Rattle.papaya_book.specs.contracts.rule.law.LawRuleEventNamed.TheImpl as Law
 use Rattle.papaya_lookup.specs.History.{IsLegalHistory, history_of, key_of}
 use Rattle.std.specs.contracts.option.Option as Option
 use Rattle.papaya_change.specs.RemovalAnswers.{IsEntryRemoved}
-use Rattle.papaya_map.proofs.Earlier.{entry_removed}
 use Rattle.papaya_map.specs.Plain.{IsSince, rule_of, unpinned}
 use Rattle.papaya_map.proofs.Telling.{held_good, one_ref, pair_laws, pair_row}
 use Rattle.papaya_map.proofs.ToldWalks.{walk_rrrr}
-use Rattle.papaya_map.proofs.Handed.{meets, Answer, five_facts, handed_2}
+use Rattle.papaya_map.proofs.Handed.{meets, Answer, five_facts, handed_2, past_first}
 use Rattle.papaya_map.specs.contracts.map.HashMap as HashMap
 use Rattle.papaya_map.specs.contracts.map.HashMap.remove_entry_told as callee
 use Rattle.papaya_map.specs.contracts.map.HashMap.remove_entry_told.Key.{name as #callee}
@@ -58,17 +57,12 @@ remove_entry_spec 𝓤 𝓛 𝓜 𝓡 wired K V S S-Hasher R Q G LK LV LS LH LR 
     × ((G-Guard.collector_number a.1.1.1.0.now ≡ a.0.now.collector)
     → IsEntryRemoved K-PartialEq.eq (Q-Equivalent.matches a.1.1.0.now) a.0.now.seen (history_of r.log) r.answer)
     × (((G-Guard.collector_number a.1.1.1.0.now ≡ a.0.now.collector) → ⊥) → r.answer ≡ Err WrongGuard))
-    (λ κs a u. (tt, id⊢ 𝓤 _)) (λ κs a u r ws. five_facts 𝓤)
+    (λ κs a u. (tt, id⊢ 𝓤 _)) (λ κs a u r ws. past_first 𝓤 _ (five_facts 𝓤))
     (λ κs a u r ws f. handed_2 𝓛 E.coded.code (rule_of g) r.names r.log
     (λ log. IsSince (unpinned a.0.now) K-PartialEq.eq
     (λ h. (G-Guard.collector_number a.1.1.1.0.now ≡ a.0.now.collector)
     → IsEntryRemoved K-PartialEq.eq (Q-Equivalent.matches a.1.1.0.now) a.0.now.seen h r.answer) (history_of log)) f.0 (f.1, f.2, f.3)
-    (λ right. record {
-      history = (history_of r.log);
-      legal = f.1;
-      told = entry_removed a.0.now.seen (history_of r.log) K-PartialEq.eq
-          (Q-Equivalent.matches a.1.1.0.now) r.answer (f.3 right);
-    }) f.4)
+    (history_of r.log, (f.1, f.2, f.3)) f.4)
     (λ κs. let ℓ : NamedLft = record { mir = named 0; lft = κs.0 } in
     result_laws (Option.the_row (pair_row ℓ 0 K 1 V)) RefusedRow (option_laws (pair_row ℓ 0 K 1 V) (pair_laws ℓ 0 K LK 1 V LV)) refused_laws)
     (λ κs x f. refl, (λ κs x f. refl, (λ κs x f. refl, (λ κs x f. refl, tt)))) (#self inst) (#callee inst) (inst_fn inst code.function)

@@ -20,11 +20,10 @@ use Rattle.std.specs.contracts.option.Option as Option
 use Rattle.std.specs.contracts.result.Result as Result
 use Rattle.papaya_change.specs.RemovalAnswers.{IsRemovalBy}
 use Rattle.papaya_change.specs.Showings.{Judges}
-use Rattle.papaya_map.proofs.Earlier.{removal}
 use Rattle.papaya_map.specs.Plain.{IsSince, rule_of, unpinned}
 use Rattle.papaya_map.proofs.Telling.{held_good, one_of, one_ref, pair_laws, pair_row}
 use Rattle.papaya_map.proofs.ToldWalks.{walk_rrror}
-use Rattle.papaya_map.proofs.Handed.{meets, Answer, five_facts, handed_2}
+use Rattle.papaya_map.proofs.Handed.{meets, Answer, five_facts, handed_2, past_first}
 use Rattle.papaya_map.specs.contracts.map.HashMap as HashMap
 use Rattle.papaya_map.specs.contracts.map.HashMap.remove_if_told as callee
 use Rattle.papaya_map.specs.contracts.map.HashMap.remove_if_told.Key.{name as #callee}
@@ -62,17 +61,12 @@ remove_if_spec 𝓤 𝓛 𝓜 𝓡 wired K V S S-Hasher R Q F G LK LV LS LH LR L
     × ((G-Guard.collector_number a.1.1.1.1.0.now ≡ a.0.now.collector)
     → IsRemovalBy K-PartialEq.eq (Q-Equivalent.matches a.1.1.0.now) a.0.now.seen (history_of r.log) (Judges F-FnMut) a.1.1.1.0 r.answer)
     × (((G-Guard.collector_number a.1.1.1.1.0.now ≡ a.0.now.collector) → ⊥) → r.answer ≡ Err WrongGuard))
-    (λ κs a u. (tt, id⊢ 𝓤 _)) (λ κs a u r ws. five_facts 𝓤)
+    (λ κs a u. (tt, id⊢ 𝓤 _)) (λ κs a u r ws. past_first 𝓤 _ (five_facts 𝓤))
     (λ κs a u r ws f. handed_2 𝓛 E.coded.code (rule_of g) r.names r.log
     (λ log. IsSince (unpinned a.0.now) K-PartialEq.eq
     (λ h. (G-Guard.collector_number a.1.1.1.1.0.now ≡ a.0.now.collector)
     → IsRemovalBy K-PartialEq.eq (Q-Equivalent.matches a.1.1.0.now) a.0.now.seen h (Judges F-FnMut) a.1.1.1.0 r.answer) (history_of log)) f.0 (f.1, f.2, f.3)
-    (λ right. record {
-      history = (history_of r.log);
-      legal = f.1;
-      told = removal a.0.now.seen (history_of r.log) K-PartialEq.eq
-          (Q-Equivalent.matches a.1.1.0.now) (Judges F-FnMut) a.1.1.1.0 r.answer (f.3 right);
-    }) f.4)
+    (history_of r.log, (f.1, f.2, f.3)) f.4)
     (λ κs. let ℓ : NamedLft = record { mir = named 0; lft = κs.0 } in
     result_laws (Result.the_row (Option.the_row (pair_row ℓ 0 K 1 V)) (pair_row ℓ 0 K 1 V)) RefusedRow
     (result_laws (Option.the_row (pair_row ℓ 0 K 1 V)) (pair_row ℓ 0 K 1 V) (option_laws (pair_row ℓ 0 K 1 V) (pair_laws ℓ 0 K LK 1 V LV))

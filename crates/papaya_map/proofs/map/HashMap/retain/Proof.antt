@@ -23,11 +23,10 @@ use Rattle.papaya_book.specs.Logs.{Stored}
 use Rattle.papaya_lookup.specs.History.{Change}
 use Rattle.papaya_change.specs.Showings.{Judges}
 use Rattle.papaya_scan.specs.Leaving.{HasKept}
-use Rattle.papaya_map.proofs.Earlier.{kept}
 use Rattle.papaya_map.specs.Plain.{IsSince, rule_of, unpinned}
 use Rattle.papaya_map.proofs.Telling.{held_good, one_of, one_ref}
 use Rattle.papaya_map.proofs.ToldWalks.{walk_rror}
-use Rattle.papaya_map.proofs.Handed.{meets, Answer, six_facts, handed_3}
+use Rattle.papaya_map.proofs.Handed.{meets, Answer, six_facts, handed_3, past_first}
 use Rattle.papaya_map.specs.contracts.map.HashMap as HashMap
 use Rattle.papaya_map.specs.contracts.map.HashMap.retain_told as callee
 use Rattle.papaya_map.specs.contracts.map.HashMap.retain_told.Key.{name as #callee}
@@ -58,22 +57,17 @@ retain_spec 𝓤 𝓛 𝓜 𝓡 wired K V S S-Hasher R F G LK LV LS LH LR LF LG 
     S-Hasher-Hasher S-Hasher-Hasher-dict S-Hasher-Destruct-dict R-Wait R-Wait-dict F-FnMut F-FnMut-dict F-FnOnce-dict G-Guard G-Guard-dict
     F-Destruct-dict 𝓛 𝓜.mem 𝓡.returns)
     (λ κs a r. (r.book ≡ a.0.now.book) × IsLegalHistory K-PartialEq.eq key_of (history_of r.log) × IsPrefix a.0.now.seen (history_of r.log)
-    × ((G-Guard.collector_number a.1.1.1.0.now ≡ a.0.now.collector) → (made : List (Change K.Denot (Stored K.Denot V.Denot)))
-    × HasKept K-PartialEq.eq a.0.now.seen (history_of r.log) [] made (Judges F-FnMut) a.1.1.0 r.answer)
+    × ((G-Guard.collector_number a.1.1.1.0.now ≡ a.0.now.collector)
+    → HasKept K-PartialEq.eq a.0.now.seen (history_of r.log) [] (history_of r.made) (Judges F-FnMut) a.1.1.0 r.answer)
     × ((G-Guard.collector_number a.1.1.1.0.now ≡ a.0.now.collector) → IfErr r.answer (λ refused. IsMemoryOrCapacity refused))
     × (((G-Guard.collector_number a.1.1.1.0.now ≡ a.0.now.collector) → ⊥) → r.answer ≡ Err WrongGuard))
-    (λ κs a u. (tt, id⊢ 𝓤 _)) (λ κs a u r ws. six_facts 𝓤)
+    (λ κs a u. (tt, id⊢ 𝓤 _)) (λ κs a u r ws. past_first 𝓤 _ (six_facts 𝓤))
     (λ κs a u r ws f. handed_3 𝓛 E.coded.code (rule_of g) r.names r.log
     (λ log. IsSince (unpinned a.0.now) K-PartialEq.eq
     (λ h. (G-Guard.collector_number a.1.1.1.0.now ≡ a.0.now.collector) → (made : List (Change K.Denot (Stored K.Denot V.Denot)))
-    × HasKept K-PartialEq.eq a.0.now.seen h [] made (Judges F-FnMut) a.1.1.0 r.answer) (history_of log)) f.0 (f.1, f.2, f.3)
-    (λ right. record {
-      history = (history_of r.log);
-      legal = f.1;
-      told = kept a.0.now.seen (history_of r.log) K-PartialEq.eq (Judges F-FnMut) a.1.1.0
-          r.answer (f.3 right);
-    })
-    (f.4) f.5)
+    × HasKept K-PartialEq.eq a.0.now.seen h [] made (Judges F-FnMut) a.1.1.0 r.answer) (history_of log)) f.0
+    (f.1, f.2, (λ right. (history_of r.made, f.3 right)))
+    (history_of r.log, (f.1, f.2, (λ right. (history_of r.made, f.3 right)))) f.4 f.5)
     (λ κs. let ℓ : NamedLft = record { mir = named 0; lft = κs.0 } in result_laws unit-field.row RefusedRow unit_laws refused_laws)
     (λ κs x f. refl, (λ κs x f. refl, (λ κs x f. refl, (λ κs x f. refl, tt)))) (#self inst) (#callee inst) (inst_fn inst code.function)
     (code.unfolded 𝓤 𝓛.H 𝓜 𝓡 wired (K, (V, (S, (S-Hasher, (R, (F, (G, tt))))))) K-Hash-dict K-Eq-dict K-PartialEq-dict S-BuildHasher-dict

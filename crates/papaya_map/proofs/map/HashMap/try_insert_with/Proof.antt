@@ -20,11 +20,10 @@ use Rattle.std.specs.contracts.result.Result as Result
 use Rattle.papaya_map.specs.Limited.{IsPlainRefusal}
 use Rattle.papaya_map.specs.contracts.map.HashMap.try_insert_with as contract
 use Rattle.papaya_map.specs.Storing.{IsTriedWith}
-use Rattle.papaya_map.proofs.Earlier.{ok_of, tried_with}
 use Rattle.papaya_map.specs.Plain.{IsSince, rule_of, unpinned}
 use Rattle.papaya_map.proofs.Telling.{held_good, one_of, one_ref, ref_laws, ref_row}
 use Rattle.papaya_map.proofs.ToldWalks.{walk_rroor}
-use Rattle.papaya_map.proofs.Handed.{meets, Answer, six_facts, handed_3}
+use Rattle.papaya_map.proofs.Handed.{meets, Answer, six_facts, handed_3, past_first}
 use Rattle.papaya_map.specs.contracts.map.HashMap as HashMap
 use Rattle.papaya_map.specs.contracts.map.HashMap.try_insert_with_told as callee
 use Rattle.papaya_map.specs.contracts.map.HashMap.try_insert_with_told.Key.{name as #callee}
@@ -63,22 +62,14 @@ try_insert_with_spec 𝓤 𝓛 𝓜 𝓡 wired K V S S-Hasher R F G LK LV LS LH 
     G-Guard-dict F-Destruct-dict a.1.1.1.0))
     × ((G-Guard.collector_number a.1.1.1.1.0.now ≡ a.0.now.collector) → IfErr r.answer (IsPlainRefusal a.0.now.begun.limit))
     × (((G-Guard.collector_number a.1.1.1.1.0.now ≡ a.0.now.collector) → ⊥) → r.answer ≡ Err WrongGuard))
-    (λ κs a u. (tt, id⊢ 𝓤 _)) (λ κs a u r ws. six_facts 𝓤)
+    (λ κs a u. (tt, id⊢ 𝓤 _)) (λ κs a u r ws. past_first 𝓤 _ (six_facts 𝓤))
     (λ κs a u r ws f. handed_3 𝓛 E.coded.code (rule_of g) r.names r.log
     (λ log. IsSince (unpinned a.0.now) K-PartialEq.eq
     (λ h. IfOk r.answer (IsTriedWith K-PartialEq.eq a.1.1.0 a.0.now.seen h
     (contract.F-post K V S S-Hasher R F G K-Hash K-Hash-dict K-Eq K-Eq-dict K-PartialEq K-PartialEq-dict S-BuildHasher S-BuildHasher-dict
     S-Hasher-Hasher S-Hasher-Hasher-dict K-Destruct-dict V-Destruct-dict S-Hasher-Destruct-dict R-Wait R-Wait-dict F-FnOnce F-FnOnce-dict G-Guard
     G-Guard-dict F-Destruct-dict a.1.1.1.0))) (history_of log)) f.0 (f.1, f.2, f.3)
-    (ok_of K-PartialEq.eq f.1 (λ h answer. IsTriedWith K-PartialEq.eq a.1.1.0 [] h
-    (contract.F-post K V S S-Hasher R F G K-Hash K-Hash-dict K-Eq K-Eq-dict K-PartialEq K-PartialEq-dict S-BuildHasher S-BuildHasher-dict
-    S-Hasher-Hasher S-Hasher-Hasher-dict K-Destruct-dict V-Destruct-dict S-Hasher-Destruct-dict R-Wait R-Wait-dict F-FnOnce F-FnOnce-dict G-Guard
-    G-Guard-dict F-Destruct-dict a.1.1.1.0) answer)
-    (λ answer is. tried_with a.0.now.seen (history_of r.log) K-PartialEq.eq a.1.1.0
-    (contract.F-post K V S S-Hasher R F G K-Hash K-Hash-dict K-Eq K-Eq-dict K-PartialEq K-PartialEq-dict S-BuildHasher S-BuildHasher-dict
-    S-Hasher-Hasher S-Hasher-Hasher-dict K-Destruct-dict V-Destruct-dict S-Hasher-Destruct-dict R-Wait R-Wait-dict F-FnOnce F-FnOnce-dict G-Guard
-    G-Guard-dict F-Destruct-dict a.1.1.1.0) answer is) r.answer f.3)
-    (f.4) f.5)
+    (history_of r.log, (f.1, f.2, f.3)) f.4 f.5)
     (λ κs. let ℓ : NamedLft = record { mir = named 0; lft = κs.0 } in
     result_laws (Result.the_row (ref_row ℓ 1 V) (ref_row ℓ 1 V)) RefusedRow
     (result_laws (ref_row ℓ 1 V) (ref_row ℓ 1 V) (ref_laws ℓ 1 V LV) (ref_laws ℓ 1 V LV)) refused_laws)

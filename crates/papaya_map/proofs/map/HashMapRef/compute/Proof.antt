@@ -1,6 +1,6 @@
 -- `compute` answers what it is told, and hands over what shows the log. Assumes `Logic`.
-use Rattle.std.proofs.Common.{◌≡◌, ◌⊎◌, ⊎_elim, List, [], ◌∷◌, Option, None, Some, Err, refl}
-use Rattle.std.specs.Prelude.{IfErr, IfOk, IsSome}
+use Rattle.std.proofs.Common.{◌≡◌, [], ◌∷◌, Err, refl}
+use Rattle.std.specs.Prelude.{IsSome}
 use mathlib.Core.List.{IsPrefix}
 use mir.Syntax.{a_type, dcons, dnil, named}
 use mir.MapTy.{inst_fn}
@@ -9,8 +9,6 @@ use denote.Ref.{NamedLft}
 use denote.Signature.{named_lft}
 use denote.Param.{param, bounded}
 use denote.Param.Laws.{param_laws}
-use denote.Struct.Tuple.{tuple_laws}
-use Rattle.std.proofs.option.Option.TheLaws.{the_row_laws as option_laws}
 use Rattle.std.proofs.result.Result.TheLaws.{the_row_laws as result_laws}
 use Rattle.papaya_words.proofs.probe.Refused.TheLaws.{the_row_laws as refused_laws}
 use Rattle.papaya_words.specs.contracts.probe.Refused.{the_row as RefusedRow}
@@ -24,11 +22,10 @@ use Rattle.papaya_keys.specs.contracts.compute.Compute as Computed
 use Rattle.papaya_keys.proofs.compute.Compute.TheLaws.{the_row_laws as computed_laws}
 use Rattle.papaya_change.specs.Showings.{Operates}
 use Rattle.papaya_compute.specs.ComputeAnswers.{IsComputeBy}
-use Rattle.papaya_map.proofs.Earlier.{computed}
 use Rattle.papaya_map.specs.Plain.{IsSince, rule_of}
-use Rattle.papaya_map.proofs.Telling.{held_good, one_of, one_ref, pair_laws, pair_row, ref_laws, ref_row}
+use Rattle.papaya_map.proofs.Telling.{held_good, one_of, one_ref}
 use Rattle.papaya_map.proofs.ToldWalks.{walk_rroo}
-use Rattle.papaya_map.proofs.Handed.{meets, Answer, five_facts, handed_2}
+use Rattle.papaya_map.proofs.Handed.{meets, Answer, five_facts, handed_2, past_first}
 use Rattle.papaya_map.specs.contracts.map.HashMapRef as HashMapRef
 use Rattle.papaya_map.specs.contracts.map.HashMapRef.compute_told as callee
 use Rattle.papaya_map.specs.contracts.map.HashMapRef.compute_told.Key.{name as #callee}
@@ -64,16 +61,11 @@ compute_spec 𝓤 𝓛 𝓜 𝓡 wired K V S S-Hasher R T F LK LV LS LH LR LT LF
     (λ κs a r. (r.book ≡ a.0.now.map.book) × IsLegalHistory K-PartialEq.eq key_of (history_of r.log) × IsPrefix a.0.now.seen (history_of r.log)
     × IsComputeBy K-PartialEq.eq a.1.1.0 a.0.now.seen (history_of r.log) (Operates F-FnMut) a.1.1.1.0 r.answer
     × (r.answer ≡ Err Limit → IsSome a.0.now.map.begun.limit))
-    (λ κs a u. (tt, id⊢ 𝓤 _)) (λ κs a u r ws. five_facts 𝓤)
+    (λ κs a u. (tt, id⊢ 𝓤 _)) (λ κs a u r ws. past_first 𝓤 _ (five_facts 𝓤))
     (λ κs a u r ws f. handed_2 𝓛 E.coded.code (rule_of g) r.names r.log
     (λ log. IsSince a.0.now K-PartialEq.eq (λ h. IsComputeBy K-PartialEq.eq a.1.1.0 a.0.now.seen h (Operates F-FnMut) a.1.1.1.0 r.answer)
     (history_of log)) f.0 (f.1, f.2, f.3)
-    (record {
-      history = history_of r.log;
-      legal = f.1;
-      told = computed a.0.now.seen (history_of r.log) K-PartialEq.eq a.1.1.0 (Operates F-FnMut)
-          a.1.1.1.0 r.answer f.3;
-    }) f.4)
+    (history_of r.log, (f.1, f.2, f.3)) f.4)
     (λ κs. let ℓ : NamedLft = record { mir = named 1; lft = κs.1.0 } in
     result_laws (Computed.the_row ℓ (param 0 K) (param 1 V) (param 5 T)) RefusedRow
     (computed_laws ℓ (param 0 K) (param 1 V) (param 5 T) (param_laws 0 K LK) (param_laws 1 V LV) (param_laws 5 T LT)) refused_laws)

@@ -1,6 +1,5 @@
 -- `contains_key` answers what it is told, and hands over what shows the log. Assumes `Logic`.
-use Rattle.std.proofs.Common.{◌≡◌, ◌⊎◌, ⊎_elim, List, [], ◌∷◌, Option, None, Some, refl}
-use Rattle.std.specs.Prelude.{IfErr, IfOk}
+use Rattle.std.proofs.Common.{◌≡◌, [], ◌∷◌, refl}
 use mathlib.Core.List.{IsPrefix}
 use mir.Syntax.{a_type, dcons, dnil, named}
 use mir.MapTy.{inst_fn}
@@ -8,13 +7,6 @@ use base.Logic.{id⊢}
 use denote.Ref.{NamedLft}
 use denote.Signature.{named_lft}
 use denote.Param.{param, bounded}
-use denote.Param.Laws.{param_laws}
-use denote.Struct.Tuple.{tuple_laws}
-use Rattle.std.proofs.option.Option.TheLaws.{the_row_laws as option_laws}
-use Rattle.std.proofs.result.Result.TheLaws.{the_row_laws as result_laws}
-use Rattle.papaya_words.proofs.probe.Refused.TheLaws.{the_row_laws as refused_laws}
-use Rattle.papaya_words.specs.contracts.probe.Refused.{the_row as RefusedRow}
-use Rattle.papaya_words.specs.declared.probe.Refused.TheVariants.{Memory, Capacity}
 use Rattle.papaya_book.specs.contracts.rule.entry.Event as event
 use Rattle.papaya_book.specs.contracts.rule.entry.Named as naming
 use Rattle.papaya_book.specs.contracts.rule.law.Law as law
@@ -22,11 +14,10 @@ use Rattle.papaya_book.specs.contracts.rule.law.LawRuleEventNamed.TheImpl as Law
 use Rattle.papaya_lookup.specs.History.{IsLegalHistory, history_of, key_of}
 use Rattle.papaya_map.specs.Plain.{IsContained}
 use Rattle.papaya_map.proofs.Telling.{bool_laws}
-use Rattle.papaya_map.proofs.Earlier.{found}
 use Rattle.papaya_map.specs.Plain.{IsSince, rule_of}
-use Rattle.papaya_map.proofs.Telling.{held_good, one_ref, pair_laws, pair_row, ref_laws, ref_row}
+use Rattle.papaya_map.proofs.Telling.{held_good, one_ref}
 use Rattle.papaya_map.proofs.ToldWalks.{walk_rr}
-use Rattle.papaya_map.proofs.Handed.{meets, Answer, four_facts, handed_1}
+use Rattle.papaya_map.proofs.Handed.{meets, Answer, four_facts, handed_1, past_first}
 use Rattle.papaya_map.specs.contracts.map.HashMapRef as HashMapRef
 use Rattle.papaya_map.specs.contracts.map.HashMapRef.contains_key_told as callee
 use Rattle.papaya_map.specs.contracts.map.HashMapRef.contains_key_told.Key.{name as #callee}
@@ -57,20 +48,11 @@ contains_key_spec 𝓤 𝓛 𝓜 𝓡 wired K V S S-Hasher Q LK LV LS LH LQ K-Ha
     Q-Eq Q-Eq-dict Q-PartialEq Q-PartialEq-dict 𝓛 𝓜.mem 𝓡.returns)
     (λ κs a r. (r.book ≡ a.0.now.map.book) × IsLegalHistory K-PartialEq.eq key_of (history_of r.log) × IsPrefix a.0.now.seen (history_of r.log)
     × IsContained K-PartialEq.eq (Q-Equivalent.matches a.1.0.now) a.0.now.seen (history_of r.log) r.answer)
-    (λ κs a u. (tt, id⊢ 𝓤 _)) (λ κs a u r ws. four_facts 𝓤)
+    (λ κs a u. (tt, id⊢ 𝓤 _)) (λ κs a u r ws. past_first 𝓤 _ (four_facts 𝓤))
     (λ κs a u r ws f. handed_1 𝓛 E.coded.code (rule_of g) r.names r.log
     (λ log. IsSince a.0.now K-PartialEq.eq (λ h. IsContained K-PartialEq.eq (Q-Equivalent.matches a.1.0.now) a.0.now.seen h r.answer)
     (history_of log)) f.0 (f.1, f.2, f.3)
-    ((
-      f.3.0,
-      f.3.1,
-      record {
-        history = history_of r.log;
-        legal = f.1;
-        told = found a.0.now.seen (history_of r.log) K-PartialEq.eq
-            (Q-Equivalent.matches a.1.0.now) (λ value p. value.now ≡ p.value.value) f.3.2;
-      },
-    )))
+    (history_of r.log, (f.1, f.2, f.3)))
     (λ κs. let ℓ : NamedLft = record { mir = named 1; lft = κs.1.0 } in bool_laws)
     (λ κs x f. refl, (λ κs x f. refl, tt)) (#self inst) (#callee inst) (inst_fn inst code.function)
     (code.unfolded 𝓤 𝓛.H 𝓜 𝓡 wired (K, (V, (S, (S-Hasher, (Q, tt))))) K-Hash-dict K-Eq-dict K-PartialEq-dict S-BuildHasher-dict S-Hasher-Hasher-dict

@@ -1,5 +1,5 @@
 -- `get_or_insert` answers what it is told, and hands over what shows the log. Assumes `Logic`.
-use Rattle.std.proofs.Common.{◌≡◌, ◌⊎◌, ⊎_elim, List, [], ◌∷◌, Option, None, Some, refl}
+use Rattle.std.proofs.Common.{◌≡◌, [], ◌∷◌, refl}
 use Rattle.std.specs.Prelude.{IfErr, IfOk}
 use mathlib.Core.List.{IsPrefix}
 use mir.Syntax.{a_type, dcons, dnil, named}
@@ -8,23 +8,19 @@ use base.Logic.{id⊢}
 use denote.Ref.{NamedLft}
 use denote.Signature.{named_lft}
 use denote.Param.{param, bounded}
-use denote.Param.Laws.{param_laws}
-use denote.Struct.Tuple.{tuple_laws}
-use Rattle.std.proofs.option.Option.TheLaws.{the_row_laws as option_laws}
 use Rattle.std.proofs.result.Result.TheLaws.{the_row_laws as result_laws}
 use Rattle.papaya_words.proofs.probe.Refused.TheLaws.{the_row_laws as refused_laws}
 use Rattle.papaya_words.specs.contracts.probe.Refused.{the_row as RefusedRow}
-use Rattle.papaya_words.specs.declared.probe.Refused.TheVariants.{Memory, Capacity}
 use Rattle.papaya_book.specs.contracts.rule.entry.Event as event
 use Rattle.papaya_book.specs.contracts.rule.entry.Named as naming
 use Rattle.papaya_book.specs.contracts.rule.law.Law as law
 use Rattle.papaya_book.specs.contracts.rule.law.LawRuleEventNamed.TheImpl as LawRule
 use Rattle.papaya_lookup.specs.History.{IsLegalHistory, history_of, key_of}
 use Rattle.papaya_map.specs.Limited.{IsPlainRefusal}
-use Rattle.papaya_map.specs.Storing.{IsThere}
-use Rattle.papaya_map.proofs.Earlier.{ok_of, there}
+use Rattle.papaya_map.specs.Storing.{IsThere, IsThereBy}
+use Rattle.papaya_map.proofs.Earlier.{there_by}
 use Rattle.papaya_map.specs.Plain.{IsSince, rule_of}
-use Rattle.papaya_map.proofs.Telling.{held_good, one_of, one_ref, pair_laws, pair_row, ref_laws, ref_row}
+use Rattle.papaya_map.proofs.Telling.{held_good, one_of, one_ref, ref_laws, ref_row}
 use Rattle.papaya_map.proofs.ToldWalks.{walk_rroo}
 use Rattle.papaya_map.proofs.Handed.{meets, Answer, five_facts, handed_2}
 use Rattle.papaya_map.specs.contracts.map.HashMapRef as HashMapRef
@@ -55,14 +51,14 @@ get_or_insert_spec 𝓤 𝓛 𝓜 𝓡 wired K V S S-Hasher R LK LV LS LH LR K-H
     (callee.clauses K V S S-Hasher R K-Hash K-Hash-dict K-Eq K-Eq-dict K-PartialEq K-PartialEq-dict S-BuildHasher S-BuildHasher-dict S-Hasher-Hasher
     S-Hasher-Hasher-dict K-Destruct-dict V-Destruct-dict S-Hasher-Destruct-dict R-Wait R-Wait-dict 𝓛 𝓜.mem 𝓡.returns)
     (λ κs a r. (r.book ≡ a.0.now.map.book) × IsLegalHistory K-PartialEq.eq key_of (history_of r.log) × IsPrefix a.0.now.seen (history_of r.log)
-    × IfOk r.answer (IsThere K-PartialEq.eq a.1.1.0 a.0.now.seen (history_of r.log) (λ w. w ≡ a.1.1.1.0))
+    × IsThereBy K-PartialEq.eq a.1.1.0 a.0.now.seen (history_of r.log) (λ w. w ≡ a.1.1.1.0) [] (history_of r.made) r.answer
     × IfErr r.answer (IsPlainRefusal a.0.now.map.begun.limit))
     (λ κs a u. (tt, id⊢ 𝓤 _)) (λ κs a u r ws. five_facts 𝓤)
-    (λ κs a u r ws f. handed_2 𝓛 E.coded.code (rule_of g) r.names r.log
+    (λ κs a u r ws f. let is = there_by a.0.now.seen (history_of r.log) K-PartialEq.eq a.1.1.0 (λ w. w ≡ a.1.1.1.0) [] (history_of r.made) r.answer f.3 in
+    handed_2 𝓛 E.coded.code (rule_of g) r.names r.log
     (λ log. IsSince a.0.now K-PartialEq.eq (λ h. IfOk r.answer (IsThere K-PartialEq.eq a.1.1.0 a.0.now.seen h (λ w. w ≡ a.1.1.1.0)))
-    (history_of log)) f.0 (f.1, f.2, f.3)
-    (ok_of K-PartialEq.eq f.1 (λ h answer. IsThere K-PartialEq.eq a.1.1.0 [] h (λ w. w ≡ a.1.1.1.0) answer)
-    (λ answer is. there a.0.now.seen (history_of r.log) K-PartialEq.eq a.1.1.0 (λ w. w ≡ a.1.1.1.0) answer is) r.answer f.3) f.4)
+    (history_of log)) f.0 (f.1, f.2, is)
+    (history_of r.log, (f.1, f.2, is)) f.4)
     (λ κs. let ℓ : NamedLft = record { mir = named 1; lft = κs.1.0 } in result_laws (ref_row ℓ 1 V) RefusedRow (ref_laws ℓ 1 V LV) refused_laws)
     (λ κs x f. refl, (λ κs x f. refl, (λ κs x f. refl, (λ κs x f. refl, tt)))) (#self inst) (#callee inst) (inst_fn inst code.function)
     (code.unfolded 𝓤 𝓛.H 𝓜 𝓡 wired (K, (V, (S, (S-Hasher, (R, tt))))) K-Hash-dict K-Eq-dict K-PartialEq-dict S-BuildHasher-dict S-Hasher-Hasher-dict

@@ -1,6 +1,6 @@
 -- `retain` answers what it is told, and hands over what shows the log. Assumes `Logic`.
-use Rattle.std.proofs.Common.{◌≡◌, ◌⊎◌, ⊎_elim, List, [], ◌∷◌, Option, None, Some, refl}
-use Rattle.std.specs.Prelude.{IfErr, IfOk}
+use Rattle.std.proofs.Common.{◌≡◌, List, [], ◌∷◌, refl}
+use Rattle.std.specs.Prelude.{IfErr}
 use mathlib.Core.List.{IsPrefix}
 use mir.Syntax.{a_type, dcons, dnil, named}
 use mir.MapTy.{inst_fn}
@@ -8,13 +8,9 @@ use base.Logic.{id⊢}
 use denote.Ref.{NamedLft}
 use denote.Signature.{named_lft}
 use denote.Param.{param, bounded}
-use denote.Param.Laws.{param_laws}
-use denote.Struct.Tuple.{tuple_laws}
-use Rattle.std.proofs.option.Option.TheLaws.{the_row_laws as option_laws}
 use Rattle.std.proofs.result.Result.TheLaws.{the_row_laws as result_laws}
 use Rattle.papaya_words.proofs.probe.Refused.TheLaws.{the_row_laws as refused_laws}
 use Rattle.papaya_words.specs.contracts.probe.Refused.{the_row as RefusedRow}
-use Rattle.papaya_words.specs.declared.probe.Refused.TheVariants.{Memory, Capacity}
 use Rattle.papaya_book.specs.contracts.rule.entry.Event as event
 use Rattle.papaya_book.specs.contracts.rule.entry.Named as naming
 use Rattle.papaya_book.specs.contracts.rule.law.Law as law
@@ -27,9 +23,8 @@ use Rattle.papaya_change.specs.Showings.{Judges}
 use Rattle.papaya_lookup.specs.History.{Change}
 use Rattle.papaya_scan.specs.Leaving.{HasKept}
 use Rattle.papaya_map.proofs.Telling.{unit_laws}
-use Rattle.papaya_map.proofs.Earlier.{kept}
 use Rattle.papaya_map.specs.Plain.{IsSince, rule_of}
-use Rattle.papaya_map.proofs.Telling.{held_good, one_of, one_ref, pair_laws, pair_row, ref_laws, ref_row}
+use Rattle.papaya_map.proofs.Telling.{held_good, one_of, one_ref}
 use Rattle.papaya_map.proofs.ToldWalks.{walk_rro}
 use Rattle.papaya_map.proofs.Handed.{meets, Answer, five_facts, handed_2}
 use Rattle.papaya_map.specs.contracts.map.HashMapRef as HashMapRef
@@ -61,15 +56,14 @@ retain_spec 𝓤 𝓛 𝓜 𝓡 wired K V S S-Hasher R F LK LV LS LH LR LF K-Has
     S-BuildHasher S-BuildHasher-dict S-Hasher-Hasher S-Hasher-Hasher-dict S-Hasher-Destruct-dict R-Wait R-Wait-dict F-FnMut F-FnMut-dict
     F-FnOnce-dict F-Destruct-dict 𝓛 𝓜.mem 𝓡.returns)
     (λ κs a r. (r.book ≡ a.0.now.map.book) × IsLegalHistory K-PartialEq.eq key_of (history_of r.log) × IsPrefix a.0.now.seen (history_of r.log)
-    × ((made : List (Change K.Denot (Stored K.Denot V.Denot)))
-    × HasKept K-PartialEq.eq a.0.now.seen (history_of r.log) [] made (Judges F-FnMut) a.1.1.0 r.answer)
+    × HasKept K-PartialEq.eq a.0.now.seen (history_of r.log) [] (history_of r.made) (Judges F-FnMut) a.1.1.0 r.answer
     × IfErr r.answer (λ refused. IsMemoryOrCapacity refused))
     (λ κs a u. (tt, id⊢ 𝓤 _)) (λ κs a u r ws. five_facts 𝓤)
     (λ κs a u r ws f. handed_2 𝓛 E.coded.code (rule_of g) r.names r.log
     (λ log. IsSince a.0.now K-PartialEq.eq (λ h.
     ((made : List (Change K.Denot (Stored K.Denot V.Denot))) × HasKept K-PartialEq.eq a.0.now.seen h [] made (Judges F-FnMut) a.1.1.0 r.answer))
-    (history_of log)) f.0 (f.1, f.2, f.3)
-    (record { history = history_of r.log; legal = f.1; told = kept a.0.now.seen (history_of r.log) K-PartialEq.eq (Judges F-FnMut) a.1.1.0 r.answer f.3 }) f.4)
+    (history_of log)) f.0 (f.1, f.2, (history_of r.made, f.3))
+    (history_of r.log, (f.1, f.2, (history_of r.made, f.3))) f.4)
     (λ κs. let ℓ : NamedLft = record { mir = named 1; lft = κs.1.0 } in result_laws unit-field.row RefusedRow unit_laws refused_laws)
     (λ κs x f. refl, (λ κs x f. refl, (λ κs x f. refl, tt))) (#self inst) (#callee inst) (inst_fn inst code.function)
     (code.unfolded 𝓤 𝓛.H 𝓜 𝓡 wired (K, (V, (S, (S-Hasher, (R, (F, tt)))))) K-Hash-dict K-Eq-dict K-PartialEq-dict S-BuildHasher-dict

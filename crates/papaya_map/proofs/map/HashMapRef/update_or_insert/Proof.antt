@@ -1,5 +1,5 @@
 -- `update_or_insert` answers what it is told, and hands over what shows the log. Assumes `Logic`.
-use Rattle.std.proofs.Common.{◌≡◌, ◌⊎◌, ⊎_elim, List, [], ◌∷◌, Option, None, Some, refl}
+use Rattle.std.proofs.Common.{◌≡◌, [], ◌∷◌, refl}
 use Rattle.std.specs.Prelude.{IfErr, IfOk}
 use mathlib.Core.List.{IsPrefix}
 use mir.Syntax.{a_type, dcons, dnil, named}
@@ -8,13 +8,9 @@ use base.Logic.{id⊢}
 use denote.Ref.{NamedLft}
 use denote.Signature.{named_lft}
 use denote.Param.{param, bounded}
-use denote.Param.Laws.{param_laws}
-use denote.Struct.Tuple.{tuple_laws}
-use Rattle.std.proofs.option.Option.TheLaws.{the_row_laws as option_laws}
 use Rattle.std.proofs.result.Result.TheLaws.{the_row_laws as result_laws}
 use Rattle.papaya_words.proofs.probe.Refused.TheLaws.{the_row_laws as refused_laws}
 use Rattle.papaya_words.specs.contracts.probe.Refused.{the_row as RefusedRow}
-use Rattle.papaya_words.specs.declared.probe.Refused.TheVariants.{Memory, Capacity}
 use Rattle.papaya_book.specs.contracts.rule.entry.Event as event
 use Rattle.papaya_book.specs.contracts.rule.entry.Named as naming
 use Rattle.papaya_book.specs.contracts.rule.law.Law as law
@@ -23,11 +19,10 @@ use Rattle.papaya_lookup.specs.History.{IsLegalHistory, history_of, key_of}
 use Rattle.std.specs.Fn.{FnReturnsAt}
 use Rattle.papaya_map.specs.Limited.{IsPlainRefusal}
 use Rattle.papaya_map.specs.Storing.{IsUpserted}
-use Rattle.papaya_map.proofs.Earlier.{ok_of, upserted}
 use Rattle.papaya_map.specs.Plain.{IsSince, rule_of}
-use Rattle.papaya_map.proofs.Telling.{held_good, one_of, one_ref, pair_laws, pair_row, ref_laws, ref_row}
+use Rattle.papaya_map.proofs.Telling.{held_good, one_of, one_ref, ref_laws, ref_row}
 use Rattle.papaya_map.proofs.ToldWalks.{walk_rrooo}
-use Rattle.papaya_map.proofs.Handed.{meets, Answer, five_facts, handed_2}
+use Rattle.papaya_map.proofs.Handed.{meets, Answer, five_facts, handed_2, past_first}
 use Rattle.papaya_map.specs.contracts.map.HashMapRef as HashMapRef
 use Rattle.papaya_map.specs.contracts.map.HashMapRef.update_or_insert_told as callee
 use Rattle.papaya_map.specs.contracts.map.HashMapRef.update_or_insert_told.Key.{name as #callee}
@@ -62,14 +57,12 @@ update_or_insert_spec 𝓤 𝓛 𝓜 𝓡 wired K V S S-Hasher R F LK LV LS LH L
     (λ κs a r. (r.book ≡ a.0.now.map.book) × IsLegalHistory K-PartialEq.eq key_of (history_of r.log) × IsPrefix a.0.now.seen (history_of r.log)
     × IfOk r.answer (IsUpserted K-PartialEq.eq a.1.1.0 a.0.now.seen (history_of r.log) (FnReturnsAt F-Fn a.1.1.1.0) (λ w. w ≡ a.1.1.1.1.0))
     × IfErr r.answer (IsPlainRefusal a.0.now.map.begun.limit))
-    (λ κs a u. (tt, id⊢ 𝓤 _)) (λ κs a u r ws. five_facts 𝓤)
+    (λ κs a u. (tt, id⊢ 𝓤 _)) (λ κs a u r ws. past_first 𝓤 _ (five_facts 𝓤))
     (λ κs a u r ws f. handed_2 𝓛 E.coded.code (rule_of g) r.names r.log
     (λ log. IsSince a.0.now K-PartialEq.eq (λ h.
     IfOk r.answer (IsUpserted K-PartialEq.eq a.1.1.0 a.0.now.seen h (FnReturnsAt F-Fn a.1.1.1.0) (λ w. w ≡ a.1.1.1.1.0))) (history_of log)) f.0
     (f.1, f.2, f.3)
-    (ok_of K-PartialEq.eq f.1 (λ h answer. IsUpserted K-PartialEq.eq a.1.1.0 [] h (FnReturnsAt F-Fn a.1.1.1.0) (λ w. w ≡ a.1.1.1.1.0) answer)
-    (λ answer is. upserted a.0.now.seen (history_of r.log) K-PartialEq.eq a.1.1.0 (FnReturnsAt F-Fn a.1.1.1.0) (λ w. w ≡ a.1.1.1.1.0) answer is)
-    r.answer f.3) f.4)
+    (history_of r.log, (f.1, f.2, f.3)) f.4)
     (λ κs. let ℓ : NamedLft = record { mir = named 1; lft = κs.1.0 } in result_laws (ref_row ℓ 1 V) RefusedRow (ref_laws ℓ 1 V LV) refused_laws)
     (λ κs x f. refl, (λ κs x f. refl, (λ κs x f. refl, (λ κs x f. refl, (λ κs x f. refl, tt))))) (#self inst) (#callee inst)
     (inst_fn inst code.function) (code.unfolded 𝓤 𝓛.H 𝓜 𝓡 wired (K, (V, (S, (S-Hasher, (R, (F, tt)))))) K-Hash-dict K-Eq-dict K-PartialEq-dict

@@ -20,10 +20,9 @@ use Rattle.papaya_map.specs.Limited.{IsPlainRefusal}
 use Rattle.papaya_words.specs.declared.probe.Refused.TheVariants.{WrongGuard}
 use Rattle.papaya_map.specs.Plain.{unpinned, IsSince, rule_of}
 use Rattle.papaya_set.specs.Shared.{IsInsertedBetween}
-use Rattle.papaya_map.proofs.Earlier.{ok_of, put}
 use Rattle.papaya_map.proofs.Telling.{bool_laws, held_good, one_of, one_ref}
 use Rattle.papaya_map.proofs.ToldWalks.{walk_rror}
-use Rattle.papaya_map.proofs.Handed.{meets, Answer, six_facts, handed_3}
+use Rattle.papaya_map.proofs.Handed.{meets, Answer, six_facts, handed_3, past_first}
 use Rattle.papaya_set.specs.contracts.set.HashSet as Owner
 use Rattle.papaya_set.specs.contracts.set.HashSet.insert_told as callee
 use Rattle.papaya_set.specs.contracts.set.HashSet.insert_told.Key.{name as #callee}
@@ -55,14 +54,11 @@ insert_spec 𝓤 𝓛 𝓜 𝓡 wired K S S-Hasher R G LK LS LH LR LG K-Hash K-H
     × IfOk r.answer (IsInsertedBetween K-PartialEq.eq a.1.1.0 a.0.now.seen (history_of r.log))
     × ((G-Guard.collector_number a.1.1.1.0.now ≡ a.0.now.collector) → IfErr r.answer (IsPlainRefusal a.0.now.begun.limit))
     × (((G-Guard.collector_number a.1.1.1.0.now ≡ a.0.now.collector) → ⊥) → r.answer ≡ Err WrongGuard))
-    (λ κs a u. (tt, id⊢ 𝓤 _)) (λ κs a u r ws. six_facts 𝓤)
+    (λ κs a u. (tt, id⊢ 𝓤 _)) (λ κs a u r ws. past_first 𝓤 _ (six_facts 𝓤))
     (λ κs a u r ws f. handed_3 𝓛 E.coded.code (rule_of g) r.names r.log
     (λ log. IsSince (unpinned a.0.now) K-PartialEq.eq (λ h. IfOk r.answer (IsInsertedBetween K-PartialEq.eq a.1.1.0 a.0.now.seen h))
     (history_of log)) f.0 (f.1, f.2, f.3)
-    (ok_of K-PartialEq.eq f.1 (λ h is_new. IsInsertedBetween K-PartialEq.eq a.1.1.0 [] h is_new)
-    (λ is_new is. (is.0, is.1, put a.0.now.seen (history_of r.log) K-PartialEq.eq a.1.1.0 tt is.0 is.2)) r.answer f.3)
-    f.4
-    f.5)
+    (history_of r.log, (f.1, f.2, f.3)) f.4 f.5)
     (λ κs. let ℓ : NamedLft = record { mir = named 0; lft = κs.0 } in result_laws bool-field.row RefusedRow bool_laws refused_laws)
     (λ κs x f. refl, (λ κs x f. refl, (λ κs x f. refl, (λ κs x f. refl, tt)))) (#self inst) (#callee inst) (inst_fn inst code.function)
     (code.unfolded 𝓤 𝓛.H 𝓜 𝓡 wired (K, (S, (S-Hasher, (R, (G, tt))))) K-Hash-dict K-Eq-dict K-PartialEq-dict S-BuildHasher-dict S-Hasher-Hasher-dict

@@ -1,6 +1,6 @@
 -- `remove` answers what it is told, and hands over what shows the log. Assumes `Logic`.
 use Rattle.std.proofs.Common.{◌≡◌, [], ◌∷◌, refl}
-use Rattle.std.specs.Prelude.{IfErr, IfOk, Err, Ok}
+use Rattle.std.specs.Prelude.{IfErr, IfOk, Err}
 use mathlib.Core.List.{IsPrefix}
 use mir.Syntax.{a_type, dcons, dnil, named}
 use mir.MapTy.{inst_fn}
@@ -20,10 +20,9 @@ use Rattle.papaya_change.specs.Writing.{IsMemoryOrCapacity}
 use Rattle.papaya_words.specs.declared.probe.Refused.TheVariants.{WrongGuard}
 use Rattle.papaya_map.specs.Plain.{unpinned, IsSince, rule_of}
 use Rattle.papaya_set.specs.Shared.{IsRemovedKeyBetween}
-use Rattle.papaya_map.proofs.Earlier.{ok_of, removed}
 use Rattle.papaya_map.proofs.Telling.{bool_laws, held_good, one_ref}
 use Rattle.papaya_map.proofs.ToldWalks.{walk_rrrr}
-use Rattle.papaya_map.proofs.Handed.{meets, Answer, six_facts, handed_3}
+use Rattle.papaya_map.proofs.Handed.{meets, Answer, six_facts, handed_3, past_first}
 use Rattle.papaya_set.specs.contracts.set.HashSet as Owner
 use Rattle.papaya_set.specs.contracts.set.HashSet.remove_told as callee
 use Rattle.papaya_set.specs.contracts.set.HashSet.remove_told.Key.{name as #callee}
@@ -59,14 +58,11 @@ remove_spec 𝓤 𝓛 𝓜 𝓡 wired K S S-Hasher R Q G LK LS LH LR LQ LG K-Has
     × IfOk r.answer (IsRemovedKeyBetween K-PartialEq.eq (Q-Equivalent.matches a.1.1.0.now) a.0.now.seen (history_of r.log))
     × ((G-Guard.collector_number a.1.1.1.0.now ≡ a.0.now.collector) → IfErr r.answer IsMemoryOrCapacity)
     × (((G-Guard.collector_number a.1.1.1.0.now ≡ a.0.now.collector) → ⊥) → r.answer ≡ Err WrongGuard))
-    (λ κs a u. (tt, id⊢ 𝓤 _)) (λ κs a u r ws. six_facts 𝓤)
+    (λ κs a u. (tt, id⊢ 𝓤 _)) (λ κs a u r ws. past_first 𝓤 _ (six_facts 𝓤))
     (λ κs a u r ws f. handed_3 𝓛 E.coded.code (rule_of g) r.names r.log
     (λ log. IsSince (unpinned a.0.now) K-PartialEq.eq
     (λ h. IfOk r.answer (IsRemovedKeyBetween K-PartialEq.eq (Q-Equivalent.matches a.1.1.0.now) a.0.now.seen h)) (history_of log)) f.0 (f.1, f.2, f.3)
-    (λ right. ok_of K-PartialEq.eq f.1 (λ h was. IsRemovedKeyBetween K-PartialEq.eq (Q-Equivalent.matches a.1.1.0.now) [] h was)
-    (λ was is. (is.0, is.1, removed a.0.now.seen (history_of r.log) K-PartialEq.eq (Q-Equivalent.matches a.1.1.0.now) (Ok is.0) is.2)) r.answer f.3)
-    f.4
-    f.5)
+    (history_of r.log, (f.1, f.2, f.3)) f.4 f.5)
     (λ κs. let ℓ : NamedLft = record { mir = named 0; lft = κs.0 } in result_laws bool-field.row RefusedRow bool_laws refused_laws)
     (λ κs x f. refl, (λ κs x f. refl, (λ κs x f. refl, (λ κs x f. refl, tt)))) (#self inst) (#callee inst) (inst_fn inst code.function)
     (code.unfolded 𝓤 𝓛.H 𝓜 𝓡 wired (K, (S, (S-Hasher, (R, (Q, (G, tt)))))) K-Hash-dict K-Eq-dict K-PartialEq-dict S-BuildHasher-dict

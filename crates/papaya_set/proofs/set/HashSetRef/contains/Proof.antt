@@ -14,11 +14,10 @@ use Rattle.papaya_book.specs.contracts.rule.law.Law as law
 use Rattle.papaya_book.specs.contracts.rule.law.LawRuleEventNamed.TheImpl as LawRule
 use Rattle.papaya_lookup.specs.History.{IsLegalHistory, history_of, key_of}
 use Rattle.papaya_set.specs.Shared.{IsContainedBetween}
-use Rattle.papaya_map.proofs.Earlier.{found}
 use Rattle.papaya_map.specs.Plain.{IsSince, rule_of}
 use Rattle.papaya_map.proofs.Telling.{bool_laws, held_good, one_ref}
 use Rattle.papaya_map.proofs.ToldWalks.{walk_rr}
-use Rattle.papaya_map.proofs.Handed.{meets, Answer, four_facts, handed_1}
+use Rattle.papaya_map.proofs.Handed.{meets, Answer, four_facts, handed_1, past_first}
 use Rattle.papaya_set.specs.contracts.set.HashSetRef as Owner
 use Rattle.papaya_set.specs.contracts.set.HashSetRef.contains_told as callee
 use Rattle.papaya_set.specs.contracts.set.HashSetRef.contains_told.Key.{name as #callee}
@@ -49,20 +48,11 @@ contains_spec 𝓤 𝓛 𝓜 𝓡 wired K S S-Hasher Q LK LS LH LQ K-Hash K-Hash
     Q-PartialEq Q-PartialEq-dict 𝓛 𝓜.mem 𝓡.returns)
     (λ κs a r. (r.book ≡ a.0.now.map.book) × IsLegalHistory K-PartialEq.eq key_of (history_of r.log) × IsPrefix a.0.now.seen (history_of r.log)
     × IsContainedBetween K-PartialEq.eq (Q-Equivalent.matches a.1.0.now) a.0.now.seen (history_of r.log) r.answer)
-    (λ κs a u. (tt, id⊢ 𝓤 _)) (λ κs a u r ws. four_facts 𝓤)
+    (λ κs a u. (tt, id⊢ 𝓤 _)) (λ κs a u r ws. past_first 𝓤 _ (four_facts 𝓤))
     (λ κs a u r ws f. handed_1 𝓛 E.coded.code (rule_of g) r.names r.log
     (λ log. IsSince a.0.now K-PartialEq.eq (λ h. IsContainedBetween K-PartialEq.eq (Q-Equivalent.matches a.1.0.now) a.0.now.seen h r.answer)
     (history_of log)) f.0 (f.1, f.2, f.3)
-    (record {
-      history = history_of r.log;
-      legal = f.1;
-      told = (
-        f.3.0,
-        f.3.1,
-        found a.0.now.seen (history_of r.log) K-PartialEq.eq (Q-Equivalent.matches a.1.0.now)
-            (λ value p. value.now ≡ p.value.value) f.3.2,
-      );
-    }))
+    (history_of r.log, (f.1, f.2, f.3)))
     (λ κs. let ℓ : NamedLft = record { mir = named 1; lft = κs.1.0 } in bool_laws)
     (λ κs x f. refl, (λ κs x f. refl, tt)) (#self inst) (#callee inst) (inst_fn inst code.function)
     (code.unfolded 𝓤 𝓛.H 𝓜 𝓡 wired (K, (S, (S-Hasher, (Q, tt)))) K-Hash-dict K-Eq-dict K-PartialEq-dict S-BuildHasher-dict S-Hasher-Hasher-dict

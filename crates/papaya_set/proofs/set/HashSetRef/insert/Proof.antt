@@ -19,11 +19,10 @@ use Rattle.papaya_book.specs.contracts.rule.law.LawRuleEventNamed.TheImpl as Law
 use Rattle.papaya_lookup.specs.History.{IsLegalHistory, history_of, key_of}
 use Rattle.papaya_map.specs.Limited.{IsPlainRefusal}
 use Rattle.papaya_set.specs.Shared.{IsInsertedBetween}
-use Rattle.papaya_map.proofs.Earlier.{ok_of, put}
 use Rattle.papaya_map.specs.Plain.{IsSince, rule_of}
 use Rattle.papaya_map.proofs.Telling.{bool_laws, held_good, one_of, one_ref}
 use Rattle.papaya_map.proofs.ToldWalks.{walk_rro}
-use Rattle.papaya_map.proofs.Handed.{meets, Answer, five_facts, handed_2}
+use Rattle.papaya_map.proofs.Handed.{meets, Answer, five_facts, handed_2, past_first}
 use Rattle.papaya_set.specs.contracts.set.HashSetRef as Owner
 use Rattle.papaya_set.specs.contracts.set.HashSetRef.insert_told as callee
 use Rattle.papaya_set.specs.contracts.set.HashSetRef.insert_told.Key.{name as #callee}
@@ -51,13 +50,11 @@ insert_spec 𝓤 𝓛 𝓜 𝓡 wired K S S-Hasher R LK LS LH LR K-Hash K-Hash-d
     S-Hasher-Hasher-dict K-Destruct-dict S-Hasher-Destruct-dict R-Wait R-Wait-dict 𝓛 𝓜.mem 𝓡.returns)
     (λ κs a r. (r.book ≡ a.0.now.map.book) × IsLegalHistory K-PartialEq.eq key_of (history_of r.log) × IsPrefix a.0.now.seen (history_of r.log)
     × IfOk r.answer (IsInsertedBetween K-PartialEq.eq a.1.1.0 a.0.now.seen (history_of r.log)) × IfErr r.answer (IsPlainRefusal a.0.now.map.begun.limit))
-    (λ κs a u. (tt, id⊢ 𝓤 _)) (λ κs a u r ws. five_facts 𝓤)
+    (λ κs a u. (tt, id⊢ 𝓤 _)) (λ κs a u r ws. past_first 𝓤 _ (five_facts 𝓤))
     (λ κs a u r ws f. handed_2 𝓛 E.coded.code (rule_of g) r.names r.log
     (λ log. IsSince a.0.now K-PartialEq.eq (λ h. IfOk r.answer (IsInsertedBetween K-PartialEq.eq a.1.1.0 a.0.now.seen h)) (history_of log)) f.0
     (f.1, f.2, f.3)
-    (ok_of K-PartialEq.eq f.1 (λ h is_new. IsInsertedBetween K-PartialEq.eq a.1.1.0 [] h is_new)
-    (λ is_new is. (is.0, is.1, put a.0.now.seen (history_of r.log) K-PartialEq.eq a.1.1.0 tt is.0 is.2)) r.answer f.3)
-    f.4)
+    (history_of r.log, (f.1, f.2, f.3)) f.4)
     (λ κs. let ℓ : NamedLft = record { mir = named 1; lft = κs.1.0 } in result_laws bool-field.row RefusedRow bool_laws refused_laws)
     (λ κs x f. refl, (λ κs x f. refl, (λ κs x f. refl, tt))) (#self inst) (#callee inst) (inst_fn inst code.function)
     (code.unfolded 𝓤 𝓛.H 𝓜 𝓡 wired (K, (S, (S-Hasher, (R, tt)))) K-Hash-dict K-Eq-dict K-PartialEq-dict S-BuildHasher-dict S-Hasher-Hasher-dict

@@ -1,6 +1,6 @@
 -- `remove` answers what it is told, and hands over what shows the log. Assumes `Logic`.
 use Rattle.std.proofs.Common.{◌≡◌, [], ◌∷◌, refl}
-use Rattle.std.specs.Prelude.{IfErr, IfOk, Ok}
+use Rattle.std.specs.Prelude.{IfErr, IfOk}
 use mathlib.Core.List.{IsPrefix}
 use mir.Syntax.{a_type, dcons, dnil, named}
 use mir.MapTy.{inst_fn}
@@ -19,11 +19,10 @@ use Rattle.papaya_book.specs.contracts.rule.law.LawRuleEventNamed.TheImpl as Law
 use Rattle.papaya_lookup.specs.History.{IsLegalHistory, history_of, key_of}
 use Rattle.papaya_change.specs.Writing.{IsMemoryOrCapacity}
 use Rattle.papaya_set.specs.Shared.{IsRemovedKeyBetween}
-use Rattle.papaya_map.proofs.Earlier.{ok_of, removed}
 use Rattle.papaya_map.specs.Plain.{IsSince, rule_of}
 use Rattle.papaya_map.proofs.Telling.{bool_laws, held_good, one_ref}
 use Rattle.papaya_map.proofs.ToldWalks.{walk_rrr}
-use Rattle.papaya_map.proofs.Handed.{meets, Answer, five_facts, handed_2}
+use Rattle.papaya_map.proofs.Handed.{meets, Answer, five_facts, handed_2, past_first}
 use Rattle.papaya_set.specs.contracts.set.HashSetRef as Owner
 use Rattle.papaya_set.specs.contracts.set.HashSetRef.remove_told as callee
 use Rattle.papaya_set.specs.contracts.set.HashSetRef.remove_told.Key.{name as #callee}
@@ -57,13 +56,11 @@ remove_spec 𝓤 𝓛 𝓜 𝓡 wired K S S-Hasher R Q LK LS LH LR LQ K-Hash K-H
     (λ κs a r. (r.book ≡ a.0.now.map.book) × IsLegalHistory K-PartialEq.eq key_of (history_of r.log) × IsPrefix a.0.now.seen (history_of r.log)
     × IfOk r.answer (IsRemovedKeyBetween K-PartialEq.eq (Q-Equivalent.matches a.1.1.0.now) a.0.now.seen (history_of r.log))
     × IfErr r.answer IsMemoryOrCapacity)
-    (λ κs a u. (tt, id⊢ 𝓤 _)) (λ κs a u r ws. five_facts 𝓤)
+    (λ κs a u. (tt, id⊢ 𝓤 _)) (λ κs a u r ws. past_first 𝓤 _ (five_facts 𝓤))
     (λ κs a u r ws f. handed_2 𝓛 E.coded.code (rule_of g) r.names r.log
     (λ log. IsSince a.0.now K-PartialEq.eq (λ h.
     IfOk r.answer (IsRemovedKeyBetween K-PartialEq.eq (Q-Equivalent.matches a.1.1.0.now) a.0.now.seen h)) (history_of log)) f.0 (f.1, f.2, f.3)
-    (ok_of K-PartialEq.eq f.1 (λ h was. IsRemovedKeyBetween K-PartialEq.eq (Q-Equivalent.matches a.1.1.0.now) [] h was)
-    (λ was is. (is.0, is.1, removed a.0.now.seen (history_of r.log) K-PartialEq.eq (Q-Equivalent.matches a.1.1.0.now) (Ok is.0) is.2)) r.answer f.3)
-    f.4)
+    (history_of r.log, (f.1, f.2, f.3)) f.4)
     (λ κs. let ℓ : NamedLft = record { mir = named 1; lft = κs.1.0 } in result_laws bool-field.row RefusedRow bool_laws refused_laws)
     (λ κs x f. refl, (λ κs x f. refl, (λ κs x f. refl, tt))) (#self inst) (#callee inst) (inst_fn inst code.function)
     (code.unfolded 𝓤 𝓛.H 𝓜 𝓡 wired (K, (S, (S-Hasher, (R, (Q, tt))))) K-Hash-dict K-Eq-dict K-PartialEq-dict S-BuildHasher-dict S-Hasher-Hasher-dict

@@ -21,7 +21,6 @@ use Rattle.papaya_change.specs.Writing.{IsMemoryOrCapacity}
 use Rattle.papaya_book.specs.Logs.{Stored}
 use Rattle.papaya_scan.specs.Leaving.{HasKept}
 use Rattle.papaya_set.specs.Shared.{JudgesKey}
-use Rattle.papaya_map.proofs.Earlier.{kept}
 use Rattle.papaya_map.specs.Plain.{IsSince, rule_of}
 use Rattle.papaya_map.proofs.Telling.{held_good, one_of, one_ref, unit_laws}
 use Rattle.papaya_map.proofs.ToldWalks.{walk_rro}
@@ -54,15 +53,14 @@ retain_spec 𝓤 𝓛 𝓜 𝓡 wired K S S-Hasher R F LK LS LH LR LF K-Hash K-H
     𝓡.returns) (callee.clauses K S S-Hasher R F K-Hash K-Hash-dict K-Eq K-Eq-dict K-PartialEq K-PartialEq-dict S-BuildHasher S-BuildHasher-dict
     S-Hasher-Hasher S-Hasher-Hasher-dict S-Hasher-Destruct-dict R-Wait R-Wait-dict F-FnMut F-FnMut-dict F-FnOnce-dict F-Destruct-dict 𝓛 𝓜.mem 𝓡.returns)
     (λ κs a r. (r.book ≡ a.0.now.map.book) × IsLegalHistory K-PartialEq.eq key_of (history_of r.log) × IsPrefix a.0.now.seen (history_of r.log)
-    × ((made : List (Change K.Denot (Stored K.Denot (Unit {0}))))
-    × HasKept K-PartialEq.eq a.0.now.seen (history_of r.log) [] made (JudgesKey F-FnMut) a.1.1.0 r.answer) × IfErr r.answer IsMemoryOrCapacity)
+    × HasKept K-PartialEq.eq a.0.now.seen (history_of r.log) [] (history_of r.made) (JudgesKey F-FnMut) a.1.1.0 r.answer
+    × IfErr r.answer IsMemoryOrCapacity)
     (λ κs a u. (tt, id⊢ 𝓤 _)) (λ κs a u r ws. five_facts 𝓤)
     (λ κs a u r ws f. handed_2 𝓛 E.coded.code (rule_of g) r.names r.log
     (λ log. IsSince a.0.now K-PartialEq.eq (λ h.
     ((made : List (Change K.Denot (Stored K.Denot (Unit {0}))))
-    × HasKept K-PartialEq.eq a.0.now.seen h [] made (JudgesKey F-FnMut) a.1.1.0 r.answer)) (history_of log)) f.0 (f.1, f.2, f.3)
-    (record { history = history_of r.log; legal = f.1; told = kept a.0.now.seen (history_of r.log) K-PartialEq.eq (JudgesKey F-FnMut) a.1.1.0 r.answer f.3 })
-    f.4)
+    × HasKept K-PartialEq.eq a.0.now.seen h [] made (JudgesKey F-FnMut) a.1.1.0 r.answer)) (history_of log)) f.0 (f.1, f.2, (history_of r.made, f.3))
+    (history_of r.log, (f.1, f.2, (history_of r.made, f.3))) f.4)
     (λ κs. let ℓ : NamedLft = record { mir = named 1; lft = κs.1.0 } in result_laws unit-field.row RefusedRow unit_laws refused_laws)
     (λ κs x f. refl, (λ κs x f. refl, (λ κs x f. refl, tt))) (#self inst) (#callee inst) (inst_fn inst code.function)
     (code.unfolded 𝓤 𝓛.H 𝓜 𝓡 wired (K, (S, (S-Hasher, (R, (F, tt))))) K-Hash-dict K-Eq-dict K-PartialEq-dict S-BuildHasher-dict S-Hasher-Hasher-dict

@@ -9,7 +9,7 @@ retain-answer-requires g c = callable g.F.FnMut _ (λ w. w.0) (λ w w' key value
 
 pub returns-clause-kept : goal.returns-clause-kept
 returns-clause-kept g c = rw c.tell.ensures.answer
-    (rw c.tell.ensures.history (rw (sym c.self.view_is)
+    (rw c.tell.ensures.history (rw c.tell.ensures.made (rw (sym c.self.view_is)
     (rw (sym c.begun_session-session.ensures.seen) (kept_since g.F.FnMut _ (λ w. w.0) (λ w w' key value agrees called. let met = called.met in search rules)
     g.K.PartialEq.eq c.begun_session-session.result.history c.retain-answer.new.self.history _ _ _ c.retain-answer.result c.begun_session-session.ensures.made
-    c.retain-answer.ensures.kept))))
+    c.retain-answer.ensures.kept)))))
