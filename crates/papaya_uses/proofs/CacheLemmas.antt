@@ -52,11 +52,11 @@ other_than n k (inl other) = other
 other_than n k (inr never) = absurd (false≢true never)
 
 -- so the page stays, or it was dropped before
-pub still_goes : (old mid : Generations) (young elder young' : Texts) (stored limit stored' : ℕ) (n : ℕ) → StaysOrGoes old mid n
-    → record { young = young; elder = elder; stored = stored; limit = limit } ≡ mid → text_in young' n ≡ text_in young n
-    → StaysOrGoes old (record { young = young'; elder = elder; stored = stored'; limit = limit }) n
-still_goes old mid young elder young' stored limit stored' n way is same =
-    let after : text_of (record { young = young'; elder = elder; stored = stored'; limit = limit }) n ≡ text_of mid n = ap
+pub still_goes : (old mid : Generations) (young elder young' : Texts) (limit : ℕ) (n : ℕ) → StaysOrGoes old mid n
+    → record { young = young; elder = elder; limit = limit } ≡ mid → text_in young' n ≡ text_in young n
+    → StaysOrGoes old (record { young = young'; elder = elder; limit = limit }) n
+still_goes old mid young elder young' limit n way is same =
+    let after : text_of (record { young = young'; elder = elder; limit = limit }) n ≡ text_of mid n = ap
     (λ t. first_of t (text_in elder n)) same ∙ ap (λ cache. text_of cache n) is in
     elim way [
       | inl stays ↦ inl (after ∙ stays)

@@ -1,11 +1,12 @@
--- A count that went up, or began.
-use Rattle.std.proofs.Common.{◌≡◌, ◌==◌, ◌+◌, ◌-◌, ◌^◌, min, ℕ, None, Some, Ok, inl, inr, sym, ◌∙◌, ap, subst}
+-- A count that went up, or began; and one that was read.
+use Rattle.std.proofs.Common.{◌≡◌, ◌==◌, ◌+◌, ◌-◌, ◌^◌, min, ℕ, Option, None, Some, Ok, inl, inr, option_map, refl, sym, ◌∙◌, ap, subst}
 use Rattle.std.specs.Fn.{FnReturnsAt, Shared}
 use Rattle.std.specs.Prelude.{Result, IfOk}
 use Rattle.std.specs.Borrow.{Bor}
+use mathlib.Core.List.{IsPrefix}
 use Rattle.papaya.specs.Types.{Refused}
-use Rattle.papaya.specs.Threads.{IsLegalHistory, IsUpserted, key_of}
-use Rattle.papaya_uses.specs.Hits.{HasCounted, Seen}
+use Rattle.papaya.specs.Threads.{IsAnsweredBetween, IsLegalHistory, IsUpserted, key_of}
+use Rattle.papaya_uses.specs.Hits.{HasCounted, IsCountOf, Seen}
 use Rattle.papaya_uses.proofs.PutLemmas.{put_at}
 
 -- an update by a closure that counts one more, or a first count of 1
@@ -29,3 +30,16 @@ module _ {F : Type 0} (g : Shared F (Bor ℕ × Unit {0}) ℕ) (f : F)
   pub counted : (old new : Seen) (r : Result (Bor ℕ) Refused) → IsLegalHistory (λ a b. a == b) key_of new → IfOk r (HasStored old new) → (v : Bor ℕ)
       → r ≡ Ok v → HasCounted page old new v.now
   counted old new r legal stored v is = counts old new v legal (subst (λ z. IfOk z (HasStored old new)) is stored)
+
+-- what a lookup answers since a pin was so in a history
+pub read_of : (page : ℕ) (seen : Seen) (answer : Option (Bor ℕ)) → ((h : Seen) × (IsLegalHistory (λ a b. a == b) key_of h × IsPrefix seen h
+    × IsAnsweredBetween (λ a b. a == b) (λ key. page == key) seen h answer)) → IsCountOf page (option_map (λ v. v.now) answer)
+read_of page seen answer (h, (legal, since, told)) = (
+  answer,
+  refl,
+  record {
+    history = h;
+    legal = legal;
+    told = record { seen = told.seen; since = (told.seen, refl); until = told.until; is = told.is };
+  },
+)

@@ -1,5 +1,5 @@
 -- Why a map without a limit refuses to store a pair.
-use Rattle.std.proofs.Common.{◌≡◌, ◌⊎◌, ℕ, Option, None, Some, inl, inr, sym, ◌∙◌}
+use Rattle.std.proofs.Common.{◌≡◌, ℕ, Option, None, Some, inl, inr, sym, ◌∙◌}
 use Rattle.papaya.specs.Types.{Refused}
 use Rattle.papaya.specs.Threads.{IsMemoryOrCapacity, IsWriteRefusal}
 

@@ -1,6 +1,12 @@
 -- What holds of each answer of a closure.
 use Rattle.std.proofs.Common.{List, [], ◌∷◌, inl, inr, sym, subst}
-use Rattle.papaya.specs.Threads.{HasSaid, Member}
+use Rattle.papaya.specs.Threads.{AllShown, HasSaid, Member}
+
+-- what holds of all that were shown holds of one of them
+pub shown_each : {X A : Type 0} (P : X → Type 0) (said : List (X × A)) (x : X) (a : A) → AllShown P said → Member (x, a) said → P x
+shown_each P [] x a all m = absurd m
+shown_each P (last ∷ before) x a all (inl is) = let Q : _ × _ → Type 0 = λ z. P z.0 in subst Q (sym is) all.0
+shown_each P (last ∷ before) x a all (inr m) = shown_each P before x a all.1 m
 
 module _ {F X A : Type 0} (says : F → X → A → F → Type 0) (holds : F → Type 0) (P : X → A → Type 0)
     (step : (f : F) (x : X) (a : A) (g : F) → holds f → says f x a g → holds g × P x a) (first : F) (at_first : holds first) where

@@ -1,13 +1,13 @@
 -- What a removal answers whose closure agrees to one user's session alone.
-use Rattle.std.proofs.Common.{◌≡◌, ◌==◌, ℕ, Bool, true, Some, Ok, sym, ◌∙◌, ap, subst}
-use Rattle.std.proofs.lemmas.Bool.{eqb-true}
+use Rattle.std.proofs.Common.{◌≡◌, ◌==◌, ℕ, Bool, true, false, None, Some, Ok, Err, sym, ◌∙◌, ap, subst}
+use Rattle.std.proofs.lemmas.Bool.{eq-eqb, eqb-true, false≢true}
 use Rattle.std.specs.Prelude.{Result, Option}
 use Rattle.std.specs.Borrow.{Bor}
 use Rattle.std.specs.Fn.{Called, Mut}
 use Rattle.papaya.specs.Types.{Refused}
-use Rattle.papaya.specs.Threads.{IsJudged, IsRemovalBy, Judges, Member, Stored}
+use Rattle.papaya.specs.Threads.{IsJudged, IsRemovalBy, Judges, Member, Stored, WasHeld}
 use Rattle.papaya_uses.specs.Sessions.{IsSignedOut, Seen}
-use Rattle.papaya_uses.proofs.Said.{said_each}
+use Rattle.papaya_uses.proofs.Said.{said_each, shown_each}
 
 module _ {F : Type 0} (called : Mut F (Bor ℕ × (Bor ℕ × Unit {0})) Bool) (token user : ℕ) (old new : Seen) (first : F)
     (answer : Result (Result (Option (Bor ℕ × Bor ℕ)) (Bor ℕ × Bor ℕ)) Refused)
@@ -31,3 +31,19 @@ module _ {F : Type 0} (called : Mut F (Bor ℕ × (Bor ℕ × Unit {0})) Bool) (
       let agreed : true ≡ (shown.value.value == user) = said_so shown true member in
       let of_user : shown.value.value ≡ user = eqb-true _ _ (sym agreed) in
       (p, taken, ap (λ v. v.value) (sym same.1) ∙ of_user)
+
+  -- a token that is not there is not that user's
+  pub none_out : answer ≡ Ok (Ok None) → IsSignedOut token user old new false
+  none_out is =
+      let none : Judged (Ok (Ok None)) = subst Judged is h.answered in
+      (None, none, λ e. cc e)
+
+  -- nor is one that stays
+  pub other_out : (entry : Bor ℕ × Bor ℕ) → answer ≡ Ok (Err entry) → IsSignedOut token user old new false
+  other_out entry is =
+      let (p, member, of) : Judged (Ok (Err entry)) = subst Judged is h.answered in
+      let other : false ≡ (p.value.value == user) = said_so p false member in (
+        Some p,
+        shown_each (λ q. WasHeld (λ a b. a == b) (λ key. token == key) old new (Some q)) h.said p false h.held member,
+        λ e. absurd (let same : p.value.value ≡ user = cc e in false≢true (other ∙ eq-eqb p.value.value user same)),
+      )

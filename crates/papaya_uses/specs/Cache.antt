@@ -9,11 +9,10 @@ use Rattle.papaya.specs.Seq.{MapState, map_in, value_of}
 abbrev pub Texts : Type 0
 Texts = MapState ℕ (String Global) (BuildHasherDefault FoldHasher)
 
--- the two generations, how many pages the young one has stored at most, and how many each may store
+-- the two generations, and how many pages each may store
 pub record Generations : Type 0 where
   pub young : Texts
   pub elder : Texts
-  pub stored : ℕ
   pub limit : ℕ
 
 -- the bytes of the text that a generation has of a page
@@ -29,11 +28,11 @@ first_of (Some a) second = Some a
 abbrev pub text_of : Generations → ℕ → Option (List ℕ)
 text_of cache page = first_of (text_in cache.young page) (text_in cache.elder page)
 
--- A page is there as it was, or it was dropped, since the young generation was full and had none
--- of it.
+-- A page is there as it was, or it was dropped, since the young generation stored as many pages as
+-- it may, those that were replaced included, and had none of it.
 abbrev pub StaysOrGoes : Generations → Generations → ℕ → Type 0
 StaysOrGoes old new page = (text_of new page ≡ text_of old page)
-    ⊎ ((old.stored ≡ old.limit) × (text_in old.young page ≡ None) × (text_of new page ≡ None))
+    ⊎ ((length old.young.store.pairs ≡ old.limit) × (text_in old.young page ≡ None) × (text_of new page ≡ None))
 
 -- how many pages are stored, those that were replaced included
 abbrev pub stored_in : Generations → ℕ

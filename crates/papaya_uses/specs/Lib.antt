@@ -1,7 +1,9 @@
+pub mod Answers
 pub mod Cache
 pub mod Counters
 pub mod Hits
 pub mod Logins
+pub mod Metrics
 pub mod Routes
 pub mod Seen
 pub mod Sessions

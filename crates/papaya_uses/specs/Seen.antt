@@ -1,8 +1,8 @@
 -- What finders are told of items, by the histories that they have seen.
-use Rattle.std.specs.Prelude.{◌≡◌, ◌==◌, ℕ, Bool, Option, None, List, [], ◌∷◌, ◌++◌, is_none}
+use Rattle.std.specs.Prelude.{◌≡◌, ◌==◌, ℕ, Bool, Option, None, List, [], ◌∷◌, ◌++◌, Ok, is_none, is_some}
 use Rattle.std.specs.Borrow.{Bor}
 use mathlib.Core.List.{IsPrefix}
-use Rattle.papaya.specs.Threads.{Change, IsPut, Stored}
+use Rattle.papaya.specs.Threads.{Change, IsPut, IsRemoved, Stored}
 
 -- the history of a set of items
 abbrev pub Seen : Type 0
@@ -12,6 +12,11 @@ Seen = List (Change ℕ (Stored ℕ (Unit {0})))
 abbrev pub IsMet : (item : ℕ) → Seen → Seen → Bool → Type 0
 IsMet item old new is_new = (taken : Option (Bor (Unit {0}))) × (is_new ≡ is_none taken)
     × IsPut (λ a b. a == b) item tt old new taken
+
+-- The last change that was seen took the item out; or at a moment between the two it was not there.
+abbrev pub IsForgotten : (item : ℕ) → Seen → Seen → Bool → Type 0
+IsForgotten item old new was_there = (taken : Option (Bor (Unit {0}))) × (was_there ≡ is_some taken)
+    × IsRemoved (λ a b. a == b) (λ key. item == key) old new (Ok taken)
 
 -- A change between the two histories took the item out, and put none in.
 pub record WasForgotten (item : ℕ) (old new : Seen) : Type 0 where

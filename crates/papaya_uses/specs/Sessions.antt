@@ -1,7 +1,7 @@
 -- What the calls on a table of users do, by the histories that a session has seen before and after.
-use Rattle.std.specs.Prelude.{◌≡◌, ◌==◌, ℕ, Bool, MatchBool, Option, None, Some, List, option_map}
+use Rattle.std.specs.Prelude.{◌≡◌, ◌≢◌, ◌==◌, ℕ, Bool, MatchBool, Option, None, Some, List, option_map}
 use Rattle.std.specs.Borrow.{Bor}
-use Rattle.papaya.specs.Threads.{Change, IsAnsweredBetween, IsChangeOf, IsPut, Stored}
+use Rattle.papaya.specs.Threads.{Change, IsAnsweredBetween, IsChangeOf, IsPut, Stored, WasHeld}
 
 -- the history of a map from tokens to users
 abbrev pub Seen : Type 0
@@ -18,8 +18,14 @@ abbrev pub IsUserBetween : ℕ → Seen → Seen → Option ℕ → Type 0
 IsUserBetween token old new user = (found : Option (Bor ℕ)) × (option_map (λ v. v.now) found ≡ user)
     × IsAnsweredBetween (λ a b. a == b) (λ key. token == key) old new found
 
--- the last change that was seen took the token from just this user
+-- at a moment between the two the token was not this user's: there was none, or it had another user
+abbrev pub WasOfNone : (token user : ℕ) → Seen → Seen → Type 0
+WasOfNone token user old new = (held : Option (Stored ℕ ℕ))
+    × WasHeld (λ a b. a == b) (λ key. token == key) old new held
+    × (option_map (λ p. p.value.value) held ≢ Some user)
+
+-- the last change that was seen took the token from just this user, or the token was not this user's
 abbrev pub IsSignedOut : (token user : ℕ) → Seen → Seen → Bool → Type 0
 IsSignedOut token user old new gone = MatchBool gone
     ((p : Stored ℕ ℕ) × IsChangeOf (λ key. token == key) old new (Some p) None
-    × (p.value.value ≡ user)) (Unit {0})
+    × (p.value.value ≡ user)) (WasOfNone token user old new)

@@ -1,19 +1,22 @@
 -- What a thread reads back of a setting that it wrote.
-use Rattle.std.specs.Prelude.{◌≡◌, ◌==◌, ℕ, Option, Some, List, option_map}
+use Rattle.std.specs.Prelude.{◌≡◌, ◌==◌, ℕ, true, Option, Some, List, option_map}
 use Rattle.std.specs.Borrow.{Bor}
-use Rattle.papaya.specs.Threads.{Change, IsAnsweredBetween, IsPut, Stored}
+use Rattle.papaya.specs.Threads.{Change, IsAnsweredBetween, IsPut, Known, Makes, Stored}
 
 -- the history of a map from settings to values
 abbrev pub Seen : Type 0
 Seen = List (Change ℕ (Stored ℕ ℕ))
 
--- The thread's own change gave the setting this value. What was read is the map's at a moment after
--- it, and where nobody made a change since then, it is this value.
-pub record IsReadBack (setting value : ℕ) (old new : Seen) (read : Option ℕ) : Type 0 where
+-- The thread made one change, which gave the setting this value. What was read is the map's at a
+-- moment after it, and where nobody made a change since then, it is this value.
+pub record IsReadBack {S : Type 0} (setting value : ℕ) (old new : Known ℕ ℕ S) (read : Option ℕ)
+    : Type 0 where
   pub own : Seen
   pub before : Option (Bor ℕ)
-  pub put : IsPut (λ a b. a == b) setting value old own before
+  pub put : IsPut (λ a b. a == b) setting value old.history own before
+  pub made : Makes true old.made new.made own
   pub found : Option (Bor ℕ)
-  pub answered : IsAnsweredBetween (λ a b. a == b) (λ key. setting == key) own new found
+  pub answered : IsAnsweredBetween (λ a b. a == b) (λ key. setting == key) own new.history
+      found
   pub read_is : option_map (λ v. v.now) found ≡ read
-  pub alone : own ≡ new → read ≡ Some value
+  pub alone : own ≡ new.history → read ≡ Some value

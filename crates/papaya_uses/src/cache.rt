@@ -3,7 +3,7 @@
 //! the pages that were replaced in it, if they are half of it. Otherwise it becomes the elder one,
 //! whose pages are dropped.
 ghost use Rattle.std.specs.Prelude.{◌≡◌, ◌≢◌, ◌⊎◌, ◌+◌, ◌<◌, ◌≤◌, None, Some};
-ghost use Rattle.std.specs.Prelude.{IfOk, IsErr, OnOk, option_map, string_bytes};
+ghost use Rattle.std.specs.Prelude.{IfOk, IsErr, OnOk, length, option_map, string_bytes};
 ghost use Rattle.papaya_uses.specs.Cache.{StaysOrGoes, stored_in, text_of};
 
 use papaya::Refused;
@@ -18,8 +18,7 @@ pub struct Cache {
     alloc: Global,
     young: HashMap<u64, String>,
     elder: HashMap<u64, String>,
-    // at most this many pages are stored in the young one, including those that were replaced
-    stored: usize,
+    // at most this many pages are stored in each, including those that were replaced
     limit: usize,
 }
 
@@ -32,12 +31,11 @@ impl Model for Cache {
     ghost view = { λ c. record {
       young = c.young;
       elder = c.elder;
-      stored = c.stored;
       limit = c.limit;
     } };
 
-    ghost invariant = { λ c. (0 < c.limit) × (length c.young.store.pairs ≤ c.stored)
-        × (c.stored ≤ c.limit) × (length c.elder.store.pairs ≤ c.limit) };
+    ghost invariant = { λ c. (0 < c.limit) × (length c.young.store.pairs ≤ c.limit)
+        × (length c.elder.store.pairs ≤ c.limit) };
 }
 
 impl Cache {
@@ -51,7 +49,6 @@ impl Cache {
             alloc,
             young: HashMap::new(alloc)?,
             elder: HashMap::new(alloc)?,
-            stored: 0,
             limit,
         })
     }
@@ -80,18 +77,17 @@ impl Cache {
         ensures few { (self.new.limit ≡ self.old.limit)
             × (stored_in self.new ≤ self.new.limit + self.new.limit) }
     {
-        if self.stored == self.limit {
+        if self.young.stored() == self.limit {
             self.make_room()?;
         }
-        self.stored += 1;
         self.young.put(page, text)?;
         Ok(())
     }
 
     /// Makes room in the young generation, which is full.
     fn make_room(&mut self) -> Result<(), Refused>
-        requires { self.old.stored ≡ self.old.limit }
-        ensures room { OnOk result (self.new.stored < self.new.limit) }
+        requires { length self.old.young.store.pairs ≡ self.old.limit }
+        ensures room { OnOk result (length self.new.young.store.pairs < self.new.limit) }
         ensures pages { (page : _) → StaysOrGoes self.old self.new page }
         ensures few { (self.new.limit ≡ self.old.limit)
             × (stored_in self.new ≤ self.new.limit + self.new.limit) }
@@ -99,12 +95,10 @@ impl Cache {
         let pages = self.young.len();
         if pages <= self.limit / 2 {
             self.young.reclaim()?;
-            self.stored = pages;
             return Ok(());
         }
         let young = HashMap::new(self.alloc)?;
         self.elder = mem::replace(&mut self.young, young);
-        self.stored = 0;
         Ok(())
     }
 }

@@ -1,6 +1,7 @@
 //! A registry of counters: threads add to them, and each addition is one step.
-ghost use Rattle.std.specs.Prelude.{◌≡◌, IfOk, option_map};
+ghost use Rattle.std.specs.Prelude.{◌≡◌, IfOk, is_ok, option_map};
 ghost use mathlib.Core.List.{IsPrefix};
+ghost use Rattle.papaya.specs.Threads.{Makes};
 ghost use Rattle.papaya_uses.specs.Counters.{HasAdded, next_count};
 
 use papaya::{Compute, HashMap, Operation, Refused, Session};
@@ -11,7 +12,8 @@ use std::sync::Wait;
 pub type Counters = HashMap<u64, u64, BuildHasherDefault<FoldHasher>>;
 
 /// Adds to a counter, which begins at 0, and returns its new value. The closure may run again if
-/// another thread was first to change the counter; only its last sum is stored.
+/// another thread was first to change the counter; only its last sum is stored. If the call fails,
+/// it changes nothing.
 pub fn add<R: Wait>(
     rt: &R,
     counters: &mut Session<'_, u64, u64>,
@@ -20,6 +22,8 @@ pub fn add<R: Wait>(
 ) -> Result<u64, Refused>
     ensures seen { IsPrefix counters.old.history counters.new.history }
     ensures added { IfOk result (HasAdded counter by counters.old.history counters.new.history) }
+    ensures made { Makes (is_ok result) counters.old.made counters.new.made
+        counters.new.history }
 {
     let computed = counters.compute(
         rt,

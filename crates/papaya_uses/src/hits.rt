@@ -4,9 +4,9 @@
 //! of its own. Their contracts state a result for some legal history, which the caller does not
 //! observe. To prove that a lookup finds what was stored, or what a retain left, use a session, as
 //! [`hit`] and [`crate::sessions`] do.
-ghost use Rattle.std.specs.Prelude.{◌≡◌, IfErr, IfOk};
+ghost use Rattle.std.specs.Prelude.{◌≡◌, IfErr, IfOk, is_ok};
 ghost use mathlib.Core.List.{IsPrefix};
-ghost use Rattle.papaya.specs.Threads.{IsMemoryOrCapacity, IsWriteRefusal};
+ghost use Rattle.papaya.specs.Threads.{IsMemoryOrCapacity, IsWriteRefusal, Makes};
 ghost use Rattle.papaya_uses.specs.Hits.{HasCounted, IsCountOf};
 
 use crate::words::one_more;
@@ -22,6 +22,7 @@ pub type Hits = HashMap<u64, u64, BuildHasherDefault<FoldHasher>>;
 pub fn hit<R: Wait>(rt: &R, hits: &mut Session<'_, u64, u64>, page: u64) -> Result<u64, Refused>
     ensures seen { IsPrefix hits.old.history hits.new.history }
     ensures counted { IfOk result (HasCounted page hits.old.history hits.new.history) }
+    ensures made { Makes (is_ok result) hits.old.made hits.new.made hits.new.history }
     ensures refused { IfErr result (IsWriteRefusal hits.old.map.begun.limit hits.new.taken) }
 {
     let count = hits.update_or_insert(rt, page, one_more, 1)?;
@@ -29,6 +30,7 @@ pub fn hit<R: Wait>(rt: &R, hits: &mut Session<'_, u64, u64>, page: u64) -> Resu
     Ok(*count)
 }
 
+#[tactic(auto, using(crate::proofs::HitLemmas::read_of))]
 /// Returns how often a page was read, if it was. It never waits.
 pub fn reads(hits: &Hits, page: u64) -> Option<u64>
     ensures { IsCountOf page result }

@@ -2,7 +2,7 @@
 //! at a time, and a sweep frees the memory of those that ended.
 ghost use Rattle.std.specs.Prelude.{◌≡◌, ◌<◌, IfOk, IfSome, nat_lt};
 ghost use mathlib.Core.List.{IsPrefix};
-ghost use Rattle.papaya_uses.specs.Logins.{AreEndedGone};
+ghost use Rattle.papaya_uses.specs.Logins.{AreEndedGone, DropsEnded};
 
 use papaya::reclaiming::Handle;
 use papaya::{HashMap, Reclaiming, ReclaimingMap, Refused, Session};
@@ -49,7 +49,7 @@ pub fn login_of<R: Wait>(rt: &R, desk: &mut Desk<'_>, token: u64, now: u64) -> O
     }
 }
 
-/// Removes the logins that have ended by now.
+/// Removes the logins that have ended by now, and no other.
 pub fn drop_ended<R: Wait>(
     rt: &R,
     logins: &mut Session<'_, u64, Login>,
@@ -57,6 +57,7 @@ pub fn drop_ended<R: Wait>(
 ) -> Result<(), Refused>
     ensures seen { IsPrefix logins.old.history logins.new.history }
     ensures gone { IfOk result (λ _. AreEndedGone now logins.old.history logins.new.history) }
+    ensures made { DropsEnded now logins.old.made logins.new.made }
 {
     logins.retain(
         rt,

@@ -4,6 +4,7 @@
 ghost use Rattle.std.specs.Prelude.{IfErr};
 ghost use mathlib.Core.List.{IsPrefix};
 ghost use Rattle.papaya.specs.Threads.{IsWriteRefusal};
+ghost use Rattle.papaya_uses.specs.Metrics.{BeginsOrFinds};
 
 use papaya::{HashMap, Refused, Session, TextKey};
 use std::alloc::Global;
@@ -15,7 +16,8 @@ use std::sync::atomic::{AtomicU64, Ordering};
 pub type Metrics = HashMap<String, AtomicU64, BuildHasherDefault<FoldHasher>>;
 
 /// Adds to the counter of a name, which begins at 0, and returns its old value. If the name has a
-/// counter, the name is not copied, and the call never waits.
+/// counter, the name is not copied, and the call never waits. Otherwise it inserts one, unless
+/// another thread is first; it changes nothing else in the map.
 #[tactic(auto, using(crate::proofs::MetricLemmas::seen_on))]
 pub fn add<R: Wait>(
     rt: &R,
@@ -25,6 +27,8 @@ pub fn add<R: Wait>(
     by: u64,
 ) -> Result<u64, Refused>
     ensures seen { IsPrefix metrics.old.history metrics.new.history }
+    ensures made { BeginsOrFinds name.now metrics.old.history metrics.new.history
+        metrics.old.made metrics.new.made result }
     ensures refused { IfErr result (IsWriteRefusal metrics.old.map.begun.limit metrics.new.taken) }
 {
     if let Some(counter) = metrics.get(&TextKey(name)) {

@@ -1,8 +1,8 @@
 //! A table of routes: many threads look up paths, and now and then one adds a route or changes it.
 //! A path is looked up as a text, without a copy of it.
-ghost use Rattle.std.specs.Prelude.{IfErr, IfOk};
+ghost use Rattle.std.specs.Prelude.{IfErr, IfOk, is_ok};
 ghost use mathlib.Core.List.{IsPrefix};
-ghost use Rattle.papaya.specs.Threads.{IsWriteRefusal};
+ghost use Rattle.papaya.specs.Threads.{IsWriteRefusal, Makes};
 ghost use Rattle.papaya_uses.specs.Routes.{IsLed, IsLedBetween};
 
 use papaya::{HashMap, Refused, Session, TextKey};
@@ -30,6 +30,7 @@ pub fn lead<R: Wait>(
 ) -> Result<Option<u64>, Refused>
     ensures seen { IsPrefix routes.old.history routes.new.history }
     ensures led { IfOk result (IsLed path handler routes.old.history routes.new.history) }
+    ensures made { Makes (is_ok result) routes.old.made routes.new.made routes.new.history }
     ensures refused { IfErr result (IsWriteRefusal routes.old.map.begun.limit routes.new.taken) }
 {
     match routes.insert(rt, path, handler) {

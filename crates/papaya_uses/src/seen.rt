@@ -1,10 +1,11 @@
 //! The items that were met before: threads that work on one list of items skip those that another
 //! has met. A set that threads share has the items. Each thread accesses it by a session of the
 //! set's map, so that the results of two threads can be compared.
-ghost use Rattle.std.specs.Prelude.{◌≡◌, ◌==◌, ◌⊎◌, ℕ, [], true, IfErr, IfOk};
+ghost use Rattle.std.specs.Prelude.{◌≡◌, ◌==◌, ◌⊎◌, ℕ, [], true, IfErr, IfOk, is_ok};
 ghost use mathlib.Core.List.{IsPrefix};
-ghost use Rattle.papaya.specs.Threads.{IsLegalHistory, IsMemoryOrCapacity, IsWriteRefusal, key_of};
-ghost use Rattle.papaya_uses.specs.Seen.{IsMet, Seen, WasForgotten};
+ghost use Rattle.papaya.specs.Threads.{IsLegalHistory, IsMemoryOrCapacity, IsWriteRefusal, Makes, key_of};
+ghost use Rattle.papaya_uses.specs.Answers.{is_yes};
+ghost use Rattle.papaya_uses.specs.Seen.{IsForgotten, IsMet, Seen, WasForgotten};
 
 use papaya::{HashSet, Refused, Session};
 use std::hash::{BuildHasherDefault, FoldHasher};
@@ -36,6 +37,7 @@ impl<'a> Finder<'a> {
     pub fn new(items: &'a Items) -> Finder<'a>
         ensures map { result.map ≡ items.now }
         ensures new { result.history ≡ [] }
+        ensures made { result.made ≡ [] }
     {
         Finder {
             items: Session::new(items.map()),
@@ -48,6 +50,7 @@ impl<'a> Finder<'a> {
         ensures map { self.new.map ≡ self.old.map }
         ensures seen { IsPrefix self.old.history self.new.history }
         ensures met { IfOk result (IsMet item self.old.history self.new.history) }
+        ensures made { Makes (is_ok result) self.old.made self.new.made self.new.history }
         ensures refused { IfErr result (IsWriteRefusal self.old.map.begun.limit self.new.taken) }
     {
         match self.items.insert(rt, item, ()) {
@@ -60,6 +63,8 @@ impl<'a> Finder<'a> {
     pub fn forget<R: Wait>(&mut self, rt: &R, item: u64) -> Result<bool, Refused>
         ensures map { self.new.map ≡ self.old.map }
         ensures seen { IsPrefix self.old.history self.new.history }
+        ensures forgotten { IfOk result (IsForgotten item self.old.history self.new.history) }
+        ensures made { Makes (is_yes result) self.old.made self.new.made self.new.history }
         ensures refused { IfErr result IsMemoryOrCapacity }
     {
         match self.items.remove(rt, &item) {
@@ -75,6 +80,7 @@ impl<'a> Finder<'a> {
         ensures one { self.new.history ≡ other.new.history }
         ensures first { IsPrefix self.old.history self.new.history }
         ensures second { IsPrefix other.old.history other.new.history }
+        ensures made { (self.new.made ≡ self.old.made) × (other.new.made ≡ other.old.made) }
     {
         self.items.meet(&mut other.items)
     }

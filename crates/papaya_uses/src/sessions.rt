@@ -1,6 +1,8 @@
 //! The users who are signed in: a table that threads share, from tokens to users.
-ghost use Rattle.std.specs.Prelude.{◌≡◌, ◌==◌, IfOk};
+ghost use Rattle.std.specs.Prelude.{◌≡◌, ◌==◌, IfOk, is_ok};
 ghost use mathlib.Core.List.{IsPrefix};
+ghost use Rattle.papaya.specs.Threads.{Makes};
+ghost use Rattle.papaya_uses.specs.Answers.{is_yes};
 ghost use Rattle.papaya_uses.specs.Sessions.{IsSignedIn, IsSignedOut, IsUserBetween};
 
 use papaya::{HashMap, Refused, Session};
@@ -19,6 +21,7 @@ pub fn sign_in<R: Wait>(
 ) -> Result<Option<u64>, Refused>
     ensures seen { IsPrefix desk.old.history desk.new.history }
     ensures put { IfOk result (IsSignedIn token user desk.old.history desk.new.history) }
+    ensures made { Makes (is_ok result) desk.old.made desk.new.made desk.new.history }
 {
     let before = desk.insert(rt, token, user)?;
     Ok(before.copied())
@@ -32,7 +35,8 @@ pub fn user_of(desk: &mut Session<'_, u64, u64>, token: u64) -> Option<u64>
     desk.get(&token).copied()
 }
 
-/// Removes the token of this user; returns whether it did. A token that another user has now stays.
+/// Removes the token of this user; returns whether it did. It returns `false` if there is no such
+/// token, or if another user has it now; then it changes nothing.
 pub fn sign_out<R: Wait>(
     rt: &R,
     desk: &mut Session<'_, u64, u64>,
@@ -41,6 +45,7 @@ pub fn sign_out<R: Wait>(
 ) -> Result<bool, Refused>
     ensures seen { IsPrefix desk.old.history desk.new.history }
     ensures taken { IfOk result (IsSignedOut token user desk.old.history desk.new.history) }
+    ensures made { Makes (is_yes result) desk.old.made desk.new.made desk.new.history }
 {
     let removed = desk.remove_if(
         rt,
@@ -51,7 +56,8 @@ pub fn sign_out<R: Wait>(
     );
     match removed {
         Ok(Ok(Some(_))) => Ok(true),
-        Ok(_) => Ok(false),
+        Ok(Ok(None)) => Ok(false),
+        Ok(Err(_)) => Ok(false),
         Err(refused) => Err(refused),
     }
 }

@@ -1,5 +1,5 @@
 //! Settings that threads share, each by a session: a thread reads back what it wrote.
-ghost use Rattle.std.specs.Prelude.{IfOk};
+ghost use Rattle.std.specs.Prelude.{◌≡◌, IfErr, IfOk};
 ghost use Rattle.papaya_uses.specs.Settings.{IsReadBack};
 
 use papaya::{HashMap, Refused, Session};
@@ -10,14 +10,16 @@ use std::sync::Wait;
 /// `Session::new(&settings)`.
 pub type Settings = HashMap<u64, u64, BuildHasherDefault<FoldHasher>>;
 
-/// Gives a setting a value, and reads it back: at some point after this thread's own change.
+/// Gives a setting a value, and reads it back: at some point after this thread's own change, which
+/// is the only one that it makes. If the call fails, it changes nothing.
 pub fn set_and_read<R: Wait>(
     rt: &R,
     settings: &mut Session<'_, u64, u64>,
     setting: u64,
     value: u64,
 ) -> Result<Option<u64>, Refused>
-    ensures { IfOk result (IsReadBack setting value settings.old.history settings.new.history) }
+    ensures read { IfOk result (IsReadBack setting value settings.old settings.new) }
+    ensures refused { IfErr result (λ _. settings.new.made ≡ settings.old.made) }
 {
     settings.insert(rt, setting, value)?;
     Ok(settings.get(&setting).copied())

@@ -19,7 +19,7 @@ loop-word-preserved g c =
     let seen = length-take i words in
     let small : count_in g.W.PartialEq.eq c.loop-word.counts.store word + 1 ≤ 2 ^ 64 - 1 = omega (arith, counted, most, seen, fits, inside) in
     one_on g.W.PartialEq.eq g.met.W.Eq.laws words i word inside is c.loop-word.counts _ c.loop-word.invariant _ _ (λ shown n is. is) small
-    c.update_or_insert.result c.in_ok-update_or_insert.field-0 c.in_ok-update_or_insert.was c.update_or_insert.follows.holds-at-none
+    c.update_or_insert.result c.in_ok-update_or_insert.field-0 c.in_ok-update_or_insert.was c.update_or_insert.follows.holds-at-none.0
 
 pub returns : goal.returns
 returns g c w =
