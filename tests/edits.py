@@ -23,7 +23,7 @@ from prover import LOST, NAMED, TOP, Bad, Change, below, check, copy_of, digest,
 TOGETHER = "must-fail-together"
 
 # So many edits at most are made in one copy: a check of more would keep one processor long after all else.
-AT_ONCE = 30
+AT_ONCE = 60
 
 
 def extents(lines, name):
@@ -172,10 +172,13 @@ def try_copy(room, crate, edits):
 
 
 def copies_of(crate):
-    """The edits of a crate, by the copies in which they are made."""
+    """The edits of a crate, by the copies in which they are made. Those of one file stand beside each other: what
+    their functions call is much the same, and each copy proves that once."""
     edits = [Edit(crate, it) for it in sorted(os.listdir(f"{TOP}/crates/{crate}/{TOGETHER}"))]
+    edits.sort(key=lambda it: (it.file, it.function))
     copies = -(-len(edits) // AT_ONCE)
-    return [edits[it::copies] for it in range(copies)]
+    ends = [len(edits) * it // copies for it in range(copies + 1)]
+    return [edits[first:end] for first, end in zip(ends, ends[1:])]
 
 
 def main(names):

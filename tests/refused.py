@@ -1,11 +1,12 @@
-"""Runs tests with requests for memory refused to them.
+"""Runs tests with requests for memory refused to them, or answered late.
 
     python3 tests/refused.py [--programs FOLDER] [CRATE..]
 
 What runs is the program of the tests that `rt test` has proved and built, or else that of the folder. Tests of the first kind run once for
 each request that they make, with just that one refused. Those of the second kind run once, and tell what is to
 be refused, while a call of theirs runs: a request for a number of bytes that no test needs is a word (crate
-papaya_testing). Each has to pass, and of the second kind each has to be refused something. The requests are
+papaya_testing). By such a word a test also tells which request is to be answered late, when other threads are done.
+Each has to pass, and each of the second kind has to be refused something, or to get an answer late. The requests are
 those of the C library's heap: a small library that is loaded before it counts them, and is built here by the
 toolchain's own compiler.
 """
@@ -19,7 +20,8 @@ from concurrent.futures import ThreadPoolExecutor
 
 TOP = os.path.dirname(os.path.dirname(os.path.abspath(__file__)))
 
-# Refuses the request that REFUSED numbers, or what words tell, and adds a byte to the file REFUSED_SAYS then.
+# Refuses the request that REFUSED numbers, or what words tell, or answers it late. Then it adds a byte to the file
+# REFUSED_SAYS.
 LIBRARY = """
 typedef unsigned long size_t;
 
@@ -28,16 +30,59 @@ extern long atol(const char *text);
 extern int open(const char *path, int flags, ...);
 extern long write(int file, const void *bytes, size_t count);
 extern int close(int file);
+extern int usleep(unsigned microseconds);
 extern void *__libc_malloc(size_t size);
 extern void *__libc_realloc(void *block, size_t size);
 
 // Words, whose numbers begin at these sizes: refuse the request of a number from here on; refuse each whose number
-// is a multiple; refuse none, and this word itself where one was refused since the last word.
-enum { ONE = 7000000, EACH = 8000000, NONE = 9000000, END = 10000000 };
+// is a multiple; refuse none, and this word itself where one was refused since the last word. Hold the next request
+// for just so many bytes, and refuse this word; let it go, and refuse this word where one was held.
+enum { ONE = 7000000, EACH = 8000000, NONE = 9000000, HOLD = 10000000, LET_GO = 11000000, END = 12000000 };
 
-static long asked, refused, one, each;
+// A request is held for 20 seconds at most: so many steps of so many microseconds.
+enum { STEPS = 20000, STEP = 1000 };
+
+// How many bytes the request has that is to be held, or 0 for none. HELD while it is.
+enum { HELD = -1 };
+
+static long asked, refused, one, each, bytes;
+
+static void say(void) {
+    // Made where it is not there, and written at its end.
+    int file = open(getenv("REFUSED_SAYS"), 02101, 0600);
+    write(file, ".", 1);
+    close(file);
+}
+
+static int is_held_from(long size) {
+    return __atomic_compare_exchange_n(&bytes, &size, HELD, 0, __ATOMIC_SEQ_CST, __ATOMIC_SEQ_CST);
+}
+
+static void hold_if_meant(long size) {
+    if (!size || !is_held_from(size))
+        return;
+    for (int step = 0; step < STEPS; step++) {
+        if (__atomic_load_n(&bytes, __ATOMIC_SEQ_CST) != HELD)
+            return;
+        usleep(STEP);
+    }
+    __atomic_store_n(&bytes, 0, __ATOMIC_SEQ_CST);
+}
+
+static int lets_go(void) {
+    if (__atomic_exchange_n(&bytes, 0, __ATOMIC_SEQ_CST) != HELD)
+        return 0;
+    say();
+    return 1;
+}
 
 static int is_word_refused(size_t size) {
+    if (LET_GO <= size)
+        return lets_go();
+    if (HOLD <= size) {
+        __atomic_store_n(&bytes, size - HOLD, __ATOMIC_SEQ_CST);
+        return 1;
+    }
     int was_refused = refused != 0;
     asked = refused = 0;
     one = size < EACH ? size - ONE : 0;
@@ -53,13 +98,11 @@ static int is_meant(long number) {
 static int is_refused(size_t size) {
     if (ONE <= size && size < END)
         return is_word_refused(size);
+    hold_if_meant(size);
     if (!is_meant(__atomic_add_fetch(&asked, 1, __ATOMIC_SEQ_CST)))
         return 0;
     __atomic_add_fetch(&refused, 1, __ATOMIC_SEQ_CST);
-    // Made where it is not there, and written at its end.
-    int file = open(getenv("REFUSED_SAYS"), 02101, 0600);
-    write(file, ".", 1);
-    close(file);
+    say();
     return 1;
 }
 
@@ -129,6 +172,7 @@ TOLERANT = [
 # Those that tell what is to be refused.
 TELLING = [
     ("papaya_map_tests", "scarce::"),
+    ("papaya_map_tests", "stopped::"),
     ("papaya_cases_tests", "refused::"),
     ("papaya_collect_tests", "calls::"),
     ("papaya_collect_tests", "crowds::"),
@@ -144,10 +188,10 @@ def refuse_each(tests):
 
 
 def refuse_told(tests):
-    """What a test tells is refused. Which tests pass, and have something refused?"""
+    """What a test tells is refused, or held. Which tests pass, and have something refused or held?"""
     with ThreadPoolExecutor(os.cpu_count()) as pool:
         for name, (refused, passed) in zip(tests.names, pool.map(tests.run, tests.names)):
-            print(f"{tests.crate} {name}: {refused} requests refused, {'passed' if passed else 'failed'}", flush=True)
+            print(f"{tests.crate} {name}: {refused} requests refused or held, {'passed' if passed else 'failed'}", flush=True)
             yield passed and refused
 
 

@@ -2,6 +2,7 @@
 use crate::crowd::{Crowd, Job};
 use crate::threads::{EACH, KEYS};
 use papaya_testing::crossing::Crossing;
+use papaya_testing::heap::let_go;
 use std::alloc::Global;
 use std::sync::atomic::{AtomicBool, AtomicU64, Ordering};
 
@@ -16,6 +17,9 @@ pub struct Board {
     pub taken: Vec<AtomicU64>,
     /// The next value of each key.
     pub drawn: Vec<AtomicU64>,
+    /// A thread was held up in a request for memory until the others had ended.
+    pub was_held: AtomicBool,
+    pub alloc: Global,
 }
 
 /// Returns this many counts of 0, if there is memory for them.
@@ -35,6 +39,8 @@ impl Board {
             crossing: Crossing::new(threads, others),
             taken: Vec::new(alloc),
             drawn: Vec::new(alloc),
+            was_held: AtomicBool::new(false),
+            alloc,
         }
     }
 
@@ -54,9 +60,13 @@ impl Board {
         self.crossing.begins(!matches!(job, Job::Stuck(_, _)))
     }
 
-    /// Records that a thread has ended.
+    /// Records that a thread has ended. After the last one that others wait for, a thread that is
+    /// held up goes on.
     pub fn ends(&self) {
         self.is_done.store(true, Ordering::SeqCst);
         self.crossing.ends();
+        if self.crossing.gate.open.load(Ordering::SeqCst) && let_go(self.alloc) {
+            self.was_held.store(true, Ordering::SeqCst);
+        }
     }
 }

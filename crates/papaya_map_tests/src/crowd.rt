@@ -8,6 +8,7 @@ use crate::shared::Shared;
 use crate::steps::{Calls, Step, answer, has_below, inserts};
 use crate::threads::{churn, draw, take_left};
 use papaya_testing::gate::Gate;
+use papaya_testing::heap::hold;
 use std::sync::Wait;
 use std::sync::atomic::Ordering;
 use std::thread::{Threads, join};
@@ -77,6 +78,8 @@ pub enum Crowd {
     Four([Job; 4]),
     /// One thread makes a call whose closure does not return before all other threads have ended.
     Stuck(Step, Answer),
+    /// Four threads, of which the first to request this many bytes waits until the others have ended.
+    Held(usize, [Job; 4]),
 }
 
 impl Crowd {
@@ -88,6 +91,7 @@ impl Crowd {
             Crowd::Eight(_, _) => (8, 0),
             Crowd::Four(_) => (4, 0),
             Crowd::Stuck(_, _) => (8, 7),
+            Crowd::Held(_, _) => (4, 3),
         }
     }
 
@@ -378,6 +382,23 @@ fn eight<R: Threads + Wait + Sync, M: Shared + Sync>(
     )
 }
 
+/// Runs four threads, of which one is held up in its request for this many bytes. Returns whether
+/// they did their jobs, and whether one was held up until the others had ended, if the heap can do
+/// so.
+fn held<R: Threads + Wait + Sync, M: Shared + Sync>(
+    rt: &R,
+    map: &M,
+    board: &Board,
+    bytes: usize,
+    jobs: [Job; 4],
+) -> (bool, bool) {
+    // Nobody comes to the gate, so none waits there to begin.
+    board.crossing.gate.reached.store(true, Ordering::SeqCst);
+    let is_told = hold(board.alloc, bytes);
+    let did = four(rt, map, board, jobs);
+    (did, board.was_held.load(Ordering::SeqCst) == is_told)
+}
+
 /// Returns the jobs of three of seven threads while one is stuck.
 fn low_beside(call: Step, wanted: Answer) -> [Job; 4] {
     [
@@ -414,5 +435,6 @@ pub fn gathers<R: Threads + Wait + Sync, M: Shared + Sync>(
         Crowd::Stuck(call, wanted) => {
             eight(rt, map, board, low_beside(call, wanted), HIGH_BESIDE)
         }
+        Crowd::Held(bytes, jobs) => held(rt, map, board, bytes, jobs),
     }
 }

@@ -10,6 +10,8 @@ mod board;
 #[cfg(test)]
 mod builders;
 #[cfg(test)]
+mod chunks;
+#[cfg(test)]
 mod computes;
 #[cfg(test)]
 mod crowd;
@@ -55,6 +57,8 @@ mod shared;
 mod sizes;
 #[cfg(test)]
 mod steps;
+#[cfg(test)]
+mod stopped;
 #[cfg(test)]
 mod stored_keys;
 #[cfg(test)]

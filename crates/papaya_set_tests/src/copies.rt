@@ -1,6 +1,8 @@
-// Sets of clones of a set's keys, sets that are reclaimed, and what the shared ones print.
+// Sets of clones of a set's keys, sets that are reclaimed, and what the shared ones and their guards,
+// passes and sessions print.
 use crate::expect::{is, prints};
 use crate::labels::{Keys, Labelled, any, key};
+use papaya_map::session::Session;
 use papaya_set::seq::HashSet;
 use papaya_words::probe::Refused;
 use std::alloc::Global;
@@ -92,4 +94,22 @@ fn a_shared_set_prints_its_keys(rt: HostRuntime) -> Result<(), Fail> {
     let set = Keys::new(&rt, rt.alloc())?;
     prints_its_keys(&rt, rt.alloc(), &set)?;
     prints_its_rest(&rt, rt.alloc(), &set)
+}
+
+/// Guards and passes print their numbers, which a collector gives one after another.
+fn prints_numbers<R: Wait + Abort>(rt: &R, alloc: Global, set: &Keys) -> Result<(), Fail> {
+    let wanted = "LocalGuard { collector: 0, number: 0 }";
+    prints(rt, alloc, &set.guard(), wanted)?;
+    let wanted = "OwnedGuard { collector: 0, number: 1 }";
+    prints(rt, alloc, &set.owned_guard(), wanted)?;
+    prints(rt, alloc, &set.map().pass(), "Pass { number: Some(2) }")
+}
+
+#[test]
+fn guards_passes_and_sessions_print(rt: HostRuntime) -> Result<(), Fail> {
+    let set = Keys::new(&rt, rt.alloc())?;
+    prints_numbers(&rt, rt.alloc(), &set)?;
+    is(&rt, set.pin().insert(&rt, key(7, 'x')), Ok(true));
+    let wanted = "{Labelled { number: 7, label: 'x' }: ()}";
+    prints(&rt, rt.alloc(), &Session::new(set.map()), wanted)
 }
