@@ -1,6 +1,6 @@
 //! The kit's own hash map: alone, and behind a lock that each call takes.
 use crate::collections::{Collection, Shared};
-use crate::steps::{Target, Work, one_more};
+use crate::steps::{Target, Work, one_more, with_value};
 use papaya_plan::answers::weight;
 use papaya_shell::failure::Failure;
 use std::alloc::Global;
@@ -40,11 +40,7 @@ impl Target for Map {
     }
 
     fn walk<R: Wait>(&mut self, _rt: &R) -> Result<u64, Failure> {
-        let mut sum: u64 = 0;
-        for (_, value) in self.iter() {
-            sum = sum.wrapping_add(*value);
-        }
-        Ok(sum)
+        Ok(self.iter().fold(0, with_value))
     }
 }
 

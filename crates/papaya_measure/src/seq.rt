@@ -1,7 +1,7 @@
 //! The map and the set for one caller.
 use crate::collections::{Collection, Growing};
 use crate::reclaim::Reclaimed;
-use crate::steps::{Target, Work, counted_up, one_more, stored};
+use crate::steps::{Target, Work, counted_up, one_more, stored, with_value};
 use papaya_plan::answers::weight;
 use papaya_seq::seq::HashMap;
 use papaya_set::seq::HashSet;
@@ -44,11 +44,7 @@ impl Target for Map {
     }
 
     fn walk<R: Wait>(&mut self, _rt: &R) -> Result<u64, Failure> {
-        let mut sum: u64 = 0;
-        for (_, value) in self.iter() {
-            sum = sum.wrapping_add(*value);
-        }
-        Ok(sum)
+        Ok(self.iter().fold(0, with_value))
     }
 }
 

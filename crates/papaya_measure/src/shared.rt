@@ -2,7 +2,7 @@
 //! the shared set.
 use crate::collections::{Collection, Growing, Pinned, Shared};
 use crate::reclaim::Reclaimed;
-use crate::steps::{Target, Work, counted_up, one_more, stored};
+use crate::steps::{Target, Work, counted_up, one_more, stored, with_value};
 use papaya_map::map::{HashMap, HashMapRef};
 use papaya_map::session::Session;
 use papaya_plan::answers::weight;
@@ -57,11 +57,7 @@ impl Target for HashMapRef<'_, u64, u64, Hasher> {
     }
 
     fn walk<R: Wait>(&mut self, rt: &R) -> Result<u64, Failure> {
-        let mut sum: u64 = 0;
-        for (_, value) in self.iter(rt)? {
-            sum = sum.wrapping_add(*value);
-        }
-        Ok(sum)
+        Ok(self.iter(rt)?.fold(0, with_value))
     }
 }
 
@@ -92,11 +88,7 @@ impl Target for Session<'_, u64, u64> {
     }
 
     fn walk<R: Wait>(&mut self, rt: &R) -> Result<u64, Failure> {
-        let mut sum: u64 = 0;
-        for (_, value) in self.iter(rt)? {
-            sum = sum.wrapping_add(*value);
-        }
-        Ok(sum)
+        Ok(self.iter(rt)?.fold(0, with_value))
     }
 }
 

@@ -58,6 +58,12 @@ pub(crate) fn stored(computed: Compute<'_, u64, u64, ()>) -> u64 {
     }
 }
 
+/// Returns the sum with the value of one more entry.
+#[inline(always)]
+pub(crate) fn with_value(sum: u64, entry: (&u64, &u64)) -> u64 {
+    sum.wrapping_add(*entry.1)
+}
+
 /// The work of one thread.
 #[derive(Clone, Copy)]
 pub(crate) enum Work {
