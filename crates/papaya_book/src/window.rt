@@ -13,6 +13,7 @@ use crate::rule::offer::{Offer, Seen};
 use crate::rule::own::{CapacityCause, OwnSteps, with_last};
 use crate::rule::steps::{Put, Sought, Wish};
 use crate::rule::token::token;
+use crate::slot::{hint_in, with_hint};
 use crate::table::Table;
 use boxcar::Pushed;
 use logbook::Pen;
@@ -152,13 +153,14 @@ impl<'a, K: Hash + Eq, V, S: BuildHasher> Window<'a, K, V, S> {
         ensures hint { IsHint self.old self.new number place result }
     {
         self.sight.learn(&self.book.begun);
-        let hint = table.hint(place).load(&mut self.sight);
+        let hints = table.hint(place).load(&mut self.sight);
         self.sight.learn(&self.book.begun);
-        hint
+        hint_in(hints, place)
     }
 
-    /// Writes this hint to a slot that has none, in one atomic exchange. It does not return whether
-    /// the hint was written, and observes nothing further.
+    /// Writes this hint to a slot that has none, by an atomic load and one atomic exchange. It does
+    /// not return whether the hint was written, and observes nothing further. A hint of another of
+    /// the eight slots that was written in between keeps it from being written.
     #[inline(always)]
     pub fn write_hint(&self, table: &Table<K, V, S>, number: u64, place: usize, hint: u8)
         requires table { IsTable self.now number table.now }
@@ -167,7 +169,11 @@ impl<'a, K: Hash + Eq, V, S: BuildHasher> Window<'a, K, V, S> {
     {
         let mut seen = self.sight.again();
         seen.learn(&self.book.begun);
-        table.hint(place).compare_exchange(0, hint as u64, &seen);
+        let hints = table.hint(place);
+        let found = hints.load(&mut seen);
+        if hint_in(found, place) == 0 {
+            hints.compare_exchange(found, with_hint(found, place, hint), &seen);
+        }
     }
 
     /// Loads a table's slot in one atomic step; returns the word, and the gain of the token of the
