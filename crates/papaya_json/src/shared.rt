@@ -1,13 +1,15 @@
 //! Shared maps as JSON objects, shared sets as JSON arrays, and back.
-ghost use Rattle.std.specs.Prelude.{◌≡◌, ◌⊎◌, IfErr, IfOk, List, None};
+ghost use Rattle.std.specs.Prelude.{◌≡◌, ◌⊎◌, IfErr, IfOk, List, None, [], map};
 ghost use Rattle.std.specs.Fn.{FnReturnsAt};
 ghost use Rattle.papaya_words.specs.declared.limits.TheConstants.{DEFAULT_CHUNK, DEFAULT_SHARDS};
-ghost use Rattle.papaya_map.specs.Fixed.{IsFor};
+ghost use Rattle.papaya_map.specs.Collected.{AreStored, AreWalked};
+ghost use Rattle.papaya_map.specs.Fixed.{HasLearned, IsFor};
+ghost use Rattle.papaya_set.specs.Sets.{entry_of_key};
 ghost use Rattle.papaya_json.specs.Arrays.{HasNoKey, IsArray, IsArrayWith, IsKey};
 ghost use Rattle.papaya_json.specs.Arrays.{IsListRefusal, IsNoArrayOr};
 ghost use Rattle.papaya_json.specs.Objects.{HasNoPair, IsNoObjectOr, IsObject, IsObjectWith};
 ghost use Rattle.papaya_json.specs.Objects.{IsPair, IsWriteRefusal};
-ghost use Rattle.papaya_json.specs.Shared.{IsEachRead, IsUnread, IsUnwritten};
+ghost use Rattle.papaya_json.specs.Shared.{IsEachStored, IsUnread, IsUnwritten};
 
 use crate::writing::{array_from, object_from};
 use papaya_map::map::HashMap;
@@ -37,7 +39,7 @@ where
     W: Fn(&V) -> Option<Value>,
     requires key { T.IsAlwaysCallable key }
     requires value { W.IsAlwaysCallable value }
-    ensures ok { IfOk result (λ v. (pairs : List (K × V))
+    ensures ok { IfOk result (λ v. (pairs : List (K × V)) × AreWalked K.eq map.now.book pairs
         × IsObject (FnReturnsAt T.Fn key) (FnReturnsAt W.Fn value) pairs v) }
     ensures err { IfErr result (IsUnwritten (IsWriteRefusal (FnReturnsAt T.Fn key)
         (FnReturnsAt W.Fn value))) }
@@ -49,7 +51,7 @@ where
 /// Inserts the entries of an object's members into a map without a limit.
 fn fill<R: Wait, K: Hash + Eq + Drop, V: Drop, S: BuildHasher, T, W>(
     rt: &R,
-    map: &HashMap<K, V, S>,
+    map: &mut HashMap<K, V, S>,
     members: &Map<String, Value>,
     key: T,
     value: W,
@@ -57,11 +59,13 @@ fn fill<R: Wait, K: Hash + Eq + Drop, V: Drop, S: BuildHasher, T, W>(
 where
     T: Fn(&str) -> Option<K>,
     W: Fn(&Value) -> Option<V>,
-    requires limit { map.now.begun.limit ≡ None }
+    requires limit { map.old.begun.limit ≡ None }
     requires key { T.IsAlwaysCallable key }
     requires value { W.IsAlwaysCallable value }
-    ensures ok { IfOk result (λ _. IsEachRead (IsPair (FnReturnsAt T.Fn key)
-        (FnReturnsAt W.Fn value)) members.now.entries) }
+    ensures same { IfOk result (λ _. HasLearned map.old map.new) }
+    ensures ok { IfOk result (λ _. IsEachStored (IsPair (FnReturnsAt T.Fn key)
+        (FnReturnsAt W.Fn value)) (λ pairs. AreStored K.eq pairs [] map.new.seen)
+        members.now.entries) }
     ensures err { IfErr result (λ e. IsUnread (HasNoPair (FnReturnsAt T.Fn key)
         (FnReturnsAt W.Fn value)) e members.now.entries) }
 {
@@ -78,6 +82,7 @@ where
             Err(refused) => return Err(refused),
         }
     }
+    map.learn(&pass);
     Ok(())
 }
 
@@ -95,16 +100,17 @@ where
     W: Fn(&Value) -> Option<V>,
     requires key { T.IsAlwaysCallable key }
     requires value { W.IsAlwaysCallable value }
-    ensures ok { IfOk result (λ map. IsEachRead (IsPair (FnReturnsAt T.Fn key)
-        (FnReturnsAt W.Fn value)) members.now.entries) }
+    ensures ok { IfOk result (λ map. IsEachStored (IsPair (FnReturnsAt T.Fn key)
+        (FnReturnsAt W.Fn value)) (λ pairs. AreStored K.eq pairs [] map.seen)
+        members.now.entries) }
     ensures made { IfOk result (IsFor (ResizeMode.Incremental DEFAULT_CHUNK) 0 DEFAULT_SHARDS
         None) }
     ensures hasher { IfOk result (λ made. made.begun.hasher ≡ hasher) }
     ensures err { IfErr result (λ e. IsUnread (HasNoPair (FnReturnsAt T.Fn key)
         (FnReturnsAt W.Fn value)) e members.now.entries) }
 {
-    let map = HashMap::with_hasher(rt, alloc, hasher)?;
-    match fill(rt, &map, members, key, value) {
+    let mut map = HashMap::with_hasher(rt, alloc, hasher)?;
+    match fill(rt, &mut map, members, key, value) {
         Ok(()) => Ok(map),
         Err(refused) => Err(refused),
     }
@@ -131,8 +137,9 @@ where
     W: Fn(&Value) -> Option<V>,
     requires key { T.IsAlwaysCallable key }
     requires value { W.IsAlwaysCallable value }
-    ensures ok { IfOk result (λ map. IsObjectWith v.now (IsEachRead (IsPair (FnReturnsAt T.Fn key)
-        (FnReturnsAt W.Fn value)))) }
+    ensures ok { IfOk result (λ map. IsObjectWith v.now (IsEachStored (IsPair
+        (FnReturnsAt T.Fn key) (FnReturnsAt W.Fn value))
+        (λ pairs. AreStored K.eq pairs [] map.seen))) }
     ensures made { IfOk result (IsFor (ResizeMode.Incremental DEFAULT_CHUNK) 0 DEFAULT_SHARDS
         None) }
     ensures hasher { IfOk result (λ made. made.begun.hasher ≡ hasher) }
@@ -159,7 +166,9 @@ pub fn shared_set_to_value<R: Wait, K: Hash + Eq, S: BuildHasher, T: Fn(&K) -> O
     key: T,
 ) -> Result<Value, Refused>
     requires { T.IsAlwaysCallable key }
-    ensures ok { IfOk result (λ v. (keys : List K) × IsArray (FnReturnsAt T.Fn key) keys v) }
+    ensures ok { IfOk result (λ v. (keys : List K)
+        × AreWalked K.eq set.now.book (map entry_of_key keys)
+        × IsArray (FnReturnsAt T.Fn key) keys v) }
     ensures err { IfErr result (IsUnwritten (IsListRefusal (FnReturnsAt T.Fn key))) }
 {
     let keys = set.pin().iter(rt)?;
@@ -169,25 +178,29 @@ pub fn shared_set_to_value<R: Wait, K: Hash + Eq, S: BuildHasher, T: Fn(&K) -> O
 /// Inserts the keys of an array's items into a set without a limit.
 fn fill_set<R: Wait, K: Hash + Eq + Drop, S: BuildHasher, T: Fn(&Value) -> Option<K>>(
     rt: &R,
-    set: &HashSet<K, S>,
+    set: &mut HashSet<K, S>,
     items: &Vec<Value>,
     key: T,
 ) -> Result<(), Refused>
-    requires limit { set.now.begun.limit ≡ None }
+    requires limit { set.old.begun.limit ≡ None }
     requires key { T.IsAlwaysCallable key }
-    ensures ok { IfOk result (λ _. IsEachRead (IsKey (FnReturnsAt T.Fn key)) items.now.items) }
+    ensures same { IfOk result (λ _. HasLearned set.old set.new) }
+    ensures ok { IfOk result (λ _. IsEachStored (IsKey (FnReturnsAt T.Fn key))
+        (λ keys. AreStored K.eq (map entry_of_key keys) [] set.new.seen) items.now.items) }
     ensures err { IfErr result (λ e. IsUnread (HasNoKey (FnReturnsAt T.Fn key)) e
         items.now.items) }
 {
+    let mut pass = set.map().pass();
     for item in items {
         let Some(k) = key(item) else {
             return Err(Refused::Item);
         };
-        match set.pin().insert(rt, k) {
+        match set.map().pin().insert_as(rt, k, (), &mut pass) {
             Ok(_) => {}
             Err(why) => return Err(why),
         }
     }
+    set.learn(&pass);
     Ok(())
 }
 
@@ -202,15 +215,16 @@ fn shared_set_of<R: Wait, K: Hash + Eq + Drop, S: BuildHasher + Drop, T>(
 where
     T: Fn(&Value) -> Option<K>,
     requires { T.IsAlwaysCallable key }
-    ensures ok { IfOk result (λ set. IsEachRead (IsKey (FnReturnsAt T.Fn key)) items.now.items) }
+    ensures ok { IfOk result (λ set. IsEachStored (IsKey (FnReturnsAt T.Fn key))
+        (λ keys. AreStored K.eq (map entry_of_key keys) [] set.seen) items.now.items) }
     ensures made { IfOk result (IsFor (ResizeMode.Incremental DEFAULT_CHUNK) 0 DEFAULT_SHARDS
         None) }
     ensures hasher { IfOk result (λ made. made.begun.hasher ≡ hasher) }
     ensures err { IfErr result (λ e. IsUnread (HasNoKey (FnReturnsAt T.Fn key)) e
         items.now.items) }
 {
-    let set = HashSet::with_hasher(rt, alloc, hasher)?;
-    match fill_set(rt, &set, items, key) {
+    let mut set = HashSet::with_hasher(rt, alloc, hasher)?;
+    match fill_set(rt, &mut set, items, key) {
         Ok(()) => Ok(set),
         Err(why) => Err(why),
     }
@@ -234,8 +248,8 @@ pub fn shared_set_from_value<R: Wait, K: Hash + Eq + Drop, S: BuildHasher + Drop
 where
     T: Fn(&Value) -> Option<K>,
     requires { T.IsAlwaysCallable key }
-    ensures ok { IfOk result (λ set. IsArrayWith v.now (IsEachRead
-        (IsKey (FnReturnsAt T.Fn key)))) }
+    ensures ok { IfOk result (λ set. IsArrayWith v.now (IsEachStored (IsKey (FnReturnsAt T.Fn key))
+        (λ keys. AreStored K.eq (map entry_of_key keys) [] set.seen))) }
     ensures made { IfOk result (IsFor (ResizeMode.Incremental DEFAULT_CHUNK) 0 DEFAULT_SHARDS
         None) }
     ensures hasher { IfOk result (λ made. made.begun.hasher ≡ hasher) }
