@@ -206,8 +206,7 @@ pub(crate) fn copy_chunk<R: Wait, K: Hash + Eq, V, S: BuildHasher>(
     requires initial { IsPowerOfTwo means.now.initial }
 {
     let kept = book.keep_root();
-    let own = OwnSteps::nothing();
-    let mut window = Window::new(book, &kept, &book.pass(), &own);
+    let mut window = Window::new(book, &kept, &book.pass());
     let mut given = OwnSteps::nothing();
     let _ = resize(
         means.rt,

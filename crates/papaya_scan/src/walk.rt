@@ -14,7 +14,6 @@ use papaya_book::book::Book;
 use papaya_book::book::gains::named_pair;
 use papaya_book::book::kept::KeptRoot;
 use papaya_book::rule::offer::Seen;
-use papaya_book::rule::own::OwnSteps;
 use papaya_book::slot::Slot;
 use papaya_book::table::Table;
 use papaya_book::window::Window;
@@ -182,7 +181,7 @@ impl<'a, K: Hash + Eq, V, S: BuildHasher> Iterator for Iter<'a, K, V, S> {
     /// It only loads words: it never waits, takes no lock and allocates nothing.
     #[inline(always)]
     fn next(&mut self) -> Option<(&'a K, &'a V)> {
-        let mut window = Window::new(self.book, &self.kept, &self.sight, &OwnSteps::nothing());
+        let mut window = Window::new(self.book, &self.kept, &self.sight);
         let (rest, found) = next_pair(self.number, self.len, self.rest, &mut window);
         self.sight = window.sight;
         self.rest = rest;
