@@ -80,6 +80,7 @@ impl<K: Hash + Eq, V, S: BuildHasher> Copier<K, V, S> {
 
     /// Performs what is requested for a copy, and returns the answer. `making` keeps the turn to
     /// make a next table, until the try to link it.
+    #[inline(always)]
     pub fn answer<'a, R: Wait>(
         &mut self,
         rt: &R,

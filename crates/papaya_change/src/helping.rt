@@ -88,6 +88,7 @@ impl<'a, K: Hash + Eq, V, S: BuildHasher> Driver<'a, K, V, S> {
     }
 
     /// Holds the table in which the call is to search for its key, if a copy has led it to one.
+    #[inline(always)]
     fn arrive(&mut self, window: &mut Window<'a, K, V, S>)
         requires lawful { IsLawful window.old }
         requires come { (n : ℕ) → IsEntering self.old.machine n → HasCome window.old n }
@@ -109,6 +110,7 @@ impl<'a, K: Hash + Eq, V, S: BuildHasher> Driver<'a, K, V, S> {
 
     /// Copies slots of a chunk one after another if the first of them is next, and else takes one
     /// step; returns the answer to the next ask.
+    #[inline(always)]
     fn copy_on<R: Wait>(
         &mut self,
         rt: &R,
@@ -161,6 +163,7 @@ impl<'a, K: Hash + Eq, V, S: BuildHasher> Driver<'a, K, V, S> {
     }
 
     /// Performs an ask of a copy, and returns the answer.
+    #[inline(always)]
     fn copy<R: Wait>(
         &mut self,
         rt: &R,
