@@ -128,7 +128,7 @@ fn fast<
 /// Runs the machine from this start to its end. It is a call of its own, since no frame of a fast
 /// path may hold a machine.
 #[inline(never)]
-fn slow<
+pub(crate) fn slow<
     'a,
     A: Operator<'a, K, V, T, O>,
     R: Wait,
