@@ -41,7 +41,6 @@ use papaya_book::rule::own::{CapacityCause, OwnSteps};
 use papaya_book::rule::pair::Pair;
 use papaya_book::table::Table;
 use papaya_book::window::Window;
-use papaya_call::write::Write;
 use papaya_lookup::lookup::{Met, hash};
 use papaya_words::probe::Refused;
 use papaya_words::word::{Kind, Word, hint};
@@ -510,11 +509,17 @@ fn replace_at<'a, R: Wait, K: Hash + Eq + Drop, V: Drop, S: BuildHasher>(
     match replace(window, value, table, &live) {
         Tried::Put(_) => Ok(Some(book.value(live.pair))),
         Tried::Lost(pair) => {
-            let write = Write {
-                place: live.met.place,
-                old: live.met.word,
-            };
-            insert_met(means, window, given, key, hash, write, pair)
+            let place = live.met.place;
+            insert_met(
+                means,
+                window,
+                given,
+                key,
+                hash,
+                place.table,
+                place.probe.i,
+                pair,
+            )
         }
         Tried::Back(value) => insert_slow(means, window, given, key, value),
     }

@@ -36,9 +36,8 @@ use papaya_book::rule::own::{CapacityCause, OwnSteps};
 use papaya_book::table::Table;
 use papaya_book::window::Window;
 use papaya_call::machine::State;
-use papaya_call::made::Made;
+use papaya_call::made::{Made, Of};
 use papaya_call::need::Need;
-use papaya_call::write::Write;
 use papaya_chain::ask::Ask;
 use papaya_lookup::lookup::hash;
 use papaya_words::probe::Refused;
@@ -349,22 +348,23 @@ pub(crate) fn insert_logged<'a, R: Wait, K: Hash + Eq + Drop, V: Drop, S: BuildH
     drive(means, window, given, insertion)
 }
 
-/// Inserts the value of a pair in the arena by its machine, with a key met in the slot of this
-/// write; returns the value that the call's key had.
+/// Inserts the value of a pair in the arena by its machine, with a key met in this slot of the
+/// table; returns the value that the call's key had.
 pub(crate) fn insert_met<'a, R: Wait, K: Hash + Eq + Drop, V: Drop, S: BuildHasher>(
     means: &Means<'_, '_, R>,
     window: &mut Window<'a, K, V, S>,
     given: &mut OwnSteps<CapacityCause>,
     key: K,
     hash: u64,
-    write: Write,
+    number: u64,
+    index: usize,
     pair: Stored<K, V>,
 ) -> Result<Option<&'a V>, Refused>
     requires initial { IsPowerOfTwo means.now.initial }
     requires hashed { hash ≡ ⟦<S as Hashed<K>>⟧.hash window.old.book.now.parts.hasher key }
     requires placed { IsIn window.old (PairNamed pair) }
     requires number { pair.index < 2 ^ 48 }
-    requires met { HasKeyAt window.old.sight.log write.place.table write.place.probe.i (key_of pair) }
+    requires met { HasKeyAt window.old.sight.log number index (key_of pair) }
     requires same { K.eq key (key_of pair) ≡ true }
     ensures ends { Ends (is_ok result) window.old window.new }
     ensures put { IfOk result (λ answer. IsPut K.eq key pair.value.value
@@ -378,7 +378,11 @@ pub(crate) fn insert_met<'a, R: Wait, K: Hash + Eq + Drop, V: Drop, S: BuildHash
     let mut insertion = Insertion::begin(means, window.book, hash, key, value);
     let made = insertion.writer.call.machine.call.made;
     insertion.writer.call.set_made(Made {
-        of: Some(write.of(pair.index() as u64)),
+        of: Some(Of {
+            pair: pair.index() as u64,
+            table: number,
+            index,
+        }),
         ..made
     });
     insertion.of = Some(pair);

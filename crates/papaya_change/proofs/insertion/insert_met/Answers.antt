@@ -2,7 +2,6 @@ use Rattle.std.proofs.Common.{◌≡◌, ◌∙◌, Result, Ok, Err, IfOk, Some,
 use Rattle.papaya_call.specs.declared.machine.State.TheVariants.{AtRoot}
 use Rattle.papaya_call.specs.declared.made.Made.{Made}
 use Rattle.papaya_call.specs.Made.{nothing_made}
-use Rattle.papaya_call.specs.Write.{made_of}
 use Rattle.papaya_book.specs.declared.rule.entry.Named.TheVariants as names
 use Rattle.papaya_book.specs.Hashes.{hash_of}
 use Rattle.papaya_book.specs.Logs.{Stored}
@@ -27,12 +26,10 @@ drive-requires-clause-can g c =
     let w = c.learn.new.self.book.now in let log = c.learn.new.self.sight.log in let q = c.args.pair in
     let placed : IsPlaced (begun_of w.parts) (Some w.begun.book) (names.Pair q) = rw c.learn.ensures.sees.book c.requires.placed in
     let hashed : c.args.hash ≡ hash w.parts.hasher c.args.key = rw c.learn.ensures.sees.book c.requires.hashed in
-    let met : HasKeyAt log c.args.write.place.table c.args.write.place.probe.i (key_of q) = key_at_stays g.K.PartialEq.eq g.K.Hash.hash_input
+    let met : HasKeyAt log c.args.number c.args.index (key_of q) = key_at_stays g.K.PartialEq.eq g.K.Hash.hash_input
     g.S.BuildHasher.build_hasher g.S.Hasher.Hasher.write g.S.Hasher.Hasher.finish g.met.K.Eq.laws g.met.K.Hash.respects_eq (begun_of w.parts)
-    c.args.window.now.sight.log log c.learn.ensures.lawful c.learn.ensures.sees.log c.args.write.place.table c.args.write.place.probe.i (key_of q)
+    c.args.window.now.sight.log log c.learn.ensures.lawful c.learn.ensures.sees.log c.args.number c.args.index (key_of q)
     c.requires.met in
-    let of : c.of.result ≡ record { pair = q.index; table = c.args.write.place.table; index = c.args.write.place.probe.i } = c.of.ensures
-    ∙ ap (made_of c.args.write) c.index.ensures in
     let parts = c.begin-insertion.ensures.parts in
     let value_part = parts.1 ∙ ap (λ (z : Stored _ _). Some (values.Of z)) c.again.ensures in
     let has_key = subst (λ (o : _). HasKey (begun_of w.parts) w.begun.book c.args.key o) (sym parts.0) (refl, tt) in
@@ -40,13 +37,16 @@ drive-requires-clause-can g c =
     let value_is = ap held_value value_part in
     let made : Made = record (nothing_made w.parts.limit) {
       of = Some
-          (record { pair = q.index; table = c.args.write.place.table; index = c.args.write.place.probe.i });
+          (record { pair = q.index; table = c.args.number; index = c.args.index });
     } in
     let stood = c.set_made.ensures in let empty = c.begin-insertion.ensures.empty in
     let machine : c.set_made.new.self.machine ≡ insertion_at c.args.hash w.parts.mode c.args.means.now.initial made AtRoot = ap
     (λ z. z.machine) stood ∙ (λ i. record (c.begin-insertion.ensures.machine i) {
       call = record (c.begin-insertion.ensures.machine i).call {
-        made = record (c.begin-insertion.ensures.machine i).call.made { of = Some (of i) };
+        made = record (c.begin-insertion.ensures.machine i).call.made {
+          of = Some
+              (record { pair = c.index.ensures i; table = c.args.number; index = c.args.index });
+        };
       };
     }) in
     let there = machine ∙ ap (λ h. insertion_at h w.parts.mode c.args.means.now.initial made AtRoot) hashed in (
@@ -61,7 +61,7 @@ drive-requires-clause-can g c =
             ap (λ z. z.put) stood ∙ empty.pairs.3,
           ) has_key
           has_value
-          value_is c.args.write.place.table c.args.write.place.probe.i met there c.begin-insertion.ensures.made.0 refl,
+          value_is c.args.number c.args.index met there c.begin-insertion.ensures.made.0 refl,
     )
 
 pub returns-clause-put : goal.returns-clause-put
@@ -70,12 +70,10 @@ returns-clause-put g c =
     let w = c.learn.new.self.book.now in let log = c.learn.new.self.sight.log in let q = c.args.pair in
     let placed : IsPlaced (begun_of w.parts) (Some w.begun.book) (names.Pair q) = rw c.learn.ensures.sees.book c.requires.placed in
     let hashed : c.args.hash ≡ hash w.parts.hasher c.args.key = rw c.learn.ensures.sees.book c.requires.hashed in
-    let met : HasKeyAt log c.args.write.place.table c.args.write.place.probe.i (key_of q) = key_at_stays g.K.PartialEq.eq g.K.Hash.hash_input
+    let met : HasKeyAt log c.args.number c.args.index (key_of q) = key_at_stays g.K.PartialEq.eq g.K.Hash.hash_input
     g.S.BuildHasher.build_hasher g.S.Hasher.Hasher.write g.S.Hasher.Hasher.finish g.met.K.Eq.laws g.met.K.Hash.respects_eq (begun_of w.parts)
-    c.args.window.now.sight.log log c.learn.ensures.lawful c.learn.ensures.sees.log c.args.write.place.table c.args.write.place.probe.i (key_of q)
+    c.args.window.now.sight.log log c.learn.ensures.lawful c.learn.ensures.sees.log c.args.number c.args.index (key_of q)
     c.requires.met in
-    let of : c.of.result ≡ record { pair = q.index; table = c.args.write.place.table; index = c.args.write.place.probe.i } = c.of.ensures
-    ∙ ap (made_of c.args.write) c.index.ensures in
     let parts = c.begin-insertion.ensures.parts in
     let value_part = parts.1 ∙ ap (λ (z : Stored _ _). Some (values.Of z)) c.again.ensures in
     let has_key = subst (λ (o : _). HasKey (begun_of w.parts) w.begun.book c.args.key o) (sym parts.0) (refl, tt) in
@@ -83,13 +81,16 @@ returns-clause-put g c =
     let value_is = ap held_value value_part in
     let made : Made = record (nothing_made w.parts.limit) {
       of = Some
-          (record { pair = q.index; table = c.args.write.place.table; index = c.args.write.place.probe.i });
+          (record { pair = q.index; table = c.args.number; index = c.args.index });
     } in
     let stood = c.set_made.ensures in let empty = c.begin-insertion.ensures.empty in
     let machine : c.set_made.new.self.machine ≡ insertion_at c.args.hash w.parts.mode c.args.means.now.initial made AtRoot = ap
     (λ z. z.machine) stood ∙ (λ i. record (c.begin-insertion.ensures.machine i) {
       call = record (c.begin-insertion.ensures.machine i).call {
-        made = record (c.begin-insertion.ensures.machine i).call.made { of = Some (of i) };
+        made = record (c.begin-insertion.ensures.machine i).call.made {
+          of = Some
+              (record { pair = c.index.ensures i; table = c.args.number; index = c.args.index });
+        };
       };
     }) in
     let there = machine ∙ ap (λ h. insertion_at h w.parts.mode c.args.means.now.initial made AtRoot) hashed in
@@ -104,4 +105,4 @@ returns-clause-put g c =
       ap (λ z. z.put) stood ∙ empty.pairs.3,
     ) has_key
     has_value
-    value_is c.args.write.place.table c.args.write.place.probe.i met there c.begin-insertion.ensures.made.0 refl)))
+    value_is c.args.number c.args.index met there c.begin-insertion.ensures.made.0 refl)))
