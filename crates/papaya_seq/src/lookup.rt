@@ -2,6 +2,8 @@
 ghost use Rattle.std.specs.Prelude.{◌≡◌, option_map};
 ghost use Rattle.papaya_call.specs.Machine.{started};
 ghost use Rattle.papaya_ask.specs.declared.call.Task.TheVariants.{Get};
+ghost use Rattle.papaya_law.specs.Content.{AreApart};
+ghost use Rattle.papaya_timeline.specs.Content.{content};
 ghost use Rattle.papaya_store.specs.Store.{pair_of};
 ghost use Rattle.papaya_keys.specs.Hashes.{hash_of};
 ghost use Rattle.papaya_seq.specs.Looks.{LooksUp, matches_in};
@@ -35,11 +37,12 @@ impl<K: Hash + Eq, V, S: BuildHasher> HashMap<K, V, S> {
     /// Returns the number of a key's pair. Most lookups end in the root.
     #[inline(always)]
     pub(crate) fn look_up<Q: Equivalent<K>>(&self, key: &Q) -> Option<u64>
-        ensures { (found : _) × LooksUp K.eq (Q.matches key.now) self.now.store
+        ensures found { (found : _) × LooksUp K.eq (Q.matches key.now) self.now.store
             (started Get (hash_of Q.hash_input S.build_hasher S.Hasher.write S.Hasher.finish
             self.now.store.hasher key.now) self.now.mode.resize self.now.initial
             self.now.mode.limit) found
             × (result ≡ option_map (λ p. p.number) found) }
+        ensures apart { AreApart K.eq (λ p. p.key) (content K.eq self.now.store) }
     {
         let hash = self.store.hash(key);
         match search_root(&self.store, key, hash) {

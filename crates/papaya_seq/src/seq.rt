@@ -253,8 +253,6 @@ impl<K: Hash + Eq, V, S: BuildHasher> HashMap<K, V, S> {
         ensures long { (slots_of self.now.store ≡ 0)
             ⊎ (self.now.initial ≤ slots_of self.now.store) }
     {
-        // This read gives the proof the map's invariant.
-        let _mode = self.mode;
         self.store.root().map_or(0, |table| table.len())
     }
 
@@ -332,8 +330,6 @@ impl<K: Hash + Eq, V, S: BuildHasher> HashMap<K, V, S> {
             self.now.mode.limit) found
             × (result ≡ is_some found) }
     {
-        // This read gives the proof the map's invariant.
-        let _mode = self.mode;
         self.look_up(key).is_some()
     }
 }

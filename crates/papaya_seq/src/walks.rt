@@ -5,7 +5,8 @@ ghost use Rattle.papaya_ask.specs.Search.{IsSize};
 ghost use Rattle.papaya_store.specs.Store.{pair_of};
 ghost use Rattle.papaya_store.specs.Tables.{table_of};
 ghost use Rattle.papaya_timeline.specs.Content.{content};
-ghost use Rattle.papaya_seq.specs.Map.{deref_pair, entry_of};
+ghost use Rattle.papaya_keys.specs.Hashes.{hash_of};
+ghost use Rattle.papaya_seq.specs.Map.{IsOrderly, deref_pair, entry_of};
 ghost use Rattle.papaya_seq.specs.Walks.{HasMark, HasNoMark, IsHeld, IsNext, IsNextHere, IsStand};
 ghost use Rattle.papaya_seq.specs.Walks.{IsStepped, IsWord, has_in, left_to};
 
@@ -76,13 +77,13 @@ impl<K: Hash + Eq, V, S: BuildHasher> HashMap<K, V, S> {
     /// Returns the pair of the word at this position, if it has one that was not returned before.
     #[inline(always)]
     fn given(&self, table: &Table, at: Stand) -> Option<u64>
+        requires orderly { IsOrderly K.eq
+            (hash_of K.hash_input S.build_hasher S.Hasher.write S.Hasher.finish) self.now }
         requires stands { IsStand self.now at }
         requires table { table_of self.now.store.words.tables at.table ≡ Some table.now }
         requires within { at.slot < length table.now.slots }
         ensures { IsStepped K.eq self.now.store at result }
     {
-        // This read gives the proof the map's invariant.
-        let _mode = self.mode;
         let word = Word(table.slot(at.slot));
         // Most slots without a pair are empty, and one comparison finds those.
         if word == Word::EMPTY {
@@ -99,6 +100,8 @@ impl<K: Hash + Eq, V, S: BuildHasher> HashMap<K, V, S> {
     /// Returns the next pair of this table of `end` slots, from the iteration's position on.
     #[inline(always)]
     fn next_in(&self, table: &Table, end: usize, at: &mut Stand) -> Option<u64>
+        requires orderly { IsOrderly K.eq
+            (hash_of K.hash_input S.build_hasher S.Hasher.write S.Hasher.finish) self.now }
         requires stands { IsStand self.now at.old }
         requires table { table_of self.now.store.words.tables at.old.table ≡ Some table.now }
         requires end { end ≡ length table.now.slots }
@@ -157,6 +160,8 @@ impl<K: Hash + Eq, V, S: BuildHasher> HashMap<K, V, S> {
     /// Returns the next pair of the map. The iterator holds the root, of `end` slots, to its end.
     #[inline(always)]
     fn next_held(&self, root: Option<&Table>, end: &mut usize, at: &mut Stand) -> Option<u64>
+        requires orderly { IsOrderly K.eq
+            (hash_of K.hash_input S.build_hasher S.Hasher.write S.Hasher.finish) self.now }
         requires stands { IsStand self.now at.old }
         requires held { IsHeld self.now.store at.old root end.old }
         ensures stands { IsStand self.now at.new }
@@ -266,6 +271,8 @@ pub struct Iter<'a, K: Hash + Eq, V, S: BuildHasher> {
 
 impl<'a, K: Hash + Eq, V, S: BuildHasher> Model for Iter<'a, K, V, S> {
     ghost use Rattle.std.specs.Prelude.{List};
+    ghost use Rattle.papaya_keys.specs.Hashes.{hash_of};
+    ghost use Rattle.papaya_seq.specs.Map.{IsOrderly};
     ghost use Rattle.papaya_seq.specs.Walks.{IsHeld, IsStand, entries_left};
 
     ghost Value = { List (K × V) };
@@ -273,7 +280,9 @@ impl<'a, K: Hash + Eq, V, S: BuildHasher> Model for Iter<'a, K, V, S> {
     ghost view = { λ it. entries_left K.eq it.map.now.store it.at };
 
     ghost invariant = { λ it. IsStand it.map.now it.at
-        × IsHeld it.map.now.store it.at it.root it.end };
+        × IsHeld it.map.now.store it.at it.root it.end
+        × IsOrderly K.eq
+        (hash_of K.hash_input S.build_hasher S.Hasher.write S.Hasher.finish) it.map.now };
 }
 
 impl<'a, K: Hash + Eq, V, S: BuildHasher> Iter<'a, K, V, S> {

@@ -41,8 +41,8 @@ returns-in-Some-clause-called g c =
     let apart : AreApart g.K.PartialEq.eq (λ p. p.key) (content g.K.PartialEq.eq c.args.self.now.store) =
     lawful_apart g.K.PartialEq.eq g.K.Hash.hash_input g.S.BuildHasher.build_hasher g.S.Hasher.Hasher.write g.S.Hasher.Hasher.finish g.met.K.Eq.laws
     g.met.K.Hash.respects_eq (core_of c.args.self.now) lawful.lawful in
-    let (p, holds, number) = looked_up g.K.PartialEq.eq c.args.self.now.store c.in-Get.key c.look_up.ensures.0 c.in-Some.pair c.look_up.ensures.1.0
-    (sym c.look_up.ensures.2 ∙ c.in-Some.is) in
+    let (p, holds, number) = looked_up g.K.PartialEq.eq c.args.self.now.store c.in-Get.key c.look_up.ensures.found.0 c.in-Some.pair c.look_up.ensures.found.1.0
+    (sym c.look_up.ensures.found.2 ∙ c.in-Some.is) in
     subst (λ call. IsCalled g.K.PartialEq.eq (record { op = g.A.Answers.op_gives; yes = g.A.Answers.yes_gives }) c.args.self.now call
     (Found c.in-Some.pair) c.args.self.now) (sym c.in-Get.is) (record {
       answered = get_found g.K.PartialEq.eq g.met.K.Eq.laws c.args.self.now.store apart c.in-Get.key g.row.A.Denot p c.in-Some.pair holds number;
@@ -60,8 +60,8 @@ returns-in-Get-clause-called g c =
     let apart : AreApart g.K.PartialEq.eq (λ p. p.key) (content g.K.PartialEq.eq c.args.self.now.store) =
     lawful_apart g.K.PartialEq.eq g.K.Hash.hash_input g.S.BuildHasher.build_hasher g.S.Hasher.Hasher.write g.S.Hasher.Hasher.finish g.met.K.Eq.laws
     g.met.K.Hash.respects_eq (core_of c.args.self.now) lawful.lawful in
-    let none = looked_none g.K.PartialEq.eq c.args.self.now.store c.in-Get.key c.look_up.ensures.0 c.look_up.ensures.1.0
-    (sym c.look_up.ensures.2 ∙ c.in-None.is) in
+    let none = looked_none g.K.PartialEq.eq c.args.self.now.store c.in-Get.key c.look_up.ensures.found.0 c.look_up.ensures.found.1.0
+    (sym c.look_up.ensures.found.2 ∙ c.in-None.is) in
     subst (λ call. IsCalled g.K.PartialEq.eq (record { op = g.A.Answers.op_gives; yes = g.A.Answers.yes_gives }) c.args.self.now call Absent
     c.args.self.now) (sym c.in-Get.is) (record {
       answered = get_absent g.K.PartialEq.eq g.met.K.Eq.laws c.args.self.now.store apart c.in-Get.key g.row.A.Denot none;

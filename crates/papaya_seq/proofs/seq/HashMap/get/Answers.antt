@@ -10,10 +10,10 @@ use Rattle.papaya_seq.proofs.seq.HashMap.get.Goals.{After-logged_value, After-lo
 use Rattle.papaya_seq.proofs.seq.HashMap.get.Given.{Over}
 
 -- the pair that was found
-there : (g : Over) (c : In-Some g) → (p : Stored g.row.K.Denot g.row.V.Denot) × (c.look_up.ensures.0 ≡ Some p)
+there : (g : Over) (c : In-Some g) → (p : Stored g.row.K.Denot g.row.V.Denot) × (c.look_up.ensures.found.0 ≡ Some p)
     × Holds g.K.PartialEq.eq (g.Q.Equivalent.matches c.args.key.now) c.args.self.now.store p × (pair_of c.args.self.now.store c.in-Some.pair ≡ Some p)
 there g c =
-    let found = c.look_up.ensures in
+    let found = c.look_up.ensures.found in
     number_logged g.K.PartialEq.eq (g.Q.Equivalent.matches c.args.key.now) c.args.self.now.store found.0 c.in-Some.pair found.1.0
     (sym c.in-Some.is ∙ found.2)
 
@@ -40,7 +40,7 @@ pub returns-in-Some-clause-machine : goal.returns-in-Some-clause-machine
 returns-in-Some-clause-machine g c =
     let at = goal.at.returns-in-Some-clause-machine g c in
     let p = there g at.In-Some in
-    let found = c.look_up.ensures in
+    let found = c.look_up.ensures.found in
     (found.0, found.1, ap Some (value_is g at.After-logged_value) ∙ ap value_of (sym p.1))
 
 -- the map is in order
@@ -50,9 +50,9 @@ Orderly g s = IsLawfulMap g.K.PartialEq.eq (hash_of g.K.Hash.hash_input g.S.Buil
 
 -- what the finite map has is what was found
 map_is : (g : Over) (c : After-look_up g) → Orderly g c.args.self.now → (k : g.row.K.Denot) → g.Q.Equivalent.matches c.args.key.now k ≡ true
-    → map_in g.K.PartialEq.eq c.args.self.now.store k ≡ c.look_up.ensures.0
+    → map_in g.K.PartialEq.eq c.args.self.now.store k ≡ c.look_up.ensures.found.0
 map_is g c orderly k matched =
-    let found = c.look_up.ensures in
+    let found = c.look_up.ensures.found in
     found_map g.K.PartialEq.eq g.met.K.Eq.laws (g.Q.Equivalent.matches c.args.key.now) c.args.self.now.store
     (lawful_apart g.K.PartialEq.eq g.K.Hash.hash_input g.S.BuildHasher.build_hasher g.S.Hasher.Hasher.write g.S.Hasher.Hasher.finish g.met.K.Eq.laws
     g.met.K.Hash.respects_eq (core_of c.args.self.now) orderly.lawful)
@@ -66,7 +66,7 @@ returns-in-Some-clause-map g c k matched =
 
 pub returns-in-None-clause-map : goal.returns-in-None-clause-map
 returns-in-None-clause-map g c k matched =
-    let found = c.look_up.ensures in
+    let found = c.look_up.ensures.found in
     let at = goal.at.returns-in-None-clause-map g c in
     no_value found.0 (sym c.in-None.is ∙ found.2)
     ∙ ap value_of (sym (map_is g at.After-look_up (subst (Orderly g) c.self.view_is c.self.invariant) k matched))

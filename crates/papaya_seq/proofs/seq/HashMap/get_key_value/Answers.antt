@@ -8,7 +8,7 @@ use Rattle.papaya_seq.proofs.seq.HashMap.get_key_value.Goals as goal
 
 pub returns-in-Some-clause-answer : goal.returns-in-Some-clause-answer
 returns-in-Some-clause-answer g c =
-    let found = c.look_up.ensures in
+    let found = c.look_up.ensures.found in
     let n = c.in-Some.pair in
     refers_found g.K.PartialEq.eq (g.Q.Equivalent.matches c.args.key.now) c.args.self.now.store found.0 n (Some c.logged.result) found.1.0 (sym c.in-Some.is ∙ found.2)
     (subst (λ (s : MapState g.row.K.Denot g.row.V.Denot g.row.S.Denot).
@@ -20,7 +20,7 @@ returns-in-Some-clause-map g c k matched =
     let lawful = subst (λ (s : MapState g.row.K.Denot g.row.V.Denot g.row.S.Denot).
     IsLawfulMap g.K.PartialEq.eq (hash_of g.K.Hash.hash_input g.S.BuildHasher.build_hasher g.S.Hasher.Hasher.write g.S.Hasher.Hasher.finish
     s.store.hasher) s.store s.mode s.initial) c.self.view_is c.self.invariant in
-    let found = c.look_up.ensures in
+    let found = c.look_up.ensures.found in
     let n = c.in-Some.pair in
     refers_map g.K.PartialEq.eq g.met.K.Eq.laws (g.Q.Equivalent.matches c.args.key.now) c.args.self.now.store
     (lawful_apart g.K.PartialEq.eq g.K.Hash.hash_input g.S.BuildHasher.build_hasher g.S.Hasher.Hasher.write g.S.Hasher.Hasher.finish g.met.K.Eq.laws
@@ -36,7 +36,7 @@ returns-in-None-clause-map g c k matched =
     let lawful = subst (λ (s : MapState g.row.K.Denot g.row.V.Denot g.row.S.Denot).
     IsLawfulMap g.K.PartialEq.eq (hash_of g.K.Hash.hash_input g.S.BuildHasher.build_hasher g.S.Hasher.Hasher.write g.S.Hasher.Hasher.finish
     s.store.hasher) s.store s.mode s.initial) c.self.view_is c.self.invariant in
-    let found = c.look_up.ensures in
+    let found = c.look_up.ensures.found in
     refers_map g.K.PartialEq.eq g.met.K.Eq.laws (g.Q.Equivalent.matches c.args.key.now) c.args.self.now.store
     (lawful_apart g.K.PartialEq.eq g.K.Hash.hash_input g.S.BuildHasher.build_hasher g.S.Hasher.Hasher.write g.S.Hasher.Hasher.finish g.met.K.Eq.laws
     g.met.K.Hash.respects_eq (core_of c.args.self.now) lawful.lawful)
@@ -46,7 +46,7 @@ returns-in-None-clause-map g c k matched =
 
 pub logged-requires : goal.logged-requires
 logged-requires g c = subst (λ (s : MapState g.row.K.Denot g.row.V.Denot g.row.S.Denot). IsSome (pair_of s.store c.in-Some.pair)) (sym c.self.view_is)
-    (let found = c.look_up.ensures in
+    (let found = c.look_up.ensures.found in
     let (p, is, holds, logged) = number_logged g.K.PartialEq.eq (g.Q.Equivalent.matches c.args.key.now) c.args.self.now.store found.0 c.in-Some.pair
     found.1.0 (sym c.in-Some.is ∙ found.2) in
     subst (λ o. IsSome o) (sym logged) refl)

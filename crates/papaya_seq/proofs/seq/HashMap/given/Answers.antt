@@ -31,7 +31,7 @@ module _ (g : Over) where
 
   -- the map is in order
   orderly : (c : After-kind g) → Orderly c.args.self.now
-  orderly c = subst Orderly c.self.view_is c.self.invariant
+  orderly c = c.requires.orderly
 
   -- the word that was read stands at the slot
   word_is : (c : After-kind g) → c.slot.result ≡ word_at c.args.self.now.store.words (Slot c.args.at.table c.args.at.slot)
@@ -43,7 +43,7 @@ module _ (g : Over) where
 pub returns-then-eq : goal.returns-then-eq
 returns-then-eq g c =
     let s = c.args.self.now in
-    let lawful = subst (Orderly g) c.self.view_is c.self.invariant in
+    let lawful = c.requires.orderly in
     let empty : word_at s.store.words (Slot c.args.at.table c.args.at.slot) ≡ 0 = sym
     (slot_read s.store.words c.args.at.table c.args.at.slot c.slot.result c.args.table.now c.requires.table c.slot.ensures) ∙ search rules in
     word_bare g.K.PartialEq.eq (key_hash g s.store.hasher) s lawful.lawful (keys g s) c.args.at c.requires.stands

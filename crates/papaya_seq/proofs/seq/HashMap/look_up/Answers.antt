@@ -6,9 +6,12 @@ use Rattle.papaya_ask.specs.declared.call.Task.TheVariants.{Get}
 use Rattle.papaya_call.specs.declared.machine.State.TheVariants.{Ended}
 use Rattle.papaya_call.specs.Machine.{goes, started}
 use Rattle.papaya_keys.specs.Hashes.{hash_of}
+use Rattle.papaya_law.specs.Content.{AreApart}
+use Rattle.papaya_timeline.specs.Content.{content}
+use Rattle.papaya_timeline.proofs.CountedCore.{lawful_apart}
 use Rattle.papaya_timeline.proofs.KeptCore.{keys_lawful}
 use Rattle.papaya_seq.specs.Looks.{LooksUp}
-use Rattle.papaya_seq.specs.Map.{IsLawfulMap, MapState}
+use Rattle.papaya_seq.specs.Map.{IsLawfulMap, MapState, core_of}
 use Rattle.papaya_seq.specs.Searches.{IsRootTurn, seen_by}
 use Rattle.papaya_seq.specs.declared.search.Turn.{Turn}
 use Rattle.papaya_seq.specs.declared.search.Turn.TheVariants as turns
@@ -56,6 +59,10 @@ module _ (g : Over) where
     orderly : Orderly c.args.self.now
     orderly = subst (λ (s : Map). Orderly s) c.self.view_is c.self.invariant
 
+    keys_apart : AreApart g.K.PartialEq.eq (λ p. p.key) (content g.K.PartialEq.eq c.args.self.now.store)
+    keys_apart = lawful_apart g.K.PartialEq.eq g.K.Hash.hash_input g.S.BuildHasher.build_hasher g.S.Hasher.Hasher.write g.S.Hasher.Hasher.finish
+        g.met.K.Eq.laws g.met.K.Hash.respects_eq (core_of c.args.self.now) orderly.lawful
+
     hash_made : c.hash-hash.result ≡ query_hash c.args.self.now.store.hasher c.args.key.now
     hash_made = c.hash-hash.ensures.value ∙ ap (λ (s : Map). query_hash s.store.hasher c.args.key.now) c.self.view_is
 
@@ -74,11 +81,20 @@ module _ (g : Over) where
 pub search_root-requires : goal.search_root-requires
 search_root-requires g c = c.self.invariant.lawful.core.sizes
 
-pub returns-in-Some-Here : goal.returns-in-Some-Here
-returns-in-Some-Here g c =
-    ended g (goal.at.returns-in-Some-Here g c).After-search_root (turns.Here c.in-Some-Here.field-0-0 c.in-Some-Here.word) (search rules)
+pub returns-in-Some-Here-clause-found : goal.returns-in-Some-Here-clause-found
+returns-in-Some-Here-clause-found g c =
+    ended g (goal.at.returns-in-Some-Here-clause-found g c).After-search_root (turns.Here c.in-Some-Here.field-0-0 c.in-Some-Here.word) (search rules)
     (Found (number_of c.in-Some-Here.word)) (Some c.pair.result) (ap Some c.pair.ensures) refl
 
-pub returns-in-Some-Empty : goal.returns-in-Some-Empty
-returns-in-Some-Empty g c =
-    ended g (goal.at.returns-in-Some-Empty g c).After-search_root (turns.Empty c.in-Some-Empty.field-0-0) (search rules) Absent None refl refl
+pub returns-in-Some-Empty-clause-found : goal.returns-in-Some-Empty-clause-found
+returns-in-Some-Empty-clause-found g c =
+    ended g (goal.at.returns-in-Some-Empty-clause-found g c).After-search_root (turns.Empty c.in-Some-Empty.field-0-0) (search rules) Absent None refl refl
+
+pub returns-in-Some-Here-clause-apart : goal.returns-in-Some-Here-clause-apart
+returns-in-Some-Here-clause-apart g c = keys_apart g (goal.at.returns-in-Some-Here-clause-apart g c).After-search_root
+
+pub returns-in-Some-Empty-clause-apart : goal.returns-in-Some-Empty-clause-apart
+returns-in-Some-Empty-clause-apart g c = keys_apart g (goal.at.returns-in-Some-Empty-clause-apart g c).After-search_root
+
+pub returns-in_default-clause-apart : goal.returns-in_default-clause-apart
+returns-in_default-clause-apart g c = keys_apart g (goal.at.returns-in_default-clause-apart g c).After-search_root
