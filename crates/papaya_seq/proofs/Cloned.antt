@@ -97,7 +97,7 @@ module _ {K V : Type 0} (eq : K → K → Bool) (law : IsEquivalence eq) (CK : K
           (own.0, own.1, subst (λ (c : K × V). Clones CK CV (entry_of p) c) (sym own.2) found.2)
 
 module _ {K V : Type 0} (CK : K → K → Type 0) (CV : V → V → Type 0) where
-  zip_more : (xs ys : List (K × V)) (x y : K × V) → AllZip (Clones CK CV) xs ys → Clones CK CV x y → AllZip (Clones CK CV) (xs ++ x ∷ []) (ys ++ y ∷ [])
+  pub zip_more : (xs ys : List (K × V)) (x y : K × V) → AllZip (Clones CK CV) xs ys → Clones CK CV x y → AllZip (Clones CK CV) (xs ++ x ∷ []) (ys ++ y ∷ [])
   zip_more [] [] x y all one = (one, tt)
   zip_more [] (y' ∷ ys) x y all one = absurd all
   zip_more (x' ∷ xs) [] x y all one = absurd all

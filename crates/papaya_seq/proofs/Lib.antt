@@ -92,5 +92,6 @@ pub mod ResizerLengths
 pub mod RootStays
 pub mod TableLengths
 mod Grown
+pub mod PutAlone
 mod Rebuilt
 pub mod Walked

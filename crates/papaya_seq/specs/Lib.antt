@@ -13,6 +13,7 @@ pub mod Lengths
 pub mod Looks
 pub mod MadeAlone
 pub mod Map
+pub mod PutAlone
 pub mod Removes
 pub mod Resizes
 pub mod Retains

@@ -9,6 +9,8 @@ ghost use Rattle.papaya_seq.specs.Clones.{HasFreeParts, HasParts, IsCloneRefusal
 ghost use Rattle.papaya_seq.specs.Lengths.{IsAskedFor};
 ghost use Rattle.papaya_seq.specs.Clones.{IsRebuildRefusal, IsRebuilt};
 ghost use Rattle.papaya_seq.specs.Map.{Keeps, Unchanged, entry_of};
+ghost use Rattle.papaya_keys.specs.Hashes.{hash_of};
+ghost use Rattle.papaya_seq.specs.PutAlone.{AreClonedAlone, IsClonedAlone, IsMadeRoomy, IsRebuiltAlone};
 ghost use Rattle.papaya_seq.specs.Resizes.{IsReserveCause};
 
 use crate::seq::HashMap;
@@ -36,6 +38,9 @@ impl<K: Hash + Eq + Clone + Drop, V: Clone + Drop, S: BuildHasher> HashMap<K, V,
     fn copy_from(&mut self, from: &HashMap<K, V, S>) -> Result<(), Refused>
         ensures ok { OnOk result (IsCopied K.eq K.is_clone V.is_clone self.old
             (map entry_of (content K.eq from.now.store)) self.new) }
+        ensures alone { OnOk result (AreClonedAlone K.eq
+            (hash_of K.hash_input S.build_hasher S.Hasher.write S.Hasher.finish) K.is_clone
+            V.is_clone self.old (map entry_of (content K.eq from.now.store)) self.new) }
         ensures err { IfErr result (λ e. (e ≡ Refused.Memory)
             ⊎ IsCopyCut K.eq K.is_clone V.is_clone from.now.store self.old e self.new) }
     {
@@ -73,6 +78,9 @@ impl<K: Hash + Eq + Clone + Drop, V: Clone + Drop, S: BuildHasher + Clone + Drop
             (made.mode ≡ unlimited (ResizeMode.Incremental DEFAULT_CHUNK))
             × IsEntriesFor (length (content K.eq self.now.store)) made.initial
             × (made.store.count.shards ≡ 1)) }
+        ensures alone { IfOk result (IsClonedAlone K.eq
+            (hash_of K.hash_input S.build_hasher S.Hasher.write S.Hasher.finish) K.is_clone
+            V.is_clone self.now) }
         ensures err { IfErr result (λ e. IsCloneRefusal K.eq K.is_clone V.is_clone self.now.store
             e) }
         ensures below { IfErr result (λ e. e ≢ Refused.Limit) }
@@ -105,8 +113,11 @@ impl<K: Hash + Eq + Clone + Drop, V: Clone + Drop, S: BuildHasher + Clone + Drop
 
     /// Makes room for this many entries, but no table for none if the map was built without a
     /// capacity.
-    #[tactic(auto, using(crate::proofs::Filled::keeps_itself))]
+    #[tactic(auto, using(crate::proofs::Filled::keeps_itself, crate::proofs::PutAlone::made_roomy))]
     fn make_room(&mut self, pairs: usize) -> Result<(), Refused>
+        ensures alone { OnOk result (IsMadeRoomy K.eq
+            (hash_of K.hash_input S.build_hasher S.Hasher.write S.Hasher.finish) self.old pairs
+            self.new) }
         ensures err { IfErr result (λ e. IsReserveCause K.eq self.old pairs e self.new) }
         ensures map { Unchanged K.eq self.old.store self.new.store }
         ensures words { self.new.store ≡ record self.old.store { words = self.new.store.words } }
@@ -127,6 +138,9 @@ impl<K: Hash + Eq + Clone + Drop, V: Clone + Drop, S: BuildHasher + Clone + Drop
         ensures parts { IfOk result (λ made. HasParts self.now made) }
         ensures numbers { IfOk result (λ made. made.store.words.made
             ≡ length (content K.eq self.now.store)) }
+        ensures alone { IfOk result (IsRebuiltAlone K.eq
+            (hash_of K.hash_input S.build_hasher S.Hasher.write S.Hasher.finish) K.is_clone
+            V.is_clone self.now) }
         ensures err { IfErr result (λ e. IsRebuildRefusal K.eq K.is_clone V.is_clone self.now e) }
         ensures below { IfErr result (λ e. e ≢ Refused.Limit) }
     {
@@ -177,6 +191,9 @@ impl<K: Hash + Eq + Clone + Drop, V: Clone + Drop, S: BuildHasher + Clone + Drop
         ensures parts { OnOk result (HasParts self.old self.new) }
         ensures numbers { OnOk result (self.new.store.words.made
             ≡ length (content K.eq self.old.store)) }
+        ensures alone { OnOk result (IsRebuiltAlone K.eq
+            (hash_of K.hash_input S.build_hasher S.Hasher.write S.Hasher.finish) K.is_clone
+            V.is_clone self.old self.new) }
         ensures err { IfErr result (λ e. (self.new ≡ self.old)
             × IsRebuildRefusal K.eq K.is_clone V.is_clone self.old e) }
         ensures below { IfErr result (λ e. e ≢ Refused.Limit) }

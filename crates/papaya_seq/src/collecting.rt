@@ -8,6 +8,7 @@ ghost use Rattle.papaya_seq.specs.Entries.{IsCutIn, IsPut};
 ghost use Rattle.papaya_keys.specs.Hashes.{hash_of};
 ghost use Rattle.papaya_seq.specs.MadeAlone.{IsDoneAlone};
 ghost use Rattle.papaya_seq.specs.Map.{LogsOne, deref_pair};
+ghost use Rattle.papaya_seq.specs.PutAlone.{ExtendsAlone, IsFilledAlone};
 
 use crate::seq::HashMap;
 use papaya_ask::call::{Call, Reply};
@@ -51,8 +52,11 @@ impl<K: Hash + Eq + Drop, V: Drop, S: BuildHasher> HashMap<K, V, S> {
         U::IntoIter: Drop,
         requires { IsFiniteIterable U.into_iter_gives U.IntoIter.can_next U.IntoIter.remaining
             iter }
-        ensures { Extends U.into_iter_gives U.IntoIter.next_gives K.eq (λ p. p) iter self.old
-            result self.new }
+        ensures extends { Extends U.into_iter_gives U.IntoIter.next_gives K.eq (λ p. p) iter
+            self.old result self.new }
+        ensures alone { ExtendsAlone K.eq
+            (hash_of K.hash_input S.build_hasher S.Hasher.write S.Hasher.finish) (λ p. p)
+            U.into_iter_gives U.IntoIter.next_gives iter self.old result self.new }
     {
         for (key, value) in iter {
             match self.put(key, value) {
@@ -81,8 +85,11 @@ impl<K: Hash + Eq + Copy + Drop, V: Copy + Drop, S: BuildHasher> HashMap<K, V, S
         U::IntoIter: Drop,
         requires { IsFiniteIterable U.into_iter_gives U.IntoIter.can_next U.IntoIter.remaining
             iter }
-        ensures { Extends U.into_iter_gives U.IntoIter.next_gives K.eq deref_pair iter self.old
-            result self.new }
+        ensures extends { Extends U.into_iter_gives U.IntoIter.next_gives K.eq deref_pair iter
+            self.old result self.new }
+        ensures alone { ExtendsAlone K.eq
+            (hash_of K.hash_input S.build_hasher S.Hasher.write S.Hasher.finish) deref_pair
+            U.into_iter_gives U.IntoIter.next_gives iter self.old result self.new }
     {
         for (key, value) in iter {
             match self.put(*key, *value) {
@@ -114,6 +121,10 @@ impl<K: Hash + Eq + Drop, V: Drop, S: BuildHasher + Default + Drop> HashMap<K, V
             iter }
         ensures ok { IfOk result (λ map. AllCome U.into_iter_gives U.IntoIter.next_gives iter
             (λ items. HasJust K.eq (λ p. p) items map)) }
+        ensures alone { IfOk result (λ map. AllCome U.into_iter_gives U.IntoIter.next_gives iter
+            (λ items. IsFilledAlone K.eq
+            (hash_of K.hash_input S.build_hasher S.Hasher.write S.Hasher.finish) (λ p. p) items
+            map)) }
         ensures hasher { IfOk result (λ map. S.is_default map.store.hasher) }
         ensures err { IfErr result (λ e. (e ≡ Refused.Memory)
             ⊎ ComesNext U.into_iter_gives U.IntoIter.next_gives iter

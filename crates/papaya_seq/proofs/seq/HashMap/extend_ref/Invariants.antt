@@ -1,7 +1,12 @@
-use Rattle.papaya_seq.specs.Map.{deref_pair}
+use Rattle.papaya_keys.specs.Hashes.{hash_of}
 use Rattle.papaya_seq.specs.Entries.{Fills}
+use Rattle.papaya_seq.specs.Map.{deref_pair}
+use Rattle.papaya_seq.specs.PutAlone.{ArePutAlone}
 use Rattle.papaya_seq.proofs.seq.HashMap.extend_ref.Given as goal
 
 -- the pairs that came were put in
 abbrev pub invariant-loop-key : goal.invariant-loop-key
-invariant-loop-key g l = Fills g.K.PartialEq.eq deref_pair l.fn.self l.yielded l.self
+invariant-loop-key g l =
+    Fills g.K.PartialEq.eq deref_pair l.fn.self l.yielded l.self
+    × ArePutAlone g.K.PartialEq.eq
+    (hash_of g.K.Hash.hash_input g.S.BuildHasher.build_hasher g.S.Hasher.Hasher.write g.S.Hasher.Hasher.finish) deref_pair l.fn.self l.yielded l.self

@@ -1,9 +1,12 @@
-use Rattle.std.proofs.Common.{◌≡◌, ◌≤◌, [], length, map, sym, ap, ◌∙◌, subst, arith}
+use Rattle.std.proofs.Common.{◌≡◌, ◌≤◌, ℕ, [], length, map, sym, ap, ◌∙◌, subst, arith}
 use Rattle.std.proofs.lemmas.List.{length-map}
 use Rattle.papaya_keys.specs.Hashes.{hash_of}
 use Rattle.papaya_seq.proofs.Limits.{made_most}
 use Rattle.papaya_timeline.specs.Content.{content}
 use Rattle.papaya_seq.specs.Clones.{HasFreeParts}
+use Rattle.papaya_seq.specs.Lengths.{IsAskedFor}
+use Rattle.papaya_seq.specs.PutAlone.{IsMadeRoomy}
+use Rattle.papaya_seq.proofs.Filled.{new_with_own}
 use Rattle.papaya_timeline.specs.New.{IsNew}
 use Rattle.papaya_seq.specs.Map.{MapState, core_of, entry_of}
 use Rattle.papaya_store.specs.declared.mode.Mode.{Mode}
@@ -123,3 +126,39 @@ returns-in-Err-copy_from-clause-err g c =
     let room = (goal.at.returns-in-Err-copy_from-clause-err g c).After-make_room in
     rebuild_cut g.K.PartialEq.eq g.met.K.Eq.laws g.K.Clone.is_clone g.V.Clone.is_clone c.args.self.now (fresh g room) c.make_room.new.self
     c.copy_from.new.self (parts g room) (none g room) (roomy g room) (empty g room) c.in-Err-copy_from.refused c.in-Err-copy_from.ensures.err
+
+-- how keys are hashed
+abbrev hash : (g : Over) → g.row.S.Denot → g.row.K.Denot → ℕ
+hash g = hash_of g.K.Hash.hash_input g.S.BuildHasher.build_hasher g.S.Hasher.Hasher.write g.S.Hasher.Hasher.finish
+
+-- the new map has the settings of this one
+new_own : (g : Over) (c : After-make_room g) → IsNew {A = Unit {0}} c.args.self.now.mode.resize c.pairs_for-capacity.result
+    c.args.self.now.store.count.shards c.fresh.inside.store.hasher (core_of (opened g c))
+new_own g c =
+    subst (λ n. IsNew {A = Unit {0}} c.args.self.now.mode.resize c.pairs_for-capacity.result n c.fresh.inside.store.hasher (core_of (opened g c)))
+    (c.shards-shards.ensures.count ∙ ap (λ (m : MapState _ _ _). m.store.count.shards) c.self.view_is)
+    (subst (λ (m : MapState g.row.K.Denot g.row.V.Denot g.row.S.Denot).
+    IsNew {A = Unit {0}} m.mode.resize c.pairs_for-capacity.result c.shards-shards.result c.fresh.inside.store.hasher (core_of (opened g c)))
+    c.self.view_is
+    (new_with_own c.self.inside.mode.resize c.pairs_for-capacity.result c.shards-shards.result c.in-Ok.hasher (opened g c) (new g c)))
+
+pub returns-in-Ok-copy_from-clause-alone : goal.returns-in-Ok-copy_from-clause-alone
+returns-in-Ok-copy_from-clause-alone g c =
+    let at = (goal.at.returns-in-Ok-copy_from-clause-alone g c).After-make_room in
+    record {
+      asked = c.pairs_for-capacity.result;
+      asks = subst (λ (m : MapState g.row.K.Denot g.row.V.Denot g.row.S.Denot). IsAskedFor m.initial c.pairs_for-capacity.result) c.self.view_is
+          c.pairs_for-capacity.ensures;
+      new = opened g at;
+      is_new = new_own g at;
+      roomy = c.make_room.new.self;
+      room = subst (λ n. IsMadeRoomy g.K.PartialEq.eq (hash g) (record (opened g at) { initial = c.args.self.now.initial }) n c.make_room.new.self)
+          c.len-pairs.ensures.count
+          (subst (λ (m : MapState g.row.K.Denot g.row.V.Denot g.row.S.Denot).
+          IsMadeRoomy g.K.PartialEq.eq (hash g) (record (opened g at) { initial = m.initial }) c.len-pairs.result c.make_room.new.self) c.self.view_is
+          c.in-Ok-make_room.ensures.alone);
+      full = c.copy_from.new.self;
+      cloned = c.in-Ok-copy_from.ensures.alone;
+      left = c.number.ensures.store
+          ∙ ap (λ n. record c.copy_from.new.self.store { words = record c.copy_from.new.self.store.words { made = n } }) c.len-pairs.ensures.count;
+    }
