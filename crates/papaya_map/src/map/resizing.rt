@@ -16,8 +16,8 @@ impl<'a, K: Hash + Eq, V, S: BuildHasher> HashMapRef<'a, K, V, S> {
     pub fn reserve<R: Wait>(&self, rt: &R, additional: usize) -> Result<(), Refused>
         ensures { IfErr result (λ refused. IsMemoryOrCapacity refused) }
     {
-        let mut session = self.begun_session(Some(self.map.number()));
-        session.reserve(rt, additional)
+        let (answer, _) = self.reserve_told(rt, additional);
+        answer
     }
 }
 
@@ -37,8 +37,7 @@ impl<K: Hash + Eq, V, S: BuildHasher> HashMap<K, V, S> {
         ensures wrong { (G.collector_number guard.now ≡ self.now.collector → ⊥)
             → result ≡ Err Refused.WrongGuard }
     {
-        self.verify(guard)?;
-        let mut session = self.begun_session(Some(guard.number()));
-        session.reserve(rt, additional)
+        let (answer, _) = self.reserve_told(rt, additional, guard);
+        answer
     }
 }
