@@ -523,6 +523,7 @@ fn replace_at<'a, R: Wait, K: Hash + Eq + Drop, V: Drop, S: BuildHasher>(
 /// Inserts a pair; returns the value that its key had. If it fails with `Refused::Capacity`,
 /// `given` records the number that a full arena of tables gave, or the sum of the count that makes
 /// a next table too long.
+#[inline(always)]
 pub fn insert<'a, R: Wait, K: Hash + Eq + Drop, V: Drop, S: BuildHasher>(
     rt: &R,
     alloc: Global,

@@ -113,6 +113,7 @@ fn decision<'a, K, V>(
 /// Stores for a key what the rule returns. If it fails with `Refused::Capacity`, `given` records
 /// the number that a full arena of tables gave, or the sum of the count that makes a next table too
 /// long.
+#[inline(always)]
 pub fn decide<'a, R: Wait, K: Hash + Eq + Drop, V: Drop, S: BuildHasher, D: Rule<V>>(
     rt: &R,
     alloc: Global,

@@ -37,6 +37,7 @@ impl<'a, K, V, T, F: FnMut(Option<(&K, &V)>) -> Operation<V, T>> Operator<'a, K,
 /// Calls a closure with the key's pair, or with `None`, and does what it returns. If it fails with
 /// `Refused::Capacity`, `given` records the number that a full arena of tables gave, or the sum of
 /// the count that makes a next table too long.
+#[inline(always)]
 pub fn compute_lent<
     'a,
     R: Wait,

@@ -37,6 +37,7 @@ impl<'a, K: Hash + Eq + Drop, V: Drop, S: BuildHasher> HashMapRef<'a, K, V, S> {
     ///   the pass has observed and the sum of the count. Contracts then observe that number or that
     ///   sum.
     /// - `Refused::Limit` if the map has a limit on entries, and as many are stored or about to be.
+    #[inline(always)]
     pub fn insert_as<R: Wait>(
         &self,
         rt: &R,

@@ -26,6 +26,7 @@ impl<'a, K: Hash + Eq + Drop, V: Drop, S: BuildHasher> Session<'a, K, V, S> {
     /// # Errors
     /// As [`Session::insert`], and `Refused::RemoveNothing` if the closure returns a removal and
     /// there is no entry.
+    #[inline(always)]
     pub fn compute<R: Wait, T: Drop, F: FnMut(Option<(&K, &V)>) -> Operation<V, T>>(
         &mut self,
         rt: &R,

@@ -13,6 +13,7 @@ use std::sync::Wait;
 
 impl<'a, K: Hash + Eq + Drop, V: Drop, S: BuildHasher> Session<'a, K, V, S> {
     /// Stores for the key what the rule returns. Fails as [`Session::insert`] does.
+    #[inline(always)]
     pub(crate) fn decide<R: Wait, D: Rule<V>>(
         &mut self,
         rt: &R,

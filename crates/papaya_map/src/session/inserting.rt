@@ -37,6 +37,7 @@ impl<'a, K: Hash + Eq + Drop, V: Drop, S: BuildHasher> Session<'a, K, V, S> {
     /// `Refused::Memory` if an allocation fails, `Refused::Capacity` if an arena is full or a next
     /// table would be too long, and `Refused::Limit` if the map's limit on entries is reached. The
     /// call changes nothing then.
+    #[inline(always)]
     pub fn insert<R: Wait>(&mut self, rt: &R, key: K, value: V) -> Result<Option<&'a V>, Refused>
         ensures map { self.new.map ≡ self.old.map }
         ensures seen { IsPrefix self.old.history self.new.history }

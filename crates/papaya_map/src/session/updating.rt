@@ -52,6 +52,7 @@ impl<'a, K: Hash + Eq + Drop, V: Drop, S: BuildHasher> Session<'a, K, V, S> {
 
     /// Replaces the key's value by what the closure makes of it, or stores a value from the supply
     /// if the key has none.
+    #[inline(always)]
     fn upsert<R: Wait, F: Fn(&V) -> V, G: Supply<V> + Drop>(
         &mut self,
         rt: &R,
@@ -88,6 +89,7 @@ impl<'a, K: Hash + Eq + Drop, V: Drop, S: BuildHasher> Session<'a, K, V, S> {
     ///
     /// # Errors
     /// As [`Session::insert`].
+    #[inline(always)]
     pub fn update_or_insert<R: Wait, F: Fn(&V) -> V>(
         &mut self,
         rt: &R,
