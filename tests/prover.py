@@ -211,7 +211,7 @@ class Turns:
 def try_all(what, tries, needs, call):
     """Makes each of these tries, some at once, each once the crates that it needs are built, and returns whether
     all went well."""
-    turns = Turns()
+    turns, failures = Turns(), []
 
     def one(given):
         try:
@@ -220,6 +220,7 @@ def try_all(what, tries, needs, call):
                 return [print(f"{what}: {it}", flush=True) for it in call(room, *given)]
         except Bad as why:
             print(f"{what}: {why}", file=sys.stderr, flush=True)
+            failures.append(why)
             return None
 
     # (one that waits keeps no other from its turn)
@@ -227,5 +228,8 @@ def try_all(what, tries, needs, call):
         results = list(pool.map(one, tries))
     lost = results.count(None)
     refused = sum(len(it) for it in results if it is not None)
+    # (the gate shows how the output of a part that failed ends)
+    for why in failures:
+        print(f"{what}: FAILED: {why}", flush=True)
     print(f"{what}: {refused} refused; {lost} of {len(results)} tries failed", flush=True)
     return bool(results) and not lost
