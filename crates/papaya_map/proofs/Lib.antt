@@ -1,6 +1,8 @@
 pub mod Ruled
 -- how long the first table of a map is that is made anew
 pub mod FirstTable
+-- entries that are stored one after the other
+pub mod Collected
 -- where no pair stays, none is left
 pub mod Cleared
 -- the steps that a pass made, as entries of the log

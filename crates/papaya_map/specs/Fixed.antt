@@ -1,6 +1,7 @@
 -- What of a map is fixed when it is made.
 use Rattle.std.specs.Prelude.{◌≡◌, ℕ, ◌<◌, ◌≤◌, List, Option}
 use Rattle.std.specs.Int.{IsNextPowerOfTwo}
+use mathlib.Core.List.{IsPrefix}
 use Rattle.logbook.specs.Pages.{Book}
 use Rattle.papaya_words.specs.Probe.{IsEntriesFor}
 use Rattle.papaya_words.specs.declared.probe.ResizeMode.{ResizeMode}
@@ -13,7 +14,7 @@ use Rattle.papaya_lookup.specs.History.{Change}
 -- pairs and of tables; the initial capacity, in slots, by which its first table is sized; over how
 -- many shards it counts; the number of the collector whose guards its calls take; how many slots
 -- each table has that had come when it was made, oldest first; and what had been seen of its
--- history then.
+-- history then. A map is made when it has the entries that it is made of.
 pub record Fixed (K V S : Type 0) : Type 0 where
   pub book : Book
   pub begun : Begun K V S
@@ -52,3 +53,13 @@ HasFirstTable map = 1 < map.initial → HasTableFrom map.initial map.opened
 abbrev pub HasSettingsOf : {K V S : Type 0} → (old new : Fixed K V S) → Type 0
 HasSettingsOf old new = (new.begun.mode ≡ old.begun.mode) × (new.begun.limit ≡ old.begun.limit)
     × (new.initial ≡ old.initial) × (new.shards ≡ old.shards) × (new.collector ≡ old.collector)
+
+-- the second is the same map, of whose history no less had been seen when it was made
+pub record HasLearned {K V S : Type 0} (old new : Fixed K V S) : Type 0 where
+  pub book : new.book ≡ old.book
+  pub begun : new.begun ≡ old.begun
+  pub initial : new.initial ≡ old.initial
+  pub shards : new.shards ≡ old.shards
+  pub collector : new.collector ≡ old.collector
+  pub opened : IsPrefix old.opened new.opened
+  pub seen : IsPrefix old.seen new.seen

@@ -7,6 +7,8 @@ pub mod Plain
 pub mod Storing
 -- what is asked for of a map before it is built
 pub mod Wanted
+-- what the calls leave that store many entries
+pub mod Collected
 -- why a call is refused that makes a pair
 pub mod Limited
 -- what a session shows

@@ -1,15 +1,18 @@
 //! Calls that take many entries, compare two maps, or rebuild a map from a map's entries.
 //!
-//! Each consists of calls for one entry. Other threads may change the maps between these, so no
-//! contract describes what the maps have afterwards.
-ghost use Rattle.std.specs.Prelude.{◌≡◌, ℕ, IfOk, IfErr, None};
+//! Each consists of calls for one entry, and other threads may change the maps between these. So
+//! contracts describe the history: which entries were stored, and in which order.
+ghost use Rattle.std.specs.Prelude.{◌≡◌, ℕ, [], IfOk, IfErr, None};
 ghost use Rattle.std.specs.Iterator.{IsFiniteIterable};
+ghost use mathlib.Core.List.{IsPrefix};
 ghost use Rattle.papaya_words.specs.declared.limits.TheConstants.{DEFAULT_CHUNK, DEFAULT_SHARDS};
 ghost use Rattle.papaya_change.specs.Writing.{IsMemoryOrCapacity};
+ghost use Rattle.papaya_map.specs.Collected.{AreStored};
 ghost use Rattle.papaya_map.specs.Fixed.{HasFirstTable, HasSettingsOf, IsFor};
 ghost use Rattle.papaya_map.specs.Limited.{IsPlainRefusal};
+ghost use Rattle.papaya_seq.specs.Entries.{AllCome};
 
-use crate::map::HashMap;
+use crate::map::{HashMap, Pass};
 use papaya_words::probe::{Refused, ResizeMode};
 use std::alloc::Global;
 use std::hash::{BuildHasher, BuildHasherDefault, FoldHasher, Hash};
@@ -35,9 +38,31 @@ impl<K: Hash + Eq + Drop, V: Drop, S: BuildHasher> HashMap<K, V, S> {
         ensures { IfErr result (IsPlainRefusal self.now.begun.limit) }
     {
         let mut pass = self.pass();
+        self.extend_as(rt, iter, &mut pass)
+    }
+
+    /// Performs [`HashMap::extend`] by a pass.
+    fn extend_as<R: Wait, U: IntoIterator<Item = (K, V)>>(
+        &self,
+        rt: &R,
+        iter: U,
+        pass: &mut Pass<K, V, S>,
+    ) -> Result<(), Refused>
+    where
+        U::IntoIter: Drop,
+        requires iter { IsFiniteIterable U.into_iter_gives U.IntoIter.can_next U.IntoIter.remaining
+            iter }
+        requires book { pass.old.book ≡ self.now.book }
+        ensures book { pass.new.book ≡ pass.old.book }
+        ensures seen { IsPrefix pass.old.history pass.new.history }
+        ensures stored { IfOk result (λ _. AllCome U.into_iter_gives U.IntoIter.next_gives iter
+            (λ items. AreStored K.eq items pass.old.history pass.new.history)) }
+        ensures refused { IfErr result (IsPlainRefusal self.now.begun.limit) }
+    {
         for (key, value) in iter {
-            if let Err(refused) = self.pin().insert_as(rt, key, value, &mut pass) {
-                return Err(refused);
+            match self.pin().insert_as(rt, key, value, pass) {
+                Ok(_) => {}
+                Err(refused) => return Err(refused),
             }
         }
         Ok(())
@@ -92,10 +117,14 @@ impl<K: Hash + Eq + Drop, V: Drop, S: BuildHasher + Default + Drop> HashMap<K, V
             iter }
         ensures made { IfOk result (IsFor (ResizeMode.Incremental DEFAULT_CHUNK) 0
             DEFAULT_SHARDS None) }
+        ensures stored { IfOk result (λ map. AllCome U.into_iter_gives U.IntoIter.next_gives iter
+            (λ items. AreStored K.eq items [] map.seen)) }
         ensures refused { IfErr result IsMemoryOrCapacity }
     {
-        let map = HashMap::with_hasher(rt, alloc, S::default())?;
-        map.extend(rt, iter)?;
+        let mut map = HashMap::with_hasher(rt, alloc, S::default())?;
+        let mut pass = map.pass();
+        map.extend_as(rt, iter, &mut pass)?;
+        map.learn(&pass);
         Ok(map)
     }
 }
@@ -114,6 +143,7 @@ impl<K: Hash + Eq + Drop, V: Drop> HashMap<K, V, BuildHasherDefault<FoldHasher>>
     ) -> Result<HashMap<K, V, BuildHasherDefault<FoldHasher>>, Refused>
         ensures made { IfOk result (IsFor (ResizeMode.Incremental DEFAULT_CHUNK) 0
             DEFAULT_SHARDS None) }
+        ensures stored { IfOk result (λ map. AreStored K.eq pairs [] map.seen) }
         ensures refused { IfErr result IsMemoryOrCapacity }
     {
         match Vec::from_array(alloc, pairs) {

@@ -8,7 +8,7 @@ ghost use Rattle.papaya_book.specs.Parts.{begun_of};
 ghost use Rattle.papaya_book.specs.Windows.{IsLawful};
 ghost use Rattle.papaya_lookup.specs.Drivers.{own, past};
 ghost use Rattle.papaya_lookup.specs.History.{IsLegalHistory, Past, changes_by, history_of, key_of};
-ghost use Rattle.papaya_map.specs.Fixed.{Fixed, Pinned};
+ghost use Rattle.papaya_map.specs.Fixed.{Fixed, HasLearned, Pinned};
 ghost use Rattle.papaya_map.specs.Powers.{IsPowerOfTwo-prop};
 
 mod computes;
@@ -231,6 +231,17 @@ impl<K: Hash + Eq, V, S: BuildHasher> HashMap<K, V, S> {
         ensures given { pass.new.given ≡ pass.old.given }
     {
         pass.sight.learn(&self.opened);
+    }
+
+    /// Records in the map what a pass has observed, as if the map had been made with that: each
+    /// later pin has observed it too. A call that fills a new map uses this. Does nothing at run
+    /// time.
+    pub(crate) fn learn(&mut self, pass: &Pass<K, V, S>)
+        requires { pass.now.book ≡ self.old.book }
+        ensures same { HasLearned self.old self.new }
+        ensures passed { IsPrefix pass.now.history self.new.seen }
+    {
+        self.opened.learn(&pass.sight);
     }
 
     /// Returns a new pass of this map, whose calls pick the count's shard by this number, such as a
