@@ -141,7 +141,7 @@ impl Machine {
     }
 
     /// Returns the exchange's kind, if the next ask is an exchange. The words alone do not show it.
-    #[inline]
+    #[inline(always)]
     pub fn kind(&self) -> Option<StepKind>
         ensures { result ≡ kind_of_ask self.now }
     {
@@ -153,7 +153,7 @@ impl Machine {
     }
 
     /// Returns the table that a table in the making will follow, or 0 for a first one or none.
-    #[inline]
+    #[inline(always)]
     pub fn follows(&self) -> u64
         ensures { result ≡ follows_of self.now }
     {

@@ -57,7 +57,7 @@ pub enum Copied {
 
 impl Copying {
     /// Returns the next ask.
-    #[inline]
+    #[inline(always)]
     pub fn ask(self) -> CopyAsk
         requires { IsStandingCopying self }
         ensures value { result ≡ copying_ask self }
@@ -70,7 +70,7 @@ impl Copying {
     }
 
     /// Returns the exchange's kind, if the next ask is an exchange.
-    #[inline]
+    #[inline(always)]
     pub fn kind(self) -> Option<StepKind>
         ensures { result ≡ copying_kind self }
     {
@@ -81,7 +81,7 @@ impl Copying {
     }
 
     /// Returns the table that a table in the making will follow, or 0 if none is made.
-    #[inline]
+    #[inline(always)]
     pub fn follows(self) -> u64
         ensures { result ≡ copying_follows self }
     {
