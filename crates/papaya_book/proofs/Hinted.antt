@@ -1,5 +1,7 @@
 -- What was a hint of a slot is one for good, so what the rule says of a slot's hint is true by now.
-use Rattle.std.proofs.Common.{◌≡◌, inl, inr, ℕ, Bool, true, List, [], ◌∷◌, ◌++◌, Some, refl, sym, ap, ◌∙◌, subst}
+use Rattle.std.proofs.Common.{◌≡◌, ◌≢◌, inl, inr, ⊎_elim, ℕ, ◌+◌, ◌*◌, ◌%◌, ◌^◌, ◌<◌, Bool, true, List, [], ◌∷◌, ◌++◌, Some, refl, sym, ap, ◌∙◌, subst}
+use Rattle.std.proofs.Math.Nat.{zero-div}
+use Rattle.std.proofs.lemmas.Bool.{cases_eq}
 use Rattle.std.specs.Cmp.{IsEquivalence}
 use mathlib.Core.List.{IsPrefix}
 use Rattle.logbook.specs.Pages.{Grows}
@@ -15,7 +17,7 @@ use Rattle.papaya_book.specs.declared.rule.entry.Begun.{Begun}
 use Rattle.papaya_book.specs.declared.rule.entry.Event.{Event}
 use Rattle.papaya_book.specs.declared.rule.entry.Event.TheVariants.{Begin}
 use Rattle.papaya_book.specs.Hashes.{hash_of}
-use Rattle.papaya_book.specs.Hinted.{IsHinted, IsSlotHint, WasHint}
+use Rattle.papaya_book.specs.Hinted.{AreHinted, IsHinted, IsSlotHint, WasHint, byte_of}
 use Rattle.papaya_book.specs.Logs.{Stored, coding_of, exchanges_of, first_in, key_at, setting_of, state_of, steps_of}
 use Rattle.papaya_book.specs.Rule.{IsLawfulLog}
 use Rattle.papaya_book.proofs.Loads.{key_since}
@@ -25,9 +27,9 @@ use Rattle.papaya_book.proofs.Tellings.{first_prefix, opened_with}
 
 module _ {K V S : Type 0} (eq : K → K → Bool) (hash : S → K → ℕ) where
   -- what the rule says of a hint stays true of each longer log
-  pub hinted_grows : (k : ℕ) → Grows {E = Event K V S} (IsHinted eq hash k)
-  hinted_grows k n xs ys pre (inl e) = inl e
-  hinted_grows k n xs ys pre (inr w) = inr (record {
+  hint_grows : (k : ℕ) → Grows {E = Event K V S} (IsHinted eq hash k)
+  hint_grows k n xs ys pre (inl e) = inl e
+  hint_grows k n xs ys pre (inr w) = inr (record {
     begun = w.begun;
     before = w.before;
     since = prefix_trans w.before xs ys w.since pre;
@@ -37,18 +39,24 @@ module _ {K V S : Type 0} (eq : K → K → Bool) (hash : S → K → ℕ) where
     is = w.is;
   })
 
-  -- a hint of the slot may be written beside the slot's word
-  pub may_say : (b : Begun K V S) (t x k n : ℕ) (seen log : List (Event K V S)) → IsSlotHint eq hash b t x n seen
-      → key_at (steps_of seen) (Slot t x) ≡ Some k → IsPrefix seen log → IsHinted eq hash k n log
-  may_say b t x k n seen log is key since = inr (record {
-    begun = b;
-    before = seen;
-    since = since;
-    table = t;
-    place = x;
-    key_is = key;
-    is = is;
-  })
+  -- and so what it says of eight of them
+  pub hinted_grows : (k : ℕ) → Grows {E = Event K V S} (AreHinted eq hash k)
+  hinted_grows k n xs ys pre all = λ i lt. hint_grows (k + i) (byte_of i n) xs ys pre (all i lt)
+
+  -- a number without hints says nothing
+  pub none_hinted : (k : ℕ) (log : List (Event K V S)) → AreHinted eq hash k 0 log
+  none_hinted k log = λ i lt. inl (ap (λ (n : ℕ). n % 256) (zero-div (2 ^ (i * 8))))
+
+  -- a hint of a slot may be written among those of others
+  pub may_say : (b : Begun K V S) (t x k n m hint : ℕ) (seen log : List (Event K V S)) → IsSlotHint eq hash b t x hint seen
+      → key_at (steps_of seen) (Slot t x) ≡ Some (k + x % 8) → IsPrefix seen log → AreHinted eq hash k n log
+      → byte_of (x % 8) m ≡ hint → ((i : ℕ) → i < 8 → i ≢ x % 8 → byte_of i m ≡ byte_of i n) → AreHinted eq hash k m log
+  may_say b t x k n m hint seen log is key since all this others = λ i lt.
+      let was : WasHint eq hash (k + x % 8) hint log = record { begun = b; before = seen; since = since; table = t; place = x; key_is = key; is = is } in
+      let here : IsHinted eq hash (k + x % 8) (byte_of (x % 8) m) log = inr (subst (λ z. WasHint eq hash (k + x % 8) z log) (sym this) was) in
+      ⊎_elim (λ e. subst (λ z. IsHinted eq hash (k + z) (byte_of z m) log) (sym e) here)
+      (λ apart. subst (λ z. IsHinted eq hash (k + i) z log) (sym (others i lt apart)) (all i lt))
+      (cases_eq i (x % 8))
 
 module _ {K V S H : Type 0} (eq : K → K → Bool) (input : K → List (List ℕ)) (build : S → H) (write : H → List ℕ → H) (finish : H → ℕ)
     (classes : IsEquivalence eq) (respects : (x y : K) → eq x y ≡ true → input x ≡ input y) (b : Begun K V S) where

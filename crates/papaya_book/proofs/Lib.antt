@@ -19,7 +19,8 @@ pub mod Opening
 pub mod Making
 pub mod Settings
 pub mod Tellings
--- hints
+-- bytes of a number, and hints
+pub mod Bytes
 pub mod Hinted
 pub mod Found
 pub mod Tables

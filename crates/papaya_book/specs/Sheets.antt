@@ -1,5 +1,5 @@
 -- What a clause sees of a table.
-use Rattle.std.specs.Prelude.{◌≡◌, ◌<◌, ℕ, false, true, List, [], ◌∷◌, length, slice_index_or}
+use Rattle.std.specs.Prelude.{◌≡◌, ◌+◌, ◌*◌, ◌/◌, ◌%◌, ◌<◌, ℕ, false, true, Some, List, [], ◌∷◌, length, slice_get, slice_index_or}
 use base.Stored.{Coded, coded×, coded_ℕ, coded_list, coded_via}
 use Rattle.logbook.specs.Pages.{Book, book_coded, Named}
 
@@ -39,3 +39,18 @@ AllOf b (w ∷ ws) = (w ≡ word_named b w.key) × AllOf b ws
 abbrev pub AreFresh : List Named → Type 0
 AreFresh ws = (place : ℕ) (d : Named) → place < length ws
     → (slice_index_or ws place d).tracked ≡ false
+
+-- The word is beside the number that has the hint of slot x. It is that of the first of the eight
+-- slots with hints in this number, and their keys follow one another.
+abbrev pub HoldsHint : Book → (slots : List ℕ) → (x : ℕ) → Named → Type 0
+HoldsHint b slots x w = (w ≡ word_named b w.key) × (slice_get slots x ≡ Some (w.key + x % 8))
+
+-- the numbers with the hints of the slots: eight in each
+abbrev pub HoldHints : Book → (slots : List ℕ) → List Named → Type 0
+HoldHints b slots ws = (x : ℕ) (d : Named) → x < length slots
+    → (x / 8 < length ws) × HoldsHint b slots x (slice_index_or ws (x / 8) d)
+
+-- each is beside the first of its eight words
+abbrev pub AreBeside : (slots hints : List Named) → Type 0
+AreBeside slots hints = (j : ℕ) (d : Named) → 8 * j < length slots → (j < length hints)
+    × (slice_index_or hints j d ≡ slice_index_or slots (8 * j) (slice_index_or hints j d))

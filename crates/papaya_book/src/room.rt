@@ -1,21 +1,27 @@
-//! Slots that are written ahead of the table that will have them.
+//! Slots, with their hints, that are written ahead of the table that will have them.
 ghost use Rattle.std.specs.Prelude.{◌≡◌, ◌+◌, ◌≤◌, IfOk, IfSome, length};
 ghost use Rattle.std.specs.Vec.{vec_capacity};
 ghost use Rattle.papaya_book.specs.Sheets.{AreFresh};
+ghost use Rattle.std.specs.Int.{div_ceil};
 
 use crate::rule::offer::Seen;
-use crate::slot::Slot;
+use crate::slot::{Cell, HintCell};
+use logbook::Word;
+use papaya_hint::hint::Hint;
 use std::alloc::{AllocError, Global};
 use std::hash::{BuildHasher, Hash};
 
 /// The number of slots that are written ahead at a time: a few pages.
 const AHEAD_SLOTS: usize = 1024;
 
-/// Fresh slots, written a few at a time, so that no call pays for a whole table.
+/// Fresh slots, written a few at a time, so that no call pays for a whole table. Their words and
+/// the numbers with their hints hold 0, and no book tracks them.
 #[derive(Drop)]
 pub struct Room<K: Hash + Eq, V, S: BuildHasher> {
-    slots: Vec<Slot<K, V, S>>,
+    slots: Vec<Cell<K, V, S>>,
+    hints: Vec<HintCell<K, V, S>>,
     ghost fresh: { AreFresh slots.items },
+    ghost unsaid: { AreFresh hints.items },
 }
 
 impl<K: Hash + Eq, V, S: BuildHasher> Room<K, V, S> {
@@ -23,40 +29,47 @@ impl<K: Hash + Eq, V, S: BuildHasher> Room<K, V, S> {
     pub(crate) fn new(alloc: Global) -> Room<K, V, S> {
         Room {
             slots: Vec::new(alloc),
+            hints: Vec::new(alloc),
         }
     }
 
-    /// Adds some slots, until there are `len`. If memory runs out, the room is as it was.
+    /// Adds some slots, until there are `len`. If memory runs out, the room has as many as before.
     pub(crate) fn with_more(self, len: usize, sight: &Seen<K, V, S>) -> Self {
-        let Self { mut slots } = self;
+        let Self {
+            mut slots,
+            mut hints,
+        } = self;
         let left = len.saturating_sub(slots.len());
-        if slots.reserve_exact(left).is_err() {
-            return Room { slots };
+        let unsaid = len.div_ceil(8).saturating_sub(hints.len());
+        if slots.reserve_exact(left).is_err() || hints.reserve_exact(unsaid).is_err() {
+            return Room { slots, hints };
         }
         Room {
             slots: with_fresh(slots, AHEAD_SLOTS.min(left), sight),
+            hints: with_fresh_hints(hints, (AHEAD_SLOTS / 8).min(unsaid), sight),
         }
     }
 
-    /// Returns the slots if there is room for just this many.
-    fn into_slots(self, len: usize) -> Option<Vec<Slot<K, V, S>>>
-        ensures { IfSome result (λ slots. AreFresh slots.items × (vec_capacity slots ≡ len)) }
+    /// Returns the slots and their hints if there is room for just this many.
+    fn into_slots(self, len: usize) -> Option<(Vec<Cell<K, V, S>>, Vec<HintCell<K, V, S>>)>
+        ensures slots { IfSome result (λ r. AreFresh r.0.items × (vec_capacity r.0 ≡ len)) }
+        ensures hints { IfSome result (λ r. AreFresh r.1.items) }
     {
-        let Self { slots } = self;
+        let Self { slots, hints } = self;
         if slots.capacity() == len {
-            Some(slots)
+            Some((slots, hints))
         } else {
             None
         }
     }
 }
 
-/// Returns the slots with this many more fresh ones, for which there is room.
+/// Returns the words of slots with this many more fresh ones, for which there is room.
 fn with_fresh<K: Hash + Eq, V, S: BuildHasher>(
-    ahead: Vec<Slot<K, V, S>>,
+    ahead: Vec<Cell<K, V, S>>,
     more: usize,
     sight: &Seen<K, V, S>,
-) -> Vec<Slot<K, V, S>>
+) -> Vec<Cell<K, V, S>>
     requires fresh { AreFresh ahead.items }
     requires room { length ahead.items + more ≤ vec_capacity ahead }
     ensures fresh { AreFresh result.items }
@@ -64,26 +77,52 @@ fn with_fresh<K: Hash + Eq, V, S: BuildHasher>(
 {
     let mut slots = ahead;
     for _ in 0..more {
-        slots.push_reserved(Slot::fresh(sight));
+        slots.push_reserved(Word::hint(sight));
     }
     slots
 }
 
-/// Returns this many fresh slots: those of the room if it is for this many, and others.
+/// Returns the numbers of hints with this many more fresh ones, for which there is room.
+fn with_fresh_hints<K: Hash + Eq, V, S: BuildHasher>(
+    ahead: Vec<HintCell<K, V, S>>,
+    more: usize,
+    sight: &Seen<K, V, S>,
+) -> Vec<HintCell<K, V, S>>
+    requires fresh { AreFresh ahead.items }
+    requires room { length ahead.items + more ≤ vec_capacity ahead }
+    ensures fresh { AreFresh result.items }
+    ensures len { length result.items ≡ length ahead.items + more }
+{
+    let word = Word::hint(sight);
+    let mut hints = ahead;
+    for _ in 0..more {
+        hints.push_reserved(Hint::fresh(&word, sight));
+    }
+    hints
+}
+
+/// Returns this many fresh slots with their hints: those of the room if it is for this many, and
+/// others.
 pub(crate) fn fresh_slots<K: Hash + Eq, V, S: BuildHasher>(
     room: Option<Room<K, V, S>>,
     alloc: Global,
     len: usize,
     sight: &Seen<K, V, S>,
-) -> Result<Vec<Slot<K, V, S>>, AllocError>
-    ensures { IfOk result (λ slots. (length slots.items ≡ len) × AreFresh slots.items) }
+) -> Result<(Vec<Cell<K, V, S>>, Vec<HintCell<K, V, S>>), AllocError>
+    ensures slots { IfOk result (λ r. (length r.0.items ≡ len) × AreFresh r.0.items) }
+    ensures hints { IfOk result (λ r. (div_ceil len 8 ≤ length r.1.items) × AreFresh r.1.items) }
 {
     let ahead = match room {
         Some(room) => room.into_slots(len),
         None => None,
     };
-    let mut slots = ahead.unwrap_or(Vec::new(alloc));
+    let (mut slots, mut hints) = ahead.unwrap_or((Vec::new(alloc), Vec::new(alloc)));
     let more = len - slots.len();
     slots.reserve_exact(more)?;
-    Ok(with_fresh(slots, more, sight))
+    let unsaid = len.div_ceil(8).saturating_sub(hints.len());
+    hints.reserve_exact(unsaid)?;
+    Ok((
+        with_fresh(slots, more, sight),
+        with_fresh_hints(hints, unsaid, sight),
+    ))
 }

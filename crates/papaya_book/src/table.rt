@@ -1,29 +1,30 @@
 //! Tables of atomic words.
 ghost use Rattle.std.specs.Prelude.{◌≡◌, ◌<◌, ℕ, Some, length, map, slice_get};
 ghost use Rattle.papaya_ask.specs.Search.{IsSize};
-ghost use Rattle.papaya_book.specs.Sheets.{Sheet, sheet_coded, AllOf, word_named};
+ghost use Rattle.papaya_book.specs.Sheets.{Sheet, sheet_coded, AllOf, HoldHints, HoldsHint, word_named};
 
 use crate::count::Count;
 use crate::room::Room;
 use crate::rule::offer::Seen;
-use crate::slot::{Cell, HintCell, Slot};
+use crate::slot::{Cell, HintCell};
 use papaya_log::brief::brief_lock;
 use papaya_words::table::next_len;
 use std::hash::{BuildHasher, Hash};
 use std::marker::Model;
 use std::sync::{Mutex, MutexGuard, Wait};
 
-/// A table: its slots, how far a search of it goes, and which chunks of the previous table were
-/// copied to it. Contracts see it as the keys of its words. The maker of its next table holds
-/// `making`, so that not each thread that needs one pays for it. Slots of that table are written
-/// ahead while this one fills up; `ahead` has none once they were taken.
+/// A table: the words of its slots, their hints, how far a search of it goes, and which chunks of
+/// the previous table were copied to it. Contracts see it as the keys of its words. The maker of
+/// its next table holds `making`, so that not each thread that needs one pays for it. Slots of that
+/// table are written ahead while this one fills up; `ahead` has none once they were taken.
 #[derive(Drop)]
 pub struct Table<K: Hash + Eq, V, S: BuildHasher> {
     pub limit: usize,
     pub next: Cell<K, V, S>,
     pub aborted: Cell<K, V, S>,
     pub done: Vec<Cell<K, V, S>>,
-    pub slots: Vec<Slot<K, V, S>>,
+    pub slots: Vec<Cell<K, V, S>>,
+    pub hints: Vec<HintCell<K, V, S>>,
     pub making: Mutex<()>,
     pub ahead: Mutex<Option<Room<K, V, S>>>,
 }
@@ -45,7 +46,8 @@ impl<K: Hash + Eq, V, S: BuildHasher> Model for Table<K, V, S> {
     ghost invariant = { λ t. (t.next ≡ word_named t.aborted.book t.next.key)
         × (t.aborted ≡ word_named t.aborted.book t.aborted.key)
         × AllOf t.aborted.book t.done.items × AllOf t.aborted.book t.slots.items
-        × IsSize (length t.slots.items) t.limit };
+        × IsSize (length t.slots.items) t.limit
+        × HoldHints t.aborted.book (map (λ w. w.key) t.slots.items) t.hints.items };
 }
 
 impl<K: Hash + Eq, V, S: BuildHasher> Table<K, V, S> {
@@ -78,17 +80,16 @@ impl<K: Hash + Eq, V, S: BuildHasher> Table<K, V, S> {
         ensures { (k : ℕ) × (slice_get self.now.slots place ≡ Some k)
             × (result.now ≡ word_named self.now.book k) }
     {
-        self.slots[place].word()
+        &self.slots[place]
     }
 
-    /// Returns the hint beside the word of a slot.
+    /// Returns the number that has the hint of a slot.
     #[inline(always)]
     pub fn hint(&self, place: usize) -> &HintCell<K, V, S>
         requires { place < length self.now.slots }
-        ensures { (k : ℕ) × (slice_get self.now.slots place ≡ Some k)
-            × (result.now ≡ word_named self.now.book k) }
+        ensures { HoldsHint self.now.book self.now.slots place result.now }
     {
-        self.slots[place].hint()
+        &self.hints[place / 8]
     }
 
     /// Returns the word with the number of the next table.

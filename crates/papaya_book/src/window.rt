@@ -13,6 +13,7 @@ use crate::rule::offer::{Offer, Seen};
 use crate::rule::own::{CapacityCause, OwnSteps, with_last};
 use crate::rule::steps::{Put, Sought, Wish};
 use crate::rule::token::token;
+use crate::slot::{hint_in, with_hint};
 use crate::table::Table;
 use boxcar::Pushed;
 use logbook::Pen;
@@ -20,6 +21,7 @@ use papaya_ask::ask::{At, StepKind};
 use papaya_words::probe::Refused;
 use std::alloc::Global;
 use std::hash::{BuildHasher, Hash};
+use std::mem;
 use std::sync::Wait;
 
 /// The book that a call works on, and the part of its log that the call has observed. It also has
@@ -28,7 +30,7 @@ use std::sync::Wait;
 pub struct Window<'a, K: Hash + Eq, V, S: Keyed<K>> {
     pub book: &'a Book<K, V, S>,
     pub sight: Seen<K, V, S>,
-    pub own: OwnSteps<Step<K, V>>,
+    own: OwnSteps<Step<K, V>>,
     kept: KeptRoot<'a, K, V, S>,
     ghost same_book: { sight.book ≡ book.now.begun.book },
     ghost kept_book: { kept ≡ book.now.begun.book },
@@ -36,7 +38,7 @@ pub struct Window<'a, K: Hash + Eq, V, S: Keyed<K>> {
 }
 
 impl<'a, K: Hash + Eq, V, S: BuildHasher> Window<'a, K, V, S> {
-    ghost use Rattle.std.specs.Prelude.{◌⊎◌, ◌<◌, ◌==◌, Bool, IfErr, IfOk, None, length};
+    ghost use Rattle.std.specs.Prelude.{◌⊎◌, ◌<◌, ◌==◌, [], Bool, IfErr, IfOk, None, length};
     ghost use Rattle.papaya_ask.specs.declared.ask.At.TheVariants.{Made};
     ghost use Rattle.papaya_ask.specs.Search.{IsSize};
     ghost use Rattle.papaya_book.specs.Books.{IsLeft, Seals, root_then};
@@ -45,26 +47,52 @@ impl<'a, K: Hash + Eq, V, S: BuildHasher> Window<'a, K, V, S> {
     ghost use Rattle.papaya_book.specs.Windows.{IsSlot, IsSlotWord, IsTable, IsWord, MayHint, Observes, Opens, PutsSlot, Sees, TriesSlot};
     ghost use Rattle.papaya_book.specs.declared.rule.entry.Named.TheVariants.{Pair as PairNamed, Table as TableNamed};
 
-    /// Returns a window onto the book with this observed history and these exchanges.
+    /// Returns a window onto the book with this observed history, through which no exchange was
+    /// made. It is for calls whose exchanges no contract names.
     #[inline(always)]
     pub fn new(
         book: &'a Book<K, V, S>,
         kept: &KeptRoot<'a, K, V, S>,
         sight: &Seen<K, V, S>,
-        own: &OwnSteps<Step<K, V>>,
     ) -> Window<'a, K, V, S>
         requires kept { kept.now ≡ book.now.begun.book }
         requires seen { sight.now.book ≡ book.now.begun.book }
         ensures book { result.book ≡ book.entry }
         ensures sight { result.sight ≡ sight.now }
-        ensures own { result.own.done ≡ own.now.done }
+        ensures own { result.own.done ≡ [] }
+    {
+        Window::taking(book, kept, sight, &mut OwnSteps::nothing())
+    }
+
+    /// Returns a window onto the book with this observed history and these exchanges. It takes the
+    /// list of them: no contract states what is left in its place.
+    #[inline(always)]
+    pub fn taking(
+        book: &'a Book<K, V, S>,
+        kept: &KeptRoot<'a, K, V, S>,
+        sight: &Seen<K, V, S>,
+        own: &mut OwnSteps<Step<K, V>>,
+    ) -> Window<'a, K, V, S>
+        requires kept { kept.now ≡ book.now.begun.book }
+        requires seen { sight.now.book ≡ book.now.begun.book }
+        ensures book { result.book ≡ book.entry }
+        ensures sight { result.sight ≡ sight.now }
+        ensures own { result.own.done ≡ own.old.done }
     {
         Window {
             book,
             sight: sight.again(),
-            own: own.again(),
+            own: mem::replace(own, OwnSteps::nothing()),
             kept: kept.again(),
         }
+    }
+
+    /// Ends the call, and returns what it observed and its exchanges.
+    #[inline(always)]
+    pub fn into_parts(self) -> (Seen<K, V, S>, OwnSteps<Step<K, V>>)
+        ensures { (result.0 ≡ self.entry.sight) × (result.1 ≡ self.entry.own) }
+    {
+        (self.sight, self.own)
     }
 
     /// Observes what the book was opened with, and what its log now has.
@@ -152,13 +180,14 @@ impl<'a, K: Hash + Eq, V, S: BuildHasher> Window<'a, K, V, S> {
         ensures hint { IsHint self.old self.new number place result }
     {
         self.sight.learn(&self.book.begun);
-        let hint = table.hint(place).load(&mut self.sight);
+        let hints = table.hint(place).load(&mut self.sight);
         self.sight.learn(&self.book.begun);
-        hint
+        hint_in(hints, place)
     }
 
-    /// Writes this hint to a slot that has none, in one atomic exchange. It does not return whether
-    /// the hint was written, and observes nothing further.
+    /// Writes this hint to a slot that has none, by an atomic load and one atomic exchange. It does
+    /// not return whether the hint was written, and observes nothing further. A hint of another of
+    /// the eight slots that was written in between keeps it from being written.
     #[inline(always)]
     pub fn write_hint(&self, table: &Table<K, V, S>, number: u64, place: usize, hint: u8)
         requires table { IsTable self.now number table.now }
@@ -167,7 +196,11 @@ impl<'a, K: Hash + Eq, V, S: BuildHasher> Window<'a, K, V, S> {
     {
         let mut seen = self.sight.again();
         seen.learn(&self.book.begun);
-        table.hint(place).compare_exchange(0, hint as u64, &seen);
+        let hints = table.hint(place);
+        let found = hints.load(&mut seen);
+        if hint_in(found, place) == 0 {
+            hints.compare_exchange(found, with_hint(found, place, hint), &seen);
+        }
     }
 
     /// Loads a table's slot in one atomic step; returns the word, and the gain of the token of the

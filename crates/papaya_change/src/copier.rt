@@ -13,11 +13,12 @@ ghost use Rattle.papaya_book.specs.declared.rule.own.CapacityCause.TheVariants.{
 ghost use Rattle.papaya_change.specs.Window.Copier.{CanAnswer, CanExchange, CanJoin, CanReach, CanTryFor, Answers, Carries};
 ghost use Rattle.papaya_change.specs.Window.Copier.{Exchanges, HasMade, HasTried, IsSizeOf, Joins, Loads, TriesFor};
 
+use crate::means::Means;
 use boxcar::Pushed;
 use logbook::Pen;
 use papaya_ask::ask::{Answer as CallAnswer, At, StepKind};
 use papaya_ask::copy_ask::CopyAsk;
-use papaya_book::count::{Count, Shard};
+use papaya_book::count::Count;
 use papaya_book::room::Room;
 use papaya_book::rule::entry::Stored;
 use papaya_book::rule::own::{CapacityCause, OwnSteps};
@@ -26,7 +27,6 @@ use papaya_book::window::Window;
 use papaya_chain::ask::Answer;
 use papaya_lookup::lookup::hash;
 use papaya_words::probe::Refused;
-use std::alloc::Global;
 use std::hash::{BuildHasher, Hash};
 use std::sync::{MutexGuard, Wait};
 
@@ -80,11 +80,10 @@ impl<K: Hash + Eq, V, S: BuildHasher> Copier<K, V, S> {
 
     /// Performs what is requested for a copy, and returns the answer. `making` keeps the turn to
     /// make a next table, until the try to link it.
+    #[inline(always)]
     pub fn answer<'a, R: Wait>(
         &mut self,
-        rt: &R,
-        alloc: Global,
-        shard: &Shard<'_>,
+        means: &Means<'_, '_, R>,
         asked: Asked,
         making: &mut Option<MutexGuard<'a, ()>>,
         window: &mut Window<'a, K, V, S>,
@@ -116,10 +115,10 @@ impl<K: Hash + Eq, V, S: BuildHasher> Copier<K, V, S> {
             }
             CopyAsk::HashOf(_) => Answer::Hash(self.carry(window)),
             CopyAsk::SamePair(_, _) => Answer::Call(CallAnswer::Yes(self.same_pair(window))),
-            CopyAsk::Count => Answer::Count(self.sum(shard.count())),
+            CopyAsk::Count => Answer::Count(self.sum(means.shard.count())),
             CopyAsk::MakeTable { len, limit, chunks } => {
                 let size = (len, limit);
-                match self.make_next(rt, alloc, asked.follows, size, chunks, making, window) {
+                match self.make_next(means, asked.follows, size, chunks, making, window) {
                     Ok(number) => Answer::Call(CallAnswer::Made(number)),
                     Err(refused) => Answer::Call(CallAnswer::Refused(refused)),
                 }
@@ -338,8 +337,7 @@ impl<K: Hash + Eq, V, S: BuildHasher> Copier<K, V, S> {
     /// thread's turn. Keeps it with its seal until it is tried to be linked; returns its number.
     fn make_next<'a, R: Wait>(
         &mut self,
-        rt: &R,
-        alloc: Global,
+        means: &Means<'_, '_, R>,
         follows: u64,
         size: (usize, usize),
         chunks: usize,
@@ -360,8 +358,16 @@ impl<K: Hash + Eq, V, S: BuildHasher> Copier<K, V, S> {
           given = self.new.given;
         } }
     {
-        let (size, room) = turn(rt, follows, size, making, window);
-        let made = window.make_table_after(rt, alloc, follows, size, chunks, room, &mut self.given);
+        let (size, room) = turn(means.rt, follows, size, making, window);
+        let made = window.make_table_after(
+            means.rt,
+            means.alloc,
+            follows,
+            size,
+            chunks,
+            room,
+            &mut self.given,
+        );
         window.learn();
         let (table, seal) = made?;
         let number = table.index() as u64 + 1;

@@ -15,9 +15,9 @@ ghost use Rattle.papaya_change.specs.Settling.{at_slot};
 
 use crate::copier::Asked;
 use crate::driver::Driver;
+use crate::means::Means;
 use papaya_ask::copy_ask::CopyAsk;
 use papaya_ask::search::Search;
-use papaya_book::count::Shard;
 use papaya_book::window::Window;
 use papaya_call::machine::State;
 use papaya_chain::ask::{Answer, Ask};
@@ -25,7 +25,6 @@ use papaya_chain::machine::Phase;
 use papaya_copy::copying::{Aim, Copying};
 use papaya_copy::settle::Settle;
 use papaya_copy::step::{Chunk, Step};
-use std::alloc::Global;
 use std::hash::{BuildHasher, Hash};
 use std::sync::{MutexGuard, Wait};
 
@@ -34,13 +33,7 @@ impl<'a, K: Hash + Eq, V, S: BuildHasher> Driver<'a, K, V, S> {
     /// table, at the root, or at its end if a table could not be made. A call that is not set aside
     /// stays as it is.
     #[inline(always)]
-    pub fn help<R: Wait>(
-        &mut self,
-        rt: &R,
-        alloc: Global,
-        shard: &Shard<'_>,
-        window: &mut Window<'a, K, V, S>,
-    )
+    pub fn help<R: Wait>(&mut self, means: &Means<'_, '_, R>, window: &mut Window<'a, K, V, S>)
         requires standing { IsStanding self.old.machine }
         requires can { CanGoOn window.old self.old }
         ensures helps { Helps window.old self.old.machine window.new self.new }
@@ -52,7 +45,7 @@ impl<'a, K: Hash + Eq, V, S: BuildHasher> Driver<'a, K, V, S> {
         if let Phase::Calling = self.machine.phase {
             return;
         }
-        self.help_set_aside(rt, alloc, shard, window);
+        self.help_set_aside(means, window);
     }
 
     /// Copies until the call continues for itself. It is a function of its own, so that a call that
@@ -60,9 +53,7 @@ impl<'a, K: Hash + Eq, V, S: BuildHasher> Driver<'a, K, V, S> {
     #[inline(never)]
     fn help_set_aside<R: Wait>(
         &mut self,
-        rt: &R,
-        alloc: Global,
-        shard: &Shard<'_>,
+        means: &Means<'_, '_, R>,
         window: &mut Window<'a, K, V, S>,
     )
         requires standing { IsStanding self.old.machine }
@@ -72,15 +63,15 @@ impl<'a, K: Hash + Eq, V, S: BuildHasher> Driver<'a, K, V, S> {
         ensures goes_on { GoesOn window.old self.old window.new self.new }
         ensures rest { (self.new.taken ≡ self.old.taken) × (self.new.put ≡ self.old.put) }
     {
-        self.machine.number = shard.count().next_start();
+        self.machine.number = means.shard.count().next_start();
         // Keeps the turn to make a next table, until that is linked. If it fails, the copy ends,
         // and the turn with it.
         let mut making: Option<MutexGuard<'a, ()>> = None;
-        for _ in rt.forever() {
+        for _ in means.rt.forever() {
             let Ask::Copy(ask) = self.machine.ask() else {
                 return;
             };
-            let answer = self.copy_on(rt, alloc, shard, ask, &mut making, window);
+            let answer = self.copy_on(means, ask, &mut making, window);
             self.machine.answer(answer);
             self.arrive(window);
         }
@@ -88,6 +79,7 @@ impl<'a, K: Hash + Eq, V, S: BuildHasher> Driver<'a, K, V, S> {
     }
 
     /// Holds the table in which the call is to search for its key, if a copy has led it to one.
+    #[inline(always)]
     fn arrive(&mut self, window: &mut Window<'a, K, V, S>)
         requires lawful { IsLawful window.old }
         requires come { (n : ℕ) → IsEntering self.old.machine n → HasCome window.old n }
@@ -109,11 +101,10 @@ impl<'a, K: Hash + Eq, V, S: BuildHasher> Driver<'a, K, V, S> {
 
     /// Copies slots of a chunk one after another if the first of them is next, and else takes one
     /// step; returns the answer to the next ask.
+    #[inline(always)]
     fn copy_on<R: Wait>(
         &mut self,
-        rt: &R,
-        alloc: Global,
-        shard: &Shard<'_>,
+        means: &Means<'_, '_, R>,
         ask: CopyAsk,
         making: &mut Option<MutexGuard<'a, ()>>,
         window: &mut Window<'a, K, V, S>,
@@ -135,7 +126,7 @@ impl<'a, K: Hash + Eq, V, S: BuildHasher> Driver<'a, K, V, S> {
             Phase::Copying(Copying::Stepping(aim, Step::Settling(chunk, Settle::Looking))) => {
                 self.copy_slots(aim, chunk, window)
             }
-            _ => self.copy(rt, alloc, shard, ask, making, window),
+            _ => self.copy(means, ask, making, window),
         }
     }
 
@@ -161,11 +152,10 @@ impl<'a, K: Hash + Eq, V, S: BuildHasher> Driver<'a, K, V, S> {
     }
 
     /// Performs an ask of a copy, and returns the answer.
+    #[inline(always)]
     fn copy<R: Wait>(
         &mut self,
-        rt: &R,
-        alloc: Global,
-        shard: &Shard<'_>,
+        means: &Means<'_, '_, R>,
         ask: CopyAsk,
         making: &mut Option<MutexGuard<'a, ()>>,
         window: &mut Window<'a, K, V, S>,
@@ -184,6 +174,6 @@ impl<'a, K: Hash + Eq, V, S: BuildHasher> Driver<'a, K, V, S> {
             kind: self.machine.kind(),
             follows: self.machine.follows(),
         };
-        self.copier.answer(rt, alloc, shard, asked, making, window)
+        self.copier.answer(means, asked, making, window)
     }
 }

@@ -29,7 +29,6 @@ use papaya_ask::ask::{Answer, Ask as CallAsk, At};
 use papaya_ask::call::{Reply, Task};
 use papaya_book::book::Book;
 use papaya_book::book::pairs::{KeyPart, ValuePart};
-use papaya_book::count::Shard;
 use papaya_book::keyed::Hashed;
 use papaya_book::rule::entry::Stored;
 use papaya_book::rule::own::{CapacityCause, OwnSteps};
@@ -42,7 +41,6 @@ use papaya_call::write::Write;
 use papaya_chain::ask::Ask;
 use papaya_lookup::lookup::hash;
 use papaya_words::probe::Refused;
-use std::alloc::Global;
 use std::hash::{BuildHasher, Hash};
 use std::sync::Wait;
 
@@ -151,9 +149,7 @@ impl<'a, K: Hash + Eq + Drop, V: Drop, S: BuildHasher> Insertion<'a, K, V, S> {
     /// Performs what the machine asks for. Returns `None` once it has replied.
     fn answer<R: Wait>(
         &mut self,
-        rt: &R,
-        alloc: Global,
-        shard: &Shard<'_>,
+        means: &Means<'_, '_, R>,
         window: &mut Window<'a, K, V, S>,
     ) -> Option<Answer>
         requires standing { IsStanding self.old.writer.call.machine }
@@ -177,11 +173,11 @@ impl<'a, K: Hash + Eq + Drop, V: Drop, S: BuildHasher> Insertion<'a, K, V, S> {
             CallAsk::SizeOf(_) => Some(self.writer.size(window)),
             CallAsk::SameKey(_) => Some(self.writer.same(window)),
             CallAsk::MakeKey | CallAsk::MakeValue => Some(self.writer.make_part()),
-            CallAsk::MakePair => Some(self.make_pair(rt, window)),
-            CallAsk::MakePairOf(_) => Some(self.make_pair_of(rt, window)),
+            CallAsk::MakePair => Some(self.make_pair(means.rt, window)),
+            CallAsk::MakePairOf(_) => Some(self.make_pair_of(means.rt, window)),
             CallAsk::MakeTable { len, limit, chunks } => Some(
                 self.writer
-                    .make_table(rt, alloc, len, limit, chunks, window),
+                    .make_table(means.rt, means.alloc, len, limit, chunks, window),
             ),
             CallAsk::Exchange(At::Root, _, _) => Some(self.writer.open(window)),
             CallAsk::Exchange(At::Made, old, new) => Some(self.writer.take((old, new), window)),
@@ -189,7 +185,7 @@ impl<'a, K: Hash + Eq + Drop, V: Drop, S: BuildHasher> Insertion<'a, K, V, S> {
                 Some(self.put(number, place, (old, new), window))
             }
             CallAsk::AddToShard(by) => {
-                shard.add(self.writer.call.machine.call.hash, by);
+                means.shard.add(self.writer.call.machine.call.hash, by);
                 Some(Answer::Ok)
             }
             CallAsk::Done(_) => None,
@@ -243,13 +239,10 @@ fn drive<'a, R: Wait, K: Hash + Eq + Drop, V: Drop, S: BuildHasher>(
 {
     let mut insertion = begun;
     for _ in means.rt.forever() {
-        match insertion.answer(means.rt, means.alloc, means.shard, window) {
+        match insertion.answer(means, window) {
             Some(answer) => {
                 insertion.writer.call.answer(answer);
-                insertion
-                    .writer
-                    .call
-                    .help(means.rt, means.alloc, means.shard, window);
+                insertion.writer.call.help(means, window);
                 insertion.writer.look_on(window);
             }
             None => {

@@ -227,9 +227,7 @@ pub fn remove_slow<
         match removal.answer(means.shard, key, &mut agrees, window) {
             Some(answer) => {
                 removal.call.answer(answer);
-                removal
-                    .call
-                    .help(means.rt, means.alloc, means.shard, window);
+                removal.call.help(means, window);
             }
             None => {
                 *given = removal.call.copier.given.again();

@@ -19,7 +19,6 @@ use crate::means::Means;
 use papaya_ask::call::Reply;
 use papaya_ask::copy_ask::CopyAsk;
 use papaya_book::book::Book;
-use papaya_book::count::Shard;
 use papaya_book::rule::own::{CapacityCause, OwnSteps};
 use papaya_book::window::Window;
 use papaya_chain::ask::Answer;
@@ -28,7 +27,6 @@ use papaya_copy::copying::{Aim, Copying};
 use papaya_copy::settle::Settle;
 use papaya_copy::step::{Chunk, Step};
 use papaya_words::probe::Refused;
-use std::alloc::Global;
 use std::hash::{BuildHasher, Hash};
 use std::sync::{MutexGuard, Wait};
 
@@ -43,9 +41,7 @@ impl<K: Hash + Eq, V, S: BuildHasher> Resizing<K, V, S> {
     /// Performs what the machine asks for, and returns the answer.
     fn answer<'a, R: Wait>(
         &mut self,
-        rt: &R,
-        alloc: Global,
-        shard: &Shard<'_>,
+        means: &Means<'_, '_, R>,
         ask: CopyAsk,
         making: &mut Option<MutexGuard<'a, ()>>,
         window: &mut Window<'a, K, V, S>,
@@ -67,16 +63,14 @@ impl<K: Hash + Eq, V, S: BuildHasher> Resizing<K, V, S> {
                 from,
                 copying: Copying::Stepping(aim, Step::Settling(chunk, Settle::Looking)),
             } => self.copy_slots(from, aim, chunk, window),
-            _ => self.copy(rt, alloc, shard, ask, making, window),
+            _ => self.copy(means, ask, making, window),
         }
     }
 
     /// Performs what it asks for, if no table is opened, and returns the answer.
     fn copy<'a, R: Wait>(
         &mut self,
-        rt: &R,
-        alloc: Global,
-        shard: &Shard<'_>,
+        means: &Means<'_, '_, R>,
         ask: CopyAsk,
         making: &mut Option<MutexGuard<'a, ()>>,
         window: &mut Window<'a, K, V, S>,
@@ -95,7 +89,7 @@ impl<K: Hash + Eq, V, S: BuildHasher> Resizing<K, V, S> {
             kind: self.machine.kind(),
             follows: self.machine.follows(),
         };
-        self.copier.answer(rt, alloc, shard, asked, making, window)
+        self.copier.answer(means, asked, making, window)
     }
 
     /// Copies slots of the chunk, from the current one on; returns the answer to the ask after
@@ -159,37 +153,34 @@ impl<K: Hash + Eq, V, S: BuildHasher> Resizing<K, V, S> {
 /// there is room. If it fails with `Refused::Capacity`, `given` records the number that a full
 /// arena of tables gave, or the sum that makes a table too long.
 pub fn resize<'a, R: Wait, K: Hash + Eq, V, S: BuildHasher>(
-    rt: &R,
-    alloc: Global,
-    initial: usize,
-    shard: &Shard<'_>,
+    means: &Means<'_, '_, R>,
     window: &mut Window<'a, K, V, S>,
     given: &mut OwnSteps<CapacityCause>,
     resize: Resize,
 ) -> Result<(), Refused>
-    requires initial { IsPowerOfTwo initial }
+    requires initial { IsPowerOfTwo means.now.initial }
     ensures sees { Observes window.old window.new }
     ensures lawful { IsLawful window.new }
     ensures done { IfOk result (λ _. HasRoomFor resize (tables_of window.new.sight.log)
         given.new.done) }
     ensures refused { IfErr result (λ refused. IsMemoryOrCapacity refused) }
-    ensures crowded { result ≡ Err Refused.Capacity → HasNoRoomFor initial resize
+    ensures crowded { result ≡ Err Refused.Capacity → HasNoRoomFor means.now.initial resize
         (tables_of window.new.sight.log) given.new.done }
 {
     window.learn();
-    let start = shard.count().next_start();
-    let machine = Resizer::new(resize, window.book.parts.mode, initial, start);
+    let start = means.shard.count().next_start();
+    let machine = Resizer::new(resize, window.book.parts.mode, means.initial, start);
     let mut resizing = Resizing {
         machine,
         copier: Copier::new(),
     };
     let mut making: Option<MutexGuard<'a, ()>> = None;
-    for _ in rt.forever() {
+    for _ in means.rt.forever() {
         let Some(ask) = resizing.machine.ask() else {
             *given = resizing.copier.given.again();
             return resizing.replied();
         };
-        let answer = resizing.answer(rt, alloc, shard, ask, &mut making, window);
+        let answer = resizing.answer(means, ask, &mut making, window);
         resizing.machine.answer(answer);
     }
     unreachable!()
@@ -206,16 +197,7 @@ pub(crate) fn copy_chunk<R: Wait, K: Hash + Eq, V, S: BuildHasher>(
     requires initial { IsPowerOfTwo means.now.initial }
 {
     let kept = book.keep_root();
-    let own = OwnSteps::nothing();
-    let mut window = Window::new(book, &kept, &book.pass(), &own);
+    let mut window = Window::new(book, &kept, &book.pass());
     let mut given = OwnSteps::nothing();
-    let _ = resize(
-        means.rt,
-        means.alloc,
-        means.initial,
-        means.shard,
-        &mut window,
-        &mut given,
-        Resize::Chunk,
-    );
+    let _ = resize(means, &mut window, &mut given, Resize::Chunk);
 }

@@ -35,6 +35,9 @@ module _ {K V S H : Type 0} {d : keyed.Ghosts S K H} where
   abbrev pub IsSlotAt : Window K V S H d → (number place : ℕ) → Word → Type 0
   IsSlotAt w = lookups.IsSlotAt w.sight.log
 
+  abbrev pub HoldsHintAt : Window K V S H d → (number place : ℕ) → Word → Type 0
+  HoldsHintAt w = lookups.HoldsHintAt w.sight.log
+
   module _ (query : Query K S) (began : List (Event K V S)) where
     -- the lookup that began at this log would stand here, with this table
     abbrev pub IsReadingAt : Window K V S H d → ℕ → Stage → Sheet → Type 0

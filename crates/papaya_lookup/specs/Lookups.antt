@@ -19,7 +19,7 @@ use Rattle.papaya_law.specs.Further.{coding_with, with_key}
 use Rattle.papaya_call.specs.Machine.{passes, started}
 use Rattle.papaya_call_law.specs.Relies.{HasMet, Relies, WasAtMoment}
 use Rattle.papaya_call_law.specs.Told.{LoadedPairs}
-use Rattle.papaya_book.specs.Sheets.{Sheet, word_named}
+use Rattle.papaya_book.specs.Sheets.{HoldsHint, Sheet, word_named}
 use Rattle.papaya_book.specs.declared.rule.entry.Begun.{Begun}
 use Rattle.papaya_book.specs.declared.rule.entry.Event.{Event}
 use Rattle.papaya_book.specs.declared.rule.entry.Named.TheVariants.{Pair}
@@ -113,6 +113,11 @@ IsReadingAt {K} {V} eq hash b matches fed begun h log stage table = (lent : Bor 
 abbrev pub IsSlotAt : {K V S : Type 0} → List (Event K V S) → (t x : ℕ) → Word → Type 0
 IsSlotAt log t x word = (sheet : Sheet) × IsTable log t sheet × (k : ℕ)
     × (slice_get sheet.slots x ≡ Some k) × (word ≡ word_named sheet.book k)
+
+-- the word beside the number with the hint of a slot of a table
+abbrev pub HoldsHintAt : {K V S : Type 0} → List (Event K V S) → (t x : ℕ) → Word → Type 0
+HoldsHintAt log t x word = (sheet : Sheet) × IsTable log t sheet
+    × HoldsHint sheet.book sheet.slots x word
 
 -- where a search goes on that has found no pair
 abbrev pub turn_of : {M E : Type 0} → Probed → Turn M E

@@ -21,7 +21,6 @@ use papaya_book::book::gains::named_pair;
 use papaya_book::keyed::{Asked, Hashed, Keyed};
 use papaya_book::rule::entry::Stored;
 use papaya_book::rule::offer::Seen;
-use papaya_book::rule::own::OwnSteps;
 use papaya_book::table::Table;
 use papaya_book::window::Window;
 use papaya_keys::guard::Equivalent;
@@ -265,8 +264,7 @@ fn look_up_anew<'a, K: Hash + Eq, V, S: BuildHasher, Q: Equivalent<K>>(
         (history_of sight.new.log) result }
 {
     let kept = book.keep_root();
-    let own = OwnSteps::nothing();
-    let mut window = Window::new(book, &kept, sight, &own);
+    let mut window = Window::new(book, &kept, sight);
     let found = look_up_pair(&mut window, key);
     *sight = window.sight;
     match found {

@@ -6,10 +6,10 @@ ghost use Rattle.papaya_words.specs.Word.{may_hold};
 ghost use Rattle.papaya_ask.specs.Search.{IsWithin};
 ghost use Rattle.papaya_call.specs.declared.machine.State.TheVariants.{Searching};
 ghost use Rattle.papaya_ask.specs.declared.search.Search.TheVariants.{Looking, Reading};
-ghost use Rattle.papaya_book.specs.Sheets.{word_named};
+ghost use Rattle.papaya_book.specs.Sheets.{HoldHints, word_named};
 ghost use Rattle.papaya_book.specs.Windows.{IsHint, IsLawful, IsSlotWord, Observes};
 ghost use Rattle.papaya_lookup.specs.Answers.{IsAnsweredBetween};
-ghost use Rattle.papaya_lookup.specs.Drivers.{IsNear, IsReadingAt, IsSlotAt, Reads, past};
+ghost use Rattle.papaya_lookup.specs.Drivers.{HoldsHintAt, IsNear, IsReadingAt, IsSlotAt, Reads, past};
 ghost use Rattle.papaya_lookup.specs.declared.near.Near.TheVariants.{On};
 
 use crate::lookup::{Met, hash};
@@ -19,44 +19,52 @@ use papaya_book::book::gains::named_pair;
 use papaya_book::keyed::Asked;
 use papaya_book::rule::offer::Offer;
 use papaya_book::rule::steps::Sought;
-use papaya_book::slot::Slot;
+use papaya_book::slot::{Cell, HintCell, hint_in};
 use papaya_book::table::Table;
 use papaya_book::window::Window;
 use papaya_keys::guard::Equivalent;
 use papaya_words::word::{Kind, Word, hint, may_hold};
 use std::hash::{BuildHasher, Hash};
 
-/// Returns the slots of a table. A loop over them keeps their address.
+/// Returns the words of a table's slots. A loop over them keeps their address.
 #[inline(always)]
-pub fn slots_of<K: Hash + Eq, V, S: BuildHasher>(table: &Table<K, V, S>) -> &[Slot<K, V, S>]
+pub fn slots_of<K: Hash + Eq, V, S: BuildHasher>(table: &Table<K, V, S>) -> &[Cell<K, V, S>]
     ensures { result.now ≡ map (word_named table.now.book) table.now.slots }
 {
     table.slots.as_slice()
+}
+
+/// Returns the numbers with the hints of a table's slots, eight in each.
+#[inline(always)]
+fn hints_of<K: Hash + Eq, V, S: BuildHasher>(table: &Table<K, V, S>) -> &[HintCell<K, V, S>]
+    ensures { HoldHints table.now.book table.now.slots result.now }
+{
+    table.hints.as_slice()
 }
 
 /// Loads the hint of a slot atomically, as [`Window::hint`] does.
 #[inline(always)]
 fn hint_of<K: Hash + Eq, V, S: BuildHasher>(
     window: &mut Window<'_, K, V, S>,
-    slot: &Slot<K, V, S>,
+    hints: &HintCell<K, V, S>,
     number: u64,
     place: usize,
 ) -> u64
-    requires slot { IsSlotAt window.old number place slot.now }
+    requires hints { HoldsHintAt window.old number place hints.now }
     ensures sees { Observes window.old window.new }
     ensures hint { IsHint window.old window.new number place result }
 {
     window.sight.learn(&window.book.begun);
-    let hint = slot.hint().load(&mut window.sight);
+    let found = hints.load(&mut window.sight);
     window.sight.learn(&window.book.begun);
-    hint
+    hint_in(found, place)
 }
 
 /// Loads the word of a slot atomically, as [`Window::slot_word`] does.
 #[inline(always)]
 pub fn word_of<K: Hash + Eq, V, S: BuildHasher>(
     window: &mut Window<'_, K, V, S>,
-    slot: &Slot<K, V, S>,
+    slot: &Cell<K, V, S>,
     number: u64,
     place: usize,
 ) -> (u64, Offer<K, V, S>)
@@ -68,7 +76,7 @@ pub fn word_of<K: Hash + Eq, V, S: BuildHasher>(
     let sought = Sought {
         at: At::Slot(number, place),
     };
-    window.book.read(slot.word(), &sought, &mut window.sight)
+    window.book.read(slot, &sought, &mut window.sight)
 }
 
 /// The outcome of one place of a search of the root.
@@ -98,7 +106,7 @@ fn holds(found: u64, hash: u64) -> bool
 fn read_slot<'a, K: Hash + Eq, V, S: BuildHasher, Q: Equivalent<K>>(
     window: &mut Window<'a, K, V, S>,
     key: &Q,
-    slot: &Slot<K, V, S>,
+    slot: &Cell<K, V, S>,
     at: Place,
 ) -> Near<Met<K, V>, (&'a K, &'a V)>
     requires within { IsWithin at }
@@ -140,18 +148,20 @@ fn look_at_slot<'a, K: Hash + Eq, V, S: BuildHasher, Q: Equivalent<K>>(
     window: &mut Window<'a, K, V, S>,
     key: &Q,
     hash: u64,
-    slot: &Slot<K, V, S>,
+    slot: &Cell<K, V, S>,
+    hints: &HintCell<K, V, S>,
     at: Place,
 ) -> Near<Met<K, V>, (&'a K, &'a V)>
     requires within { IsWithin at }
     requires slot { IsSlotAt window.old at.table at.probe.i slot.now }
+    requires hints { HoldsHintAt window.old at.table at.probe.i hints.now }
     ensures sees { Observes window.old window.new }
     ensures near { (began : _) (table : _)
         → IsReadingAt (⟦<S as Asked<K, Q>>⟧.query key.now) began window.old hash
         (Searching (Looking at)) table
         → IsNear (⟦<S as Asked<K, Q>>⟧.query key.now) began window.new hash table at result }
 {
-    let found = hint_of(window, slot, at.table, at.probe.i);
+    let found = hint_of(window, hints, at.table, at.probe.i);
     if !holds(found, hash) {
         return Near::On;
     }
@@ -179,10 +189,12 @@ fn search_slots<'a, K: Hash + Eq, V, S: BuildHasher, Q: Equivalent<K>>(
         last result }
 {
     let slots = slots_of(table);
+    let hints = hints_of(table);
     let mut place = at;
     loop {
         let slot = &slots[place.probe.i];
-        match look_at_slot(window, key, hash, slot, place) {
+        let beside = &hints[place.probe.i / 8];
+        match look_at_slot(window, key, hash, slot, beside, place) {
             Near::On => {}
             turned => return turned,
         }

@@ -19,11 +19,11 @@ use papaya_book::rule::own::{CapacityCause, OwnSteps};
 use papaya_book::table::Table;
 use papaya_book::window::Window;
 use papaya_chain::resizer::Resize;
+use papaya_change::means::Means;
 use papaya_change::removal::entry;
 use papaya_change::resizing::resize;
 use papaya_words::probe::Refused;
 use papaya_words::word::{Kind, Word};
-use std::alloc::Global;
 use std::hash::{BuildHasher, Hash};
 use std::sync::Wait;
 
@@ -114,33 +114,30 @@ fn scan_table<'a, R: Wait, K: Hash + Eq, V, S: BuildHasher, F: FnMut(&K, &V) -> 
 /// copier's work, it copies what is left and takes the root again. If a table is refused during the
 /// copy, deleted pairs stay deleted. If the reason is a lack of room, `given` records it.
 pub fn retain<'a, R: Wait, K: Hash + Eq, V, S: BuildHasher, F: FnMut(&K, &V) -> bool>(
-    rt: &R,
-    alloc: Global,
-    initial: usize,
-    shard: &Shard<'_>,
+    means: &Means<'_, '_, R>,
     window: &mut Window<'a, K, V, S>,
     given: &mut OwnSteps<CapacityCause>,
     mut stays: F,
 ) -> Result<(), Refused>
     requires callable { F.IsAlwaysCallable stays }
-    requires initial { IsPowerOfTwo initial }
+    requires initial { IsPowerOfTwo means.now.initial }
     ensures sees { Sees window.old window.new }
     ensures lawful { IsLawful window.new }
     ensures kept { HasKept K.eq (past window.old) (past window.new) (own window.old)
         (own window.new) (Judges F.FnMut) stays result }
     ensures refused { IfErr result (λ refused. IsMemoryOrCapacity refused) }
-    ensures crowded { result ≡ Err Refused.Capacity → HasNoRoom initial
+    ensures crowded { result ≡ Err Refused.Capacity → HasNoRoom means.now.initial
         (tables_of window.new.sight.log) given.new.done }
 {
-    for _ in rt.forever() {
-        let Some((number, table)) = take_root(rt, alloc, initial, shard, window, given)? else {
+    for _ in means.rt.forever() {
+        let Some((number, table)) = take_root(means, window, given)? else {
             return Ok(());
         };
-        if !scan_table(rt, shard, table, number, &mut stays, window) {
+        if !scan_table(means.rt, means.shard, table, number, &mut stays, window) {
             window.learn();
             return Ok(());
         }
-        resize(rt, alloc, initial, shard, window, given, Resize::CopyAll)?;
+        resize(means, window, given, Resize::CopyAll)?;
     }
     unreachable!()
 }

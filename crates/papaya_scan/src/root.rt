@@ -6,14 +6,13 @@ ghost use Rattle.papaya_book.specs.Windows.{IsLawful, IsTable, Observes};
 ghost use Rattle.papaya_change.specs.Writing.{IsMemoryOrCapacity};
 ghost use Rattle.papaya_scan.specs.TableScans.{IsTaken, root_of};
 
-use papaya_book::count::Shard;
 use papaya_book::rule::own::{CapacityCause, OwnSteps};
 use papaya_book::table::Table;
 use papaya_book::window::Window;
 use papaya_chain::resizer::Resize;
+use papaya_change::means::Means;
 use papaya_change::resizing::resize;
 use papaya_words::probe::{Refused, ResizeMode};
-use std::alloc::Global;
 use std::hash::{BuildHasher, Hash};
 use std::sync::Wait;
 
@@ -21,14 +20,11 @@ use std::sync::Wait;
 /// and takes the root by the load that finds no table after it, so that the root has each pair of
 /// the map. If it is refused for lack of room, `given` records why.
 pub fn take_root<'a, R: Wait, K: Hash + Eq, V, S: BuildHasher>(
-    rt: &R,
-    alloc: Global,
-    initial: usize,
-    shard: &Shard<'_>,
+    means: &Means<'_, '_, R>,
     window: &mut Window<'a, K, V, S>,
     given: &mut OwnSteps<CapacityCause>,
 ) -> Result<Option<(u64, &'a Table<K, V, S>)>, Refused>
-    requires initial { IsPowerOfTwo initial }
+    requires initial { IsPowerOfTwo means.now.initial }
     ensures sees { Observes window.old window.new }
     ensures lawful { IsLawful window.new }
     ensures table { IfOk result (λ found. MatchOption found Unit (λ root. IsTable window.new root.0
@@ -38,10 +34,10 @@ pub fn take_root<'a, R: Wait, K: Hash + Eq, V, S: BuildHasher>(
     ensures rootless { IfOk result (λ found. MatchOption found (root_of window.new ≡ 0)
         (λ root. Unit)) }
     ensures refused { IfErr result (λ refused. IsMemoryOrCapacity refused) }
-    ensures crowded { result ≡ Err Refused.Capacity → HasNoRoom initial
+    ensures crowded { result ≡ Err Refused.Capacity → HasNoRoom means.now.initial
         (tables_of window.new.sight.log) given.new.done }
 {
-    for _ in rt.forever() {
+    for _ in means.rt.forever() {
         let (number, held) = window.root();
         let Some(table) = held else {
             return Ok(None);
@@ -53,7 +49,7 @@ pub fn take_root<'a, R: Wait, K: Hash + Eq, V, S: BuildHasher>(
         if next == 0 {
             return Ok(Some((number, table)));
         }
-        resize(rt, alloc, initial, shard, window, given, Resize::CopyAll)?;
+        resize(means, window, given, Resize::CopyAll)?;
     }
     unreachable!()
 }

@@ -14,8 +14,7 @@ use papaya_book::book::Book;
 use papaya_book::book::gains::named_pair;
 use papaya_book::book::kept::KeptRoot;
 use papaya_book::rule::offer::Seen;
-use papaya_book::rule::own::OwnSteps;
-use papaya_book::slot::Slot;
+use papaya_book::slot::Cell;
 use papaya_book::table::Table;
 use papaya_book::window::Window;
 use papaya_lookup::near::{slots_of, word_of};
@@ -34,7 +33,7 @@ pub struct Iter<'a, K: Hash + Eq, V, S: BuildHasher> {
     sight: Seen<K, V, S>,
     number: u64,
     len: usize,
-    rest: &'a [Slot<K, V, S>],
+    rest: &'a [Cell<K, V, S>],
 }
 
 impl<'a, K: Hash + Eq, V, S: BuildHasher> Model for Iter<'a, K, V, S> {
@@ -71,7 +70,7 @@ impl<'a, K: Hash + Eq, V, S: BuildHasher> Iter<'a, K, V, S> {
     {
         let (number, rest) = match root {
             Some((number, table)) => (number, slots_of(table)),
-            None => (0, &[] as &[Slot<K, V, S>]),
+            None => (0, &[] as &[Cell<K, V, S>]),
         };
         Iter {
             book,
@@ -125,7 +124,7 @@ fn names_pair(word: u64) -> bool
 #[inline(always)]
 fn entry_at<'a, K: Hash + Eq, V, S: BuildHasher>(
     window: &mut Window<'a, K, V, S>,
-    slot: &Slot<K, V, S>,
+    slot: &Cell<K, V, S>,
     number: u64,
     place: usize,
 ) -> Option<(&'a K, &'a V)>
@@ -148,9 +147,9 @@ fn entry_at<'a, K: Hash + Eq, V, S: BuildHasher>(
 fn next_pair<'a, K: Hash + Eq, V, S: BuildHasher>(
     number: u64,
     len: usize,
-    slots: &'a [Slot<K, V, S>],
+    slots: &'a [Cell<K, V, S>],
     window: &mut Window<'a, K, V, S>,
-) -> (&'a [Slot<K, V, S>], Option<(&'a K, &'a V)>)
+) -> (&'a [Cell<K, V, S>], Option<(&'a K, &'a V)>)
     requires last { AreLast window.old.sight.log number len slots.now }
     ensures sees { Sees window.old window.new }
     ensures lawful { MatchOption result.1 Unit (λ entry. IsLawful window.new) }
@@ -182,7 +181,7 @@ impl<'a, K: Hash + Eq, V, S: BuildHasher> Iterator for Iter<'a, K, V, S> {
     /// It only loads words: it never waits, takes no lock and allocates nothing.
     #[inline(always)]
     fn next(&mut self) -> Option<(&'a K, &'a V)> {
-        let mut window = Window::new(self.book, &self.kept, &self.sight, &OwnSteps::nothing());
+        let mut window = Window::new(self.book, &self.kept, &self.sight);
         let (rest, found) = next_pair(self.number, self.len, self.rest, &mut window);
         self.sight = window.sight;
         self.rest = rest;

@@ -7,7 +7,8 @@ ghost use Rattle.papaya_ask.specs.Search.{IsSize};
 ghost use Rattle.papaya_book.specs.Makers.{AreFrom, IsMade};
 ghost use Rattle.boxcar.specs.Table.{Shows};
 ghost use Rattle.papaya_book.specs.Limits.{HasTableFrom, IsFull, tables_of};
-ghost use Rattle.papaya_book.specs.Sheets.{AllOf, AreFresh};
+ghost use Rattle.papaya_book.specs.Sheets.{AllOf, AreBeside, AreFresh};
+ghost use Rattle.std.specs.Int.{div_ceil};
 ghost use Rattle.papaya_book.specs.declared.rule.entry.Named.TheVariants.{Table as TableNamed};
 ghost use Rattle.papaya_book.specs.declared.rule.own.CapacityCause.TheVariants as numbers;
 ghost use Rattle.papaya_words.specs.Probe.{IsEntriesFor};
@@ -19,11 +20,12 @@ use crate::room::{Room, fresh_slots};
 use crate::rule::offer::{Offer, Seen};
 use crate::rule::own::{CapacityCause, OwnSteps};
 use crate::rule::steps::Laying;
-use crate::slot::{Cell, Slot};
+use crate::slot::{Cell, HintCell};
 use crate::table::Table;
 use boxcar::Pushed;
 use logbook::{Pen, Pens};
 use papaya_ask::ask::{At, StepKind};
+use papaya_hint::word::track;
 use papaya_words::limits::MAX_TABLES;
 use papaya_words::probe::{Refused, limit};
 use papaya_words::table::table_len;
@@ -53,17 +55,34 @@ impl<K: Hash + Eq, V, S: BuildHasher> Book<K, V, S> {
         Ok(words)
     }
 
-    /// Gives the next words of the row to fresh slots.
-    fn give_words(slots: &mut Vec<Slot<K, V, S>>, row: &mut Pens, sight: &Seen<K, V, S>)
+    /// Gives the next words of the row to fresh slots, in place: no code is left of this.
+    fn give_words(slots: &mut Vec<Cell<K, V, S>>, row: &mut Pens)
         requires fresh { AreFresh slots.old.items }
         requires left { length slots.old.items ≤ row.old.left }
-        requires book { sight.now.book ≡ row.old.book }
         ensures len { length slots.new.items ≡ length slots.old.items }
         ensures words { AllOf row.old.book slots.new.items }
         ensures keys { AreFrom (map (λ w. w.key) slots.new.items) row.old.next }
     {
         for place in 0..slots.len() {
-            slots[place].give(row, sight);
+            let mut pen = row.take();
+            track(&mut slots[place], &mut pen);
+        }
+    }
+
+    /// Puts each fresh number of hints beside the first of its eight words, in place: no code is
+    /// left of this. The hints say nothing yet.
+    fn stand_hints(
+        hints: &mut Vec<HintCell<K, V, S>>,
+        slots: &[Cell<K, V, S>],
+        sight: &Seen<K, V, S>,
+    )
+        requires fresh { AreFresh hints.old.items }
+        requires words { AllOf sight.now.book slots.now }
+        requires len { div_ceil (length slots.now) 8 ≤ length hints.old.items }
+        ensures { AreBeside slots.now hints.new.items }
+    {
+        for group in 0..slots.len().div_ceil(8) {
+            hints[group].stand_beside(&slots[8 * group], sight);
         }
     }
 
@@ -91,19 +110,21 @@ impl<K: Hash + Eq, V, S: BuildHasher> Book<K, V, S> {
     {
         let count = chunks.checked_add(len + 1)?;
         let done = Vec::with_capacity(alloc, chunks).ok()?;
-        let mut slots = fresh_slots(room, alloc, len, sight).ok()?;
+        let (mut slots, mut hints) = fresh_slots(room, alloc, len, sight).ok()?;
         let (aborted, seal, mut row) = self.deal(rt, count as u64, sight)?;
         let next = Self::word(&mut row);
         let Ok(done) = Self::words(done, chunks, &mut row) else {
             return None;
         };
-        Self::give_words(&mut slots, &mut row, sight);
+        Self::give_words(&mut slots, &mut row);
+        Self::stand_hints(&mut hints, &slots, sight);
         let table = Table {
             limit,
             next,
             aborted,
             done,
             slots,
+            hints,
             making: Mutex::new(()),
             ahead: Mutex::new(Some(Room::new(alloc))),
         };

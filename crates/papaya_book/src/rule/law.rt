@@ -7,8 +7,8 @@ use std::marker::PhantomData;
 
 /// The rule of the book. The log's exchanges are allowed, the words are those that they leave, and
 /// each hint was one of its slot. The book keeps the tokens of all pairs and tables that came, and
-/// the rights to make words for tables. Hints are beside words of slots; a word of a fresh slot,
-/// which the book does not track, is 0.
+/// the rights to make words for tables. Hints are beside words of slots, eight beside one word; a
+/// word of a fresh slot, which the book does not track, is 0.
 pub struct Law<K, V, S> {
     of: PhantomData<(K, V, S)>,
 }
@@ -39,9 +39,9 @@ impl<K: Hash + Eq, V, S: BuildHasher> Rule<Event<K, V, S>, Named<K, V>> for Law<
 
 impl<K: Hash + Eq, V, S: BuildHasher> Hinting<Event<K, V, S>> for Law<K, V, S> {
     ghost use Rattle.papaya_book.specs.Hashes.{hash_of};
-    ghost use Rattle.papaya_book.specs.Hinted.{IsHinted};
+    ghost use Rattle.papaya_book.specs.Hinted.{AreHinted};
 
-    ghost hinted_beside = { IsHinted K.eq (hash_of K.hash_input S.build_hasher S.Hasher.write
+    ghost hinted_beside = { AreHinted K.eq (hash_of K.hash_input S.build_hasher S.Hasher.write
         S.Hasher.finish) };
 }
 

@@ -1,5 +1,6 @@
 //! The steps that a caller made itself, and the numbers that it was given. Only contracts see
-//! them: they have no bytes.
+//! them: they have no bytes. Code outside of this crate can move a list of steps, and can't copy
+//! one or add to it.
 ghost use Rattle.std.specs.Prelude.{◌≡◌, List, [], ◌∷◌, ◌++◌};
 ghost use base.Fml.{ftrue};
 ghost use base.Stored.{coded_list};
@@ -55,8 +56,8 @@ impl<T> OwnSteps<T> {
         }
     }
 
-    /// Returns a copy of the steps.
-    pub fn again(&self) -> OwnSteps<T>
+    /// Returns a copy of the list.
+    fn copied(&self) -> OwnSteps<T>
         ensures { result.done ≡ self.now.done }
     {
         OwnSteps {
@@ -65,8 +66,17 @@ impl<T> OwnSteps<T> {
     }
 }
 
+impl OwnSteps<CapacityCause> {
+    /// Returns a copy of the numbers.
+    pub fn again(&self) -> OwnSteps<CapacityCause>
+        ensures { result.done ≡ self.now.done }
+    {
+        self.copied()
+    }
+}
+
 /// Returns these steps, followed by the last one observed.
-pub fn with_last<K: Hash + Eq, V, S: BuildHasher>(
+pub(crate) fn with_last<K: Hash + Eq, V, S: BuildHasher>(
     own: &OwnSteps<Step<K, V>>,
     sight: &Seen<K, V, S>,
 ) -> OwnSteps<Step<K, V>>

@@ -14,7 +14,7 @@ loop-init g c =
       standing = c.new-machine.ensures.standing;
       can = subst (λ (m : Resizer). IsResizing g.K.PartialEq.eq hash (begun_of w.book.now.parts) w.book.now.begun.book w.sight.log m c.new.result) (sym is)
           (begins g.K.PartialEq.eq g.K.Hash.hash_input g.S.BuildHasher.build_hasher g.S.Hasher.Hasher.write g.S.Hasher.Hasher.finish g.met.K.Eq.laws
-          g.met.K.Hash.respects_eq (begun_of w.book.now.parts) w.book.now.begun.book w.sight.log c.learn.ensures.lawful c.args.resize c.args.initial
+          g.met.K.Hash.respects_eq (begun_of w.book.now.parts) w.book.now.begun.book w.sight.log c.learn.ensures.lawful c.args.resize c.args.means.now.initial
           c.next_start-start.result c.new.result c.new.ensures.0 c.new.ensures.1);
       resize = ap (λ (m : Resizer). m.resize) is;
       initial = ap (λ (m : Resizer). m.initial) is;

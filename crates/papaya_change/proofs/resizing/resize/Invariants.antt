@@ -11,5 +11,5 @@ invariant-loop g l = record {
   standing : IsStandingResizer l.resizing.machine;
   can : CanResize l.window l.resizing;
   resize : l.resizing.machine.resize ≡ l.fn.resize;
-  initial : l.resizing.machine.initial ≡ l.fn.initial;
+  initial : l.resizing.machine.initial ≡ l.fn.means.initial;
 }

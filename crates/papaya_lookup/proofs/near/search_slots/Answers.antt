@@ -4,6 +4,7 @@ use Rattle.std.specs.Int.{IsPowerOfTwo}
 use Rattle.papaya_ask.specs.Search.{next_place}
 use Rattle.papaya_book.specs.Logs.{exchanges_of}
 use Rattle.papaya_book.specs.Parts.{begun_of}
+use Rattle.papaya_book.specs.Sheets.{HoldsHint}
 use Rattle.papaya_book.proofs.Logs.{prefix_trans}
 use Rattle.papaya_lookup.proofs.Nearing.{went_on}
 use Rattle.papaya_lookup.proofs.Readings.{IsQuery}
@@ -29,6 +30,22 @@ bounds-slots-place g c =
     ∙ named_len c.args.table.now.book c.args.table.now.slots in
     subst (λ (n : ℕ). c.loop-turned.place.probe.i < n) (sym len) there.1
 
+pub offset_bounds-hints-place : goal.offset_bounds-hints-place
+offset_bounds-hints-place g c =
+    let r = c.requires.reads in let within = (c.loop-turned.invariant.0 r.0 r.1).within c.loop-turned.place refl in
+    let i = within.i in let most = within.size.most in omega (arith, i, most)
+
+pub bounds-hints-place : goal.bounds-hints-place
+bounds-hints-place g c =
+    let lawful : IsQuery g.K.PartialEq.eq g.K.Hash.hash_input (g.Q.Equivalent.matches c.args.key.now) (g.Q.Hash.hash_input c.args.key.now) =
+    record { feeds = g.met.Q.Equivalent.hashes_as_key c.args.key.now; class = λ k l. g.met.Q.Equivalent.matches_equal_keys c.args.key.now k l } in
+    let w = c.loop-turned.window.book.now in let r = c.requires.reads in let t = c.loop-turned.invariant.0 r.0 r.1 in
+    let there = hint_there g.K.PartialEq.eq g.K.Hash.hash_input g.S.BuildHasher.build_hasher g.S.Hasher.Hasher.write g.S.Hasher.Hasher.finish
+    g.met.K.Eq.laws g.met.K.Hash.respects_eq (begun_of w.parts) (g.Q.Equivalent.matches c.args.key.now) (g.Q.Hash.hash_input c.args.key.now) lawful
+    (exchanges_of r.0) c.args.hash w.begun.book c.loop-turned.window.sight.log c.loop-turned.place
+    (t.within c.loop-turned.place refl) c.args.table.now (t.lent, t.lent_is, t.pair, t.reading) in
+    (c.hints_of-hints.ensures c.loop-turned.place.probe.i c.index-slots-place.result there.1).0
+
 pub look_at_slot-requires-clause-within : goal.look_at_slot-requires-clause-within
 look_at_slot-requires-clause-within g c = let r = c.requires.reads in (c.loop-turned.invariant.0 r.0 r.1).within c.loop-turned.place refl
 
@@ -45,6 +62,19 @@ look_at_slot-requires-clause-slot g c =
     c.slots_of-slots.ensures c.index-slots-place.is in
     let at = named_at c.args.table.now.book c.args.table.now.slots c.loop-turned.place.probe.i c.index-slots-place.result there.1 is in
     (c.args.table.now, there.0, at.0, at.1, at.2)
+
+pub look_at_slot-requires-clause-hints : goal.look_at_slot-requires-clause-hints
+look_at_slot-requires-clause-hints g c =
+    let lawful : IsQuery g.K.PartialEq.eq g.K.Hash.hash_input (g.Q.Equivalent.matches c.args.key.now) (g.Q.Hash.hash_input c.args.key.now) =
+    record { feeds = g.met.Q.Equivalent.hashes_as_key c.args.key.now; class = λ k l. g.met.Q.Equivalent.matches_equal_keys c.args.key.now k l } in
+    let w = c.loop-turned.window.book.now in let r = c.requires.reads in let t = c.loop-turned.invariant.0 r.0 r.1 in
+    let there = hint_there g.K.PartialEq.eq g.K.Hash.hash_input g.S.BuildHasher.build_hasher g.S.Hasher.Hasher.write g.S.Hasher.Hasher.finish
+    g.met.K.Eq.laws g.met.K.Hash.respects_eq (begun_of w.parts) (g.Q.Equivalent.matches c.args.key.now) (g.Q.Hash.hash_input c.args.key.now) lawful
+    (exchanges_of r.0) c.args.hash w.begun.book c.loop-turned.window.sight.log c.loop-turned.place
+    (t.within c.loop-turned.place refl) c.args.table.now (t.lent, t.lent_is, t.pair, t.reading) in
+    let i = c.loop-turned.place.probe.i in let table = c.args.table.now in
+    let holds = c.hints_of-hints.ensures i c.index-hints-place.result there.1 in
+    (table, there.0, subst (HoldsHint table.book table.slots i) (sym c.index-hints-place.is) holds.1)
 
 pub overflow_sub-place : goal.overflow_sub-place
 overflow_sub-place g c = let r = c.requires.reads in let i = ((c.loop-turned.invariant.0 r.0 r.1).within c.loop-turned.place refl).i in omega (arith, i)

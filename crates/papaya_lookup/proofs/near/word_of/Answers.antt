@@ -17,7 +17,7 @@ read-requires-clause-word g c =
     let w = c.args.window.now.book.now in let v = c.learn.new.self.log in let b = begun_of w.parts in
     let hash = hash_of g.K.Hash.hash_input g.S.BuildHasher.build_hasher g.S.Hasher.Hasher.write g.S.Hasher.Hasher.finish in
     let r = c.requires.slot in let table = r.0 in
-    let word : (k : ℕ) × (slice_get table.slots c.args.place ≡ Some k) × (c.word.result.now ≡ word_named table.book k) = (r.2, r.3, c.word.ensures ∙ r.4) in
+    let word : (k : ℕ) × (slice_get table.slots c.args.place ≡ Some k) × (c.args.slot.now ≡ word_named table.book k) = (r.2, r.3, r.4) in
     let held = c.learn.ensures.4 in let lawful : IsLawfulLog g.K.PartialEq.eq hash b v = subst (λ (z : _). IsLawfulLog g.K.PartialEq.eq hash z v)
     (opened_with g.K.PartialEq.eq hash b held.1.begun v
     (prefix_trans (Begin b ∷ []) w.begun.log v (first_prefix (Begin b) w.begun.log w.begins) c.learn.ensures.3) held.1.lawful) held.1.lawful in
@@ -31,7 +31,7 @@ read-requires-clause-key g c =
     let w = c.args.window.now.book.now in let v = c.learn.new.self.log in let b = begun_of w.parts in
     let hash = hash_of g.K.Hash.hash_input g.S.BuildHasher.build_hasher g.S.Hasher.Hasher.write g.S.Hasher.Hasher.finish in
     let r = c.requires.slot in let table = r.0 in
-    let word : (k : ℕ) × (slice_get table.slots c.args.place ≡ Some k) × (c.word.result.now ≡ word_named table.book k) = (r.2, r.3, c.word.ensures ∙ r.4) in
+    let word : (k : ℕ) × (slice_get table.slots c.args.place ≡ Some k) × (c.args.slot.now ≡ word_named table.book k) = (r.2, r.3, r.4) in
     let held = c.learn.ensures.4 in let lawful : IsLawfulLog g.K.PartialEq.eq hash b v = subst (λ (z : _). IsLawfulLog g.K.PartialEq.eq hash z v)
     (opened_with g.K.PartialEq.eq hash b held.1.begun v
     (prefix_trans (Begin b ∷ []) w.begun.log v (first_prefix (Begin b) w.begun.log w.begins) c.learn.ensures.3) held.1.lawful) held.1.lawful in

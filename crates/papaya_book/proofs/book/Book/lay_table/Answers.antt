@@ -1,11 +1,19 @@
-use Rattle.std.proofs.Common.{rules, ◌≡◌, ℕ, ◌+◌, ◌∷◌, ◌++◌, length, map, refl, sym, ap, ◌∙◌, subst, arith, length-append}
+use Rattle.std.proofs.Common.{rules, ◌≡◌, ℕ, ◌+◌, List, ◌∷◌, ◌++◌, length, map, refl, sym, ap, ◌∙◌, subst, arith, length-append}
 use Rattle.std.proofs.lemmas.List.{length-map}
 use Rattle.std.proofs.lemmas.Nat.{pow_pos}
 use Rattle.logbook.specs.Pages.{Named}
 use Rattle.papaya_book.specs.Makers.{AreDealt, AreFrom}
-use Rattle.papaya_book.specs.Sheets.{Sheet}
+use Rattle.papaya_book.specs.Sheets.{AllOf, AreBeside, Sheet}
 use Rattle.papaya_book.proofs.Making.{from_append, table_made}
+use Rattle.papaya_book.proofs.Tables.{hold_hints}
 use Rattle.papaya_book.proofs.book.Book.lay_table.Goals as goal
+
+pub invariant_of-table : goal.invariant_of-table
+invariant_of-table g c =
+    let slots = c.give_words.new.slots.items in let hints = c.stand_hints.new.hints.items in let book = c.in_ok-aborted.aborted.book in
+    let all : AllOf book slots = search rules in
+    let beside : AreBeside slots hints = subst (λ (ws : List Named). AreBeside ws hints) c.deref.ensures.value c.stand_hints.ensures in
+    (search rules, search rules, search rules, all, search rules, hold_hints book slots hints c.words.new.row.next all c.give_words.ensures.keys beside)
 
 pub returns-clause-made : goal.returns-clause-made
 returns-clause-made g c =

@@ -20,13 +20,13 @@ use denote.Triple.Walked.{Stays, stay_dropped, walk_of, Goes-dropped}
 use Rattle.atomic_table.proofs.Walks.{proved}
 use Rattle.logbook.proofs.Fields.{token, Token, token_made, ends}
 use Rattle.papaya_book.specs.contracts.rule.own.OwnSteps as OwnSteps
-use Rattle.papaya_book.specs.contracts.rule.own.OwnSteps.again.{ended, clauses}
-use Rattle.papaya_book.specs.contracts.rule.own.OwnSteps.again.Key.{name as #self}
-use Rattle.papaya_book.proofs.rule.own.OwnSteps.again.Statement.{statement}
-use Rattle.papaya_book.proofs.rule.own.OwnSteps.again.Code as code
+use Rattle.papaya_book.specs.contracts.rule.own.OwnSteps.copied.{ended, clauses}
+use Rattle.papaya_book.specs.contracts.rule.own.OwnSteps.copied.Key.{name as #self}
+use Rattle.papaya_book.proofs.rule.own.OwnSteps.copied.Statement.{statement}
+use Rattle.papaya_book.proofs.rule.own.OwnSteps.copied.Code as code
 
-pub again_spec : {M : Type 1} → statement M
-again_spec 𝓤 𝓛 𝓜 𝓡 wired T L =
+pub copied_spec : {M : Type 1} → statement M
+copied_spec 𝓤 𝓛 𝓜 𝓡 wired T L =
     let H = 𝓛.H in let 𝓣 = tables 𝓤 H 𝓜 𝓡 𝓡.env in let R : RattleType = param 0 T in let En = ended T in
     let inst = layouts (a_type ∷ []) (T, tt) in let fn = inst_fn inst code.function in let c = clauses T 𝓛 𝓜.mem 𝓡.returns in
     let self = RefOf (0 ∷ []) tt (plain (λ _. OwnSteps.the_row R)) (λ _. tt) in
