@@ -1,5 +1,6 @@
 -- What a call did that stores where its rule says so, by how its compute has ended.
-use Rattle.std.proofs.Common.{◌≡◌, inl, ⊎_elim, Bool, Option, None, Some, Result, Ok, Err, List, [], ◌∷◌, option_map, refl, sym, ap, subst}
+use Rattle.std.proofs.Common.{◌≡◌, inl, ⊎_elim, Bool, Option, None, Some, Result, Ok, Err, List, [], ◌∷◌, append-nil, option_map, refl, sym, ap, subst}
+use mathlib.Core.List.{IsPrefix}
 use denote.Bor.{Bor}
 use Rattle.papaya_words.specs.declared.probe.Refused.{Refused as Cause}
 use Rattle.papaya_call.specs.declared.answers.Operation.{Operation}
@@ -8,13 +9,17 @@ use Rattle.papaya_keys.specs.declared.compute.Compute.{Compute as Computed}
 use Rattle.papaya_keys.specs.declared.compute.Compute.TheVariants.{Inserted, Updated, Removed, Aborted}
 use Rattle.papaya_book.specs.Logs.{Member, Stored}
 use Rattle.papaya_lookup.specs.History.{Change}
-use Rattle.papaya_change.specs.Showings.{AreShown, HasSaid, WasLast}
-use Rattle.papaya_change.proofs.Showings.{said_only}
+use Rattle.papaya_change.specs.Showings.{AreShown, HasSaid, WasHeld, WasLast}
+use Rattle.papaya_change.proofs.Showings.{all_shown, held_wider, said_only}
 use Rattle.papaya_compute.specs.ComputeAnswers.{IsOperated, changes}
 use Rattle.papaya_compute.specs.Computing.{value_in}
 use Rattle.papaya_compute.specs.Deciding.{AsksRule, HasNoRemoval, IsDecided, IsDecidedOf, Wishes, WishesOf, answer_of, puts}
 use Rattle.papaya_compute.specs.Operating.{HasEnded, Shows}
+use Rattle.papaya_compute.specs.declared.deciding.Outcome.{Outcome}
+use Rattle.papaya_compute.specs.declared.deciding.Outcome.TheVariants.{Put, Replaced, Left}
 use Rattle.papaya_compute.specs.declared.operating.Ended.{Ended}
+use Rattle.papaya_compute.proofs.ComputeReplies.{change_since}
+use Rattle.papaya_compute.proofs.FastPath.{once}
 
 module _ {K V F : Type 0} (decides : F → Option V → Option V → F → Type 0) where
   -- behind the references to a pair there is its value
@@ -96,3 +101,47 @@ module _ {K V F : Type 0} (eq : K → K → Bool) (key : K) (old new : List (Cha
 
   pub puts_by : changes ended.answer ≡ puts (answer_of ended.answer ended.current ended.spare)
   puts_by = puts_of ended.answer refl
+
+-- what was seen before such a call began was seen before it ended
+module _ {K V : Type 0} (eq : K → K → Bool) (key : K) (older old new : List (Change K (Stored K V))) (pre : IsPrefix older old) where
+  since_of : (heard : List (Option (Stored K V) × Operation V (Unit {0}))) (answer : Result (Outcome V) Cause) → IsDecidedOf eq key old new heard answer
+      → IsDecidedOf eq key older new heard answer
+  since_of heard (Ok (Put v)) h = (h.0, change_since eq key older old new pre None (Some h.0) h.1, h.2, h.3, h.4)
+  since_of heard (Ok (Replaced v)) h = (h.0, h.1, change_since eq key older old new pre (Some h.0) (Some h.1) h.2, h.3, h.4, h.5)
+  since_of heard (Ok (Left current spare)) h = h
+  since_of heard (Err cause) h = h
+
+  pub decided_since : {F : Type 0} (decides : F → Option V → Option V → F → Type 0) (first left : F) (answer : Result (Outcome V) Cause)
+      → IsDecided eq key old new decides first left answer → IsDecided eq key older new decides first left answer
+  decided_since decides first left answer d = record {
+    heard = d.heard;
+    has_said = d.has_said;
+    done = record {
+      held = all_shown (WasHeld eq (eq key) old new) (WasHeld eq (eq key) older new)
+          (λ held h. held_wider eq (eq key) older old new new pre ([], append-nil new) held h) d.heard d.done.held;
+      none_once = d.done.none_once;
+      decided = since_of d.heard answer d.done.decided;
+    };
+  }
+
+-- one whose rule was shown once what a search had found
+module _ {K V F : Type 0} (eq : K → K → Bool) (key : K) (old new : List (Change K (Stored K V))) (decides : F → Option V → Option V → F → Type 0)
+    (first left : F) (held : Option (Stored K V)) (was : WasHeld eq (eq key) old new held) where
+  pub decided_once : (done : Operation V (Unit {0})) → Wishes decides first held done left → (answer : Result (Outcome V) Cause)
+      → IsDecidedOf eq key old new ((held, done) ∷ []) answer → IsDecided eq key old new decides first left answer
+  decided_once done said answer decided = record {
+    heard = (held, done) ∷ [];
+    has_said = (first, refl, said);
+    done = record { held = (was, tt); none_once = once held done; decided = decided };
+  }
+
+  -- and left all as it was
+  pub left_once : Wishes decides first held (operation.Abort tt) left → (current : Option (Bor V)) → option_map (λ v. v.now) current ≡ value_in held
+      → IsDecided eq key old new decides first left (Ok (Left current None))
+  left_once said current is = decided_once (operation.Abort tt) said (Ok (Left current None)) (
+    held,
+    refl,
+    is,
+    λ v member.
+        ⊎_elim (λ e. let f : operation.Insert v ≡ operation.Abort tt = ap (λ z. z.1) e in absurd (cc f)) (λ none. absurd none) member,
+  )

@@ -38,7 +38,7 @@ use Rattle.papaya_compute.specs.declared.fast_path.First.TheVariants.{Over, On}
 pub does_since : {K V S H : Type 0} {d : keyed.Ghosts S K H} (a w w' : Window K V S H d) → w.own ≡ a.own → Does false w w' → Does false a w'
 does_since a w w' same does = subst (λ (o : _). w'.own.done ≡ o.done ++ last_if false (steps_of w'.sight.log)) same does
 
-once : {P A : Type 0} (held : Option P) (answer : A) → IsNoneOnce ((held, answer) ∷ [])
+pub once : {P A : Type 0} (held : Option P) (answer : A) → IsNoneOnce ((held, answer) ∷ [])
 once None answer = tt
 once (Some p) answer = tt
 

@@ -15,5 +15,6 @@ pub mod DoneBy
 pub mod Resumed
 pub mod Found
 pub mod FastPath
+pub mod AtOnce
 -- while its machine runs
 pub mod Running

@@ -27,7 +27,6 @@ use papaya_ask::ask::{Answer, Ask as CallAsk, At, OpKind, StepKind};
 use papaya_ask::call::{Reply, Task};
 use papaya_book::book::Book;
 use papaya_book::book::pairs::{KeyPart, ValuePart};
-use papaya_book::count::Shard;
 use papaya_book::keyed::{Hashed, Keyed};
 use papaya_book::rule::entry::Stored;
 use papaya_book::window::Window;
@@ -36,12 +35,12 @@ use papaya_call::compute::{Choice, Remembered};
 use papaya_call::write::Write;
 use papaya_chain::ask::Ask;
 use papaya_change::driver::Driver;
+use papaya_change::means::Means;
 use papaya_change::removal::{entry, value_of};
 use papaya_change::writing::Writer;
 use papaya_keys::compute::Compute;
 use papaya_lookup::lookup::{Met, hash};
 use papaya_words::probe::Refused;
-use std::alloc::Global;
 use std::hash::{BuildHasher, Hash};
 use std::sync::Wait;
 
@@ -318,9 +317,7 @@ impl<'a, K: Hash + Eq + Drop, V: Drop, S: BuildHasher, T: Drop> Computing<'a, K,
     /// Passes an answer on to its machine, and copies if the call is set aside for that.
     pub fn tell<R: Wait>(
         &mut self,
-        rt: &R,
-        alloc: Global,
-        shard: &Shard<'_>,
+        means: &Means<'_, '_, R>,
         answer: Answer,
         window: &mut Window<'a, K, V, S>,
     )
@@ -329,7 +326,7 @@ impl<'a, K: Hash + Eq + Drop, V: Drop, S: BuildHasher, T: Drop> Computing<'a, K,
         ensures told { IsTold window.old self.old answer window.new self.new }
     {
         self.writer.call.answer(answer);
-        self.writer.call.help(rt, alloc, shard, window);
+        self.writer.call.help(means, window);
     }
 
     /// Stores the pair for an absent key: of the call's key and of the value that the closure
@@ -428,8 +425,7 @@ impl<'a, K: Hash + Eq + Drop, V: Drop, S: BuildHasher, T: Drop> Computing<'a, K,
     /// Performs an ask that all inserting calls make, and returns the answer.
     fn write<R: Wait>(
         &mut self,
-        rt: &R,
-        alloc: Global,
+        means: &Means<'_, '_, R>,
         ask: CallAsk,
         window: &mut Window<'a, K, V, S>,
     ) -> Answer
@@ -449,7 +445,7 @@ impl<'a, K: Hash + Eq + Drop, V: Drop, S: BuildHasher, T: Drop> Computing<'a, K,
             CallAsk::MakeKey | CallAsk::MakeValue => self.writer.make_part(),
             CallAsk::MakeTable { len, limit, chunks } => self
                 .writer
-                .make_table(rt, alloc, len, limit, chunks, window),
+                .make_table(means.rt, means.alloc, len, limit, chunks, window),
             CallAsk::Exchange(At::Root, _, _) => self.writer.open(window),
             CallAsk::Exchange(At::Made, old, new) => self.writer.take((old, new), window),
             _ => unreachable!(),
@@ -459,9 +455,7 @@ impl<'a, K: Hash + Eq + Drop, V: Drop, S: BuildHasher, T: Drop> Computing<'a, K,
     /// Performs what the machine asks for, except what only the closure can.
     pub fn turn<R: Wait>(
         &mut self,
-        rt: &R,
-        alloc: Global,
-        shard: &Shard<'_>,
+        means: &Means<'_, '_, R>,
         window: &mut Window<'a, K, V, S>,
     ) -> Turn<K, V>
         requires can { CanCompute window.old self.old }
@@ -475,8 +469,8 @@ impl<'a, K: Hash + Eq + Drop, V: Drop, S: BuildHasher, T: Drop> Computing<'a, K,
         match ask {
             CallAsk::ShowNone => Turn::Shows(None),
             CallAsk::ShowPair(_) => Turn::Shows(Some(self.to_show())),
-            CallAsk::MakePair => Turn::Answered(self.make_pair(rt, window)),
-            CallAsk::MakePairOf(_) => Turn::Answered(self.make_pair_of(rt, window)),
+            CallAsk::MakePair => Turn::Answered(self.make_pair(means.rt, window)),
+            CallAsk::MakePairOf(_) => Turn::Answered(self.make_pair_of(means.rt, window)),
             CallAsk::Exchange(At::Slot(number, place), old, new) => {
                 Turn::Answered(self.exchange(number, place, (old, new), window))
             }
@@ -484,11 +478,11 @@ impl<'a, K: Hash + Eq + Drop, V: Drop, S: BuildHasher, T: Drop> Computing<'a, K,
                 Turn::Answered(self.writer.note(number, place, hint, window))
             }
             CallAsk::AddToShard(by) => {
-                shard.add(self.writer.call.machine.call.hash, by);
+                means.shard.add(self.writer.call.machine.call.hash, by);
                 Turn::Answered(Answer::Ok)
             }
             CallAsk::Done(_) => Turn::Replied,
-            _ => Turn::Answered(self.write(rt, alloc, ask, window)),
+            _ => Turn::Answered(self.write(means, ask, window)),
         }
     }
 

@@ -1,17 +1,32 @@
 //! Calls that store a value as their rule decides. Each is a compute whose rule is a type in place
 //! of a closure, and none removes a pair.
+//!
+//! A rule is called with a value alone, so the fast path reads no key of a pair, and returns the
+//! outcome without a `Compute`. The slow path is that of all computes.
 ghost use Rattle.papaya_change.specs.Window.Ends.{Ends, TellsWhy};
 ghost use Rattle.std.specs.Prelude.{◌≡◌, None, Some, Option, Ok, Err};
 ghost use Rattle.std.specs.Int.{IsPowerOfTwo};
 ghost use Rattle.papaya_lookup.specs.Drivers.{past};
+ghost use Rattle.papaya_book.specs.Windows.{IsLawful, Observes};
+ghost use Rattle.papaya_change.specs.declared.fast_path.Turn.TheVariants.{Empty, Met as MetPair};
 ghost use Rattle.papaya_compute.specs.Deciding.{AsksRule, IsDecided, answer_of, outcome_of, puts};
+ghost use Rattle.papaya_compute.specs.FastPath.{ComesTo, IsLed, IsOnItsWay};
+ghost use Rattle.papaya_compute.specs.Operating.{Shows};
 
-use crate::operating::{Operator, compute};
+use crate::fast_path::{First, Start, log_by_waiting, look};
+use crate::operating::{Operator, slow};
+use papaya_ask::search::Place;
+use papaya_book::book::pairs::KeyPart;
 use papaya_book::count::Shard;
 use papaya_book::rule::own::{CapacityCause, OwnSteps};
+use papaya_book::table::Table;
 use papaya_book::window::Window;
 use papaya_call::answers::Operation;
+use papaya_change::fast_path::{Live, Tried, Turn, claim, replace};
+use papaya_change::means::Means;
+use papaya_change::removal::value_of;
 use papaya_keys::compute::Compute;
+use papaya_lookup::lookup::hash;
 use papaya_words::probe::Refused;
 use std::alloc::Global;
 use std::hash::{BuildHasher, Hash};
@@ -110,6 +125,151 @@ fn decision<'a, K, V>(
     }
 }
 
+/// Stores the value that the rule returns for an absent key, at the empty place that a search has
+/// found. If another call was first, it returns where the machine starts.
+#[inline(always)]
+fn decide_absent<'a, R: Wait, K: Hash + Eq + Drop, V: Drop, S: BuildHasher, D: Rule<V>>(
+    means: &Means<'_, '_, R>,
+    window: &mut Window<'a, K, V, S>,
+    key: K,
+    hash: u64,
+    table: &Table<K, V, S>,
+    at: Place,
+    rule: &mut D,
+) -> First<Start<K, V>, Result<Outcome<'a, V>, Refused>>
+    requires callable { D.callable rule.old }
+    requires led { (begun : _) × IsLed window.old key hash begun table.now (Empty at) }
+    ensures callable { D.callable rule.new }
+    ensures comes { (since : _) → IsLed window.old key hash since.sight.log table.now (Empty at)
+        → Observes since window.old → ComesTo puts (IsDecided K.eq key (past since)
+        (past window.new) D.decides rule.old rule.new) (IsOnItsWay since window.new key
+        (Shows (AsksRule D.decides)) rule.old rule.new) since window.new result }
+{
+    let Some(value) = rule.absent() else {
+        return First::Over(Ok(Outcome::Left {
+            current: None,
+            spare: None,
+        }));
+    };
+    match claim(means.shard, window, key, value, hash, table, at) {
+        Tried::Put(pair) => First::Over(Ok(Outcome::Put(value_of(window.book, &pair)))),
+        Tried::Lost(pair) => First::On(Start::Filled { hash, pair }),
+        Tried::Back((key, value)) => {
+            match log_by_waiting(means.rt, window.book, hash, KeyPart::Own(key), value) {
+                Some(pair) => First::On(Start::Filled { hash, pair }),
+                None => First::Over(Err(Refused::Memory)),
+            }
+        }
+    }
+}
+
+/// Replaces the value that a search has met by the one that the rule returns for it. If another
+/// call was first, it returns where the machine starts.
+#[inline(always)]
+fn decide_present<'a, R: Wait, K: Hash + Eq + Drop, V: Drop, S: BuildHasher, D: Rule<V>>(
+    means: &Means<'_, '_, R>,
+    window: &mut Window<'a, K, V, S>,
+    key: K,
+    hash: u64,
+    table: &Table<K, V, S>,
+    live: Live<'a, K, V>,
+    rule: &mut D,
+) -> First<Start<K, V>, Result<Outcome<'a, V>, Refused>>
+    requires callable { D.callable rule.old }
+    requires led { (begun : _) × IsLed window.old key hash begun table.now (MetPair live) }
+    ensures callable { D.callable rule.new }
+    ensures comes { (since : _) → IsLed window.old key hash since.sight.log table.now
+        (MetPair live.entry) → Observes since window.old → ComesTo puts (IsDecided K.eq key
+        (past since) (past window.new) D.decides rule.old rule.new) (IsOnItsWay since window.new
+        key (Shows (AsksRule D.decides)) rule.old rule.new) since window.new result }
+{
+    let book = window.book;
+    let old = book.value(live.pair());
+    let Some(value) = rule.present(old) else {
+        return First::Over(Ok(Outcome::Left {
+            current: Some(old),
+            spare: None,
+        }));
+    };
+    match replace(window, value, table, &live) {
+        Tried::Put(pair) => First::Over(Ok(Outcome::Replaced(value_of(book, &pair)))),
+        Tried::Lost(pair) => First::On(Start::Replaced {
+            key,
+            hash,
+            met: live.into_met(),
+            pair,
+        }),
+        Tried::Back(value) => {
+            let by = &live.met().stored;
+            let (lane, of) = (by.index() as u64, KeyPart::Of(by.again()));
+            match log_by_waiting(means.rt, book, lane, of, value) {
+                Some(pair) => First::On(Start::Replaced {
+                    key,
+                    hash,
+                    met: live.into_met(),
+                    pair,
+                }),
+                None => First::Over(Err(Refused::Memory)),
+            }
+        }
+    }
+}
+
+/// Looks for the key in the root. If the search ends at an empty place or at a live pair, it does
+/// at once what the rule returns. Otherwise, and if another call was first, it returns where the
+/// machine starts.
+#[inline(always)]
+fn decide_fast<'a, R: Wait, K: Hash + Eq + Drop, V: Drop, S: BuildHasher, D: Rule<V>>(
+    means: &Means<'_, '_, R>,
+    window: &mut Window<'a, K, V, S>,
+    key: K,
+    rule: &mut D,
+) -> First<Start<K, V>, Result<Outcome<'a, V>, Refused>>
+    requires callable { D.callable rule.old }
+    requires lawful { IsLawful window.old }
+    ensures callable { D.callable rule.new }
+    ensures comes { ComesTo puts (IsDecided K.eq key (past window.old) (past window.new) D.decides
+        rule.old rule.new) (IsOnItsWay window.old window.new key (Shows (AsksRule D.decides))
+        rule.old rule.new) window.old window.new result }
+{
+    let hash = hash(&window.book.parts.hasher, &key);
+    let Some(spot) = look(window, &key, hash) else {
+        return First::On(Start::Anew(key));
+    };
+    let table = spot.table;
+    match spot.turn {
+        Turn::Empty(at) => decide_absent(means, window, key, hash, table, at, rule),
+        Turn::Met(live) => decide_present(means, window, key, hash, table, live, rule),
+        _ => First::On(Start::Anew(key)),
+    }
+}
+
+/// Runs the machine of such a call from this start to its end. Like [`slow`] it is a call of its
+/// own.
+#[cold]
+#[inline(never)]
+fn decide_slow<'a, R: Wait, K: Hash + Eq + Drop, V: Drop, S: BuildHasher, D: Rule<V>>(
+    means: &Means<'_, '_, R>,
+    window: &mut Window<'a, K, V, S>,
+    given: &mut OwnSteps<CapacityCause>,
+    start: Start<K, V>,
+    rule: &mut D,
+) -> Result<Outcome<'a, V>, Refused>
+    requires callable { D.callable rule.old }
+    requires initial { IsPowerOfTwo means.now.initial }
+    requires can { (since : _) × (key : K) × (first : D) × IsOnItsWay since window.old key
+        (Shows (AsksRule D.decides)) first rule.old start }
+    ensures ends { Ends (puts result) window.old window.new }
+    ensures tells { TellsWhy means.now.initial window.new given.new.done
+        (λ cause. result ≡ Err cause) }
+    ensures decided { (since : _) (key : K) (first : D) → IsOnItsWay since window.old key
+        (Shows (AsksRule D.decides)) first rule.old start → IsDecided K.eq key (past since)
+        (past window.new) D.decides first rule.new result }
+{
+    let ended = slow::<ByRule, R, K, V, S, (), D>(means, window, given, start, rule);
+    decision(ended.answer, ended.current, ended.spare)
+}
+
 /// Stores for a key what the rule returns. If it fails with `Refused::Capacity`, `given` records
 /// the number that a full arena of tables gave, or the sum of the count that makes a next table too
 /// long.
@@ -131,8 +291,15 @@ pub fn decide<'a, R: Wait, K: Hash + Eq + Drop, V: Drop, S: BuildHasher, D: Rule
     ensures decided { IsDecided K.eq key (past window.old) (past window.new) D.decides rule.old
         rule.new result }
 {
-    let ended = compute::<ByRule, R, K, V, S, (), D>(
-        rt, alloc, initial, shard, window, given, key, rule,
-    );
-    decision(ended.answer, ended.current, ended.spare)
+    window.learn();
+    let means = Means {
+        rt,
+        alloc,
+        initial,
+        shard,
+    };
+    match decide_fast(&means, window, key, rule) {
+        First::Over(answer) => answer,
+        First::On(start) => decide_slow(&means, window, given, start, rule),
+    }
 }

@@ -118,7 +118,7 @@ pub fn machine_of<'a, K: Hash + Eq + Drop, V: Drop, S: BuildHasher, T: Drop>(
 /// memory runs out.
 #[cold]
 #[inline(never)]
-fn log_by_waiting<R: Wait, K: Hash + Eq + Drop, V: Drop, S: BuildHasher>(
+pub(crate) fn log_by_waiting<R: Wait, K: Hash + Eq + Drop, V: Drop, S: BuildHasher>(
     rt: &R,
     book: &Book<K, V, S>,
     lane: u64,

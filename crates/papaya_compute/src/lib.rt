@@ -2,10 +2,10 @@
 //! a closure or a rule.
 //!
 //! [`operating`] has the one compute, generic over how it calls either: its fast path, and the loop
-//! of its slow one. [`lending`] calls it with a closure that borrows the pair, and [`deciding`]
-//! with one of the [`rules`]. The steps of both paths name neither: [`fast_path`] has those that
-//! are done at once, and [`computing`] those of the machine. So `papaya_map` has both paths for a
-//! closure that may keep its argument.
+//! of its slow one. [`lending`] calls it with a closure that borrows the pair. [`deciding`] runs
+//! its slow path with one of the [`rules`], and has a fast path of its own. The steps of both paths
+//! name neither: [`fast_path`] has those that are done at once, and [`computing`] those of the
+//! machine. So `papaya_map` has both paths for a closure that may keep its argument.
 #![tactic(auto)]
 
 pub mod computing;

@@ -128,7 +128,7 @@ fn fast<
 /// Runs the machine from this start to its end. It is a call of its own, since no frame of a fast
 /// path may hold a machine.
 #[inline(never)]
-fn slow<
+pub(crate) fn slow<
     'a,
     A: Operator<'a, K, V, T, O>,
     R: Wait,
@@ -158,14 +158,12 @@ fn slow<
     let book = window.book;
     let mut computing = machine_of(window, means.initial, start);
     for _ in means.rt.forever() {
-        match computing.turn(means.rt, means.alloc, means.shard, window) {
-            Next::Answered(answer) => {
-                computing.tell(means.rt, means.alloc, means.shard, answer, window)
-            }
+        match computing.turn(means, window) {
+            Next::Answered(answer) => computing.tell(means, answer, window),
             Next::Shows(shown) => {
                 let operation = show::<A, K, V, S, T, O>(book, &shown, op);
                 let answer = computing.hear(shown, operation);
-                computing.tell(means.rt, means.alloc, means.shard, answer, window);
+                computing.tell(means, answer, window);
             }
             Next::Replied => {
                 *given = computing.writer.call.copier.given.again();

@@ -1,27 +1,37 @@
-use Rattle.std.proofs.Common.{sym, ap, ◌∙◌, subst}
-use Rattle.papaya_lookup.specs.Drivers.{own, past}
-use Rattle.papaya_lookup.specs.History.{Makes}
-use Rattle.papaya_compute.specs.Deciding.{IsDecided, puts}
-use Rattle.papaya_compute.proofs.DoneBy.{decided_by, puts_by, refused_as, unremoved}
+use Rattle.std.proofs.Common.{refl}
+use Rattle.papaya_lookup.proofs.Histories.{history_since}
+use Rattle.papaya_compute.specs.Deciding.{puts}
+use Rattle.papaya_compute.proofs.DoneBy.{decided_since}
+use Rattle.papaya_compute.proofs.FastPath.{on_ends, on_starts, over_ends, over_right, over_tells}
 use Rattle.papaya_compute.proofs.deciding.decide.Goals as goal
 
-pub decision-requires : goal.decision-requires
-decision-requires g c = unremoved g.K.PartialEq.eq c.args.key _ _ g.D.Rule.decides c.args.rule.now _ c.compute-ended.result c.compute-ended.ensures.ended
+pub returns-in-Over-clause-decided : goal.returns-in-Over-clause-decided
+returns-in-Over-clause-decided g c = let l = c.learn.ensures in let a = c.args in let at = c.decide_fast in
+    decided_since g.K.PartialEq.eq a.key _ _ _ (history_since a.window.now.sight.log _ l.sees.log) g.D.Rule.decides a.rule.now at.new.rule c.in-Over.answer
+    (over_right puts a.window.now c.learn.new.self at.new.window l.sees _ _ _ at.ensures.comes c.in-Over.answer c.in-Over.is)
 
-pub returns-clause-ends : goal.returns-clause-ends
-returns-clause-ends g c = let e = c.compute-ended.ensures.ends in let w = c.args.window.now in let then = c.compute-ended.new.window in record {
-  sees = e.sees;
-  lawful = e.lawful;
-  made = subst (λ changed. Makes changed (own w) (own then) (past then))
-      (puts_by g.K.PartialEq.eq c.args.key _ _ g.D.Rule.decides c.args.rule.now _ c.compute-ended.result c.compute-ended.ensures.ended ∙ ap puts (sym c.decision.ensures)) e.made;
-}
+pub returns-in-Over-clause-ends : goal.returns-in-Over-clause-ends
+returns-in-Over-clause-ends g c = let l = c.learn.ensures in let at = c.decide_fast in
+    over_ends puts c.args.window.now c.learn.new.self at.new.window l.sees _ _ _ at.ensures.comes c.in-Over.answer c.in-Over.is
 
-pub returns-clause-tells : goal.returns-clause-tells
-returns-clause-tells g c = let t = c.compute-ended.ensures.tells in let ended = c.compute-ended.result in record {
-  crowded = λ e. t.crowded (refused_as ended.answer ended.current ended.spare _ (sym c.decision.ensures ∙ e));
-  spent = λ e. t.spent (refused_as ended.answer ended.current ended.spare _ (sym c.decision.ensures ∙ e));
-}
+pub returns-in-Over-clause-tells : goal.returns-in-Over-clause-tells
+returns-in-Over-clause-tells g c = let l = c.learn.ensures in let at = c.decide_fast in
+    over_tells puts c.args.window.now c.learn.new.self at.new.window l.sees _ _ _ at.ensures.comes c.in-Over.answer c.in-Over.is _ _
 
-pub returns-clause-decided : goal.returns-clause-decided
-returns-clause-decided g c = subst (IsDecided g.K.PartialEq.eq c.args.key _ _ g.D.Rule.decides c.args.rule.now c.compute-ended.new.op) (sym c.decision.ensures)
-    (decided_by g.K.PartialEq.eq c.args.key _ _ g.D.Rule.decides c.args.rule.now _ c.compute-ended.result c.compute-ended.ensures.ended)
+pub decide_slow-requires-clause-can : goal.decide_slow-requires-clause-can
+decide_slow-requires-clause-can g c = let l = c.learn.ensures in let a = c.args in let at = c.decide_fast in (
+  c.learn.new.self,
+  a.key,
+  a.rule.now,
+  on_starts puts a.window.now c.learn.new.self at.new.window l.sees _ _ _ at.ensures.comes c.in-On.start c.in-On.is,
+)
+
+pub returns-in-On-clause-ends : goal.returns-in-On-clause-ends
+returns-in-On-clause-ends g c = let l = c.learn.ensures in let at = c.decide_fast in
+    on_ends puts c.args.window.now c.learn.new.self at.new.window l.sees _ _ _ at.ensures.comes c.in-On.start c.in-On.is _ _ c.decide_slow.ensures.ends
+
+pub returns-in-On-clause-decided : goal.returns-in-On-clause-decided
+returns-in-On-clause-decided g c = let l = c.learn.ensures in let a = c.args in let at = c.decide_fast in
+    decided_since g.K.PartialEq.eq a.key _ _ _ (history_since a.window.now.sight.log _ l.sees.log) g.D.Rule.decides a.rule.now c.decide_slow.new.rule
+    c.decide_slow.result (c.decide_slow.ensures.decided c.learn.new.self a.key a.rule.now
+    (on_starts puts a.window.now c.learn.new.self at.new.window l.sees _ _ _ at.ensures.comes c.in-On.start c.in-On.is))
