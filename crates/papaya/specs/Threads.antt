@@ -13,5 +13,5 @@ pub use Rattle.papaya_compute.specs.ComputeAnswers.{IsComputeBy, IsOperated, cha
 pub use Rattle.papaya_map.specs.Storing.{IsCurrent, IsInPlace, IsStored, IsThereBy, IsTried, IsTriedWith, IsUpdated, IsUpserted}
 pub use Rattle.papaya_chain_law.specs.ScanTold.{IsLastAnswer}
 pub use Rattle.papaya_scan.specs.Leaving.{AreDropped, Drops, HasDropped, HasKept, IsCleared, IsRetained, WasTakenOut}
-pub use Rattle.papaya_map.specs.Collected.{AreStored}
+pub use Rattle.papaya_map.specs.Collected.{AreCloned, AreCopied, AreStored, AreWalked, Stores}
 pub use Rattle.papaya_map.specs.Known.{Known}

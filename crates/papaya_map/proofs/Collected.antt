@@ -1,8 +1,10 @@
 -- Entries that are stored one after the other; and a map that has learned of them is for the same.
-use Rattle.std.proofs.Common.{◌≤◌, ℕ, Bool, Option, List, [], ◌∷◌, ◌++◌, append-nil, sym, ap, ◌∙◌, subst}
+use Rattle.std.proofs.Common.{◌≡◌, ◌<◌, ◌≤◌, ℕ, Bool, Option, None, List, [], ◌∷◌, ◌++◌, map, append-nil, refl, sym, ap, ◌∙◌, subst}
 use Rattle.std.specs.Int.{IsNextPowerOfTwo}
+use Rattle.std.specs.Iterator.{Yields}
 use mathlib.Core.List.{IsPrefix}
 use denote.Bor.{Bor}
+use Rattle.logbook.specs.Pages.{Book}
 use Rattle.papaya_words.specs.Probe.{IsEntriesFor}
 use Rattle.papaya_words.specs.declared.probe.ResizeMode.{ResizeMode}
 use Rattle.papaya_book.specs.Limits.{HasTableFrom}
@@ -12,8 +14,11 @@ use Rattle.papaya_book.proofs.Lengths.{member_since}
 use Rattle.papaya_book.proofs.Logs.{prefix_trans}
 use Rattle.papaya_change.specs.Changes.{IsPut}
 use Rattle.papaya_lookup.specs.History.{Change}
-use Rattle.papaya_map.specs.Collected.{AreStored}
-use Rattle.papaya_map.specs.Fixed.{Fixed, HasLearned, IsFor}
+use Rattle.papaya_scan.specs.Walked.{Gives, Walked}
+use Rattle.papaya_seq.proofs.Walked.{map_push}
+use Rattle.papaya_seq.specs.Map.{deref_pair}
+use Rattle.papaya_map.specs.Collected.{AreStored, AreWalked}
+use Rattle.papaya_map.specs.Fixed.{Fixed, HasFirstTable, HasLearned, HasSettingsOf, IsFor}
 
 -- a list begins with itself
 pub prefix_itself : {A : Type 0} (xs : List A) → IsPrefix xs xs
@@ -47,10 +52,32 @@ module _ {K V : Type 0} (eq : K → K → Bool) where
   stored_more [] old mid new e answer stored put = (new, answer, put_later e.0 e.1 old mid new answer stored put, prefix_itself new)
   stored_more (d ∷ es) old mid new e answer stored put = (stored.0, stored.1, stored.2, stored_more es stored.0 mid new e answer stored.3 put)
 
+  -- the same of items that show entries
+  pub stored_next : {A : Type 0} (shows : A → K × V) (items : List A) (old mid new : List (Change K (Stored K V))) (item : A) (answer : Option (Bor V))
+      → AreStored eq (map shows items) old mid → IsPut eq (shows item).0 (shows item).1 mid new answer
+      → AreStored eq (map shows (items ++ item ∷ [])) old new
+  stored_next shows items old mid new item answer stored put = subst (λ (es : List (K × V)). AreStored eq es old new) (sym (map_push shows items item))
+      (stored_more (map shows items) old mid new (shows item) answer stored put)
+
   -- what a longer history begins with it has too
   pub stored_until : (es : List (K × V)) (old mid new : List (Change K (Stored K V))) → AreStored eq es old mid → IsPrefix mid new → AreStored eq es old new
   stored_until [] old mid new stored more = prefix_trans old mid new stored more
   stored_until (e ∷ es) old mid new stored more = (stored.0, stored.1, stored.2, stored_until es stored.0 mid new stored.3 more)
+
+  -- an iteration gave these
+  pub walked : (book : Book) (walk first left end : Walked K V) (lent : List (Bor K × Bor V)) → first ≡ walk → walk.book ≡ book → walk.began ≡ []
+      → Yields (Gives eq) first lent left → Gives eq left None end → AreWalked eq book (map deref_pair lent)
+  walked book walk first left end lent is of_map began gave over = record {
+    first = first;
+    left = left;
+    end = end;
+    of_map = ap (λ (w : Walked K V). w.book) is ∙ of_map;
+    began = ap (λ (w : Walked K V). w.began) is ∙ began;
+    lent = lent;
+    gave = gave;
+    over = over;
+    are = refl;
+  }
 
 module _ {K V S : Type 0} (old new : Fixed K V S) (same : HasLearned old new) where
   table_learned : HasTableFrom old.initial old.opened → HasTableFrom new.initial new.opened
@@ -68,3 +95,19 @@ module _ {K V S : Type 0} (old new : Fixed K V S) (same : HasLearned old new) wh
     λ some. table_learned (is.3 some),
     ap (λ (b : Begun K V S). b.limit) same.begun ∙ is.4,
   )
+
+  pub first_learned : HasFirstTable old → HasFirstTable new
+  first_learned first = λ more. table_learned (first (subst (λ (n : ℕ). 1 < n) same.initial more))
+
+  pub settings_learned : (base : Fixed K V S) → HasSettingsOf base old → HasSettingsOf base new
+  settings_learned base is = (
+    ap (λ (b : Begun K V S). b.mode) same.begun ∙ is.0,
+    ap (λ (b : Begun K V S). b.limit) same.begun ∙ is.1,
+    same.initial ∙ is.2,
+    same.shards ∙ is.3,
+    same.collector ∙ is.4,
+  )
+
+  -- and has that hasher
+  pub hasher_learned : (so : S → Type 0) → so old.begun.hasher → so new.begun.hasher
+  hasher_learned so is = subst (λ (b : Begun K V S). so b.hasher) (sym same.begun) is

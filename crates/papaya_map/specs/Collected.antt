@@ -1,10 +1,18 @@
--- What a call leaves that stores many entries.
-use Rattle.std.specs.Prelude.{Bool, Option, List, [], ◌∷◌}
+-- What a call leaves that stores many entries, which ones an iteration gave, and clones of those.
+use Rattle.std.specs.Prelude.{◌≡◌, Bool, Option, None, Result, List, [], ◌∷◌, map, IfErr, IfOk}
+use Rattle.std.specs.Iterator.{Yields}
+use Rattle.std.specs.List.{AllZip}
 use mathlib.Core.List.{IsPrefix}
 use denote.Bor.{Bor}
+use Rattle.logbook.specs.Pages.{Book}
+use Rattle.papaya_words.specs.declared.probe.Refused.{Refused}
 use Rattle.papaya_book.specs.Logs.{Stored}
 use Rattle.papaya_change.specs.Changes.{IsPut}
 use Rattle.papaya_lookup.specs.History.{Change}
+use Rattle.papaya_scan.specs.Walked.{Gives, Walked}
+use Rattle.papaya_seq.specs.Clones.{Clones}
+use Rattle.papaya_seq.specs.Entries.{AllCome, ComesNext}
+use Rattle.papaya_seq.specs.Map.{deref_pair}
 
 module _ {K V : Type 0} (eq : K → K → Bool) where
   -- These entries were put in one after the other, between the two histories: each by the last
@@ -13,3 +21,36 @@ module _ {K V : Type 0} (eq : K → K → Bool) where
   AreStored [] old new = IsPrefix old new
   AreStored (e ∷ es) old new = (next : List (Change K (Stored K V))) × (answer : Option (Bor V))
       × IsPut eq e.0 e.1 old next answer × AreStored es next new
+
+  -- The entries of all items of `iter` were put in between the two histories, or those of the items
+  -- before one that was refused.
+  abbrev pub Stores : {U T A : Type 0} (becomes : U → T → Type 0)
+      (steps : T → Option A → T → Type 0) (shows : List A → List (K × V)) → U
+      → (old new : List (Change K (Stored K V))) → Result (Unit {0}) Refused → Type 0
+  Stores becomes steps shows iter old new result =
+      IfOk result (λ done. AllCome becomes steps iter (λ items. AreStored (shows items) old new))
+      × IfErr result (λ why. ComesNext becomes steps iter
+      (λ items item. AreStored (shows items) old new))
+
+  -- an iteration over the map of this book gave just these entries, until it gave none
+  pub record AreWalked (book : Book) (pairs : List (K × V)) : Type 0 where
+    pub first : Walked K V
+    pub left : Walked K V
+    pub end : Walked K V
+    pub of_map : first.book ≡ book
+    pub began : first.began ≡ []
+    pub lent : List (Bor K × Bor V)
+    pub gave : Yields (Gives eq) first lent left
+    pub over : Gives eq left None end
+    pub are : map deref_pair lent ≡ pairs
+
+  module _ (clones_key : K → K → Type 0) (clones_value : V → V → Type 0) where
+    -- clones of these entries were put in, in their order
+    abbrev pub AreCloned : List (K × V) → (old new : List (Change K (Stored K V))) → Type 0
+    AreCloned pairs old new = (clones : List (K × V))
+        × AllZip (Clones clones_key clones_value) pairs clones × AreStored clones old new
+
+    -- clones of what an iteration over the map of this book gave were put in
+    abbrev pub AreCopied : Book → (old new : List (Change K (Stored K V))) → Type 0
+    AreCopied book old new = (pairs : List (K × V)) × AreWalked book pairs
+        × AreCloned pairs old new

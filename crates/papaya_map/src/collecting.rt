@@ -2,17 +2,20 @@
 //!
 //! Each consists of calls for one entry, and other threads may change the maps between these. So
 //! contracts describe the history: which entries were stored, and in which order.
-ghost use Rattle.std.specs.Prelude.{◌≡◌, ℕ, [], IfOk, IfErr, None};
+ghost use Rattle.std.specs.Prelude.{◌≡◌, ℕ, [], IfOk, IfErr, None, map};
 ghost use Rattle.std.specs.Iterator.{IsFiniteIterable};
 ghost use mathlib.Core.List.{IsPrefix};
 ghost use Rattle.papaya_words.specs.declared.limits.TheConstants.{DEFAULT_CHUNK, DEFAULT_SHARDS};
 ghost use Rattle.papaya_change.specs.Writing.{IsMemoryOrCapacity};
-ghost use Rattle.papaya_map.specs.Collected.{AreStored};
-ghost use Rattle.papaya_map.specs.Fixed.{HasFirstTable, HasSettingsOf, IsFor};
+ghost use Rattle.papaya_map.specs.Collected.{AreCloned, AreCopied, AreStored, Stores};
+ghost use Rattle.papaya_map.specs.Fixed.{HasFirstTable, HasLearned, HasSettingsOf, IsFor};
 ghost use Rattle.papaya_map.specs.Limited.{IsPlainRefusal};
-ghost use Rattle.papaya_seq.specs.Entries.{AllCome};
+ghost use Rattle.papaya_map.specs.Plain.{IsOfHistorySince, unpinned};
+ghost use Rattle.papaya_seq.specs.Entries.{AllCome, ComesNext};
+ghost use Rattle.papaya_seq.specs.Map.{deref_pair};
 
 use crate::map::{HashMap, Pass};
+use crate::told::Told;
 use papaya_words::probe::{Refused, ResizeMode};
 use std::alloc::Global;
 use std::hash::{BuildHasher, BuildHasherDefault, FoldHasher, Hash};
@@ -35,10 +38,17 @@ impl<K: Hash + Eq + Drop, V: Drop, S: BuildHasher> HashMap<K, V, S> {
         U::IntoIter: Drop,
         requires { IsFiniteIterable U.into_iter_gives U.IntoIter.can_next U.IntoIter.remaining
             iter }
-        ensures { IfErr result (IsPlainRefusal self.now.begun.limit) }
+        ensures stored { IsOfHistorySince (unpinned self.now) K.eq (λ h. Stores K.eq
+            U.into_iter_gives U.IntoIter.next_gives (λ items. items) iter self.now.seen h result) }
+        ensures refused { IfErr result (IsPlainRefusal self.now.begun.limit) }
     {
-        let mut pass = self.pass();
-        self.extend_as(rt, iter, &mut pass)
+        let mut pass = self.begun(Some(self.number()));
+        let answer = self.extend_as(rt, iter, &mut pass);
+        let Told {
+            answer: _,
+            marker: _,
+        } = pass.tell(());
+        answer
     }
 
     /// Performs [`HashMap::extend`] by a pass.
@@ -57,6 +67,8 @@ impl<K: Hash + Eq + Drop, V: Drop, S: BuildHasher> HashMap<K, V, S> {
         ensures seen { IsPrefix pass.old.history pass.new.history }
         ensures stored { IfOk result (λ _. AllCome U.into_iter_gives U.IntoIter.next_gives iter
             (λ items. AreStored K.eq items pass.old.history pass.new.history)) }
+        ensures cut { IfErr result (λ _. ComesNext U.into_iter_gives U.IntoIter.next_gives iter
+            (λ items item. AreStored K.eq items pass.old.history pass.new.history)) }
         ensures refused { IfErr result (IsPlainRefusal self.now.begun.limit) }
     {
         for (key, value) in iter {
@@ -86,12 +98,46 @@ impl<K: Hash + Eq + Copy + Drop, V: Copy + Drop, S: BuildHasher> HashMap<K, V, S
         U::IntoIter: Drop,
         requires { IsFiniteIterable U.into_iter_gives U.IntoIter.can_next U.IntoIter.remaining
             iter }
-        ensures { IfErr result (IsPlainRefusal self.now.begun.limit) }
+        ensures stored { IsOfHistorySince (unpinned self.now) K.eq (λ h. Stores K.eq
+            U.into_iter_gives U.IntoIter.next_gives (map deref_pair) iter self.now.seen h result) }
+        ensures refused { IfErr result (IsPlainRefusal self.now.begun.limit) }
     {
-        let mut pass = self.pass();
+        let mut pass = self.begun(Some(self.number()));
+        let answer = self.extend_ref_as(rt, iter, &mut pass);
+        let Told {
+            answer: _,
+            marker: _,
+        } = pass.tell(());
+        answer
+    }
+
+    /// Performs [`HashMap::extend_ref`] by a pass.
+    fn extend_ref_as<'a, R: Wait, U: IntoIterator<Item = (&'a K, &'a V)>>(
+        &self,
+        rt: &R,
+        iter: U,
+        pass: &mut Pass<K, V, S>,
+    ) -> Result<(), Refused>
+    where
+        K: 'a,
+        V: 'a,
+        U::IntoIter: Drop,
+        requires iter { IsFiniteIterable U.into_iter_gives U.IntoIter.can_next U.IntoIter.remaining
+            iter }
+        requires book { pass.old.book ≡ self.now.book }
+        ensures book { pass.new.book ≡ pass.old.book }
+        ensures seen { IsPrefix pass.old.history pass.new.history }
+        ensures stored { IfOk result (λ _. AllCome U.into_iter_gives U.IntoIter.next_gives iter
+            (λ items. AreStored K.eq (map deref_pair items) pass.old.history pass.new.history)) }
+        ensures cut { IfErr result (λ _. ComesNext U.into_iter_gives U.IntoIter.next_gives iter
+            (λ items item. AreStored K.eq (map deref_pair items) pass.old.history
+            pass.new.history)) }
+        ensures refused { IfErr result (IsPlainRefusal self.now.begun.limit) }
+    {
         for (key, value) in iter {
-            if let Err(refused) = self.pin().insert_as(rt, *key, *value, &mut pass) {
-                return Err(refused);
+            match self.pin().insert_as(rt, *key, *value, pass) {
+                Ok(_) => {}
+                Err(refused) => return Err(refused),
             }
         }
         Ok(())
@@ -188,23 +234,54 @@ impl<K: Hash + Eq, V: PartialEq, S: BuildHasher> HashMap<K, V, S> {
 }
 
 impl<K: Hash + Eq + Clone + Drop, V: Clone + Drop, S: BuildHasher> HashMap<K, V, S> {
-    /// Stores clones of this map's entries in another one. Fails with `Refused::Memory` also if a
-    /// clone is not made.
-    fn copy_into<R: Wait>(&self, rt: &R, copy: &HashMap<K, V, S>) -> Result<(), Refused>
-        ensures { IfErr result (IsPlainRefusal copy.now.begun.limit) }
+    /// Inserts clones of an iterator's entries in its order, by a pass. Fails with
+    /// `Refused::Memory` also if a clone is not made.
+    fn extend_clones_as<'a, R: Wait, U: IntoIterator<Item = (&'a K, &'a V)>>(
+        &self,
+        rt: &R,
+        iter: U,
+        pass: &mut Pass<K, V, S>,
+    ) -> Result<(), Refused>
+    where
+        K: 'a,
+        V: 'a,
+        U::IntoIter: Drop,
+        requires iter { IsFiniteIterable U.into_iter_gives U.IntoIter.can_next U.IntoIter.remaining
+            iter }
+        requires book { pass.old.book ≡ self.now.book }
+        ensures book { pass.new.book ≡ pass.old.book }
+        ensures copied { IfOk result (λ _. AllCome U.into_iter_gives U.IntoIter.next_gives iter
+            (λ items. AreCloned K.eq K.is_clone V.is_clone (map deref_pair items) pass.old.history
+            pass.new.history)) }
+        ensures refused { IfErr result (IsPlainRefusal self.now.begun.limit) }
     {
-        let mut pass = copy.pass();
-        for (key, value) in self.pin().iter(rt)? {
-            let Ok(key) = key.clone() else {
+        for (key, value) in iter {
+            let Ok(own_key) = key.clone() else {
                 return Err(Refused::Memory);
             };
-            let Ok(value) = value.clone() else {
+            let Ok(own_value) = value.clone() else {
                 return Err(Refused::Memory);
             };
-            if let Err(refused) = copy.pin().insert_as(rt, key, value, &mut pass) {
-                return Err(refused);
+            match self.pin().insert_as(rt, own_key, own_value, pass) {
+                Ok(_) => {}
+                Err(refused) => return Err(refused),
             }
         }
+        Ok(())
+    }
+
+    /// Stores clones of this map's entries in another one. Fails with `Refused::Memory` also if a
+    /// clone is not made.
+    fn copy_into<R: Wait>(&self, rt: &R, copy: &mut HashMap<K, V, S>) -> Result<(), Refused>
+        ensures same { IfOk result (λ _. HasLearned copy.old copy.new) }
+        ensures copied { IfOk result (λ _. AreCopied K.eq K.is_clone V.is_clone self.now.book []
+            copy.new.seen) }
+        ensures refused { IfErr result (IsPlainRefusal copy.old.begun.limit) }
+    {
+        let mut pass = copy.pass();
+        let pairs = self.pin().iter(rt)?;
+        copy.extend_clones_as(rt, pairs, &mut pass)?;
+        copy.learn(&pass);
         Ok(())
     }
 }
@@ -226,13 +303,15 @@ impl<K: Hash + Eq + Clone + Drop, V: Clone + Drop, S: BuildHasher + Clone + Drop
         ensures made { IfOk result (λ map. (pairs : ℕ)
             × IsFor (ResizeMode.Incremental DEFAULT_CHUNK) pairs DEFAULT_SHARDS None map) }
         ensures hasher { IfOk result (λ map. S.is_clone self.now.begun.hasher map.begun.hasher) }
+        ensures copied { IfOk result (λ map. AreCopied K.eq K.is_clone V.is_clone self.now.book []
+            map.seen) }
         ensures refused { IfErr result IsMemoryOrCapacity }
     {
         let Ok(hasher) = self.book.parts.hasher.clone() else {
             return Err(Refused::Memory);
         };
-        let copy = HashMap::with_capacity_and_hasher(rt, alloc, self.len(), hasher)?;
-        self.copy_into(rt, &copy)?;
+        let mut copy = HashMap::with_capacity_and_hasher(rt, alloc, self.len(), hasher)?;
+        self.copy_into(rt, &mut copy)?;
         Ok(copy)
     }
 
@@ -259,11 +338,13 @@ impl<K: Hash + Eq + Clone + Drop, V: Clone + Drop, S: BuildHasher + Clone + Drop
         ensures hasher { IfOk result (λ _. S.is_clone self.old.begun.hasher
             self.new.begun.hasher) }
         ensures opened { IfOk result (λ _. HasFirstTable self.new) }
+        ensures copied { IfOk result (λ _. AreCopied K.eq K.is_clone V.is_clone self.old.book []
+            self.new.seen) }
         ensures err { IfErr result (λ refused. IsPlainRefusal self.old.begun.limit refused
             × (self.new ≡ self.old)) }
     {
-        let fresh = self.anew(rt)?;
-        self.copy_into(rt, &fresh)?;
+        let mut fresh = self.anew(rt)?;
+        self.copy_into(rt, &mut fresh)?;
         *self = fresh;
         Ok(())
     }

@@ -135,14 +135,12 @@ fn compute_slow<
     let book = window.book;
     let mut computing = machine_of(window, means.initial, start);
     for _ in means.rt.forever() {
-        match computing.turn(means.rt, means.alloc, means.shard, window) {
-            Next::Answered(answer) => {
-                computing.tell(means.rt, means.alloc, means.shard, answer, window)
-            }
+        match computing.turn(means, window) {
+            Next::Answered(answer) => computing.tell(means, answer, window),
             Next::Shows(shown) => {
                 let operation = operate(book, &shown, f);
                 let answer = computing.hear(shown, operation);
-                computing.tell(means.rt, means.alloc, means.shard, answer, window);
+                computing.tell(means, answer, window);
             }
             Next::Replied => {
                 *given = computing.writer.call.copier.given.again();

@@ -6,8 +6,8 @@
 //! let read = session.get(&1); // the map's value at some point after that insertion
 //! ```
 //!
-//! - [`map`] has the map, its passes, and the calls of a pinned map or with a guard, a file for
-//!   each kind. [`map::making`] has the constructors.
+//! - [`map`] has the map, and the calls of a pinned map or with a guard, a file for each kind.
+//!   [`map::making`] has the constructors, and [`pass`] the pass.
 //! - [`session`] has the session, one thread's access to the map, and its calls. A call of a pinned
 //!   map or with a guard creates a pass or a session for itself. Six calls take a pass of their
 //!   caller (`get_as` and its like), and the session's calls of that name call them.
@@ -25,6 +25,7 @@ pub mod builder;
 pub mod collecting;
 mod computing;
 pub mod map;
+pub mod pass;
 mod printing;
 pub mod session;
 pub mod told;

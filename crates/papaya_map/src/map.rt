@@ -1,13 +1,11 @@
-//! The map that threads share, and the passes of its callers.
+//! The map that threads share, and how it is pinned.
 ghost use Rattle.std.specs.Prelude.{◌≡◌, []};
 ghost use Rattle.std.specs.Int.{IsPowerOfTwo};
 ghost use mathlib.Core.List.{IsPrefix};
 ghost use Rattle.papaya_book.specs.Limits.{tables_of};
-ghost use Rattle.papaya_book.specs.Logs.{state_of};
 ghost use Rattle.papaya_book.specs.Parts.{begun_of};
-ghost use Rattle.papaya_book.specs.Windows.{IsLawful};
 ghost use Rattle.papaya_lookup.specs.Drivers.{own, past};
-ghost use Rattle.papaya_lookup.specs.History.{IsLegalHistory, Past, changes_by, history_of, key_of};
+ghost use Rattle.papaya_lookup.specs.History.{IsLegalHistory, history_of, key_of};
 ghost use Rattle.papaya_map.specs.Fixed.{Fixed, HasLearned, Pinned};
 ghost use Rattle.papaya_map.specs.Powers.{IsPowerOfTwo-prop};
 
@@ -23,14 +21,11 @@ mod sizes;
 mod told;
 mod updating;
 
-use crate::told::{Told, tell};
+pub use crate::pass::Pass;
 use papaya_book::book::Book;
 use papaya_book::book::kept::KeptRoot;
 use papaya_book::count::Count;
-use papaya_book::rule::entry::{Event, Named, Step};
-use papaya_book::rule::law::Law;
 use papaya_book::rule::offer::Seen;
-use papaya_book::rule::own::{CapacityCause, OwnSteps};
 use papaya_book::window::Window;
 use papaya_keys::guard::{Collector, Guard};
 use std::alloc::Global;
@@ -67,72 +62,6 @@ impl<K: Hash + Eq, V, S: BuildHasher> Model for HashMap<K, V, S> {
     } };
 
     ghost invariant = { λ m. IsLegalHistory K.eq key_of (history_of m.opened.log) };
-}
-
-/// The part of a map's history that a caller has observed, and the caller's own changes. At run
-/// time it holds only a number, by which its calls pick a shard of the map's count. Contracts
-/// observe the history, which is legal, the changes made by this pass, oldest first, and the book
-/// of both. They see the number of slots of each table that the pass has observed, oldest
-/// first. If its last change failed with `Refused::Capacity`, they see the number that a full
-/// arena of tables gave. Or they see the sum of the map's count by which the table after one of
-/// those would be too long. For a map with a limit on entries they see how many numbers were
-/// taken for entries.
-///
-/// Each call by a pass takes effect after all that the pass had observed before. Afterwards the
-/// pass has observed the call's own point in time. A call that changes the map makes one change by
-/// its pass, and any other call makes none.
-#[derive(Drop)]
-pub struct Pass<K: Hash + Eq, V, S: BuildHasher> {
-    pub(crate) number: Option<u64>,
-    pub(crate) sight: Seen<K, V, S>,
-    own: OwnSteps<Step<K, V>>,
-    pub(crate) given: OwnSteps<CapacityCause>,
-}
-
-impl<K: Hash + Eq, V, S: BuildHasher> Model for Pass<K, V, S> {
-    ghost Value = { Past K V };
-
-    ghost view = { λ p. record {
-      book = p.sight.book;
-      history = history_of p.sight.log;
-      made = changes_by p.own.done;
-      tables = tables_of p.sight.log;
-      given = p.given.done;
-      taken = (state_of p.sight.log).made;
-    } };
-
-    ghost invariant = { λ p. IsLegalHistory K.eq key_of (history_of p.sight.log) };
-}
-
-impl<K: Hash + Eq, V, S: BuildHasher> Pass<K, V, S> {
-    /// Returns a result, with evidence of the history that the pass has observed, and with the
-    /// changes made by it. A call that creates its own pass shows by this which history its result
-    /// is of, and which changes it made: see [`Told`].
-    #[inline(always)]
-    pub fn tell<B>(&self, answer: B) -> Told<B, Event<K, V, S>, Named<K, V>, Law<K, V, S>>
-        ensures answer { result.answer ≡ answer }
-        ensures book { result.book ≡ self.now.book }
-        ensures history { history_of result.log ≡ self.now.history }
-        ensures legal { IsLegalHistory K.eq key_of (history_of result.log) }
-        ensures made { history_of result.made ≡ self.now.made }
-    {
-        tell(answer, &self.sight, &self.own)
-    }
-
-    /// Takes over what a call observed and did through its window. Does nothing at run time.
-    #[inline(always)]
-    pub(crate) fn keep(&mut self, window: Window<'_, K, V, S>)
-        requires { IsLawful window }
-        ensures book { self.new.book ≡ window.entry.book.now.begun.book }
-        ensures history { self.new.history ≡ past window.entry }
-        ensures made { self.new.made ≡ own window.entry }
-        ensures tables { self.new.tables ≡ tables_of window.entry.sight.log }
-        ensures taken { self.new.taken ≡ (state_of window.entry.sight.log).made }
-        ensures given { self.new.given ≡ self.old.given }
-    {
-        self.sight = window.sight;
-        self.own = window.own;
-    }
 }
 
 /// A pinned map, on which calls are made. References that it returns live as long as the map. It
@@ -236,7 +165,7 @@ impl<K: Hash + Eq, V, S: BuildHasher> HashMap<K, V, S> {
     /// Records in the map what a pass has observed, as if the map had been made with that: each
     /// later pin has observed it too. A call that fills a new map uses this. Does nothing at run
     /// time.
-    pub(crate) fn learn(&mut self, pass: &Pass<K, V, S>)
+    pub fn learn(&mut self, pass: &Pass<K, V, S>)
         requires { pass.now.book ≡ self.old.book }
         ensures same { HasLearned self.old self.new }
         ensures passed { IsPrefix pass.now.history self.new.seen }
@@ -254,12 +183,7 @@ impl<K: Hash + Eq, V, S: BuildHasher> HashMap<K, V, S> {
         ensures given { result.given ≡ [] }
     {
         let sight = self.book.unseen();
-        Pass {
-            number: Some(number),
-            sight,
-            own: OwnSteps::nothing(),
-            given: OwnSteps::nothing(),
-        }
+        Pass::new(Some(number), sight)
     }
 
     /// Returns a new pass of this map, which has observed the history up to the map's creation. Its
@@ -272,12 +196,7 @@ impl<K: Hash + Eq, V, S: BuildHasher> HashMap<K, V, S> {
         ensures made { result.made ≡ [] }
         ensures given { result.given ≡ [] }
     {
-        Pass {
-            number,
-            sight: self.opened.again(),
-            own: OwnSteps::nothing(),
-            given: OwnSteps::nothing(),
-        }
+        Pass::new(number, self.opened.again())
     }
 }
 
@@ -339,26 +258,24 @@ impl<'a, K: Hash + Eq, V, S: BuildHasher> HashMapRef<'a, K, V, S> {
         ensures made { result.made ≡ [] }
         ensures given { result.given ≡ [] }
     {
-        Pass {
-            number,
-            sight: self.seen.again(),
-            own: OwnSteps::nothing(),
-            given: OwnSteps::nothing(),
-        }
+        Pass::new(number, self.seen.again())
     }
 
-    /// Returns a window for a call by this pass, which has observed what the pass has.
+    /// Returns a window for a call by this pass, which has observed what the pass has. It takes the
+    /// list of the pass's changes, which [`Pass::keep`] puts back.
     #[inline(always)]
-    pub(crate) fn window(&self, pass: &Pass<K, V, S>) -> Window<'a, K, V, S>
-        requires { pass.now.book ≡ self.now.map.book }
-        ensures book { result.book.now.begun.book ≡ pass.now.book }
+    pub(crate) fn window(&self, pass: &mut Pass<K, V, S>) -> Window<'a, K, V, S>
+        requires { pass.old.book ≡ self.now.map.book }
+        ensures book { result.book.now.begun.book ≡ pass.old.book }
         ensures begun { begun_of result.book.now.parts ≡ self.now.map.begun }
-        ensures history { past result ≡ pass.now.history }
-        ensures made { own result ≡ pass.now.made }
-        ensures tables { tables_of result.sight.log ≡ pass.now.tables }
+        ensures history { past result ≡ pass.old.history }
+        ensures made { own result ≡ pass.old.made }
+        ensures tables { tables_of result.sight.log ≡ pass.old.tables }
+        ensures rest { (pass.new.book ≡ pass.old.book) × (pass.new.history ≡ pass.old.history)
+            × (pass.new.tables ≡ pass.old.tables) × (pass.new.given ≡ pass.old.given) }
     {
         let map = self.map;
-        Window::new(&map.book, &self.kept, &pass.sight, &pass.own)
+        pass.window(&map.book, &self.kept)
     }
 
     /// Shares what two passes of this map have observed. Afterwards both have observed one history,

@@ -2,7 +2,6 @@
 //! map.
 use crate::map::{HashMap, HashMapRef, Pass};
 use crate::session::Session;
-use papaya_book::rule::own::OwnSteps;
 use papaya_book::window::Window;
 use papaya_scan::printing::{print, print_keys};
 use std::fmt;
@@ -12,7 +11,7 @@ impl<K: Hash + Eq + fmt::Debug, V: fmt::Debug, S: BuildHasher> fmt::Debug for Ha
     /// Prints the entries. It never waits, locks or allocates, and copies no table.
     fn fmt<W: fmt::Write>(&self, f: &mut fmt::Formatter<W>) -> fmt::Result {
         let kept = self.book.keep_root();
-        let mut window = Window::new(&self.book, &kept, &self.book.unseen(), &OwnSteps::nothing());
+        let mut window = Window::new(&self.book, &kept, &self.book.unseen());
         print(&mut window, f)
     }
 }
@@ -22,7 +21,7 @@ impl<K: Hash + Eq + fmt::Debug, V, S: BuildHasher> HashMap<K, V, S> {
     /// and copies no table.
     pub fn print_keys<W: fmt::Write>(&self, f: &mut fmt::Formatter<W>) -> fmt::Result {
         let kept = self.book.keep_root();
-        let mut window = Window::new(&self.book, &kept, &self.book.unseen(), &OwnSteps::nothing());
+        let mut window = Window::new(&self.book, &kept, &self.book.unseen());
         print_keys(&mut window, f)
     }
 }

@@ -12,9 +12,9 @@ use papaya_testing::times::APART;
 use papaya_words::probe::ResizeMode;
 use std::test::Fail;
 
-/// A slot of a table has 16 bytes. The first table has 32 slots, and the next one is written ahead
+/// The word of a slot has 8 bytes. The first table has 32 slots, and the next one is written ahead
 /// with as many while there are less than 16 pairs.
-const TABLE: usize = 32 * 16;
+const TABLE: usize = 32 * 8;
 
 /// Seven pairs fill the first places of one path. Then four threads insert keys, each at first one
 /// of that path, and so finds the table crowded. The keys of the others need several tables.

@@ -14,6 +14,7 @@ use crate::told::Told;
 use logbook::Rule;
 use papaya_book::rule::entry::{Event, Named};
 use papaya_book::rule::law::Law;
+use papaya_change::means::Means;
 use papaya_keys::guard::Guard;
 use papaya_scan::root::take_root;
 use papaya_scan::walk::{Iter, Keys, Values};
@@ -92,16 +93,15 @@ impl<'a, K: Hash + Eq, V, S: BuildHasher> HashMapRef<'a, K, V, S> {
     {
         let map = self.map;
         let shard = map.count.shard(pass.number);
+        let means = Means {
+            rt,
+            alloc: map.alloc,
+            initial: map.initial,
+            shard: &shard,
+        };
         let mut window = self.window(pass);
         let began = window.sight.again();
-        let taken = take_root(
-            rt,
-            map.alloc,
-            map.initial,
-            &shard,
-            &mut window,
-            &mut pass.given,
-        );
+        let taken = take_root(&means, &mut window, &mut pass.given);
         let (book, seen) = (window.book, window.sight.again());
         pass.keep(window);
         match taken {

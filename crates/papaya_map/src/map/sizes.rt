@@ -34,7 +34,8 @@ impl<'a, K: Hash + Eq, V, S: BuildHasher> HashMapRef<'a, K, V, S> {
 
     /// Returns the number of slots of the current root table, or 0 if there is none yet.
     pub fn slots(&self) -> usize {
-        let mut window = self.window(&self.begun(None));
+        let mut pass = self.begun(None);
+        let mut window = self.window(&mut pass);
         let (_, root) = window.root();
         match root {
             Some(table) => table.len(),
@@ -44,7 +45,8 @@ impl<'a, K: Hash + Eq, V, S: BuildHasher> HashMapRef<'a, K, V, S> {
 
     /// Returns whether entries are being moved to a next table now.
     pub fn resizing(&self) -> bool {
-        let mut window = self.window(&self.begun(None));
+        let mut pass = self.begun(None);
+        let mut window = self.window(&mut pass);
         let (number, root) = window.root();
         let Some(table) = root else {
             return false;

@@ -6,6 +6,7 @@ ghost use Rattle.papaya_change.specs.Writing.{IsMemoryOrCapacity};
 
 use crate::session::Session;
 use papaya_chain::resizer::Resize;
+use papaya_change::means::Means;
 use papaya_change::resizing::resize;
 use papaya_words::probe::Refused;
 use std::hash::{BuildHasher, Hash};
@@ -34,16 +35,15 @@ impl<'a, K: Hash + Eq, V, S: BuildHasher> Session<'a, K, V, S> {
         let Session { map: pinned, pass } = self;
         let map = pinned.map;
         let shard = map.count.shard(pass.number);
-        let mut window = pinned.window(pass);
-        let reserved = resize(
+        let means = Means {
             rt,
-            map.alloc,
-            map.initial,
-            &shard,
-            &mut window,
-            &mut pass.given,
-            Resize::Reserve(additional),
-        );
+            alloc: map.alloc,
+            initial: map.initial,
+            shard: &shard,
+        };
+        let mut window = pinned.window(pass);
+        let resize_to = Resize::Reserve(additional);
+        let reserved = resize(&means, &mut window, &mut pass.given, resize_to);
         pass.keep(window);
         reserved
     }

@@ -7,6 +7,7 @@ ghost use Rattle.papaya_change.specs.Writing.{IsMemoryOrCapacity};
 ghost use Rattle.papaya_scan.specs.Leaving.{HasDropped, HasKept, IsCleared};
 
 use crate::session::Session;
+use papaya_change::means::Means;
 use papaya_scan::retain::retain;
 use papaya_scan::walk::{Iter, Keys, Values};
 use papaya_words::probe::Refused;
@@ -47,16 +48,14 @@ impl<'a, K: Hash + Eq, V, S: BuildHasher> Session<'a, K, V, S> {
         let Session { map: pinned, pass } = self;
         let map = pinned.map;
         let shard = map.count.shard(pass.number);
-        let mut window = pinned.window(pass);
-        let retained = retain(
+        let means = Means {
             rt,
-            map.alloc,
-            map.initial,
-            &shard,
-            &mut window,
-            &mut pass.given,
-            stays,
-        );
+            alloc: map.alloc,
+            initial: map.initial,
+            shard: &shard,
+        };
+        let mut window = pinned.window(pass);
+        let retained = retain(&means, &mut window, &mut pass.given, stays);
         pass.keep(window);
         retained
     }

@@ -1,6 +1,6 @@
 use Rattle.std.proofs.Common.{◌∙◌}
 use Rattle.papaya_book.proofs.Logs.{prefix_trans}
-use Rattle.papaya_map.proofs.Collected.{prefix_itself, stored_more, stored_on}
+use Rattle.papaya_map.proofs.Collected.{prefix_itself, stored_more, stored_on, stored_until}
 use Rattle.papaya_map.proofs.map.HashMap.extend_as.Goals as goal
 
 pub loop-key-init : goal.loop-key-init
@@ -33,3 +33,19 @@ returns-clause-stored g c = record {
   came = c.loop-key.yielded_by;
   is = (c.next.new.self, c.in-None.ensures.steps, c.loop-key.invariant.1);
 }
+
+pub returns-in-Err-clause-cut : goal.returns-in-Err-clause-cut
+returns-in-Err-clause-cut g c =
+    let l = c.loop-key in record {
+      first = c.into_iter-key-iterator.result;
+      made = c.into_iter-key-iterator.ensures.into_iter_gives;
+      items = l.yielded;
+      left = l.key-iterator;
+      came = l.yielded_by;
+      is = (
+        (c.in-Some.key, c.in-Some.value),
+        c.next.new.self,
+        c.in-Some.ensures.steps,
+        stored_until g.K.PartialEq.eq l.yielded c.args.pass.now.history l.pass.history c.insert_as.new.pass.history l.invariant.1 c.insert_as.ensures.seen,
+      );
+    }
