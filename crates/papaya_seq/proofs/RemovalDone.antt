@@ -16,10 +16,10 @@ use Rattle.papaya_store.specs.Store.{StoreState}
 use Rattle.papaya_timeline.specs.Advances.{reply_in}
 use Rattle.papaya_seq.specs.MadeAlone.{IsRemovalMade}
 use Rattle.papaya_seq.specs.Map.{IsLawfulMap, IsResizing, KeepsRemoving, MapState, next_of}
-use Rattle.papaya_seq.specs.Removes.{IsRemovalBy, Judges}
+use Rattle.papaya_seq.specs.Removes.{IsCalledFor, IsRemovalBy, Judges}
 use Rattle.papaya_seq.specs.Resizes.{IsCopyCause}
 use Rattle.papaya_seq.proofs.Alone.{map_answered, map_lawful}
-use Rattle.papaya_seq.proofs.RemovalReply.{removal_done, removal_none}
+use Rattle.papaya_seq.proofs.RemovalReply.{called_for, called_none, removal_done, removal_none}
 use Rattle.papaya_seq.proofs.RemovalRun.{matched_judged, matched_over}
 use Rattle.papaya_seq.proofs.RemovalWays.{HasMatch, HasNoMatch, IsQuery, IsUnderWay, key_by, key_of, slots_kept, unrefused}
 use Rattle.papaya_seq.proofs.Removing.{log_kept, removal_by}
@@ -28,8 +28,9 @@ use Rattle.papaya_seq.proofs.Turns.{IsOver}
 
 -- what it did, that it is refused for a cause alone, and what stays
 pub record RemovalDone {K V S F : Type 0} (g : Mut F (Bor K × (Bor V × Unit {0})) Bool) (eq : K → K → Bool) (hash : S → K → ℕ) (matches : K → Bool)
-    (map : MapState K V S) (agrees : F) (reply : Reply) (s' : MapState K V S) : Type 0 where
+    (map : MapState K V S) (agrees f : F) (reply : Reply) (s' : MapState K V S) : Type 0 where
   pub whole : IsRemovalBy eq matches (Judges g agrees) map.store reply s'.store
+  pub called : IsCalledFor g map.store reply agrees f
   pub cause : (refused : Refused) → reply ≡ Reply_refused refused → IsCopyCause map refused s'
   pub keeps : KeepsRemoving map s'
   pub alone : IsRemovalMade eq hash matches map reply s'
@@ -56,7 +57,7 @@ module _ {K V S H F : Type 0} (g : Mut F (Bor K × (Bor V × Unit {0})) Bool) (e
       by_next (inl single) = absurd (unrefused g eq hash matches hashed map agrees later f m now query single refused told)
       by_next (inr moves) = moves
 
-  pub removal_finished : RemovalDone g eq hash matches map agrees reply (record map { store = later })
+  pub removal_finished : RemovalDone g eq hash matches map agrees f reply (record map { store = later })
   removal_finished = record {
     whole = record {
       removal = ⊎_elim
@@ -65,18 +66,25 @@ module _ {K V S H F : Type 0} (g : Mut F (Bor K × (Bor V × Unit {0})) Bool) (e
           (map_answered eq input build write finish classes respects map (removal_by has.one.pair.key) reply later query.lawful (made has))
           (matched_judged g eq hash matches hashed map agrees has.one.pair.key (key_of g eq hash matches hashed map agrees query has.one) later f m
           has.run reply ends))
-          (λ (lacks : HasNoMatch g eq hash matches hashed map agrees later m).
+          (λ (lacks : HasNoMatch g eq hash matches hashed map agrees later f m).
           removal_none eq matches (Judges g agrees) map.store later reply lacks.none
           (seek_ends eq hash g matches map hashed later m lacks.seeking reply (ap reply_in ends)) lacks.seeking.same)
           (now.way query);
     };
+    called = ⊎_elim
+        (λ (has : HasMatch g eq hash matches hashed map agrees later f m).
+        called_for g matches map.store agrees f reply (matched_judged g eq hash matches hashed map agrees has.one.pair.key
+        (key_of g eq hash matches hashed map agrees query has.one) later f m has.run reply ends))
+        (λ (lacks : HasNoMatch g eq hash matches hashed map agrees later f m).
+        called_none g map.store agrees f reply (seek_ends eq hash g matches map hashed later m lacks.seeking reply (ap reply_in ends)) lacks.uncalled)
+        (now.way query);
     cause = λ refused is. let told = ends ∙ ap (λ r. asks.Call (Ask_done r)) is in (moving refused told, now.refusal query refused (ap reply_in told));
     keeps = (
       record { hasher = now.log.hasher; mode = refl; initial = refl; pairs = λ n p e. log_kept map.store later now.log n ∙ e },
       λ single. slots_kept g eq hash matches hashed map agrees later f m now query single,
       ⊎_elim
           (λ (has : HasMatch g eq hash matches hashed map agrees later f m). has.run.came.long.made)
-          (λ (lacks : HasNoMatch g eq hash matches hashed map agrees later m). lacks.seeking.long.made)
+          (λ (lacks : HasNoMatch g eq hash matches hashed map agrees later f m). lacks.seeking.long.made)
           (now.way query),
     );
     alone = λ k matched. record {
@@ -86,7 +94,7 @@ module _ {K V S H F : Type 0} (g : Mut F (Bor K × (Bor V × Unit {0})) Bool) (e
     orderly = ⊎_elim
         (λ (has : HasMatch g eq hash matches hashed map agrees later f m).
         map_lawful eq input build write finish classes respects map (removal_by has.one.pair.key) reply later query.lawful (made has))
-        (λ (lacks : HasNoMatch g eq hash matches hashed map agrees later m).
+        (λ (lacks : HasNoMatch g eq hash matches hashed map agrees later f m).
         seek_lawful eq hash map hashed query.keys query.fits query.lawful later m lacks.seeking)
         (now.way query);
   }

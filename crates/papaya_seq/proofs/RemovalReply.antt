@@ -14,7 +14,7 @@ use Rattle.papaya_timeline.specs.Solo.{IsAnswered}
 use Rattle.papaya_store.specs.Store.{StoreState, Stored, pair_of}
 use Rattle.papaya_timeline.proofs.SoloTimeline.{lookup_alike}
 use Rattle.papaya_seq.specs.Map.{Removes, Unchanged}
-use Rattle.papaya_seq.specs.Removes.{IsHeld, IsRemoval, Judges}
+use Rattle.papaya_seq.specs.Removes.{IsCalledFor, IsHeld, IsRemoval, Judges}
 use Rattle.papaya_seq.proofs.Lawful.{MatchesNone, logged_content, lookup_has_none, lookup_holds, none_held}
 use Rattle.papaya_seq.proofs.RemovalTurns.{IsJudged}
 use Rattle.papaya_seq.proofs.Removing.{removal_by}
@@ -55,8 +55,10 @@ module _ {K V S F : Type 0} (g : Mut F (Bor K × (Bor V × Unit {0})) Bool) (eq 
   -- the closure judged that very pair
   said : (p : Stored K V) (n : ℕ) (answered : Bool) → pair_of s n ≡ Some p → IsJudged g matches s agrees (Some (Agrees n answered)) f
       → Judges g agrees p answered
-  said p n answered logged (q, there, judges) = let is : Some q ≡ Some p = sym there ∙ logged in let same : q ≡ p = cc in
-      subst (λ (y : Stored K V). Judges g agrees y answered) same judges
+  said p n answered logged (q, there, judges) =
+      let (key, value, key_is, value_is, called) = judges in
+      let is : Some q ≡ Some p = sym there ∙ logged in let same : q ≡ p = cc in
+      subst (λ (y : Stored K V). Judges g agrees y answered) same (key, value, f, key_is, value_is, called)
 
   -- it went
   removes : (p : Stored K V) → IsUpdate eq k (Some p) None (map_in eq s) (map_in eq s') → Removes eq matches s p s'
@@ -139,3 +141,26 @@ module _ {K V S F : Type 0} (g : Mut F (Bor K × (Bor V × Unit {0})) Bool) (eq 
   removal_done (Inserted n) answered judged = absurd (inserted_not n answered.went answered.came answered.does)
   removal_done (Replaced m n) answered judged = absurd (replaced_not m n answered.went answered.came answered.does)
   removal_done (Occupied n) answered judged = absurd (occupied_not n answered.went answered.came answered.does)
+
+-- the closure was called for what was replied
+pub called_for : {K V S F : Type 0} (g : Mut F (Bor K × (Bor V × Unit {0})) Bool) (matches : K → Bool) (s : StoreState K V S) (agrees f : F)
+    (reply : Reply) → IsJudged g matches s agrees (said_of_removal reply) f → IsCalledFor g s reply agrees f
+called_for g matches s agrees f Absent judged = judged
+called_for g matches s agrees f (Removed n) judged = judged
+called_for g matches s agrees f (Kept n) judged = judged
+called_for g matches s agrees f (Refused refused) judged = judged
+called_for g matches s agrees f (Aborted t) judged = judged
+called_for g matches s agrees f Done judged = judged
+called_for g matches s agrees f (Found n) judged = judged
+called_for g matches s agrees f (Inserted n) judged = judged
+called_for g matches s agrees f (Replaced m n) judged = judged
+called_for g matches s agrees f (Occupied n) judged = judged
+
+-- and where no pair was found, it was not called
+pub called_none : {K V S F : Type 0} (g : Mut F (Bor K × (Bor V × Unit {0})) Bool) (s : StoreState K V S) (agrees f : F) (reply : Reply)
+    → IsAbsentOrRefused reply → f ≡ agrees → IsCalledFor g s reply agrees f
+called_none g s agrees f reply ends same =
+    ⊎_elim
+    (λ (absent : reply ≡ Absent). subst (λ r. IsCalledFor g s r agrees f) (sym absent) same)
+    (λ (refused : (why : Refused_words) × (reply ≡ Refused why)). subst (λ r. IsCalledFor g s r agrees f) (sym refused.1) same)
+    ends

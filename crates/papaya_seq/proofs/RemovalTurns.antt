@@ -9,7 +9,7 @@ use Rattle.papaya_words.specs.declared.probe.ResizeMode.{ResizeMode}
 use Rattle.papaya_words.specs.declared.probe.ResizeMode.TheVariants.{Incremental, Blocking}
 use Rattle.papaya_words.specs.declared.word.Kind.{Kind}
 use Rattle.papaya_words.specs.declared.word.Kind.TheVariants as kinds
-use Rattle.papaya_call.specs.Machine.{IsStandingState, after as call_after, agreed, ask_of as call_ask_of, at_root, goes_as, left, passes, removes}
+use Rattle.papaya_call.specs.Machine.{IsStandingState, after as call_after, agreed, asks as call_asks, ask_of as call_ask_of, at_root, goes_as, left, passes, removes}
 use Rattle.papaya_call.specs.declared.compute.Remembered.{Remembered}
 use Rattle.papaya_call.specs.declared.machine.Machine.{Machine as Call_machine}
 use Rattle.papaya_call.specs.declared.machine.State.{State}
@@ -23,6 +23,7 @@ use Rattle.papaya_call.specs.declared.made.Made.{Made}
 use Rattle.papaya_ask.specs.Search.{at_yes as search_compared, hinted, look}
 use Rattle.papaya_ask.specs.declared.ask.Answer.{Answer as Call_answer}
 use Rattle.papaya_ask.specs.declared.ask.Answer.TheVariants.{Word as Word_read}
+use Rattle.papaya_ask.specs.declared.ask.Ask.TheVariants.{ShowPair}
 use Rattle.papaya_ask.specs.declared.ask.At.TheVariants.{Next, Root, Slot}
 use Rattle.papaya_ask.specs.declared.call.Reply.TheVariants.{Absent}
 use Rattle.papaya_ask.specs.declared.call.Task.{Task}
@@ -45,7 +46,7 @@ use Rattle.papaya_store.specs.Performs.{size_of}
 use Rattle.papaya_store.specs.Store.{StoreState, Stored, pair_of}
 use Rattle.papaya_store.specs.Tables.{hint_at, table_of, word_at}
 use Rattle.papaya_seq.specs.Looks.{matches_in}
-use Rattle.papaya_seq.specs.Removes.{IsRemovalAnswer, IsShown, Judges}
+use Rattle.papaya_seq.specs.Removes.{IsRemovalAnswer, IsShown, JudgesTo}
 use Rattle.papaya_seq.proofs.SeekTurns.{IsAnswered}
 
 -- A state in which a removal stands on nothing that its closure said.
@@ -102,7 +103,7 @@ module _ {K V S F : Type 0} (g : Mut F (Bor K × (Bor V × Unit {0})) Bool) (mat
   -- the closure is as it was handed in, or was called once, at the pair that it answered for
   abbrev pub IsJudged : Option Said → F → Type 0
   IsJudged None f = f ≡ agrees
-  IsJudged (Some (Agrees n answered)) f = (p : Stored K V) × (pair_of first n ≡ Some p) × Judges g agrees p answered
+  IsJudged (Some (Agrees n answered)) f = (p : Stored K V) × (pair_of first n ≡ Some p) × JudgesTo g agrees f p answered
   IsJudged (Some (Inserts shown)) f = ⊥
   IsJudged (Some (Makes shown n)) f = ⊥
   IsJudged (Some (Removes n)) f = ⊥
@@ -110,6 +111,26 @@ module _ {K V S F : Type 0} (g : Mut F (Bor K × (Bor V × Unit {0})) Bool) (mat
   -- as a state of a removal has it
   abbrev pub IsJudgedIn : State → F → Type 0
   IsJudgedIn state f = IsJudged (said_in RemoveIf state) f
+
+  -- one that asks to show a pair has not called its closure
+  pub yet_uncalled : (made : Made) (hashed : ℕ) (state : State) (n : ℕ) → IsStandingState RemoveIf state → call_asks made hashed state ≡ ShowPair n
+      → (f : F) → IsJudgedIn state f → f ≡ agrees
+  yet_uncalled made hashed AtRoot n stands asks f judged = judged
+  yet_uncalled made hashed Making n stands asks f judged = absurd stands
+  yet_uncalled made hashed (Opening t) n stands asks f judged = absurd stands
+  yet_uncalled made hashed (Searching search) n stands asks f judged = judged
+  yet_uncalled made hashed (Writing write) n stands asks f judged = absurd stands.0
+  yet_uncalled made hashed (Offering gap) n stands asks f judged = absurd stands.0
+  yet_uncalled made hashed (Showing removal) n stands asks f judged = judged
+  yet_uncalled made hashed (Pairing purpose) n stands asks f judged = absurd stands.0
+  yet_uncalled made hashed (Putting put) n stands asks f judged = absurd stands.0
+  yet_uncalled made hashed (Burying removal) n stands asks f judged = absurd cc
+  yet_uncalled made hashed (Counting m) n stands asks f judged = absurd stands
+  yet_uncalled made hashed (Noting m) n stands asks f judged = absurd stands
+  yet_uncalled made hashed (Uncounting m) n stands asks f judged = absurd cc
+  yet_uncalled made hashed (Leaving t) n stands asks f judged = judged
+  yet_uncalled made hashed (Growing need) n stands asks f judged = judged
+  yet_uncalled made hashed (Ended reply) n stands asks f judged = absurd cc
 
   unjudged : (state : State) (f f' : F) → IsUnsaid state → f' ≡ f → f ≡ agrees → IsJudgedIn state f'
   unjudged state f f' unsaid same alike = subst (λ said. IsJudged said f') (sym unsaid) (same ∙ alike)
@@ -136,7 +157,7 @@ module _ {K V S F : Type 0} (g : Mut F (Bor K × (Bor V × Unit {0})) Bool) (mat
             p,
             sym (log (number_of removal.word))
                 ∙ is,
-            (key, value, f', key_is, value_is, subst (λ (y : F). Called g y (key, (value, tt)) answered f') alike called),
+            (key, value, key_is, value_is, subst (λ (y : F). Called g y (key, (value, tt)) answered f') alike called),
           ))
         where
           by_answer : (b : Bool) → IsJudged (Some (Agrees (number_of removal.word) b)) f' → IsJudgedIn (agreed removal b) f'
@@ -168,8 +189,10 @@ module _ {K V S F : Type 0} (g : Mut F (Bor K × (Bor V × Unit {0})) Bool) (mat
       own_judged (Showing removal) answer stands read alike (shown, _) = shown_judged removal answer (pair_of s (number_of removal.word)) refl alike shown
       own_judged (Burying removal) answer stands read judged (exchanges, same) =
           let done = exchange_done _ _ (word_at s.words (Slot removal.place.table removal.place.probe.i)) removal.word read exchanges in
-          subst (λ a. IsJudgedIn (call_after (at (Burying removal)) a).state f') (sym done.0) judged
-      own_judged (Uncounting n) answer stands read judged (e, _, same) = subst (λ a. IsJudgedIn (call_after (at (Uncounting n)) a).state f') (sym e) judged
+          subst (λ a. IsJudgedIn (call_after (at (Burying removal)) a).state f') (sym done.0)
+          (subst (λ (y : F). IsJudgedIn (Burying removal) y) (sym same) judged)
+      own_judged (Uncounting n) answer stands read judged (e, _, same) = subst (λ a. IsJudgedIn (call_after (at (Uncounting n)) a).state f') (sym e)
+          (subst (λ (y : F). IsJudgedIn (Uncounting n) y) (sym same) judged)
       own_judged (Leaving t) answer stands read alike (e, _, same) =
           subst (λ a. IsJudgedIn (call_after (at (Leaving t)) a).state f') (sym e)
           (unjudged (left RemoveIf held.fill t (word_at s.words (Next t))) f f' (left_unsaid held.fill t (word_at s.words (Next t))) same alike)

@@ -4,7 +4,7 @@ use denote.Ref.{Bor}
 use Rattle.std.specs.Fn.{Mut}
 use Rattle.papaya_words.specs.declared.probe.Refused.{Refused}
 use Rattle.papaya_ask.specs.declared.ask.Ask.{Ask as Call_ask}
-use Rattle.papaya_ask.specs.declared.ask.Ask.TheVariants.{Done as Ask_done}
+use Rattle.papaya_ask.specs.declared.ask.Ask.TheVariants.{ShowPair, Done as Ask_done}
 use Rattle.papaya_seq.specs.Removes.{IsRemovalAsk}
 use Rattle.papaya_ask.specs.declared.call.Reply.{Reply}
 use Rattle.papaya_ask.specs.declared.call.Reply.TheVariants.{Refused as Reply_refused}
@@ -32,6 +32,7 @@ use Rattle.papaya_seq.proofs.RemovalRoot.{IsInRoot, IsRootStage, in_root_begun, 
 use Rattle.papaya_seq.proofs.RemovalRun.{IsKey, IsMatchedRun, ended_at, matched_begun, matched_caused, matched_fit, matched_more, matched_nears, matched_stands}
 use Rattle.papaya_seq.proofs.SeekLaw.{seek_caused, seek_core, seek_fit, seek_more, seek_nears}
 use Rattle.papaya_seq.proofs.Seeking.{IsSeeking, seek_begin}
+use Rattle.papaya_seq.proofs.RemovalTurns.{yet_uncalled}
 use Rattle.papaya_seq.proofs.SeekTurns.{IsAnswered}
 use Rattle.papaya_seq.proofs.Removing.{IsLogOf, answered_going, answered_log, log_more, removal_asks, removal_numbers, same_log}
 use Rattle.papaya_seq.proofs.Unmarked.{unmarked}
@@ -74,15 +75,16 @@ module _ {K V S F : Type 0} (g : Mut F (Bor K × (Bor V × Unit {0})) Bool) (eq 
     pub run : IsMatchedRun g eq hash matches hashed map agrees one.pair.key s f m
 
   -- No logged pair matches. Where no pairs are being moved, the removal is in the root table.
-  pub record HasNoMatch (s : StoreState K V S) (m : Machine) : Type 0 where
+  pub record HasNoMatch (s : StoreState K V S) (f : F) (m : Machine) : Type 0 where
     pub none : MatchesNone map.store matches
     pub seeking : IsSeeking eq hash map hashed s m
     pub rooted : next_of map.store ≡ 0 → IsInRoot map.store s m
+    pub uncalled : f ≡ agrees
 
   -- What holds between two asks.
   pub record IsUnderWay (s : StoreState K V S) (f : F) (m : Machine) : Type 0 where
     pub log : IsLogOf map.store s
-    pub way : (query : IsQuery) → HasMatch s f m ⊎ HasNoMatch s m
+    pub way : (query : IsQuery) → HasMatch s f m ⊎ HasNoMatch s f m
     -- it came there as one by each key that matches
     pub keyed : IsQuery → (k : K) → matches k ≡ true → IsMatchedRun g eq hash matches hashed map agrees k s f m
     pub counting : IsCounting eq hash g matches map s m
@@ -101,6 +103,7 @@ module _ {K V S F : Type 0} (g : Mut F (Bor K × (Bor V × Unit {0})) Bool) (eq 
           seeking = seek_begin eq hash map hashed query.keys query.fits number query.lawful;
           rooted = λ single.
               in_root_begun map.store hashed map.mode.resize map.initial number map.mode.limit;
+          uncalled = refl;
         }))
         (decided map.store matches);
     keyed = λ query k matched. matched_begun g eq hash matches hashed map agrees number k (key_by query k matched);
@@ -115,7 +118,7 @@ module _ {K V S F : Type 0} (g : Mut F (Bor K × (Bor V × Unit {0})) Bool) (eq 
     going = answered_going g eq hash matches (ask_of m) s f answer s' f' told
 
     -- where none matches, it stays in the root table
-    rooted_more : IsQuery → HasNoMatch s m → next_of map.store ≡ 0 → IsInRoot map.store s' (after m answer)
+    rooted_more : IsQuery → HasNoMatch s f m → next_of map.store ≡ 0 → IsInRoot map.store s' (after m answer)
     rooted_more query lacks single =
         let seeking = lacks.seeking in
         in_root_more g eq hash matches map.store s f s' f' m answer single seeking.task
@@ -128,7 +131,7 @@ module _ {K V S F : Type 0} (g : Mut F (Bor K × (Bor V × Unit {0})) Bool) (eq 
     caused query refused e = ⊎_elim
         (λ (has : HasMatch s f m). matched_caused g eq hash matches hashed map agrees has.one.pair.key (key_of query has.one) s f m has.run now.log
         answer s' f' told refused e)
-        (λ (lacks : HasNoMatch s m). seek_caused eq hash g matches map hashed query.keys query.fits lacks.none s m f answer s' f' lacks.seeking going
+        (λ (lacks : HasNoMatch s f m). seek_caused eq hash g matches map hashed query.keys query.fits lacks.none s m f answer s' f' lacks.seeking going
         told refused e)
         (now.way query)
 
@@ -137,7 +140,7 @@ module _ {K V S F : Type 0} (g : Mut F (Bor K × (Bor V × Unit {0})) Bool) (eq 
     unnumbered query = removal_numbers m.call.made m.call.hash m.call.state (⊎_elim
         (λ (has : HasMatch s f m). matched_stands g eq hash matches hashed map agrees has.one.pair.key (key_of query has.one) s f m has.run now.log
         answer s' f' told)
-        (λ (lacks : HasNoMatch s m). subst (λ t. IsStandingState t m.call.state) lacks.seeking.task lacks.seeking.standing.call.state)
+        (λ (lacks : HasNoMatch s f m). subst (λ t. IsStandingState t m.call.state) lacks.seeking.task lacks.seeking.standing.call.state)
         (now.way query))
 
     -- after an answer
@@ -149,10 +152,12 @@ module _ {K V S F : Type 0} (g : Mut F (Bor K × (Bor V × Unit {0})) Bool) (eq 
             one = has.one;
             run = matched_more g eq hash matches hashed map agrees has.one.pair.key (key_of query has.one) s f m has.run now.log answer s' f' told;
           }))
-          (λ (lacks : HasNoMatch s m). inr (record {
+          (λ (lacks : HasNoMatch s f m). inr (record {
             none = lacks.none;
             seeking = (seek_more eq hash g matches map hashed query.keys query.fits lacks.none s m f answer s' f' lacks.seeking going told).0;
             rooted = λ single. rooted_more query lacks single;
+            uncalled = (seek_more eq hash g matches map hashed query.keys query.fits lacks.none s m f answer s' f' lacks.seeking going told).1
+                ∙ lacks.uncalled;
           }))
           (now.way query);
       keyed = λ query k matched. matched_more g eq hash matches hashed map agrees k (key_by query k matched) s f m (now.keyed query k matched) now.log
@@ -166,7 +171,7 @@ module _ {K V S F : Type 0} (g : Mut F (Bor K × (Bor V × Unit {0})) Bool) (eq 
     under_way_nears query = ⊎_elim
         (λ (has : HasMatch s f m). matched_nears g eq hash matches hashed map agrees has.one.pair.key (key_of query has.one) s f m has.run now.log
         answer s' f' told)
-        (λ (lacks : HasNoMatch s m). seek_nears eq hash g matches map hashed query.keys query.fits lacks.none s m f answer s' f' lacks.seeking going told)
+        (λ (lacks : HasNoMatch s f m). seek_nears eq hash g matches map hashed query.keys query.fits lacks.none s m f answer s' f' lacks.seeking going told)
         (now.way query)
 
     -- and the answer is within the limits
@@ -174,23 +179,32 @@ module _ {K V S F : Type 0} (g : Mut F (Bor K × (Bor V × Unit {0})) Bool) (eq 
     under_way_fit query fit = ⊎_elim
         (λ (has : HasMatch s f m). matched_fit g eq hash matches hashed map agrees has.one.pair.key (key_of query has.one) s f m has.run now.log
         answer s' f' told fit)
-        (λ (lacks : HasNoMatch s m). seek_fit eq hash g matches map hashed query.keys query.fits lacks.none s m f answer s' f' lacks.seeking going told)
+        (λ (lacks : HasNoMatch s f m). seek_fit eq hash g matches map hashed query.keys query.fits lacks.none s m f answer s' f' lacks.seeking going told)
         (now.way query)
 
   -- it is a removal, which asks for itself what removals ask
   pub asked_so : IsQuery → (s : StoreState K V S) (f : F) (m : Machine) → IsUnderWay s f m → IsStanding m → (ask : Call_ask)
       → ask_of m ≡ asks.Call ask → ((reply : Reply) → ask ≡ Ask_done reply → ⊥) → IsRemovalAsk ask
   asked_so query s f m now stands ask e going =
-      let task : m.call.task ≡ RemoveIf = ⊎_elim (λ (has : HasMatch s f m). has.run.came.task) (λ (lacks : HasNoMatch s m). lacks.seeking.task)
+      let task : m.call.task ≡ RemoveIf = ⊎_elim (λ (has : HasMatch s f m). has.run.came.task) (λ (lacks : HasNoMatch s f m). lacks.seeking.task)
       (now.way query) in
       let is : call_ask_of m.call ≡ ask = own_ask m ask e in
       subst IsRemovalAsk is (removal_asks m.call.made m.call.hash m.call.state (subst (λ t. IsStandingState t m.call.state) task stands.call.state)
       (λ reply done. going reply (sym is ∙ done)))
 
+  -- where it asks to show a pair, it has not called its closure
+  pub shows_first : IsQuery → (s : StoreState K V S) (f : F) (m : Machine) → IsUnderWay s f m → IsStanding m → (n : ℕ)
+      → ask_of m ≡ asks.Call (ShowPair n) → f ≡ agrees
+  shows_first query s f m now stands n e = ⊎_elim
+      (λ (has : HasMatch s f m). yet_uncalled g matches map.store agrees m.call.made m.call.hash m.call.state n
+      (subst (λ t. IsStandingState t m.call.state) has.run.came.task stands.call.state) (own_ask m (ShowPair n) e) f has.run.judged)
+      (λ (lacks : HasNoMatch s f m). lacks.uncalled)
+      (now.way query)
+
   module _ (s : StoreState K V S) (f : F) (m : Machine) (now : IsUnderWay s f m) (query : IsQuery) (single : next_of map.store ≡ 0) where
     -- where no pairs are being moved, it is in the root table
     in_root : IsInRoot map.store s m
-    in_root = ⊎_elim (λ (has : HasMatch s f m). has.run.rooted single) (λ (lacks : HasNoMatch s m). lacks.rooted single) (now.way query)
+    in_root = ⊎_elim (λ (has : HasMatch s f m). has.run.rooted single) (λ (lacks : HasNoMatch s f m). lacks.rooted single) (now.way query)
 
     -- which keeps its slots, and none are moved then
     pub slots_kept : (slots_of s ≡ slots_of map.store) × (next_of s ≡ 0)

@@ -24,7 +24,7 @@ module _ {K V S F : Type 0} (g : Mut F (Bor K × (Bor V × Unit {0})) Bool) (eq 
   pub removing_sized : (s : StoreState K V S) (f : F) (m : Machine) → IsGoing s f m → IsSized s
   removing_sized s f m now = ⊎_elim
       (λ (has : HasMatch g eq hash matches hashed map agrees s f m). has.run.came.lawful.core.sizes)
-      (λ (lacks : HasNoMatch g eq hash matches hashed map agrees s m). lacks.seeking.core.sizes)
+      (λ (lacks : HasNoMatch g eq hash matches hashed map agrees s f m). lacks.seeking.core.sizes)
       (now.way query)
 
   -- each answer leads it on, and brings it nearer to its end

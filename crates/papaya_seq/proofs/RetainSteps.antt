@@ -19,7 +19,7 @@ use Rattle.papaya_timeline.proofs.KeptSettings.{IsLawfulKeys}
 use Rattle.papaya_timeline.proofs.StoreLemmas.{matched}
 use Rattle.papaya_seq.specs.Map.{IsLawfulMap, MapState, Unchanged, next_of, slots_in, slots_of}
 use Rattle.papaya_seq.specs.Removes.{IsShown}
-use Rattle.papaya_seq.specs.Retains.{Answers, IsRetained, IsRetaining, Retains, root_words, slot_words}
+use Rattle.papaya_seq.specs.Retains.{Answers, IsRetainedTo, IsRetaining, Retains, root_words, slot_words}
 use Rattle.papaya_seq.proofs.RetainLaw.{buried_at, root_word, grave_bare, last_content, next_same, root_same, words_set}
 use Rattle.papaya_seq.proofs.RetainLists.{bare_pairs, drop_more, drop_there, live_pairs}
 use Rattle.papaya_seq.proofs.RetainLists.{retains_more, set_before, set_behind, set_long, set_there}
@@ -159,7 +159,7 @@ module _ {F K V S : Type 0} (g : Mut F (Bor K × (Bor V × Unit {0})) Bool) (s :
   -- all slots were scanned
   pub retaining_ends : (eq : K → K → Bool) (s0 : StoreState K V S) → next_of s.store ≡ 0 → Unchanged eq s0 s.store → (next_of s0 ≡ 0 → s.store ≡ s0)
       → AreApart eq (λ p. p.key) (content eq s.store) → (n : ℕ) → n ≡ slots_of s.store → (s' : MapState K V S) (f' : F) → IsRetaining g s f n s' f'
-      → IsRetained g eq f s0 s'.store
+      → IsRetainedTo g eq f s0 s'.store f'
   retaining_ends eq s0 last unchanged alone apart n all s' f' retaining =
       let words : n ≡ length (root_words s.store) = all ∙ sym (words_many (table_of s.store.words.tables s.store.words.root)) in
       let words' : n ≡ length (root_words s'.store) = all ∙ sym retaining.long ∙ sym (words_many (table_of s'.store.words.tables s'.store.words.root)) in
@@ -167,16 +167,18 @@ module _ {F K V S : Type 0} (g : Mut F (Bor K × (Bor V × Unit {0})) Bool) (s :
       (take_all (root_words s.store) n words) ∙ sym (last_content eq s.store last) in
       let new : pairs_of_slots s.store (take n (root_words s'.store)) ≡ content eq s'.store = ap (pairs_of_slots s.store)
       (take_all (root_words s'.store) n words') ∙ sym (slots_same s.store s'.store retaining.pairs (root_words s'.store))
-      ∙ sym (last_content eq s'.store retaining.last) in
-      record {
-        shown = content eq s.store;
-        end = f';
-        retains = subst (λ l. Retains g f l (content eq s'.store) f') old
-            (subst (λ l. Retains g f (pairs_of_slots s.store (take n (root_words s.store))) l f') new retaining.retained);
-        pairs = unchanged;
-        once = apart;
-        order = λ none. ap (content eq) (alone none);
-      }
+      ∙ sym (last_content eq s'.store retaining.last) in (
+        record {
+          shown = content eq s.store;
+          end = f';
+          retains = subst (λ l. Retains g f l (content eq s'.store) f') old
+              (subst (λ l. Retains g f (pairs_of_slots s.store (take n (root_words s.store))) l f') new retaining.retained);
+          pairs = unchanged;
+          once = apart;
+          order = λ none. ap (content eq) (alone none);
+        },
+        refl,
+      )
 
 -- what a closure was shown that there is
 pub shown_answers : {F K V : Type 0} (g : Mut F (Bor K × (Bor V × Unit {0})) Bool) (f f' : F) (p : Stored K V) (o : Option (Stored K V))

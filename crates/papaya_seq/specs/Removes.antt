@@ -26,6 +26,22 @@ abbrev pub Judges : {F K V : Type 0} → Mut F (Bor K × (Bor V × Unit {0})) Bo
 Judges {F = F} {K = K} {V = V} g f p agrees = (key : Bor K) × (value : Bor V) × (f' : F)
     × (key.now ≡ p.key) × (value.now ≡ p.value) × Called g f (key, (value, tt)) agrees f'
 
+-- it answers this, and is f' then
+abbrev pub JudgesTo : {F K V : Type 0} → Mut F (Bor K × (Bor V × Unit {0})) Bool → F → F
+    → Stored K V → Bool → Type 0
+JudgesTo {K = K} {V = V} g f f' p agrees = (key : Bor K) × (value : Bor V) × (key.now ≡ p.key)
+    × (value.now ≡ p.value) × Called g f (key, (value, tt)) agrees f'
+
+-- A removal's closure is f' when the call has replied so: it was called once, with the pair of this
+-- number, or not at all.
+abbrev pub IsCalledFor : {F K V S : Type 0} → Mut F (Bor K × (Bor V × Unit {0})) Bool
+    → StoreState K V S → Reply → F → F → Type 0
+IsCalledFor {K = K} {V = V} g s (Removed n) f f' = (p : Stored K V) × (pair_of s n ≡ Some p)
+    × JudgesTo g f f' p true
+IsCalledFor {K = K} {V = V} g s (Kept n) f f' = (p : Stored K V) × (pair_of s n ≡ Some p)
+    × JudgesTo g f f' p false
+IsCalledFor g s _ f f' = f' ≡ f
+
 -- the closure is called once, at the pair where there is one, and what it answers is passed on
 abbrev pub IsShown : {F K V : Type 0} → Mut F (Bor K × (Bor V × Unit {0})) Bool
     → Option (Stored K V) → F → Answer → F → Type 0

@@ -37,6 +37,11 @@ module _ {F K V : Type 0} (g : Mut F (Bor K × (Bor V × Unit {0})) Bool) where
     -- in the order of a walk, while no pairs are being moved
     pub order : next_of s ≡ 0 → shown ≡ content eq s
 
+  -- and the closure was called no more: it is as those calls left it
+  abbrev pub IsRetainedTo : {S : Type 0} → (K → K → Bool) → F → StoreState K V S → StoreState K V S
+      → F → Type 0
+  IsRetainedTo eq f s s' f' = (retained : IsRetained eq f s s') × (f' ≡ retained.end)
+
 -- the words of a table, if it is there
 abbrev pub slot_words : Option TableWords → List ℕ
 slot_words None = []

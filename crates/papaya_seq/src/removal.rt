@@ -10,8 +10,8 @@ ghost use Rattle.papaya_keys.specs.Hashes.{hash_of};
 ghost use Rattle.papaya_seq.specs.MadeAlone.{IsRemovalMade};
 ghost use Rattle.papaya_seq.specs.Map.{KeepsRemoving};
 ghost use Rattle.papaya_seq.specs.Resizes.{IsCopyCause};
-ghost use Rattle.papaya_seq.specs.Removes.{IsRemovalAnswer, IsRemovalAsk, IsRemovalBy, IsShown};
-ghost use Rattle.papaya_seq.specs.Removes.{Judges};
+ghost use Rattle.papaya_seq.specs.Removes.{IsCalledFor, IsRemovalAnswer, IsRemovalAsk};
+ghost use Rattle.papaya_seq.specs.Removes.{IsRemovalBy, IsShown, Judges};
 ghost use Rattle.papaya_seq.specs.Writes.{burying, slot_of};
 
 use crate::chunk::copy_for_call;
@@ -36,8 +36,8 @@ pub(crate) fn show<K: Hash + Eq, V, S: BuildHasher, F: FnMut(&K, &V) -> bool>(
     pair: u64,
     agrees: &mut F,
 ) -> CallAnswer
-    requires { F.IsAlwaysCallable agrees.old }
-    ensures callable { F.IsAlwaysCallable agrees.new }
+    requires { (k : _) (v : _) → F.pre agrees.old k v }
+    ensures callable { F.IsAlwaysCallable agrees.old → F.IsAlwaysCallable agrees.new }
     ensures shown { IsShown F.FnMut (pair_of store.now pair) agrees.old result agrees.new }
 {
     match store.pair(pair) {
@@ -54,9 +54,9 @@ fn answer_removal<K: Hash + Eq, V, S: BuildHasher, Q: Equivalent<K>, F: FnMut(&K
     key: &Q,
     agrees: &mut F,
 ) -> CallAnswer
-    requires callable { F.IsAlwaysCallable agrees.old }
+    requires callable { (n : ℕ) → ask ≡ CallAsk.ShowPair n
+        → (k : _) (v : _) → F.pre agrees.old k v }
     requires asked { IsRemovalAsk ask }
-    ensures callable { F.IsAlwaysCallable agrees.new }
     ensures answers { IsRemovalAnswer F.FnMut (Q.matches key.now) ask store.old agrees.old result
         store.new agrees.new }
 {
@@ -104,11 +104,10 @@ fn bury<K: Hash + Eq, V, S: BuildHasher, F: FnMut(&K, &V) -> bool>(
     removal: Removal,
     agrees: &mut F,
 ) -> Reply
-    requires callable { F.IsAlwaysCallable agrees.old }
+    requires callable { (k : _) (v : _) → F.pre agrees.old k v }
     requires stands { word_at store.old.words (slot_of removal.place) ≡ removal.word }
     requires logged { IsSome (pair_of store.old (number_of removal.word)) }
-    ensures callable { F.IsAlwaysCallable agrees.new }
-    ensures buried { (matches : K → Bool)
+    ensures { (matches : K → Bool)
         → IsBuried F.FnMut matches removal store.old agrees.old
         result store.new agrees.new }
 {
@@ -131,11 +130,10 @@ fn remove_fast<K: Hash + Eq, V, S: BuildHasher, Q: Equivalent<K>, F: FnMut(&K, &
     hash: u64,
     agrees: &mut F,
 ) -> Option<Reply>
-    requires callable { F.IsAlwaysCallable agrees.old }
+    requires callable { (k : _) (v : _) → F.pre agrees.old k v }
     requires sized { (n : ℕ) (t : _) → table_of store.old.words.tables n ≡ Some t
         → IsSize (length t.slots) t.limit }
-    ensures callable { F.IsAlwaysCallable agrees.new }
-    ensures removed { MatchOption result ((store.new ≡ store.old) × (agrees.new ≡ agrees.old))
+    ensures { MatchOption result ((store.new ≡ store.old) × (agrees.new ≡ agrees.old))
         (λ reply. IsRemovedFast F.FnMut (Q.matches key.now) hash store.old agrees.old reply
         store.new agrees.new) }
 {
@@ -150,16 +148,18 @@ fn remove_fast<K: Hash + Eq, V, S: BuildHasher, Q: Equivalent<K>, F: FnMut(&K, &
 
 impl<K: Hash + Eq + Drop, V: Drop, S: BuildHasher> HashMap<K, V, S> {
     /// Removes a key's pair if the closure agrees. Returns the machine's reply. Most removals end
-    /// with the root's search, and run no machine.
+    /// with the root's search, and run no machine. The closure is called with the pair, and is not
+    /// called again.
     #[inline]
     pub(crate) fn remove_by<Q: Equivalent<K>, F: FnMut(&K, &V) -> bool>(
         &mut self,
         key: &Q,
-        mut agrees: F,
+        agrees: &mut F,
     ) -> Reply
-        requires { F.IsAlwaysCallable agrees }
-        ensures whole { IsRemovalBy K.eq (Q.matches key.now) (Judges F.FnMut agrees) self.old.store
-            result self.new.store }
+        requires { (k : _) (v : _) → F.pre agrees.old k v }
+        ensures whole { IsRemovalBy K.eq (Q.matches key.now) (Judges F.FnMut agrees.old)
+            self.old.store result self.new.store }
+        ensures called { IsCalledFor F.FnMut self.old.store result agrees.old agrees.new }
         ensures cause { (refused : Refused) → result ≡ Reply.Refused refused
             → IsCopyCause self.old refused self.new }
         ensures alone { IsRemovalMade K.eq
@@ -168,7 +168,7 @@ impl<K: Hash + Eq + Drop, V: Drop, S: BuildHasher> HashMap<K, V, S> {
         ensures keeps { KeepsRemoving self.old self.new }
     {
         let hash = self.store.hash(key);
-        match remove_fast(&mut self.store, key, hash, &mut agrees) {
+        match remove_fast(&mut self.store, key, hash, agrees) {
             Some(reply) => reply,
             None => self.remove_slow(key, agrees),
         }
@@ -179,11 +179,12 @@ impl<K: Hash + Eq + Drop, V: Drop, S: BuildHasher> HashMap<K, V, S> {
     fn remove_slow<Q: Equivalent<K>, F: FnMut(&K, &V) -> bool>(
         &mut self,
         key: &Q,
-        mut agrees: F,
+        agrees: &mut F,
     ) -> Reply
-        requires { F.IsAlwaysCallable agrees }
-        ensures whole { IsRemovalBy K.eq (Q.matches key.now) (Judges F.FnMut agrees) self.old.store
-            result self.new.store }
+        requires { (k : _) (v : _) → F.pre agrees.old k v }
+        ensures whole { IsRemovalBy K.eq (Q.matches key.now) (Judges F.FnMut agrees.old)
+            self.old.store result self.new.store }
+        ensures called { IsCalledFor F.FnMut self.old.store result agrees.old agrees.new }
         ensures cause { (refused : Refused) → result ≡ Reply.Refused refused
             → IsCopyCause self.old refused self.new }
         ensures alone { IsRemovalMade K.eq
@@ -205,7 +206,7 @@ impl<K: Hash + Eq + Drop, V: Drop, S: BuildHasher> HashMap<K, V, S> {
             let answer = match machine.ask() {
                 Ask::Call(ask) => match ask {
                     CallAsk::Done(reply) => return reply,
-                    _ => Answer::Call(answer_removal(&mut self.store, ask, key, &mut agrees)),
+                    _ => Answer::Call(answer_removal(&mut self.store, ask, key, agrees)),
                 },
                 Ask::Copy(ask) => self.store.perform_copy(self.alloc, ask, false),
             };

@@ -2,7 +2,7 @@
 ghost use Rattle.std.specs.Prelude.{◌≡◌, ◌+◌, ◌<◌, IfErr, IsOk, OnOk};
 ghost use Rattle.papaya_seq.specs.Map.{Keeps, KeepsSlots, Unchanged, next_of, slots_of};
 ghost use Rattle.papaya_seq.specs.Resizes.{IsCopyCause};
-ghost use Rattle.papaya_seq.specs.Retains.{IsRetained, IsRetaining};
+ghost use Rattle.papaya_seq.specs.Retains.{IsRetained, IsRetainedTo, IsRetaining};
 
 use crate::removal::show;
 use crate::seq::HashMap;
@@ -57,6 +57,28 @@ impl<K: Hash + Eq + Drop, V: Drop, S: BuildHasher> HashMap<K, V, S> {
         ensures slots { KeepsSlots self.old self.new }
         ensures keeps { Keeps self.old self.new }
     {
+        self.retain_by(&mut agrees)
+    }
+
+    /// Retains as [`HashMap::retain`] does, by a closure that stays the caller's. The contract
+    /// names the state that the calls leave the closure in: it was called with nothing else.
+    ///
+    /// # Errors
+    ///
+    /// Fails as [`HashMap::retain`] does.
+    pub fn retain_by<F: FnMut(&K, &V) -> bool>(&mut self, agrees: &mut F) -> Result<(), Refused>
+        requires { F.IsAlwaysCallable agrees.old }
+        ensures ok { OnOk result (IsRetainedTo F.FnMut K.eq agrees.old self.old.store self.new.store
+            agrees.new) }
+        ensures err { IfErr result (λ e. IsCopyCause self.old e self.new
+            × Unchanged K.eq self.old.store self.new.store) }
+        ensures last { OnOk result (next_of self.new.store ≡ 0) }
+        ensures never { next_of self.old.store ≡ 0 → IsOk result }
+        ensures slots { KeepsSlots self.old self.new }
+        ensures keeps { Keeps self.old self.new }
+        ensures uncalled { IfErr result (λ _. agrees.new ≡ agrees.old) }
+        ensures callable { F.IsAlwaysCallable agrees.new }
+    {
         if self.resizing() {
             self.copy_all()?;
         }
@@ -64,7 +86,7 @@ impl<K: Hash + Eq + Drop, V: Drop, S: BuildHasher> HashMap<K, V, S> {
         let slots = self.slots();
         let mut slot = 0;
         while slot < slots {
-            self.retain_at(table, slot, &mut agrees);
+            self.retain_at(table, slot, agrees);
             slot += 1;
         }
         Ok(())

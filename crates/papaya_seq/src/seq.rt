@@ -557,7 +557,7 @@ impl<K: Hash + Eq + Drop, V: Drop, S: BuildHasher> HashMap<K, V, S> {
         ensures err { IfErr result IsMakeRefusal }
         ensures never { next_of self.old.store ≡ 0 → IsOk result }
     {
-        match self.remove_by(key, |_, _| true) {
+        match self.remove_by(key, &mut |_, _| true) {
             Reply::Removed(pair) => Ok(self.pair(pair)),
             Reply::Refused(refused) => Err(refused),
             _ => Ok(None),
@@ -569,15 +569,17 @@ impl<K: Hash + Eq + Drop, V: Drop, S: BuildHasher> HashMap<K, V, S> {
     /// Returns `Ok(None)` if the key is absent, `Ok(Some(entry))` if that very entry was removed,
     /// and `Err(entry)` if the closure returned `false` for it.
     ///
+    /// The contract needs the closure to be callable once, since it is not called again.
+    ///
     /// # Errors
     ///
     /// Fails as [`HashMap::remove`] does.
     pub fn remove_if<Q: Equivalent<K>, F: FnMut(&K, &V) -> bool>(
         &mut self,
         key: &Q,
-        agrees: F,
+        mut agrees: F,
     ) -> Result<Result<Option<(&K, &V)>, (&K, &V)>, Refused>
-        requires { F.IsAlwaysCallable agrees }
+        requires { (k : _) (v : _) → F.pre agrees k v }
         ensures* removes { sem 𝓛 (ends_so K.row V.row S.row S.Hasher.row K.Hash S.BuildHasher
             S.Hasher.Hasher self.entry (λ after. IsJudged K.eq (Q.matches key.now)
             (Judges F.FnMut agrees) self.old (judged_answered result) after
@@ -594,7 +596,7 @@ impl<K: Hash + Eq + Drop, V: Drop, S: BuildHasher> HashMap<K, V, S> {
         ensures err { IfErr result IsMakeRefusal }
         ensures never { next_of self.old.store ≡ 0 → IsOk result }
     {
-        match self.remove_by(key, agrees) {
+        match self.remove_by(key, &mut agrees) {
             Reply::Removed(pair) => Ok(Ok(self.pair(pair))),
             Reply::Kept(pair) => match self.pair(pair) {
                 Some(kept) => Ok(Err(kept)),
@@ -624,7 +626,7 @@ impl<K: Hash + Eq + Drop, V: Drop, S: BuildHasher> HashMap<K, V, S> {
             Call::Insert(key, value) => Outcome::Replied(self.insert_by(key, value, true).0),
             Call::TryInsert(key, value) => Outcome::Replied(self.insert_by(key, value, false).0),
             Call::RemoveIf(key, mut answers) => {
-                Outcome::Replied(self.remove_by(&key, |key, value| answers.yes(key, value)))
+                Outcome::Replied(self.remove_by(&key, &mut |key, value| answers.yes(key, value)))
             }
             Call::Compute(key, mut answers) => {
                 Outcome::Replied(replied(self.compute_by(key, |shown| answers.op(shown)).1))

@@ -69,6 +69,7 @@ fn gives<S: BuildHasher>(
 fn keeps_small_values(rt: &impl Abort, alloc: Global, map: &mut Usual) -> Result<(), Fail> {
     is(rt, map.retain(|_, _| false), Ok(()));
     keeps_five(rt, map);
+    is(rt, map.retain_by(&mut |_, value| *value < 5), Ok(()));
     gives(rt, alloc, map, &[0, 1, 2, 3, 4])?;
     for value in map.values() {
         is(rt, *value < 5, true);

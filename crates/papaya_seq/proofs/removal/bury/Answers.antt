@@ -9,16 +9,16 @@ use Rattle.papaya_seq.specs.Removes.{IsShown}
 use Rattle.papaya_seq.proofs.Burying.{kept, removed}
 use Rattle.papaya_seq.proofs.removal.bury.Goals as goal
 
-pub returns-in-Yes-false-clause-buried : goal.returns-in-Yes-false-clause-buried
-returns-in-Yes-false-clause-buried g c matches m =
+pub returns-in-Yes-false : goal.returns-in-Yes-false
+returns-in-Yes-false g c matches m =
     let said : c.show.result ≡ Yes false = search rules in
     kept g.F.FnMut matches c.args.store.now c.args.agrees.now c.args.removal m c.show.new.agrees
     (subst (λ n. IsShown g.F.FnMut (pair_of c.args.store.now n) c.args.agrees.now (Yes false) c.show.new.agrees) c.pair-pair.ensures
     (subst (λ a. IsShown g.F.FnMut (pair_of c.args.store.now c.pair-pair.result) c.args.agrees.now a c.show.new.agrees) said c.show.ensures.shown))
     c.pair-pair.result c.pair-pair.ensures
 
-pub returns-clause-buried : goal.returns-clause-buried
-returns-clause-buried g c matches m =
+pub returns : goal.returns
+returns g c matches m =
     let said : c.show.result ≡ Yes true = search rules in
     let s = c.args.store.now in
     subst (λ after. IsRemovedFrom g.F.FnMut matches s c.args.agrees.now (itself (record m { task = RemoveIf; state = Showing c.args.removal }))

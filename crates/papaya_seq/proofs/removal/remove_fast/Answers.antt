@@ -24,8 +24,8 @@ pub bury-requires-clause-logged : goal.bury-requires-clause-logged
 bury-requires-clause-logged g c = some_matched (g.Q.Equivalent.matches c.args.key.now) (pair_of c.args.store.now (number_of c.in-Some-Here.word))
     (here g (goal.at.bury-requires-clause-logged g c).In-Some-Here).matched
 
-pub returns-in-Some-Empty-clause-removed : goal.returns-in-Some-Empty-clause-removed
-returns-in-Some-Empty-clause-removed g c mode initial limit =
+pub returns-in-Some-Empty : goal.returns-in-Some-Empty
+returns-in-Some-Empty g c mode initial limit =
     let root : IsRootTurn (g.Q.Equivalent.matches c.args.key.now) c.args.store.now c.args.hash
     (turns.Empty c.in-Some-Empty.field-0-0) =
     subst (λ (t : Turn). IsRootTurn (g.Q.Equivalent.matches c.args.key.now) c.args.store.now c.args.hash t) c.in-Some-Empty.field-0-is
@@ -33,9 +33,9 @@ returns-in-Some-Empty-clause-removed g c mode initial limit =
     found_none g.F.FnMut (g.Q.Equivalent.matches c.args.key.now) c.args.store.now c.args.agrees.now c.args.hash mode initial limit
     c.in-Some-Empty.field-0-0 root
 
-pub returns-in-Some-Here-clause-removed : goal.returns-in-Some-Here-clause-removed
-returns-in-Some-Here-clause-removed g c mode initial limit =
+pub returns-in-Some-Here : goal.returns-in-Some-Here
+returns-in-Some-Here g c mode initial limit =
     let live : kind_of c.in-Some-Here.word ≡ Live = search rules in
     found_it g.F.FnMut (g.Q.Equivalent.matches c.args.key.now) c.args.store.now c.args.agrees.now c.args.hash mode initial limit c.in-Some-Here.place
-    c.in-Some-Here.word live (here g (goal.at.returns-in-Some-Here-clause-removed g c).In-Some-Here) c.bury.result c.bury.new.store
-    c.bury.new.agrees (c.bury.ensures.buried (g.Q.Equivalent.matches c.args.key.now))
+    c.in-Some-Here.word live (here g (goal.at.returns-in-Some-Here g c).In-Some-Here) c.bury.result c.bury.new.store
+    c.bury.new.agrees (c.bury.ensures (g.Q.Equivalent.matches c.args.key.now))

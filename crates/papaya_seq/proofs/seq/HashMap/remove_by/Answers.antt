@@ -18,12 +18,12 @@ hashes g = hash_of g.K.Hash.hash_input g.S.BuildHasher.build_hasher g.S.Hasher.H
 
 -- it was done at once
 done : (g : Over) (c : In-Some g) → RemovalDone g.F.FnMut g.K.PartialEq.eq (hashes g) (g.Q.Equivalent.matches c.args.key.now) c.args.self.now
-    c.args.agrees c.in-Some.reply (record { store = c.remove_fast.new.store; mode = c.self.inside.mode; initial = c.self.inside.initial })
+    c.args.agrees.now c.remove_fast.new.agrees c.in-Some.reply (record { store = c.remove_fast.new.store; mode = c.self.inside.mode; initial = c.self.inside.initial })
 done g c =
     let matches = g.Q.Equivalent.matches c.args.key.now in
     let view : MapState g.row.K.Denot g.row.V.Denot
     g.row.S.Denot = record { store = c.self.inside.store; mode = c.self.inside.mode; initial = c.self.inside.initial } in
-    let query : IsQuery g.F.FnMut g.K.PartialEq.eq (hashes g) matches c.hash-hash.result view c.args.agrees = record {
+    let query : IsQuery g.F.FnMut g.K.PartialEq.eq (hashes g) matches c.hash-hash.result view c.args.agrees.now = record {
       keys = keys_lawful g.K.PartialEq.eq g.K.Hash.hash_input g.S.BuildHasher.build_hasher g.S.Hasher.Hasher.write g.S.Hasher.Hasher.finish
           g.met.K.Eq.laws g.met.K.Hash.respects_eq view.store.hasher;
       lawful = c.self.invariant;
@@ -33,15 +33,15 @@ done g c =
           (sym (g.met.Q.Equivalent.hashes_as_key c.args.key.now k matched)) ∙ sym c.hash-hash.ensures.value;
       fits = c.hash-hash.ensures.fits;
     } in
-    let removed = c.in-Some.ensures.removed view.mode.resize view.initial view.mode.limit in
-    let now = leads_under_way g.F.FnMut g.K.PartialEq.eq (hashes g) matches c.hash-hash.result view c.args.agrees removed.answers view.store
-    c.args.agrees (itself (started RemoveIf c.hash-hash.result view.mode.resize view.initial view.mode.limit)) c.remove_fast.new.store
-    c.remove_fast.new.agrees removed.end removed.leads (under_way g.F.FnMut g.K.PartialEq.eq (hashes g) matches c.hash-hash.result view c.args.agrees 0) in
+    let removed = c.in-Some.ensures view.mode.resize view.initial view.mode.limit in
+    let now = leads_under_way g.F.FnMut g.K.PartialEq.eq (hashes g) matches c.hash-hash.result view c.args.agrees.now removed.answers view.store
+    c.args.agrees.now (itself (started RemoveIf c.hash-hash.result view.mode.resize view.initial view.mode.limit)) c.remove_fast.new.store
+    c.remove_fast.new.agrees removed.end removed.leads (under_way g.F.FnMut g.K.PartialEq.eq (hashes g) matches c.hash-hash.result view c.args.agrees.now 0) in
     subst (λ (m : MapState g.row.K.Denot g.row.V.Denot g.row.S.Denot).
-    RemovalDone g.F.FnMut g.K.PartialEq.eq (hashes g) matches m c.args.agrees c.in-Some.reply
+    RemovalDone g.F.FnMut g.K.PartialEq.eq (hashes g) matches m c.args.agrees.now c.remove_fast.new.agrees c.in-Some.reply
     (record { store = c.remove_fast.new.store; mode = c.self.inside.mode; initial = c.self.inside.initial })) c.self.view_is
     (removal_finished g.F.FnMut g.K.PartialEq.eq g.K.Hash.hash_input g.S.BuildHasher.build_hasher g.S.Hasher.Hasher.write g.S.Hasher.Hasher.finish
-    g.met.K.Eq.laws g.met.K.Hash.respects_eq matches c.hash-hash.result view c.args.agrees query c.remove_fast.new.store c.remove_fast.new.agrees
+    g.met.K.Eq.laws g.met.K.Hash.respects_eq matches c.hash-hash.result view c.args.agrees.now query c.remove_fast.new.store c.remove_fast.new.agrees
     removed.end now c.in-Some.reply removed.replied)
 
 pub invariant_of-self : goal.invariant_of-self
@@ -58,3 +58,6 @@ returns-in-Some-clause-keeps g c = (done g (goal.at.returns-in-Some-clause-keeps
 
 pub returns-in-Some-clause-alone : goal.returns-in-Some-clause-alone
 returns-in-Some-clause-alone g c = (done g (goal.at.returns-in-Some-clause-alone g c).In-Some).alone
+
+pub returns-in-Some-clause-called : goal.returns-in-Some-clause-called
+returns-in-Some-clause-called g c = (done g (goal.at.returns-in-Some-clause-called g c).In-Some).called

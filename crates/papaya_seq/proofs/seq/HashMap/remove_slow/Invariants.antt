@@ -5,11 +5,10 @@ use Rattle.papaya_seq.proofs.Ending.{left_of}
 use Rattle.papaya_seq.proofs.RemovalWays.{IsUnderWay}
 use Rattle.papaya_seq.proofs.seq.HashMap.remove_slow.Given as goal
 
--- the closure may be called, and the removal is under way, in a map that keeps its mode and its initial capacity
+-- the removal is under way, in a map that keeps its mode and its initial capacity
 abbrev pub invariant-loop-ask : goal.invariant-loop-ask
 invariant-loop-ask g l =
-    goal.F-IsAlwaysCallable g l.agrees
-    × IsStanding l.machine
+    IsStanding l.machine
     × (l.self-inside.mode ≡ l.fn.self.mode)
     × (l.self-inside.initial ≡ l.fn.self.initial)
     × IsUnderWay g.F.FnMut g.K.PartialEq.eq (hash_of g.K.Hash.hash_input g.S.BuildHasher.build_hasher g.S.Hasher.Hasher.write

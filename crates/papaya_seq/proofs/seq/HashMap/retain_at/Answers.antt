@@ -1,4 +1,4 @@
-use Rattle.std.proofs.Common.{rules, ◌≡◌, ℕ, suc, ◌+◌, ◌<◌, Bool, true, false, cond, Some, inl, inr, refl, sym, ◌∙◌, ap, subst, arith}
+use Rattle.std.proofs.Common.{rules, [], ◌∷◌, ◌≡◌, ℕ, suc, ◌+◌, ◌<◌, Bool, true, false, cond, Some, inl, inr, refl, sym, ◌∙◌, ap, subst, arith}
 use Rattle.std.specs.Prelude.{negsuc}
 use Rattle.papaya_words.specs.Counter.{added}
 use Rattle.papaya_words.specs.Word.{kind_of, pair_of as number_of, buried_word}
@@ -141,3 +141,6 @@ returns-clause-scanned g c s f retaining =
           answer (said g at).1,
       buried g c,
     )) s f before
+
+pub show-requires : goal.show-requires
+show-requires g c k v = (c.requires.callable.at ((k, (v, tt)) ∷ [])).0

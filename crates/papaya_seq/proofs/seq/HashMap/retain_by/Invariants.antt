@@ -1,6 +1,6 @@
 use Rattle.std.proofs.Common.{◌-◌, ◌≤◌}
 use Rattle.papaya_seq.specs.Retains.{IsRetaining}
-use Rattle.papaya_seq.proofs.seq.HashMap.retain.Given as goal
+use Rattle.papaya_seq.proofs.seq.HashMap.retain_by.Given as goal
 
 -- the slots before this one were scanned
 abbrev pub invariant-loop-slot : goal.invariant-loop-slot

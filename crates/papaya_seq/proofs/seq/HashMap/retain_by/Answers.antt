@@ -5,8 +5,8 @@ use Rattle.papaya_store.specs.Store.{StoreState}
 use Rattle.papaya_timeline.proofs.CountedCore.{lawful_apart}
 use Rattle.papaya_seq.specs.Map.{MapState, Unchanged, core_of, next_of, slots_of}
 use Rattle.papaya_seq.proofs.RetainSteps.{retaining_ends}
-use Rattle.papaya_seq.proofs.seq.HashMap.retain.Goals as goal
-use Rattle.papaya_seq.proofs.seq.HashMap.retain.Goals.{then-resizing+in_ok-copy_all, else-resizing}
+use Rattle.papaya_seq.proofs.seq.HashMap.retain_by.Goals as goal
+use Rattle.papaya_seq.proofs.seq.HashMap.retain_by.Goals.{then-resizing+in_ok-copy_all, else-resizing}
 
 -- no pairs are being moved, in a map that has the pairs of before
 pub record IsStill {K V S : Type 0} (eq : K → K → Bool) (s s' : StoreState K V S) : Type 0 where
@@ -37,5 +37,5 @@ returns-clause-ok g c =
     let most = c.loop-slot.invariant.1 in
     let all : c.loop-slot.slot ≡ slots_of c.if-resizing.self.store = let end : c.loop-slot.slot ≡ c.slots-slots.result = omega (arith, past, most) in
     end ∙ c.slots-slots.ensures.slots in
-    retaining_ends g.F.FnMut c.if-resizing.self c.args.agrees g.K.PartialEq.eq c.args.self.now.store still.last still.unchanged still.alone apart
+    retaining_ends g.F.FnMut c.if-resizing.self c.args.agrees.now g.K.PartialEq.eq c.args.self.now.store still.last still.unchanged still.alone apart
     c.loop-slot.slot all c.loop-slot.self c.loop-slot.agrees c.loop-slot.invariant.2
