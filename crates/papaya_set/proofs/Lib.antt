@@ -2,3 +2,4 @@ pub mod Kept
 pub mod KeptShared
 pub mod Same
 pub mod Taken
+pub mod KeysWalked

@@ -1,11 +1,12 @@
 //! Sets of clones, and comparisons of sets.
-ghost use Rattle.std.specs.Prelude.{◌≡◌, ◌≢◌, ℕ, true, IfErr, IfOk, None, OnOk, length};
+ghost use Rattle.std.specs.Prelude.{◌≡◌, ◌≢◌, ℕ, true, [], IfErr, IfOk, None, OnOk, length};
 ghost use Rattle.papaya_words.specs.Probe.{IsEntriesFor};
 ghost use Rattle.papaya_words.specs.declared.limits.TheConstants.{DEFAULT_CHUNK, DEFAULT_SHARDS};
 ghost use Rattle.papaya_timeline.specs.Content.{content};
 ghost use Rattle.papaya_timeline.specs.Core.{unlimited};
 ghost use Rattle.papaya_seq.specs.Clones.{HasParts, IsCloneRefusal, IsRebuildRefusal, IsRebuilt};
 ghost use Rattle.papaya_change.specs.Writing.{IsMemoryOrCapacity};
+ghost use Rattle.papaya_map.specs.Collected.{AreCopied};
 ghost use Rattle.papaya_map.specs.Fixed.{HasFirstTable, HasSettingsOf, IsFor};
 ghost use Rattle.papaya_map.specs.Limited.{IsPlainRefusal};
 
@@ -85,6 +86,8 @@ impl<K: Hash + Eq + Clone + Drop, S: BuildHasher + Clone + Drop> HashSet<K, S> {
         ensures made { IfOk result (λ set. (keys : ℕ)
             × IsFor (ResizeMode.Incremental DEFAULT_CHUNK) keys DEFAULT_SHARDS None set) }
         ensures hasher { IfOk result (λ set. S.is_clone self.now.begun.hasher set.begun.hasher) }
+        ensures copied { IfOk result (λ set. AreCopied K.eq K.is_clone (λ v w. w ≡ v) self.now.book
+            [] set.seen) }
         ensures refused { IfErr result IsMemoryOrCapacity }
     {
         match self.map.try_clone(rt, alloc) {
@@ -104,6 +107,8 @@ impl<K: Hash + Eq + Clone + Drop, S: BuildHasher + Clone + Drop> HashSet<K, S> {
         ensures hasher { IfOk result (λ _. S.is_clone self.old.begun.hasher
             self.new.begun.hasher) }
         ensures opened { IfOk result (λ _. HasFirstTable self.new) }
+        ensures copied { IfOk result (λ _. AreCopied K.eq K.is_clone (λ v w. w ≡ v) self.old.book
+            [] self.new.seen) }
         ensures err { IfErr result (λ refused. IsPlainRefusal self.old.begun.limit refused
             × (self.new ≡ self.old)) }
     {

@@ -1,12 +1,17 @@
 //! Calls that insert many keys into the set that threads share, one after the other.
-ghost use Rattle.std.specs.Prelude.{◌≡◌, IfErr, IfOk, None};
+ghost use Rattle.std.specs.Prelude.{◌≡◌, [], IfErr, IfOk, None, map};
 ghost use Rattle.std.specs.Iterator.{IsFiniteIterable};
+ghost use mathlib.Core.List.{IsPrefix};
 ghost use Rattle.papaya_words.specs.declared.limits.TheConstants.{DEFAULT_CHUNK, DEFAULT_SHARDS};
 ghost use Rattle.papaya_change.specs.Writing.{IsMemoryOrCapacity};
+ghost use Rattle.papaya_map.specs.Collected.{AreStored};
 ghost use Rattle.papaya_map.specs.Fixed.{IsFor};
 ghost use Rattle.papaya_map.specs.Limited.{IsPlainRefusal};
+ghost use Rattle.papaya_seq.specs.Entries.{AllCome, ComesNext};
+ghost use Rattle.papaya_set.specs.Sets.{entry_of_key, entry_of_ref};
 
 use crate::set::HashSet;
+use papaya_map::map::Pass;
 use papaya_words::probe::{Refused, ResizeMode};
 use std::alloc::Global;
 use std::hash::{BuildHasher, BuildHasherDefault, FoldHasher, Hash};
@@ -27,8 +32,33 @@ impl<K: Hash + Eq + Drop, S: BuildHasher> HashSet<K, S> {
             iter }
         ensures { IfErr result (IsPlainRefusal self.now.begun.limit) }
     {
+        let mut pass = self.map.pass();
+        self.extend_as(rt, iter, &mut pass)
+    }
+
+    /// Performs [`HashSet::extend`] by a pass.
+    fn extend_as<R: Wait, U: IntoIterator<Item = K>>(
+        &self,
+        rt: &R,
+        iter: U,
+        pass: &mut Pass<K, (), S>,
+    ) -> Result<(), Refused>
+    where
+        U::IntoIter: Drop,
+        requires iter { IsFiniteIterable U.into_iter_gives U.IntoIter.can_next U.IntoIter.remaining
+            iter }
+        requires book { pass.old.book ≡ self.now.book }
+        ensures book { pass.new.book ≡ pass.old.book }
+        ensures seen { IsPrefix pass.old.history pass.new.history }
+        ensures stored { IfOk result (λ _. AllCome U.into_iter_gives U.IntoIter.next_gives iter
+            (λ keys. AreStored K.eq (map entry_of_key keys) pass.old.history pass.new.history)) }
+        ensures cut { IfErr result (λ _. ComesNext U.into_iter_gives U.IntoIter.next_gives iter
+            (λ keys key. AreStored K.eq (map entry_of_key keys) pass.old.history
+            pass.new.history)) }
+        ensures refused { IfErr result (IsPlainRefusal self.now.begun.limit) }
+    {
         for key in iter {
-            match self.pin().insert(rt, key) {
+            match self.map.pin().insert_as(rt, key, (), pass) {
                 Ok(_) => {}
                 Err(refused) => return Err(refused),
             }
@@ -54,8 +84,34 @@ impl<K: Hash + Eq + Copy + Drop, S: BuildHasher> HashSet<K, S> {
             iter }
         ensures { IfErr result (IsPlainRefusal self.now.begun.limit) }
     {
+        let mut pass = self.map.pass();
+        self.extend_ref_as(rt, iter, &mut pass)
+    }
+
+    /// Performs [`HashSet::extend_ref`] by a pass.
+    fn extend_ref_as<'a, R: Wait, U: IntoIterator<Item = &'a K>>(
+        &self,
+        rt: &R,
+        iter: U,
+        pass: &mut Pass<K, (), S>,
+    ) -> Result<(), Refused>
+    where
+        K: 'a,
+        U::IntoIter: Drop,
+        requires iter { IsFiniteIterable U.into_iter_gives U.IntoIter.can_next U.IntoIter.remaining
+            iter }
+        requires book { pass.old.book ≡ self.now.book }
+        ensures book { pass.new.book ≡ pass.old.book }
+        ensures seen { IsPrefix pass.old.history pass.new.history }
+        ensures stored { IfOk result (λ _. AllCome U.into_iter_gives U.IntoIter.next_gives iter
+            (λ keys. AreStored K.eq (map entry_of_ref keys) pass.old.history pass.new.history)) }
+        ensures cut { IfErr result (λ _. ComesNext U.into_iter_gives U.IntoIter.next_gives iter
+            (λ keys key. AreStored K.eq (map entry_of_ref keys) pass.old.history
+            pass.new.history)) }
+        ensures refused { IfErr result (IsPlainRefusal self.now.begun.limit) }
+    {
         for key in iter {
-            match self.pin().insert(rt, *key) {
+            match self.map.pin().insert_as(rt, *key, (), pass) {
                 Ok(_) => {}
                 Err(refused) => return Err(refused),
             }
@@ -82,13 +138,15 @@ impl<K: Hash + Eq + Drop, S: BuildHasher + Default + Drop> HashSet<K, S> {
             iter }
         ensures made { IfOk result (IsFor (ResizeMode.Incremental DEFAULT_CHUNK) 0
             DEFAULT_SHARDS None) }
+        ensures stored { IfOk result (λ set. AllCome U.into_iter_gives U.IntoIter.next_gives iter
+            (λ keys. AreStored K.eq (map entry_of_key keys) [] set.seen)) }
         ensures err { IfErr result IsMemoryOrCapacity }
     {
-        let set = HashSet::with_hasher(rt, alloc, S::default())?;
-        match set.extend(rt, iter) {
-            Ok(()) => Ok(set),
-            Err(refused) => Err(refused),
-        }
+        let mut set = HashSet::with_hasher(rt, alloc, S::default())?;
+        let mut pass = set.map.pass();
+        set.extend_as(rt, iter, &mut pass)?;
+        set.learn(&pass);
+        Ok(set)
     }
 }
 
@@ -105,6 +163,7 @@ impl<K: Hash + Eq + Drop> HashSet<K, BuildHasherDefault<FoldHasher>> {
     ) -> Result<HashSet<K, BuildHasherDefault<FoldHasher>>, Refused>
         ensures made { IfOk result (IsFor (ResizeMode.Incremental DEFAULT_CHUNK) 0
             DEFAULT_SHARDS None) }
+        ensures stored { IfOk result (λ set. AreStored K.eq (map entry_of_key keys) [] set.seen) }
         ensures err { IfErr result IsMemoryOrCapacity }
     {
         match Vec::from_array(alloc, keys) {

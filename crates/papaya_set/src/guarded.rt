@@ -356,6 +356,7 @@ impl<K: Hash + Eq, S: BuildHasher> HashSet<K, S> {
         rt: &R,
         guard: &'g G,
     ) -> Result<Iter<'g, K, S>, Refused>
+        ensures walk { IfOk result (λ keys. keys.book ≡ self.now.book) }
         ensures began { IfOk result (λ keys. keys.began ≡ []) }
         ensures right { G.collector_number guard.now ≡ self.now.collector
             → IfErr result IsMemoryOrCapacity }

@@ -256,6 +256,7 @@ impl<'a, K: Hash + Eq, S: BuildHasher> HashSetRef<'a, K, S> {
     /// # Errors
     /// `Refused::Memory` or `Capacity`, as [`HashSetRef::retain`], if that copy needs a table.
     pub fn iter<R: Wait>(&self, rt: &R) -> Result<Iter<'a, K, S>, Refused>
+        ensures walk { IfOk result (λ keys. keys.book ≡ self.now.map.book) }
         ensures began { IfOk result (λ keys. keys.began ≡ []) }
         ensures refused { IfErr result IsMemoryOrCapacity }
     {

@@ -2,9 +2,10 @@
 ghost use Rattle.std.specs.Prelude.{◌≡◌, IfErr, IfOk, None};
 ghost use Rattle.papaya_words.specs.declared.limits.TheConstants.{DEFAULT_CHUNK, DEFAULT_SHARDS};
 ghost use Rattle.papaya_keys.specs.Sizes.{IsAllowed, IsSizeRefusal};
-ghost use Rattle.papaya_map.specs.Fixed.{IsFor};
+ghost use Rattle.papaya_map.specs.Fixed.{HasLearned, IsFor};
+ghost use mathlib.Core.List.{IsPrefix};
 
-use papaya_map::map::{HashMap, HashMapRef};
+use papaya_map::map::{HashMap, HashMapRef, Pass};
 use papaya_words::probe::{Refused, ResizeMode};
 use std::alloc::Global;
 use std::hash::{BuildHasher, BuildHasherDefault, FoldHasher, Hash};
@@ -183,6 +184,16 @@ impl<K: Hash + Eq, S: BuildHasher> HashSet<K, S> {
         ensures { result.now ≡ self.now }
     {
         &self.map
+    }
+
+    /// Records in the set what a pass has observed, as [`HashMap::learn`] does in a map. A call that
+    /// fills a new set uses this. Does nothing at run time.
+    pub fn learn(&mut self, pass: &Pass<K, (), S>)
+        requires { pass.now.book ≡ self.old.book }
+        ensures same { HasLearned self.old self.new }
+        ensures passed { IsPrefix pass.now.history self.new.seen }
+    {
+        self.map.learn(pass);
     }
 
     /// Pins the set, and returns a reference for its calls: `pin` of 0.2.5. It writes no word.
