@@ -18,7 +18,7 @@ import shutil
 import sys
 
 from kept import Try
-from prover import LOST, NAMED, TOP, Bad, Change, below, check, copy_of, digest, try_all, verdicts_of
+from prover import LOST, NAMED, TOP, Bad, Change, below, check, copy_of, digest, entries_of, try_all, verdicts_of
 
 TOGETHER = "must-fail-together"
 
@@ -113,10 +113,10 @@ class Edit(Change):
         first, last = next((it for it in stand if it[0] <= line <= it[1]), stand[0])
         return self.file, first + 1, last + 1
 
-    def is_told(self, place, line):
-        """Does this line tell of a goal of the spoiled function, or of a closure in it?"""
-        at = re.match(r"(?:note: )?(?:\./)?(\S+?):(\d+):\d+: (?!note: )", line)
-        if not at or LOST.search(line):
+    def is_told(self, place, entry):
+        """Does this entry tell of a goal of the spoiled function, or of a closure in it?"""
+        at = re.match(r"(?:note: )?(?:\./)?(\S+?):(\d+):\d+: (?!note: )", entry)
+        if not at or LOST.search(entry):
             return False
         file, first, last = place
         answers = f"proofs/{self.function.replace('::', '/')}/"
@@ -125,8 +125,8 @@ class Edit(Change):
     def told(self, crate, place, said):
         """What the check tells of a goal of the function: where it is, or else which one search did not prove."""
         searched = f"fn {crate}::{self.function}: no proof: "
-        lines = said.split("\n")
-        return [it for it in lines if self.is_told(place, it)] + [it for it in lines if it.startswith(searched) and "did not prove" in it]
+        entries = entries_of(said)
+        return [it for it in entries if self.is_told(place, it)] + [it for it in entries if it.startswith(searched) and "did not prove" in it]
 
     def is_of(self, name):
         """Is this function, as a check names it below the crate, the spoiled one, or made for a closure in it?"""

@@ -19,8 +19,9 @@ TOP = os.path.dirname(os.path.dirname(os.path.abspath(__file__)))
 # What a check reads of a crate: its functions and its clauses' words, and the answers to what they leave to show.
 PARTS = ("src", "specs", "proofs")
 
-# What the prover says where a change took away a name that a proof uses: that shows nothing.
-LOST = re.compile(r"has no field|is not in scope|has no `|was not admitted|that depends? on|is no name")
+# What the prover says where a change took away a name that a proof uses: that shows nothing. (Of a goal that it prints it may say
+# that a name in it "is not in scope here, so what is shown does not paste back": that is not such a case.)
+LOST = re.compile(r"has no field|is not in scope(?! here, so what is shown)|has no `|was not admitted|that depends? on|is no name")
 
 
 class Bad(Exception):
@@ -151,6 +152,11 @@ def library_of(name):
 def verdicts_of(said):
     """What the check says of each function, by its whole name."""
     return dict(re.findall(r"^fn (\S+): (proved|not proved|no proof|could not tell)", said, re.M))
+
+
+def entries_of(said):
+    """The entries of what a check says, a line each: one that goes on has its further lines indented."""
+    return re.sub(r"\n +", " ", said).split("\n")
 
 
 def digest(said):

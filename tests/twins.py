@@ -17,13 +17,13 @@ import sys
 from itertools import zip_longest
 
 from kept import Try
-from prover import LOST, TOP, Bad, Change, below, check, copy_of, digest, try_all, verdicts_of
+from prover import LOST, TOP, Bad, Change, below, check, copy_of, digest, entries_of, try_all, verdicts_of
 
 
 def is_refused(said, law):
     """Is the law refused, and for more than a name?"""
     told = r"(\./)?proofs/\S+: error: |note: (\./)?src/\S+: it is not proved that "
-    errors = [it for it in said.split("\n") if re.match(told, it) and not LOST.search(it)]
+    errors = [it for it in entries_of(said) if re.match(told, it) and not LOST.search(it)]
     return verdicts_of(said).get(law) in ("not proved", "no proof") and bool(errors)
 
 
