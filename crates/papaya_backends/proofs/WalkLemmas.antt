@@ -30,7 +30,7 @@ none_given first = (refl, All-nil (Had first.began first.history), inl refl)
 -- one more
 pub one_given : (first before after : Walked ℕ ℕ) (pairs : List (ℕ × ℕ)) (entry : Bor ℕ × Bor ℕ) → HasGiven first pairs before
     → Gives (λ a b. a == b) before (Some entry) after → HasGiven first (pairs ++ (entry.0.now, entry.1.now) ∷ []) after
-one_given first before after pairs entry (began, had, so_far) (walks, (p, of, here), legal) =
+one_given first before after pairs entry (began, had, so_far) (walks, (p, of, here), legal, _) =
     let same : (key_of p, p.value.value) ≡ (entry.0.now, entry.1.now) = ap (λ (k : ℕ). (k, p.value.value)) (sym of.0)
     ∙ ap (λ (v : ℕ). (entry.0.now, v)) (sym of.1) in
     let mine : HadPair (λ a b. a == b) first.began after.history p = subst (λ (old : Seen). HadPair (λ a b. a == b) old after.history p) began here in

@@ -65,14 +65,16 @@ module _ {K V : Type 0} (eq : K → K → Bool) where
   stored_until (e ∷ es) old mid new stored more = (stored.0, stored.1, stored.2, stored_until es stored.0 mid new stored.3 more)
 
   -- an iteration gave these
-  pub walked : (book : Book) (walk first left end : Walked K V) (lent : List (Bor K × Bor V)) → first ≡ walk → walk.book ≡ book → walk.began ≡ []
-      → Yields (Gives eq) first lent left → Gives eq left None end → AreWalked eq book (map deref_pair lent)
-  walked book walk first left end lent is of_map began gave over = record {
+  pub walked : (book : Book) (seen : List (Change K (Stored K V))) (walk first left end : Walked K V) (lent : List (Bor K × Bor V)) → first ≡ walk
+      → walk.book ≡ book → IsPrefix seen walk.began → walk.given ≡ [] → Yields (Gives eq) first lent left → Gives eq left None end
+      → AreWalked eq book seen (map deref_pair lent)
+  walked book seen walk first left end lent is of_map since none gave over = record {
     first = first;
     left = left;
     end = end;
     of_map = ap (λ (w : Walked K V). w.book) is ∙ of_map;
-    began = ap (λ (w : Walked K V). w.began) is ∙ began;
+    since = subst (λ (w : Walked K V). IsPrefix seen w.began) (sym is) since;
+    none = ap (λ (w : Walked K V). w.given) is ∙ none;
     lent = lent;
     gave = gave;
     over = over;

@@ -32,13 +32,16 @@ module _ {K V : Type 0} (eq : K → K → Bool) where
       × IfErr result (λ why. ComesNext becomes steps iter
       (λ items item. AreStored (shows items) old new))
 
-  -- an iteration over the map of this book gave just these entries, until it gave none
-  pub record AreWalked (book : Book) (pairs : List (K × V)) : Type 0 where
+  -- An iteration over the map of this book gave just these entries, until it gave none. It began
+  -- when this was seen, or later.
+  pub record AreWalked (book : Book) (seen : List (Change K (Stored K V))) (pairs : List (K × V))
+      : Type 0 where
     pub first : Walked K V
     pub left : Walked K V
     pub end : Walked K V
     pub of_map : first.book ≡ book
-    pub began : first.began ≡ []
+    pub since : IsPrefix seen first.began
+    pub none : first.given ≡ []
     pub lent : List (Bor K × Bor V)
     pub gave : Yields (Gives eq) first lent left
     pub over : Gives eq left None end
@@ -51,6 +54,6 @@ module _ {K V : Type 0} (eq : K → K → Bool) where
         × AllZip (Clones clones_key clones_value) pairs clones × AreStored clones old new
 
     -- clones of what an iteration over the map of this book gave were put in
-    abbrev pub AreCopied : Book → (old new : List (Change K (Stored K V))) → Type 0
-    AreCopied book old new = (pairs : List (K × V)) × AreWalked book pairs
+    abbrev pub AreCopied : Book → (seen old new : List (Change K (Stored K V))) → Type 0
+    AreCopied book seen old new = (pairs : List (K × V)) × AreWalked book seen pairs
         × AreCloned pairs old new

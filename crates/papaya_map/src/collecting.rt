@@ -274,8 +274,8 @@ impl<K: Hash + Eq + Clone + Drop, V: Clone + Drop, S: BuildHasher> HashMap<K, V,
     /// clone is not made.
     fn copy_into<R: Wait>(&self, rt: &R, copy: &mut HashMap<K, V, S>) -> Result<(), Refused>
         ensures same { IfOk result (λ _. HasLearned copy.old copy.new) }
-        ensures copied { IfOk result (λ _. AreCopied K.eq K.is_clone V.is_clone self.now.book []
-            copy.new.seen) }
+        ensures copied { IfOk result (λ _. AreCopied K.eq K.is_clone V.is_clone self.now.book
+            self.now.seen [] copy.new.seen) }
         ensures refused { IfErr result (IsPlainRefusal copy.old.begun.limit) }
     {
         let mut pass = copy.pass();
@@ -303,8 +303,8 @@ impl<K: Hash + Eq + Clone + Drop, V: Clone + Drop, S: BuildHasher + Clone + Drop
         ensures made { IfOk result (λ map. (pairs : ℕ)
             × IsFor (ResizeMode.Incremental DEFAULT_CHUNK) pairs DEFAULT_SHARDS None map) }
         ensures hasher { IfOk result (λ map. S.is_clone self.now.begun.hasher map.begun.hasher) }
-        ensures copied { IfOk result (λ map. AreCopied K.eq K.is_clone V.is_clone self.now.book []
-            map.seen) }
+        ensures copied { IfOk result (λ map. AreCopied K.eq K.is_clone V.is_clone self.now.book
+            self.now.seen [] map.seen) }
         ensures refused { IfErr result IsMemoryOrCapacity }
     {
         let Ok(hasher) = self.book.parts.hasher.clone() else {
@@ -338,8 +338,8 @@ impl<K: Hash + Eq + Clone + Drop, V: Clone + Drop, S: BuildHasher + Clone + Drop
         ensures hasher { IfOk result (λ _. S.is_clone self.old.begun.hasher
             self.new.begun.hasher) }
         ensures opened { IfOk result (λ _. HasFirstTable self.new) }
-        ensures copied { IfOk result (λ _. AreCopied K.eq K.is_clone V.is_clone self.old.book []
-            self.new.seen) }
+        ensures copied { IfOk result (λ _. AreCopied K.eq K.is_clone V.is_clone self.old.book
+            self.old.seen [] self.new.seen) }
         ensures err { IfErr result (λ refused. IsPlainRefusal self.old.begun.limit refused
             × (self.new ≡ self.old)) }
     {

@@ -4,6 +4,8 @@ pub mod Pairs
 pub mod Leaving
 -- what stands in the slots of a table that was taken
 pub mod Taken
+-- what a walk has passed of it
+pub mod Walking
 -- how the scan of a slot goes on
 pub mod Scanning
 -- what is so stays so

@@ -24,7 +24,7 @@ use Rattle.papaya_lookup.proofs.Slots.{named_len}
 use Rattle.papaya_scan.specs.Leaving as leaving
 use Rattle.papaya_scan.specs.TableScans.{HasShown, IsTaken, IsTakenAt, Scans}
 use Rattle.papaya_scan.specs.Taking as taking
-use Rattle.papaya_scan.specs.Walked.{AreLast, Gives, HadEntry, IsLeft, Walked, Walks}
+use Rattle.papaya_scan.specs.Walked.{AreLast, ArePassed, Gives, HadEntry, IsLeft, LeavesNone, Walked, Walks, with_found}
 use Rattle.papaya_scan.proofs.Taken.{scanned_later, taken_later}
 use Rattle.papaya_scan.proofs.Scanning.{shown_later}
 
@@ -128,20 +128,31 @@ module _ {K V S : Type 0} (log : List (Event K V S)) (t : ℕ) (sheet : Sheet) (
   all_last = are_last sheet.slots (omega arith) (λ i. ap (slice_get sheet.slots) (omega arith))
 
 -- a walk begins with all slots of the root, or with none
-pub all_left : {K V S : Type 0} (b : Begun K V S) (began log : List (Event K V S)) (t : ℕ) (sheet : Sheet) (words : List Word)
-    → calls.IsTable log t sheet → taking.IsTaken b began log t → words ≡ map (word_named sheet.book) sheet.slots
-    → IsLeft b began log t (length words) words
-all_left b began log t sheet words h taken is =
-    let all = subst (λ (n : ℕ). AreLast log t n (map (word_named sheet.book) sheet.slots)) (sym (named_len sheet.book sheet.slots)) (all_last log t sheet h) in
-    subst (λ (ws : List Word). IsLeft b began log t (length ws) ws) (sym is) (record { last = all; taken = λ some. taken })
+pub all_left : {K V S : Type 0} (eq : K → K → Bool) (b : Begun K V S) (began log : List (Event K V S)) (t : ℕ) (sheet : Sheet) (words : List Word)
+    → IsPrefix began log → calls.IsTable log t sheet → taking.IsTaken b began log t → words ≡ map (word_named sheet.book) sheet.slots
+    → ArePassed eq b began log t 0 (length sheet.slots) [] → IsLeft eq b began log t (length words) words []
+all_left eq b began log t sheet words pre h taken is passed =
+    let size = named_len sheet.book sheet.slots in
+    let all = subst (λ (n : ℕ). AreLast log t n (map (word_named sheet.book) sheet.slots)) (sym size) (all_last log t sheet h) in
+    let none : length (map (word_named sheet.book) sheet.slots) - length (map (word_named sheet.book) sheet.slots) ≡ 0 = omega arith in
+    subst (λ (ws : List Word). IsLeft eq b began log t (length ws) ws []) (sym is) (record {
+      since = pre;
+      last = all;
+      taken = λ some. taken;
+      passed = subst (λ (n : ℕ). ArePassed eq b began log t n (length (map (word_named sheet.book) sheet.slots)) []) (sym none)
+          (subst (λ (n : ℕ). ArePassed eq b began log t 0 n []) (sym size) passed);
+    })
 
-pub none_left : {K V S : Type 0} (b : Begun K V S) (began log : List (Event K V S)) → IsLeft b began log 0 0 []
-none_left b began log = record { last = tt; taken = λ some. absurd (omega (arith, some)) }
+pub none_left : {K V S : Type 0} (eq : K → K → Bool) (b : Begun K V S) (began log : List (Event K V S)) → IsPrefix began log
+    → ArePassed eq b began log 0 0 0 [] → IsLeft eq b began log 0 0 [] []
+none_left eq b began log pre passed = record { since = pre; last = tt; taken = λ some. absurd (omega (arith, some)); passed = passed }
 
 -- what a walk gives, once it has gone on
 pub gives_next : {K V : Type 0} (eq : K → K → Bool) (before after : Walked K V) → Walks eq before after → (L : Type 0)
-    → (L → IsLegalHistory eq key_of after.history) → (found : Option (Bor K × Bor V)) → MatchOption found (Unit {0}) (λ entry. L)
+    → (L → IsLegalHistory eq key_of after.history) → (found : Option (Bor K × Bor V)) → after.given ≡ with_found before.given found
+    → MatchOption found (Unit {0}) (λ entry. L)
     → MatchOption found (Unit {0}) (λ entry. HadEntry eq before.began after.history entry)
+    → MatchOption found (LeavesNone eq after) (λ entry. Unit {0})
     → Gives eq before found after
-gives_next eq before after walks L legal None lawful had = walks
-gives_next eq before after walks L legal (Some entry) lawful had = (walks, had, legal lawful)
+gives_next eq before after walks L legal None given lawful had leaves = (walks, given, leaves)
+gives_next eq before after walks L legal (Some entry) given lawful had leaves = (walks, had, legal lawful, given)

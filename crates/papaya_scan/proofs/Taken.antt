@@ -50,7 +50,7 @@ use Rattle.papaya_change.proofs.ResizingRelies.{C, G, first_may, hash, hashed, k
 use Rattle.papaya_scan.specs.Leaving.{IsRetained, WasTakenOut}
 use Rattle.papaya_scan.specs.Meeting.{HadPair, IsMet, has_pair}
 use Rattle.papaya_scan.specs.Taking.{Holds, IsBuried, IsScannedUpTo, IsTaken}
-use Rattle.papaya_scan.proofs.Leaving.{out_later, retained_earlier, retained_none}
+use Rattle.papaya_scan.proofs.Leaving.{out_later, out_or_still, retained_earlier, retained_none}
 use Rattle.papaya_scan.proofs.Pairs.{HasIt, IsPairOut, change_out, held_seen, it_kind, it_named, its_slot, pair_then}
 
 -- a table that was taken once was taken for good
@@ -289,6 +289,16 @@ module _ {K V S H : Type 0} (eq : K → K → Bool) (input : K → List (List �
         let within : x < Gs.size t = subst (λ (u : ℕ). x < Gs.size u) r.root (law.within k root place.0 place.1) in
         let there : Holds (taken_words.slot t x) q = subst (λ (u : ℕ). Holds (taken_words.slot u x) q) r.root held.1 in
         (x, subst (λ (n : ℕ). x < n) size within, subst (λ (z : Stored K V). Holds (taken_words.slot t x) z) is there)
+
+    -- and each that the map had before was taken out until now, or stood in a slot then
+    pub stood_or_out : (sheet : Sheet) → IsTable log t sheet → (k : K) (p : Stored K V) → replay eq (history_of old) k ≡ Some p
+        → WasTakenOut (history_of old) (history_of log) p ⊎ ((x : ℕ) × (x < length sheet.slots) × Holds (taken_words.slot t x) p)
+    stood_or_out sheet table k p has =
+        let first = first_may eq input build write finish classes respects b r.at log l r.until in
+        let legal = legal_changes Gs law start (λ k. None) (exchanges_of r.at) first (all_legal Gs law (exchanges_of r.at) first) in
+        ⊎_elim (λ out. inl (out_later p (history_of old) (history_of r.at) (history_of log) (history_since r.at log r.until) out))
+        (λ still. inr (stood_in sheet table k p still))
+        (out_or_still eq classes (history_of old) (history_of r.at) (history_since old r.at r.since) legal k p has)
 
     -- once all its slots were scanned
     pub scanned_all : (sheet : Sheet) → IsTable log t sheet → (said : List (Stored K V × Bool)) → IsScannedUpTo r.at log t (length sheet.slots) said

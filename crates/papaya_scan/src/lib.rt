@@ -10,3 +10,4 @@ pub mod retain;
 pub mod root;
 pub mod slot;
 pub mod walk;
+pub mod yielded;

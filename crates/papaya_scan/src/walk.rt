@@ -1,18 +1,22 @@
 //! Iterators over the entries of a map.
-ghost use Rattle.std.specs.Prelude.{◌≡◌, ◌<◌, ◌≤◌, MatchOption, length};
+ghost use Rattle.std.specs.Prelude.{◌≡◌, ◌<◌, ◌≤◌, ◌-◌, MatchOption, [], length};
 ghost use Rattle.std.specs.Iterator.{at_most};
+ghost use mathlib.Core.List.{IsPrefix};
 ghost use Rattle.papaya_words.specs.Word.{kind_of};
+ghost use Rattle.papaya_book.specs.Books.{IsLawfulLog};
 ghost use Rattle.papaya_book.specs.Parts.{begun_of};
 ghost use Rattle.papaya_book.specs.Windows.{IsLawful, Sees};
 ghost use Rattle.papaya_lookup.specs.Drivers.{IsSlotAt, past};
 ghost use Rattle.papaya_lookup.specs.History.{history_of};
 ghost use Rattle.papaya_scan.specs.Meeting.{has_pair};
-ghost use Rattle.papaya_scan.specs.TableScans.{IsTaken};
-ghost use Rattle.papaya_scan.specs.Walked.{AreLast, Gives, GivesKey, GivesValue, HadEntry, IsLeft, IsRootOf, Walked};
+ghost use Rattle.papaya_scan.specs.TableScans.{IsTaken, IsTakenAt};
+ghost use Rattle.papaya_scan.specs.Walked.{AreLast, ArePassed, Gives, GivesKey, GivesValue, HadEntry, IsLeft, IsPassed, IsRootOf, Walked, with_found};
 
+use crate::yielded::Yielded;
 use papaya_book::book::Book;
 use papaya_book::book::gains::named_pair;
 use papaya_book::book::kept::KeptRoot;
+use papaya_book::keyed::Keyed;
 use papaya_book::rule::offer::Seen;
 use papaya_book::slot::Cell;
 use papaya_book::table::Table;
@@ -24,7 +28,8 @@ use std::marker::Model;
 
 /// An iterator over the entries of a map, slot by slot of the root that it took: `Iter` of 0.2.5.
 /// It keeps the root's number, its length, and the slots that are left. Contracts see the book, the
-/// history observed when the iteration began, and the history observed by now.
+/// history observed when the iteration began, the history observed by now, and what was returned.
+/// It returns each entry that stays in the map while it goes on.
 #[derive(Drop)]
 pub struct Iter<'a, K: Hash + Eq, V, S: BuildHasher> {
     book: &'a Book<K, V, S>,
@@ -34,6 +39,7 @@ pub struct Iter<'a, K: Hash + Eq, V, S: BuildHasher> {
     number: u64,
     len: usize,
     rest: &'a [Cell<K, V, S>],
+    yielded: Yielded<K, V>,
 }
 
 impl<'a, K: Hash + Eq, V, S: BuildHasher> Model for Iter<'a, K, V, S> {
@@ -43,12 +49,14 @@ impl<'a, K: Hash + Eq, V, S: BuildHasher> Model for Iter<'a, K, V, S> {
       book = i.book.now.begun.book;
       began = history_of i.began.log;
       history = history_of i.sight.log;
+      given = i.yielded.entries;
       left = length i.rest.now;
     } };
 
     ghost invariant = { λ i. (i.kept ≡ i.book.now.begun.book)
-        × (i.sight.book ≡ i.book.now.begun.book) × IsLeft (begun_of i.book.now.parts) i.began.log
-        i.sight.log i.number i.len i.rest.now };
+        × (i.sight.book ≡ i.book.now.begun.book)
+        × IsLeft K.eq (begun_of i.book.now.parts) i.began.log i.sight.log i.number i.len i.rest.now
+        i.yielded.entries };
 }
 
 impl<'a, K: Hash + Eq, V, S: BuildHasher> Iter<'a, K, V, S> {
@@ -63,10 +71,13 @@ impl<'a, K: Hash + Eq, V, S: BuildHasher> Iter<'a, K, V, S> {
     ) -> Iter<'a, K, V, S>
         requires kept { kept.now ≡ book.now.begun.book }
         requires seen { sight.book ≡ book.now.begun.book }
+        requires since { IsPrefix began.log sight.log }
+        requires lawful { IsLawfulLog ⟦<S as Keyed<K>>⟧.keys book.now sight.log }
         requires root { IsRootOf (begun_of book.now.parts) began.log sight.log root }
         ensures book { result.book ≡ book.now.begun.book }
         ensures began { result.began ≡ history_of began.log }
         ensures history { result.history ≡ history_of sight.log }
+        ensures given { result.given ≡ [] }
     {
         let (number, rest) = match root {
             Some((number, table)) => (number, slots_of(table)),
@@ -80,6 +91,7 @@ impl<'a, K: Hash + Eq, V, S: BuildHasher> Iter<'a, K, V, S> {
             number,
             len: rest.len(),
             rest,
+            yielded: Yielded::nothing(),
         }
     }
 
@@ -103,6 +115,7 @@ impl<'a, K: Hash + Eq, V, S: BuildHasher> Iter<'a, K, V, S> {
             number: self.number,
             len: self.len,
             rest: self.rest,
+            yielded: self.yielded.again(),
         }
     }
 }
@@ -133,6 +146,8 @@ fn entry_at<'a, K: Hash + Eq, V, S: BuildHasher>(
     ensures lawful { IsLawful window.new }
     ensures had { (began : _) → IsTaken began window.old number → MatchOption result Unit
         (λ entry. HadEntry K.eq (history_of began) (past window.new) entry) }
+    ensures passed { (began at : _) → IsTakenAt began window.old number at
+        → IsPassed at window.new.sight.log number place result }
 {
     let (word, offer) = word_of(window, slot, number, place);
     if !names_pair(word) {
@@ -159,6 +174,12 @@ fn next_pair<'a, K: Hash + Eq, V, S: BuildHasher>(
     ensures had { (began : _) → (0 < length slots.now → IsTaken began window.old number)
         → MatchOption result.1 Unit (λ entry. HadEntry K.eq (history_of began) (past window.new)
         entry) }
+    ensures passed { (began given : _)
+        → ArePassed K.eq (begun_of window.old.book.now.parts) began window.old.sight.log number
+        (len - length slots.now) len given
+        → ArePassed K.eq (begun_of window.old.book.now.parts) began window.new.sight.log number
+        (len - length result.0.now) len (with_found given result.1) }
+    ensures over { MatchOption result.1 (result.0.now ≡ []) (λ entry. Unit) }
 {
     let mut rest = slots;
     while let Some((slot, later)) = rest.split_first() {
@@ -185,6 +206,7 @@ impl<'a, K: Hash + Eq, V, S: BuildHasher> Iterator for Iter<'a, K, V, S> {
         let (rest, found) = next_pair(self.number, self.len, self.rest, &mut window);
         self.sight = window.sight;
         self.rest = rest;
+        self.yielded = self.yielded.with(found);
         found
     }
 }

@@ -2,7 +2,10 @@
 use Rattle.std.proofs.Common.{◌≡◌, Bool, Some, None, List, [], ◌∷◌, map, refl, ap, subst}
 use Rattle.std.specs.Iterator.{Yields}
 use denote.Bor.{Bor}
+use mathlib.Core.List.{IsPrefix}
 use Rattle.logbook.specs.Pages.{Book}
+use Rattle.papaya_book.specs.Logs.{Stored}
+use Rattle.papaya_lookup.specs.History.{Change}
 use Rattle.papaya_scan.specs.Walked.{Gives, GivesKey, Walked}
 use Rattle.papaya_map.specs.Collected.{AreWalked}
 use Rattle.papaya_map.proofs.Collected.{walked}
@@ -27,9 +30,10 @@ module _ {K : Type 0} (eq : K → K → Bool) where
       }
 
   -- an iteration gave these
-  pub walked_keys : (book : Book) (walk first left end : Walked K (Unit {0})) (keys : List (Bor K)) → first ≡ walk → walk.book ≡ book → walk.began ≡ []
+  pub walked_keys : (book : Book) (seen : List (Change K (Stored K (Unit {0})))) (walk first left end : Walked K (Unit {0})) (keys : List (Bor K))
+      → first ≡ walk → walk.book ≡ book → IsPrefix seen walk.began → walk.given ≡ []
       → Yields (GivesKey eq) first keys left → GivesKey eq left None end
-      → AreWalked eq book (map entry_of_key (map (λ k. k.now) keys))
-  walked_keys book walk first left end keys is of_map began gave over =
+      → AreWalked eq book seen (map entry_of_key (map (λ k. k.now) keys))
+  walked_keys book seen walk first left end keys is of_map since none gave over =
       let its = of_keys first keys left gave in
-      subst (AreWalked eq book) its.are (walked eq book walk first left end its.lent is of_map began its.gave over)
+      subst (AreWalked eq book seen) its.are (walked eq book seen walk first left end its.lent is of_map since none its.gave over)

@@ -87,7 +87,7 @@ impl<K: Hash + Eq + Clone + Drop, S: BuildHasher + Clone + Drop> HashSet<K, S> {
             × IsFor (ResizeMode.Incremental DEFAULT_CHUNK) keys DEFAULT_SHARDS None set) }
         ensures hasher { IfOk result (λ set. S.is_clone self.now.begun.hasher set.begun.hasher) }
         ensures copied { IfOk result (λ set. AreCopied K.eq K.is_clone (λ v w. w ≡ v) self.now.book
-            [] set.seen) }
+            self.now.seen [] set.seen) }
         ensures refused { IfErr result IsMemoryOrCapacity }
     {
         match self.map.try_clone(rt, alloc) {
@@ -108,7 +108,7 @@ impl<K: Hash + Eq + Clone + Drop, S: BuildHasher + Clone + Drop> HashSet<K, S> {
             self.new.begun.hasher) }
         ensures opened { IfOk result (λ _. HasFirstTable self.new) }
         ensures copied { IfOk result (λ _. AreCopied K.eq K.is_clone (λ v w. w ≡ v) self.old.book
-            [] self.new.seen) }
+            self.old.seen [] self.new.seen) }
         ensures err { IfErr result (λ refused. IsPlainRefusal self.old.begun.limit refused
             × (self.new ≡ self.old)) }
     {

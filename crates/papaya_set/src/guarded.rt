@@ -357,7 +357,7 @@ impl<K: Hash + Eq, S: BuildHasher> HashSet<K, S> {
         guard: &'g G,
     ) -> Result<Iter<'g, K, S>, Refused>
         ensures walk { IfOk result (λ keys. keys.book ≡ self.now.book) }
-        ensures began { IfOk result (λ keys. keys.began ≡ []) }
+        ensures began { IfOk result (λ keys. (keys.began ≡ self.now.seen) × (keys.given ≡ [])) }
         ensures right { G.collector_number guard.now ≡ self.now.collector
             → IfErr result IsMemoryOrCapacity }
         ensures wrong { (G.collector_number guard.now ≡ self.now.collector → ⊥)

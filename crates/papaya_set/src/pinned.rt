@@ -247,8 +247,9 @@ impl<'a, K: Hash + Eq, S: BuildHasher> HashSetRef<'a, K, S> {
         answer
     }
 
-    /// Returns an iterator over the keys: `iter` of 0.2.5. A key that is stored or removed
-    /// meanwhile may be returned or not.
+    /// Returns an iterator over the keys: `iter` of 0.2.5. Each key that the set has is returned, if
+    /// no call removes it meanwhile. A key that is stored or removed meanwhile may be returned or
+    /// not.
     ///
     /// With `ResizeMode::Blocking` the iterator takes the root as it is. Otherwise the call first
     /// copies what is left to copy.
@@ -257,7 +258,7 @@ impl<'a, K: Hash + Eq, S: BuildHasher> HashSetRef<'a, K, S> {
     /// `Refused::Memory` or `Capacity`, as [`HashSetRef::retain`], if that copy needs a table.
     pub fn iter<R: Wait>(&self, rt: &R) -> Result<Iter<'a, K, S>, Refused>
         ensures walk { IfOk result (λ keys. keys.book ≡ self.now.map.book) }
-        ensures began { IfOk result (λ keys. keys.began ≡ []) }
+        ensures began { IfOk result (λ keys. (keys.began ≡ self.now.seen) × (keys.given ≡ [])) }
         ensures refused { IfErr result IsMemoryOrCapacity }
     {
         Ok(Iter::of(self.keys.keys(rt)?))

@@ -63,10 +63,11 @@ impl<'a, K: Hash + Eq, V, S: BuildHasher> HashMapRef<'a, K, V, S> {
     }
 
     /// Returns an iterator over the map's entries: `iter` of 0.2.5. Each entry returned was in the
-    /// map, in a history that begins with what the pass had observed. The pass does not learn what
-    /// the iterator observes later; a session does by
-    /// [`Session::learn_walk`](crate::session::Session::learn_walk). An entry that is stored or
-    /// removed meanwhile may be returned or not.
+    /// map, in a history that begins with what the pass had observed. Each entry that the map had
+    /// then is returned, if no call removes or replaces it meanwhile. An entry that is stored,
+    /// replaced or removed meanwhile may be returned or not. The pass does not learn what the
+    /// iterator observes later; a session does by
+    /// [`Session::learn_walk`](crate::session::Session::learn_walk).
     ///
     /// With `ResizeMode::Blocking` the iterator takes the root as it is. Otherwise the call first
     /// copies what is left to copy.
@@ -86,7 +87,7 @@ impl<'a, K: Hash + Eq, V, S: BuildHasher> HashMapRef<'a, K, V, S> {
         ensures made { pass.new.made ≡ pass.old.made }
         ensures walk { IfOk result (λ pairs. pairs.book ≡ self.now.map.book) }
         ensures began { IfOk result (λ pairs. (pairs.began ≡ pass.old.history)
-            × (pairs.history ≡ pass.new.history)) }
+            × (pairs.history ≡ pass.new.history) × (pairs.given ≡ [])) }
         ensures refused { IfErr result (λ refused. IsMemoryOrCapacity refused) }
         ensures crowded { result ≡ Err Refused.Capacity → HasNoRoom self.now.map.initial
             pass.new.tables pass.new.given }
@@ -116,10 +117,11 @@ impl<'a, K: Hash + Eq, V, S: BuildHasher> HashMapRef<'a, K, V, S> {
     /// `Refused::Memory` or `Capacity`, as [`HashMapRef::iter_as`].
     pub fn iter<R: Wait>(&self, rt: &R) -> Result<Iter<'a, K, V, S>, Refused>
         ensures walk { IfOk result (λ pairs. pairs.book ≡ self.now.map.book) }
-        ensures began { IfOk result (λ pairs. pairs.began ≡ []) }
+        ensures began { IfOk result (λ pairs. (pairs.began ≡ self.now.seen)
+            × (pairs.given ≡ [])) }
         ensures refused { IfErr result (λ refused. IsMemoryOrCapacity refused) }
     {
-        let mut pass = self.map().pass();
+        let mut pass = self.begun(None);
         self.iter_as(rt, &mut pass)
     }
 
@@ -129,7 +131,8 @@ impl<'a, K: Hash + Eq, V, S: BuildHasher> HashMapRef<'a, K, V, S> {
     /// `Refused::Memory` or `Capacity`, as [`HashMapRef::iter_as`].
     pub fn keys<R: Wait>(&self, rt: &R) -> Result<Keys<'a, K, V, S>, Refused>
         ensures walk { IfOk result (λ keys. keys.pairs.book ≡ self.now.map.book) }
-        ensures began { IfOk result (λ keys. keys.pairs.began ≡ []) }
+        ensures began { IfOk result (λ keys. (keys.pairs.began ≡ self.now.seen)
+            × (keys.pairs.given ≡ [])) }
         ensures refused { IfErr result (λ refused. IsMemoryOrCapacity refused) }
     {
         Ok(Keys::of(self.iter(rt)?))
@@ -141,7 +144,8 @@ impl<'a, K: Hash + Eq, V, S: BuildHasher> HashMapRef<'a, K, V, S> {
     /// `Refused::Memory` or `Capacity`, as [`HashMapRef::iter_as`].
     pub fn values<R: Wait>(&self, rt: &R) -> Result<Values<'a, K, V, S>, Refused>
         ensures walk { IfOk result (λ values. values.pairs.book ≡ self.now.map.book) }
-        ensures began { IfOk result (λ values. values.pairs.began ≡ []) }
+        ensures began { IfOk result (λ values. (values.pairs.began ≡ self.now.seen)
+            × (values.pairs.given ≡ [])) }
         ensures refused { IfErr result (λ refused. IsMemoryOrCapacity refused) }
     {
         Ok(Values::of(self.iter(rt)?))
@@ -205,14 +209,15 @@ impl<K: Hash + Eq, V, S: BuildHasher> HashMap<K, V, S> {
         guard: &'g G,
     ) -> Result<Iter<'g, K, V, S>, Refused>
         ensures walk { IfOk result (λ pairs. pairs.book ≡ self.now.book) }
-        ensures began { IfOk result (λ pairs. pairs.began ≡ []) }
+        ensures began { IfOk result (λ pairs. (pairs.began ≡ self.now.seen)
+            × (pairs.given ≡ [])) }
         ensures right { G.collector_number guard.now ≡ self.now.collector
             → IfErr result (λ refused. IsMemoryOrCapacity refused) }
         ensures wrong { (G.collector_number guard.now ≡ self.now.collector → ⊥)
             → result ≡ Err Refused.WrongGuard }
     {
         self.verify(guard)?;
-        let mut pass = self.numbered(guard.number());
+        let mut pass = self.begun(Some(guard.number()));
         self.pin().iter_as(rt, &mut pass)
     }
 
@@ -226,7 +231,8 @@ impl<K: Hash + Eq, V, S: BuildHasher> HashMap<K, V, S> {
         guard: &'g G,
     ) -> Result<Keys<'g, K, V, S>, Refused>
         ensures walk { IfOk result (λ keys. keys.pairs.book ≡ self.now.book) }
-        ensures began { IfOk result (λ keys. keys.pairs.began ≡ []) }
+        ensures began { IfOk result (λ keys. (keys.pairs.began ≡ self.now.seen)
+            × (keys.pairs.given ≡ [])) }
         ensures right { G.collector_number guard.now ≡ self.now.collector
             → IfErr result (λ refused. IsMemoryOrCapacity refused) }
         ensures wrong { (G.collector_number guard.now ≡ self.now.collector → ⊥)
@@ -245,7 +251,8 @@ impl<K: Hash + Eq, V, S: BuildHasher> HashMap<K, V, S> {
         guard: &'g G,
     ) -> Result<Values<'g, K, V, S>, Refused>
         ensures walk { IfOk result (λ values. values.pairs.book ≡ self.now.book) }
-        ensures began { IfOk result (λ values. values.pairs.began ≡ []) }
+        ensures began { IfOk result (λ values. (values.pairs.began ≡ self.now.seen)
+            × (values.pairs.given ≡ [])) }
         ensures right { G.collector_number guard.now ≡ self.now.collector
             → IfErr result (λ refused. IsMemoryOrCapacity refused) }
         ensures wrong { (G.collector_number guard.now ≡ self.now.collector → ⊥)

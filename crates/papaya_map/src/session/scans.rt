@@ -1,5 +1,5 @@
 //! The calls of a session that scan the whole map.
-ghost use Rattle.std.specs.Prelude.{◌≡◌, Err, IfErr, IfOk, false};
+ghost use Rattle.std.specs.Prelude.{◌≡◌, Err, IfErr, IfOk, false, []};
 ghost use mathlib.Core.List.{IsPrefix};
 ghost use Rattle.papaya_book.specs.Limits.{HasNoRoom};
 ghost use Rattle.papaya_change.specs.Showings.{Judges};
@@ -87,8 +87,9 @@ impl<'a, K: Hash + Eq, V, S: BuildHasher> Session<'a, K, V, S> {
     }
 
     /// Returns an iterator over the map's entries: `iter` of 0.2.5. The session is free for other
-    /// calls meanwhile, and learns by [`Session::learn_walk`] what the iterator has observed. An
-    /// entry that is stored or removed meanwhile may be returned or not.
+    /// calls meanwhile, and learns by [`Session::learn_walk`] what the iterator has observed. Each
+    /// entry that this session has observed in the map is returned, if no call removes or replaces
+    /// it meanwhile. An entry that is stored, replaced or removed meanwhile may be returned or not.
     ///
     /// With `ResizeMode::Blocking` the iterator takes the root as it is. Otherwise the call first
     /// copies what is left to copy.
@@ -102,7 +103,7 @@ impl<'a, K: Hash + Eq, V, S: BuildHasher> Session<'a, K, V, S> {
         ensures made { self.new.made ≡ self.old.made }
         ensures walk { IfOk result (λ pairs. pairs.book ≡ self.old.map.book) }
         ensures began { IfOk result (λ pairs. (pairs.began ≡ self.old.history)
-            × (pairs.history ≡ self.new.history)) }
+            × (pairs.history ≡ self.new.history) × (pairs.given ≡ [])) }
         ensures refused { IfErr result (λ refused. IsMemoryOrCapacity refused) }
         ensures crowded { result ≡ Err Refused.Capacity → HasNoRoom self.old.map.initial
             self.new.tables self.new.given }
@@ -121,7 +122,7 @@ impl<'a, K: Hash + Eq, V, S: BuildHasher> Session<'a, K, V, S> {
         ensures made { self.new.made ≡ self.old.made }
         ensures walk { IfOk result (λ keys. keys.pairs.book ≡ self.old.map.book) }
         ensures began { IfOk result (λ keys. (keys.pairs.began ≡ self.old.history)
-            × (keys.pairs.history ≡ self.new.history)) }
+            × (keys.pairs.history ≡ self.new.history) × (keys.pairs.given ≡ [])) }
         ensures refused { IfErr result (λ refused. IsMemoryOrCapacity refused) }
         ensures crowded { result ≡ Err Refused.Capacity → HasNoRoom self.old.map.initial
             self.new.tables self.new.given }
@@ -140,7 +141,7 @@ impl<'a, K: Hash + Eq, V, S: BuildHasher> Session<'a, K, V, S> {
         ensures made { self.new.made ≡ self.old.made }
         ensures walk { IfOk result (λ values. values.pairs.book ≡ self.old.map.book) }
         ensures began { IfOk result (λ values. (values.pairs.began ≡ self.old.history)
-            × (values.pairs.history ≡ self.new.history)) }
+            × (values.pairs.history ≡ self.new.history) × (values.pairs.given ≡ [])) }
         ensures refused { IfErr result (λ refused. IsMemoryOrCapacity refused) }
         ensures crowded { result ≡ Err Refused.Capacity → HasNoRoom self.old.map.initial
             self.new.tables self.new.given }

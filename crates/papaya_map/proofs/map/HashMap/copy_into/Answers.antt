@@ -1,4 +1,5 @@
-use Rattle.std.proofs.Common.{List, [], map, ap, ◌∙◌, subst}
+use Rattle.std.proofs.Common.{List, [], map, sym, ap, ◌∙◌, subst}
+use mathlib.Core.List.{IsPrefix}
 use Rattle.papaya_book.specs.Logs.{Stored}
 use Rattle.papaya_lookup.specs.History.{Change}
 use Rattle.papaya_seq.specs.Map.{deref_pair}
@@ -11,8 +12,10 @@ pub returns-clause-copied : goal.returns-clause-copied
 returns-clause-copied g c =
     let e = c.in_ok-pairs.ensures in let came = c.in_ok-extend_clones_as.ensures.copied in let put = came.is.2 in (
       map deref_pair came.items,
-      walked g.K.PartialEq.eq c.args.self.now.book c.in_ok-pairs.pairs came.first came.left came.is.0 came.items came.made
-          (e.walk ∙ ap (λ (z : Fixed g.row.K.Denot g.row.V.Denot g.row.S.Denot). z.book) c.pin.ensures.map) e.began came.came came.is.1,
+      walked g.K.PartialEq.eq c.args.self.now.book c.args.self.now.seen c.in_ok-pairs.pairs came.first came.left came.is.0 came.items came.made
+          (e.walk ∙ ap (λ (z : Fixed g.row.K.Denot g.row.V.Denot g.row.S.Denot). z.book) c.pin.ensures.map)
+          (subst (λ (h : List (Change g.row.K.Denot (Stored g.row.K.Denot g.row.V.Denot))). IsPrefix c.args.self.now.seen h) (sym e.began.0) c.pin.ensures.seen)
+          e.began.1 came.came came.is.1,
       (
         put.0,
         put.1,
