@@ -1,13 +1,13 @@
--- What is said of the JSON of maps and sets that threads share, whose content no clause shows.
+-- What is said of the JSON of maps and sets that threads share, by what was stored.
 use Rattle.std.specs.Prelude.{◌≡◌, ◌⊎◌, List}
 use Rattle.std.specs.List.{AllZip, Any}
 use Rattle.papaya_words.specs.declared.probe.Refused.{Refused}
 use Rattle.papaya_words.specs.declared.probe.Refused.TheVariants.{Capacity, Item}
 use Rattle.papaya_seq.specs.Map.{IsMakeRefusal}
 
--- something was read of each of the items
-abbrev pub IsEachRead : {A B : Type 0} → (A → B → Type 0) → List A → Type 0
-IsEachRead {B = B} reads items = (done : List B) × AllZip reads items done
+-- something was read of each of the items, and this is so of what was read
+abbrev pub IsEachStored : {A B : Type 0} → (A → B → Type 0) → (List B → Type 0) → List A → Type 0
+IsEachStored {B = B} reads stored items = (done : List B) × AllZip reads items done × stored done
 
 -- Why nothing was made of the items: there was no memory, or no room, or nothing was read of one
 -- of them.

@@ -1,16 +1,18 @@
 //! Shared maps as JSON objects, shared sets as JSON arrays, and back.
-ghost use Rattle.std.specs.Prelude.{◌≡◌, ◌⊎◌, IfErr, IfOk, List, None};
+ghost use Rattle.std.specs.Prelude.{◌≡◌, ◌⊎◌, IfErr, IfOk, List, None, [], map};
 ghost use Rattle.std.specs.Fn.{FnReturnsAt};
 ghost use Rattle.papaya_words.specs.declared.limits.TheConstants.{DEFAULT_CHUNK, DEFAULT_SHARDS};
+ghost use Rattle.papaya_map.specs.Collected.{AreStored, AreWalked};
 ghost use Rattle.papaya_map.specs.Fixed.{IsFor};
+ghost use Rattle.papaya_set.specs.Sets.{entry_of_key};
 ghost use Rattle.papaya_json.specs.Arrays.{HasNoKey, IsArray, IsArrayWith, IsKey};
 ghost use Rattle.papaya_json.specs.Arrays.{IsListRefusal, IsNoArrayOr};
 ghost use Rattle.papaya_json.specs.Objects.{HasNoPair, IsNoObjectOr, IsObject, IsObjectWith};
 ghost use Rattle.papaya_json.specs.Objects.{IsPair, IsWriteRefusal};
-ghost use Rattle.papaya_json.specs.Shared.{IsEachRead, IsUnread, IsUnwritten};
+ghost use Rattle.papaya_json.specs.Shared.{IsEachStored, IsUnread, IsUnwritten};
 
 use crate::writing::{array_from, object_from};
-use papaya_map::map::HashMap;
+use papaya_map::map::{HashMap, Pass};
 use papaya_set::set::HashSet;
 use papaya_words::probe::{Refused, ResizeMode};
 use serde_json::{Map, Value};
@@ -37,7 +39,8 @@ where
     W: Fn(&V) -> Option<Value>,
     requires key { T.IsAlwaysCallable key }
     requires value { W.IsAlwaysCallable value }
-    ensures ok { IfOk result (λ v. (pairs : List (K × V))
+    ensures ok { IfOk result (λ v. (pairs : List (K × V)) × AreWalked K.eq map.now.book map.now.seen
+        pairs
         × IsObject (FnReturnsAt T.Fn key) (FnReturnsAt W.Fn value) pairs v) }
     ensures err { IfErr result (IsUnwritten (IsWriteRefusal (FnReturnsAt T.Fn key)
         (FnReturnsAt W.Fn value))) }
@@ -46,13 +49,14 @@ where
     object_from(alloc, pairs, key, value)
 }
 
-/// Inserts the entries of an object's members into a map without a limit.
+/// Inserts the entries of an object's members into a map without a limit, by a pass.
 fn fill<R: Wait, K: Hash + Eq + Drop, V: Drop, S: BuildHasher, T, W>(
     rt: &R,
     map: &HashMap<K, V, S>,
     members: &Map<String, Value>,
     key: T,
     value: W,
+    pass: &mut Pass<K, V, S>,
 ) -> Result<(), Refused>
 where
     T: Fn(&str) -> Option<K>,
@@ -60,12 +64,14 @@ where
     requires limit { map.now.begun.limit ≡ None }
     requires key { T.IsAlwaysCallable key }
     requires value { W.IsAlwaysCallable value }
-    ensures ok { IfOk result (λ _. IsEachRead (IsPair (FnReturnsAt T.Fn key)
-        (FnReturnsAt W.Fn value)) members.now.entries) }
+    requires book { pass.old.book ≡ map.now.book }
+    ensures book { pass.new.book ≡ pass.old.book }
+    ensures stored { IfOk result (λ _. IsEachStored (IsPair (FnReturnsAt T.Fn key)
+        (FnReturnsAt W.Fn value)) (λ pairs. AreStored K.eq pairs pass.old.history pass.new.history)
+        members.now.entries) }
     ensures err { IfErr result (λ e. IsUnread (HasNoPair (FnReturnsAt T.Fn key)
         (FnReturnsAt W.Fn value)) e members.now.entries) }
 {
-    let mut pass = map.pass();
     for (name, member) in members {
         let Some(k) = key(name.as_str()) else {
             return Err(Refused::Item);
@@ -73,7 +79,7 @@ where
         let Some(v) = value(member) else {
             return Err(Refused::Item);
         };
-        match map.pin().insert_as(rt, k, v, &mut pass) {
+        match map.pin().insert_as(rt, k, v, pass) {
             Ok(_) => {}
             Err(refused) => return Err(refused),
         }
@@ -95,19 +101,20 @@ where
     W: Fn(&Value) -> Option<V>,
     requires key { T.IsAlwaysCallable key }
     requires value { W.IsAlwaysCallable value }
-    ensures ok { IfOk result (λ map. IsEachRead (IsPair (FnReturnsAt T.Fn key)
-        (FnReturnsAt W.Fn value)) members.now.entries) }
+    ensures stored { IfOk result (λ map. IsEachStored (IsPair (FnReturnsAt T.Fn key)
+        (FnReturnsAt W.Fn value)) (λ pairs. AreStored K.eq pairs [] map.seen)
+        members.now.entries) }
     ensures made { IfOk result (IsFor (ResizeMode.Incremental DEFAULT_CHUNK) 0 DEFAULT_SHARDS
         None) }
     ensures hasher { IfOk result (λ made. made.begun.hasher ≡ hasher) }
     ensures err { IfErr result (λ e. IsUnread (HasNoPair (FnReturnsAt T.Fn key)
         (FnReturnsAt W.Fn value)) e members.now.entries) }
 {
-    let map = HashMap::with_hasher(rt, alloc, hasher)?;
-    match fill(rt, &map, members, key, value) {
-        Ok(()) => Ok(map),
-        Err(refused) => Err(refused),
-    }
+    let mut map = HashMap::with_hasher(rt, alloc, hasher)?;
+    let mut pass = map.pass();
+    fill(rt, &map, members, key, value, &mut pass)?;
+    map.learn(&pass);
+    Ok(map)
 }
 
 /// Returns a shared map of a JSON object, as [`crate::reading::map_from_value`] does: for each
@@ -131,8 +138,9 @@ where
     W: Fn(&Value) -> Option<V>,
     requires key { T.IsAlwaysCallable key }
     requires value { W.IsAlwaysCallable value }
-    ensures ok { IfOk result (λ map. IsObjectWith v.now (IsEachRead (IsPair (FnReturnsAt T.Fn key)
-        (FnReturnsAt W.Fn value)))) }
+    ensures stored { IfOk result (λ map. IsObjectWith v.now (IsEachStored (IsPair
+        (FnReturnsAt T.Fn key) (FnReturnsAt W.Fn value))
+        (λ pairs. AreStored K.eq pairs [] map.seen))) }
     ensures made { IfOk result (IsFor (ResizeMode.Incremental DEFAULT_CHUNK) 0 DEFAULT_SHARDS
         None) }
     ensures hasher { IfOk result (λ made. made.begun.hasher ≡ hasher) }
@@ -159,23 +167,30 @@ pub fn shared_set_to_value<R: Wait, K: Hash + Eq, S: BuildHasher, T: Fn(&K) -> O
     key: T,
 ) -> Result<Value, Refused>
     requires { T.IsAlwaysCallable key }
-    ensures ok { IfOk result (λ v. (keys : List K) × IsArray (FnReturnsAt T.Fn key) keys v) }
+    ensures ok { IfOk result (λ v. (keys : List K)
+        × AreWalked K.eq set.now.book set.now.seen (map entry_of_key keys)
+        × IsArray (FnReturnsAt T.Fn key) keys v) }
     ensures err { IfErr result (IsUnwritten (IsListRefusal (FnReturnsAt T.Fn key))) }
 {
     let keys = set.pin().iter(rt)?;
     array_from(alloc, keys, key)
 }
 
-/// Inserts the keys of an array's items into a set without a limit.
+/// Inserts the keys of an array's items into a set without a limit, by a pass.
 fn fill_set<R: Wait, K: Hash + Eq + Drop, S: BuildHasher, T: Fn(&Value) -> Option<K>>(
     rt: &R,
     set: &HashSet<K, S>,
     items: &Vec<Value>,
     key: T,
+    pass: &mut Pass<K, (), S>,
 ) -> Result<(), Refused>
     requires limit { set.now.begun.limit ≡ None }
     requires key { T.IsAlwaysCallable key }
-    ensures ok { IfOk result (λ _. IsEachRead (IsKey (FnReturnsAt T.Fn key)) items.now.items) }
+    requires book { pass.old.book ≡ set.now.book }
+    ensures book { pass.new.book ≡ pass.old.book }
+    ensures stored { IfOk result (λ _. IsEachStored (IsKey (FnReturnsAt T.Fn key))
+        (λ keys. AreStored K.eq (map entry_of_key keys) pass.old.history pass.new.history)
+        items.now.items) }
     ensures err { IfErr result (λ e. IsUnread (HasNoKey (FnReturnsAt T.Fn key)) e
         items.now.items) }
 {
@@ -183,7 +198,7 @@ fn fill_set<R: Wait, K: Hash + Eq + Drop, S: BuildHasher, T: Fn(&Value) -> Optio
         let Some(k) = key(item) else {
             return Err(Refused::Item);
         };
-        match set.pin().insert(rt, k) {
+        match set.map().pin().insert_as(rt, k, (), pass) {
             Ok(_) => {}
             Err(why) => return Err(why),
         }
@@ -202,18 +217,19 @@ fn shared_set_of<R: Wait, K: Hash + Eq + Drop, S: BuildHasher + Drop, T>(
 where
     T: Fn(&Value) -> Option<K>,
     requires { T.IsAlwaysCallable key }
-    ensures ok { IfOk result (λ set. IsEachRead (IsKey (FnReturnsAt T.Fn key)) items.now.items) }
+    ensures stored { IfOk result (λ set. IsEachStored (IsKey (FnReturnsAt T.Fn key))
+        (λ keys. AreStored K.eq (map entry_of_key keys) [] set.seen) items.now.items) }
     ensures made { IfOk result (IsFor (ResizeMode.Incremental DEFAULT_CHUNK) 0 DEFAULT_SHARDS
         None) }
     ensures hasher { IfOk result (λ made. made.begun.hasher ≡ hasher) }
     ensures err { IfErr result (λ e. IsUnread (HasNoKey (FnReturnsAt T.Fn key)) e
         items.now.items) }
 {
-    let set = HashSet::with_hasher(rt, alloc, hasher)?;
-    match fill_set(rt, &set, items, key) {
-        Ok(()) => Ok(set),
-        Err(why) => Err(why),
-    }
+    let mut set = HashSet::with_hasher(rt, alloc, hasher)?;
+    let mut pass = set.map().pass();
+    fill_set(rt, &set, items, key, &mut pass)?;
+    set.learn(&pass);
+    Ok(set)
 }
 
 /// Returns a shared set of a JSON array, as [`crate::reading::set_from_value`] does: for each item
@@ -234,8 +250,9 @@ pub fn shared_set_from_value<R: Wait, K: Hash + Eq + Drop, S: BuildHasher + Drop
 where
     T: Fn(&Value) -> Option<K>,
     requires { T.IsAlwaysCallable key }
-    ensures ok { IfOk result (λ set. IsArrayWith v.now (IsEachRead
-        (IsKey (FnReturnsAt T.Fn key)))) }
+    ensures stored { IfOk result (λ set. IsArrayWith v.now (IsEachStored
+        (IsKey (FnReturnsAt T.Fn key))
+        (λ keys. AreStored K.eq (map entry_of_key keys) [] set.seen))) }
     ensures made { IfOk result (IsFor (ResizeMode.Incremental DEFAULT_CHUNK) 0 DEFAULT_SHARDS
         None) }
     ensures hasher { IfOk result (λ made. made.begun.hasher ≡ hasher) }

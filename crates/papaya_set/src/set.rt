@@ -199,7 +199,8 @@ impl<K: Hash + Eq, S: BuildHasher> HashSet<K, S> {
     /// Pins the set, and returns a reference for its calls: `pin` of 0.2.5. It writes no word.
     #[inline]
     pub fn pin(&self) -> HashSetRef<'_, K, S>
-        ensures { result.map ≡ self.now }
+        ensures map { result.map ≡ self.now }
+        ensures seen { IsPrefix self.now.seen result.seen }
     {
         HashSetRef {
             set: self,
@@ -210,7 +211,8 @@ impl<K: Hash + Eq, S: BuildHasher> HashSet<K, S> {
     /// Pins the set as [`HashSet::pin`] does: `pin_owned` of 0.2.5, whose reference may be sent to
     /// another thread. Here every pinned set may, as it holds no guard.
     pub fn pin_owned(&self) -> HashSetRef<'_, K, S>
-        ensures { result.map ≡ self.now }
+        ensures map { result.map ≡ self.now }
+        ensures seen { IsPrefix self.now.seen result.seen }
     {
         self.pin()
     }

@@ -1,11 +1,13 @@
 use Rattle.std.proofs.Common.{◌≡◌, map}
 use Rattle.std.specs.Fn.{FnReturnsAt}
 use Rattle.std.specs.Map.Iter.{deref_pair}
+use Rattle.papaya_map.specs.Collected.{AreStored}
 use Rattle.papaya_json.specs.Objects.{IsPair}
-use Rattle.papaya_json.specs.Shared.{IsEachRead}
+use Rattle.papaya_json.specs.Shared.{IsEachStored}
 use Rattle.papaya_json.proofs.shared.fill.Given as goal
 
--- something was read of the members so far, and the pass is one of the map
+-- the pass is of this map, and what was read of the members so far was stored
 abbrev pub invariant-loop-name : goal.invariant-loop-name
-invariant-loop-name g l = IsEachRead (IsPair (FnReturnsAt g.T.Fn l.fn.key) (FnReturnsAt g.W.Fn l.fn.value)) (map deref_pair l.yielded)
-    × (l.pass.book ≡ l.fn.map.book)
+invariant-loop-name g l = (l.pass.book ≡ l.fn.map.book)
+    × IsEachStored (IsPair (FnReturnsAt g.T.Fn l.fn.key) (FnReturnsAt g.W.Fn l.fn.value))
+    (λ pairs. AreStored g.K.PartialEq.eq pairs l.fn.pass.history l.pass.history) (map deref_pair l.yielded)

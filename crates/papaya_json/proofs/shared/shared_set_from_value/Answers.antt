@@ -5,8 +5,8 @@ use Rattle.papaya_json.proofs.shared.shared_set_from_value.Goals as goal
 pub returns-in_default-clause-err : goal.returns-in_default-clause-err
 returns-in_default-clause-err g c = inl (refl, λ array is. c.in_default.not-Array array is)
 
-pub returns-clause-ok : goal.returns-clause-ok
-returns-clause-ok g c = IfOk-weaker c.shared_set_of.result _ _ (λ set read. (c.in-Array.items, c.in-Array.is, read)) c.shared_set_of.ensures.ok
+pub returns-clause-stored : goal.returns-clause-stored
+returns-clause-stored g c = IfOk-weaker c.shared_set_of.result _ _ (λ set read. (c.in-Array.items, c.in-Array.is, read)) c.shared_set_of.ensures.stored
 
 pub returns-clause-err : goal.returns-clause-err
 returns-clause-err g c = IfErr-weaker c.shared_set_of.result _ _ (λ e why. inr (c.in-Array.items, c.in-Array.is, why)) c.shared_set_of.ensures.err
