@@ -5,6 +5,7 @@ use Rattle.papaya_words.specs.declared.probe.ResizeMode.{ResizeMode}
 use Rattle.papaya_keys.specs.Hashes.{hash_of}
 use Rattle.papaya_timeline.specs.New.{IsNew}
 use Rattle.papaya_seq.specs.Map.{MapState, core_of}
+use Rattle.papaya_map.specs.Known.{Known}
 use Rattle.papaya_shell.specs.Failure.{exit_status}
 use Rattle.papaya_shell.specs.declared.failure.Failure.{Failure}
 use Rattle.papaya_shell.specs.declared.failure.Failure.TheVariants as failure
@@ -39,13 +40,10 @@ IsNewMap mode hasher s = IsNew {A = Unit {0}} mode 0 1 hasher (core_of s)
 abbrev pub DoesLine : {S : Type 0} → MapState ℕ ℕ S → List ℕ → Printed → MapState ℕ ℕ S → Type 0
 DoesLine old line text new = ObeysLine line old text new
 
--- A line that is done on a map that threads share. Its plain calls are of no state: one line says
--- nothing of the next.
-abbrev pub ShowsLine : Unit {0} → List ℕ → Printed → Unit {0} → Type 0
-ShowsLine before line text after = shared.ObeysLine line text
-
-abbrev pub AnyTime : Unit {0} → Type 0
-AnyTime before = Unit {0}
+-- A line that is done on a map that threads share, by a session of the whole run: there is one
+-- history, and no line is answered by less of it than the line before.
+abbrev pub ShowsLine : {S : Type 0} → Known ℕ ℕ S → List ℕ → Printed → Known ℕ ℕ S → Type 0
+ShowsLine old line text new = shared.ObeysLine line old text new
 
 -- The run of these lines on a new map ends so.
 abbrev pub RunsOn : {S : Type 0} → (hash : S → ℕ → ℕ) → Backend → ResizeMode → S
@@ -54,8 +52,8 @@ RunsOn hash backend.Core mode hasher lines wrote ended =
     IsCoreRun hash (IsNew mode 0 1 hasher) lines wrote ended
 RunsOn hash backend.Seq mode hasher lines wrote ended =
     IsRun (IsNewMap mode hasher) DoesLine WritesNone lines wrote ended
-RunsOn hash backend.Shared mode hasher lines wrote ended =
-    IsRun AnyTime ShowsLine shared.IsBad lines wrote ended
+RunsOn {S = S} hash backend.Shared mode hasher lines wrote ended =
+    IsRun (shared.IsBegun {S = S}) ShowsLine shared.IsBad lines wrote ended
 
 -- the same with the hasher that is asked for
 abbrev pub RunsBy : Backend → ResizeMode → Hashing → List (List ℕ) → (wrote : List ℕ → Type 0)

@@ -1,6 +1,8 @@
--- What a command to a map that threads share prints: the text of an answer that the plain call of
--- that name may give.
-use Rattle.std.specs.Prelude.{◌≡◌, ◌==◌, ℕ, List, [], Option, Result, IfOk, IfErr, option_map, ◌⊎◌}
+-- What a command to a map that threads share prints, in a run that is one caller of it by a session:
+-- the answer of a map that the history makes, between what the session had seen before the line and
+-- what it has seen after it.
+use Rattle.std.specs.Prelude.{◌≡◌, ◌==◌, ℕ, List, [], Option, Result, IfOk, IfErr, is_ok, option_map, ◌⊎◌}
+use mathlib.Core.List.{IsPrefix}
 use Rattle.std.specs.Borrow.{Bor}
 use Rattle.std.specs.List.{All}
 use Rattle.std.specs.List.Sorted.{IsNonDecreasingBy}
@@ -8,16 +10,17 @@ use Rattle.papaya_words.specs.declared.probe.Refused.{Refused}
 use Rattle.papaya_seq.specs.Answered.{old_answered}
 use Rattle.papaya_book.specs.Logs.{Stored}
 use Rattle.papaya_lookup.specs.Answers.{IsAnsweredBetween}
-use Rattle.papaya_lookup.specs.History.{Change, key_of}
+use Rattle.papaya_lookup.specs.History.{Change, IsLegalHistory, Makes, key_of}
 use Rattle.papaya_change.specs.Changes.{IsPut}
-use Rattle.papaya_change.specs.RemovalAnswers.{IsRemoved}
+use Rattle.papaya_change.specs.RemovalAnswers.{IsRemoved, took}
 use Rattle.papaya_change.specs.Writing.{IsMemoryOrCapacity}
+use Rattle.papaya_scan.specs.Leaving.{HasDropped, IsCleared}
 use Rattle.papaya_scan.specs.Meeting.{HadPair}
-use Rattle.papaya_map.specs.Plain.{IsOfHistory}
+use Rattle.papaya_map.specs.Known.{Known}
 use Rattle.papaya_map.specs.Storing.{IsUpdated}
 use Rattle.papaya_lines.specs.Closures.{follower}
 use Rattle.papaya_lines.specs.Commands.{WritesCommand, WritesNone}
-use Rattle.papaya_backends.specs.Replied.{of_insertion, of_lookup, of_removal, of_update}
+use Rattle.papaya_backends.specs.Replied.{of_end, of_insertion, of_lookup, of_removal, of_update}
 use Rattle.papaya_lines.specs.declared.commands.Command.{Command}
 use Rattle.papaya_lines.specs.declared.commands.Command.TheVariants as command
 use Rattle.papaya_lines.specs.declared.printed.Printed.{Printed}
@@ -38,59 +41,62 @@ IsMissing command.Slots = Unit {0}
 IsMissing command.Clear = ⊥
 IsMissing command.Walk = ⊥
 
--- this is so of some legal history of such a map
-abbrev pub OfHistory : (Seen → Type 0) → Type 0
-OfHistory = IsOfHistory (λ a b. a == b)
-
 -- an update of the key k: its value is the number after the one that was there, or none was
-abbrev pub IsFollowed : ℕ → Seen → Option (Bor ℕ) → Type 0
-IsFollowed k h = IsUpdated (λ a b. a == b) k [] h (λ old new. new ≡ follower old)
-
--- a clear was done, or it was refused
-abbrev pub IsCleared : Printed → Type 0
-IsCleared printed.Done = Unit {0}
-IsCleared (printed.Refused refused) = IsMemoryOrCapacity refused
-IsCleared _ = ⊥
+abbrev pub IsFollowed : ℕ → Seen → Seen → Option (Bor ℕ) → Type 0
+IsFollowed k old new = IsUpdated (λ a b. a == b) k old new (λ before after. after ≡ follower before)
 
 -- the map had this key with this value in a history between the two
 abbrev pub Had : Seen → Seen → ℕ × ℕ → Type 0
 Had old new pair = (p : Stored ℕ ℕ) × ((key_of p, p.value.value) ≡ pair)
     × HadPair (λ a b. a == b) old new p
 
--- it had each of these pairs since the old one
-abbrev pub WereHad : Seen → List (ℕ × ℕ) → Type 0
-WereHad old pairs = OfHistory (λ h. All (Had old h) pairs)
-
 -- pairs that the map had are printed by rising key, or the walk was refused
-abbrev pub IsWalked : Printed → Type 0
-IsWalked (printed.Walk pairs) = IsNonDecreasingBy (λ pair. pair.0) pairs × WereHad [] pairs
-IsWalked (printed.Refused refused) = IsMemoryOrCapacity refused
-IsWalked _ = ⊥
+abbrev pub IsWalked : Seen → Seen → Printed → Type 0
+IsWalked old new (printed.Walk pairs) = IsNonDecreasingBy (λ pair. pair.0) pairs
+    × All (Had old new) pairs
+IsWalked old new (printed.Refused refused) = IsMemoryOrCapacity refused
+IsWalked old new _ = ⊥
 
--- The command was done, and this is printed. Of what was counted, and of what a clear leaves, the
--- plain calls say nothing.
-abbrev pub Obeys : Command → Printed → Type 0
-Obeys (command.Insert k v) text = (answer : Result (Option (Bor ℕ)) Refused)
-    × (text ≡ of_insertion (old_answered answer))
-    × IfOk answer (λ old. OfHistory (λ h. IsPut (λ a b. a == b) k v [] h old))
-    × IfErr answer IsMemoryOrCapacity
-Obeys (command.Get k) text = (found : Option (Bor ℕ))
-    × (text ≡ of_lookup (option_map (λ v. v.now) found))
-    × OfHistory (λ h. IsAnsweredBetween (λ a b. a == b) (λ key. k == key) [] h found)
-Obeys (command.Remove k) text = (answer : Result (Option (Bor ℕ)) Refused)
-    × (text ≡ of_removal (old_answered answer))
-    × OfHistory (λ h. IsRemoved (λ a b. a == b) (λ key. k == key) [] h answer)
-Obeys (command.Update k) text = (answer : Result (Option (Bor ℕ)) Refused)
-    × (text ≡ of_update (old_answered answer))
-    × IfOk answer (λ new. OfHistory (λ h. IsFollowed k h new)) × IfErr answer IsMemoryOrCapacity
-Obeys command.Len text = (count : ℕ) × (text ≡ printed.Length count)
-Obeys command.Slots text = ⊥
-Obeys command.Clear text = IsCleared text
-Obeys command.Walk text = IsWalked text
+module _ {S : Type 0} where
+  -- a session that has seen no change, and made none
+  abbrev pub IsBegun : Known ℕ ℕ S → Type 0
+  IsBegun s = (s.history ≡ []) × (s.made ≡ [])
 
--- the line writes a command, and this is printed of it
-abbrev pub ObeysLine : List ℕ → Printed → Type 0
-ObeysLine line text = (what : Command) × WritesCommand line what × Obeys what text
+  -- what was seen before begins what is seen now, which is a legal history
+  abbrev pub GoesOn : Known ℕ ℕ S → Known ℕ ℕ S → Type 0
+  GoesOn s s' = IsPrefix s.history s'.history × IsLegalHistory (λ a b. a == b) key_of s'.history
+
+  -- The command was done, this is printed, and the session's own changes are those that the command
+  -- asks for. Of what was counted, a session says nothing.
+  abbrev pub Obeys : Command → Known ℕ ℕ S → Printed → Known ℕ ℕ S → Type 0
+  Obeys (command.Insert k v) s text s' = (answer : Result (Option (Bor ℕ)) Refused)
+      × (text ≡ of_insertion (old_answered answer))
+      × IfOk answer (IsPut (λ a b. a == b) k v s.history s'.history)
+      × IfErr answer IsMemoryOrCapacity × Makes (is_ok answer) s.made s'.made s'.history
+  Obeys (command.Get k) s text s' = (found : Option (Bor ℕ))
+      × (text ≡ of_lookup (option_map (λ v. v.now) found))
+      × IsAnsweredBetween (λ a b. a == b) (λ key. k == key) s.history s'.history found
+      × (s'.made ≡ s.made)
+  Obeys (command.Remove k) s text s' = (answer : Result (Option (Bor ℕ)) Refused)
+      × (text ≡ of_removal (old_answered answer))
+      × IsRemoved (λ a b. a == b) (λ key. k == key) s.history s'.history answer
+      × Makes (took answer) s.made s'.made s'.history
+  Obeys (command.Update k) s text s' = (answer : Result (Option (Bor ℕ)) Refused)
+      × (text ≡ of_update (old_answered answer))
+      × IfOk answer (IsFollowed k s.history s'.history)
+      × IfErr answer IsMemoryOrCapacity × Makes (took answer) s.made s'.made s'.history
+  Obeys command.Len s text s' = (count : ℕ) × (text ≡ printed.Length count) × (s' ≡ s)
+  Obeys command.Slots s text s' = ⊥
+  Obeys command.Clear s text s' = (answer : Result (Unit {0}) Refused) × (text ≡ of_end answer)
+      × IfOk answer (λ done. IsCleared (λ a b. a == b) s.history s'.history)
+      × IfErr answer IsMemoryOrCapacity
+      × HasDropped (λ a b. a == b) s.history s'.history s.made s'.made
+  Obeys command.Walk s text s' = IsWalked s.history s'.history text × (s'.made ≡ s.made)
+
+  -- the line writes a command, this is printed of it, and the history goes on
+  abbrev pub ObeysLine : List ℕ → Known ℕ ℕ S → Printed → Known ℕ ℕ S → Type 0
+  ObeysLine line s text s' = (what : Command) × WritesCommand line what × Obeys what s text s'
+      × GoesOn s s'
 
 -- the line writes no command, or one that the shared map has not
 abbrev pub IsBad : List ℕ → Type 0

@@ -4,29 +4,29 @@ use Rattle.papaya_backends.specs.Replied.{of_update}
 use Rattle.papaya_backends.proofs.SharedLemmas.{followed, plain}
 use Rattle.papaya_backends.proofs.shared.Caller.update.Goals as goal
 
-pub returns-in-Ok-Some : goal.returns-in-Ok-Some
-returns-in-Ok-Some g c = (
+pub returns-in-Ok-Some-clause-done : goal.returns-in-Ok-Some-clause-done
+returns-in-Ok-Some-clause-done g c = (
   c.update.result,
   sym (ap (λ r. of_update (old_answered r)) (c.in-Ok-Some.is ∙ ap Ok c.in-Ok-Some.field-0-is)),
-  followed
-      c.args.key _ _ (λ shown next is. is) c.args.self.now.map c.update.result c.update.ensures.updated,
-  plain _ c.update.result c.args.self.now.unlimited c.update.ensures.refused,
+  followed c.args.key _ _ (λ shown next is. is) c.args.self.now.session.history c.update.new.self.history c.update.result c.update.ensures.updated,
+  plain _ _ c.update.result c.args.self.now.unlimited c.update.ensures.refused,
+  c.update.ensures.made,
 )
 
-pub returns-in-Ok-None : goal.returns-in-Ok-None
-returns-in-Ok-None g c = (
+pub returns-in-Ok-None-clause-done : goal.returns-in-Ok-None-clause-done
+returns-in-Ok-None-clause-done g c = (
   c.update.result,
   sym (ap (λ r. of_update (old_answered r)) (c.in-Ok-None.is ∙ ap Ok c.in-Ok-None.field-0-is)),
-  followed
-      c.args.key _ _ (λ shown next is. is) c.args.self.now.map c.update.result c.update.ensures.updated,
-  plain _ c.update.result c.args.self.now.unlimited c.update.ensures.refused,
+  followed c.args.key _ _ (λ shown next is. is) c.args.self.now.session.history c.update.new.self.history c.update.result c.update.ensures.updated,
+  plain _ _ c.update.result c.args.self.now.unlimited c.update.ensures.refused,
+  c.update.ensures.made,
 )
 
-pub returns-in-Err : goal.returns-in-Err
-returns-in-Err g c = (
+pub returns-in-Err-clause-done : goal.returns-in-Err-clause-done
+returns-in-Err-clause-done g c = (
   c.update.result,
   sym (ap (λ r. of_update (old_answered r)) c.in-Err.is),
-  followed c.args.key _ _ (λ shown next is. is) c.args.self.now.map
-      c.update.result c.update.ensures.updated,
-  plain _ c.update.result c.args.self.now.unlimited c.update.ensures.refused,
+  followed c.args.key _ _ (λ shown next is. is) c.args.self.now.session.history c.update.new.self.history c.update.result c.update.ensures.updated,
+  plain _ _ c.update.result c.args.self.now.unlimited c.update.ensures.refused,
+  c.update.ensures.made,
 )

@@ -1,11 +1,18 @@
-use Rattle.std.proofs.Common.{ℕ, List, [], subst}
-use Rattle.papaya_backends.specs.Shared.{Seen, WereHad}
+use Rattle.std.proofs.Common.{ℕ, List, ◌∙◌, subst}
+use Rattle.std.specs.List.{All}
+use Rattle.papaya_backends.specs.Shared.{Had, Seen}
 use Rattle.papaya_backends.proofs.WalkLemmas.{by_key}
 use Rattle.papaya_backends.proofs.shared.Caller.walk.Goals as goal
 
-pub returns-in_ok-listed-in-Ok-clause-walked : goal.returns-in_ok-listed-in-Ok-clause-walked
-returns-in_ok-listed-in-Ok-clause-walked g c =
-    let given : List (ℕ × ℕ) = c.in_ok-listed-in-Ok.field-0.items in
-    let Began : Seen → Type 0 = λ old. WereHad old given in
-    let were : WereHad [] given = subst Began c.in-Ok.ensures.began c.in_ok-listed-in-Ok.ensures.had in
-    (c.new.ensures.1, by_key [] given c.new.result c.new.ensures were)
+pub returns-clause-done : goal.returns-clause-done
+returns-clause-done g c =
+    let given : List (ℕ × ℕ) = c.in_ok-listed.listed.items in
+    let since : Seen → Type 0 = λ old. All (Had old c.listed.new.pairs.history) given in
+    let had : All (Had c.args.self.now.session.history c.listed.new.pairs.history) given = subst since c.in-Ok.ensures.began.0 c.in_ok-listed.ensures.had in (
+      (
+        c.new.ensures.1,
+        by_key c.args.self.now.session.history c.listed.new.pairs.history c.learn_walk.new.self.history given c.new.result
+            c.learn_walk.ensures.walked c.new.ensures had,
+      ),
+      c.learn_walk.ensures.made ∙ c.iter.ensures.made,
+    )
