@@ -1,6 +1,6 @@
 -- What a walk has passed: each pair that the map had as it began was given, was taken out since, or is ahead.
 use Rattle.std.proofs.Common.{◌≡◌, ◌⊎◌, inl, inr, ⊎_elim, ℕ, suc, ◌-◌, ◌<◌, ◌≤◌, Bool, true, false, MatchOption, Option, None, Some, is_some, List, [], ◌∷◌, ◌++◌, length}
-use Rattle.std.proofs.Common.{append-nil, refl, sym, ap, ◌∙◌, subst, arith}
+use Rattle.std.proofs.Common.{refl, sym, ap, ◌∙◌, subst, arith}
 use Rattle.std.proofs.lemmas.Bool.{cases_lt}
 use Rattle.std.specs.Cmp.{IsEquivalence}
 use mathlib.Core.List.{IsPrefix}
@@ -17,7 +17,7 @@ use Rattle.papaya_book.specs.Rule.{IsLawfulLog, word_in}
 use Rattle.papaya_book.specs.Sheets.{Sheet}
 use Rattle.papaya_book.proofs.Logs.{prefix_trans}
 use Rattle.papaya_lookup.specs.History.{history_of, key_of, replay}
-use Rattle.papaya_lookup.proofs.Histories.{history_legal, history_since}
+use Rattle.papaya_lookup.proofs.Histories.{history_since}
 use Rattle.papaya_change.specs.Showings.{AreOf}
 use Rattle.papaya_change.proofs.ResizingRelies.{hash}
 use Rattle.papaya_scan.specs.Leaving.{WasTakenOut}
