@@ -25,17 +25,56 @@ impl Hasher for FoldHasher {
     #[inline(always)]
     fn write_u64(&mut self, number: u64) {
         // 16 is twice the length in bytes.
-        let product = u128::from(self.0 ^ number) * u128::from(MULTIPLIER ^ 16);
-        self.0 = product as u64 ^ (product >> 64) as u64;
+        self.0 = folded(self.0 ^ number, MULTIPLIER ^ 16);
     }
 
-    /// Keys are `u64` here, so no map calls this. It takes 8 bytes at a time, which `FoldHasher`
-    /// does not do for longer keys.
     fn write(&mut self, bytes: &[u8]) {
-        for chunk in bytes.chunks(8) {
-            let mut padded = [0; 8];
-            padded[..chunk.len()].copy_from_slice(chunk);
-            self.write_u64(u64::from_le_bytes(padded));
+        let len = bytes.len();
+        if len <= 8 {
+            self.0 = folded(self.0 ^ read_short(bytes), MULTIPLIER ^ (2 * len as u64));
+            return;
         }
+        let mut state = self.0.wrapping_add(len as u64);
+        let mut at = 0;
+        while len - at > 16 {
+            state = folded(
+                read_u64(bytes, at) ^ state,
+                read_u64(bytes, at + 8) ^ MULTIPLIER,
+            );
+            at += 16;
+        }
+        self.0 = folded(
+            read_u64(bytes, len.saturating_sub(16)) ^ state,
+            read_u64(bytes, len - 8) ^ MULTIPLIER,
+        );
+    }
+}
+
+#[inline(always)]
+fn folded(a: u64, b: u64) -> u64 {
+    let product = u128::from(a) * u128::from(b);
+    product as u64 ^ (product >> 64) as u64
+}
+
+#[inline(always)]
+fn read_u32(bytes: &[u8], at: usize) -> u64 {
+    let part = [bytes[at], bytes[at + 1], bytes[at + 2], bytes[at + 3]];
+    u64::from(u32::from_le_bytes(part))
+}
+
+#[inline(always)]
+fn read_u64(bytes: &[u8], at: usize) -> u64 {
+    read_u32(bytes, at) | read_u32(bytes, at + 4) << 32
+}
+
+/// Returns up to 8 bytes as one number, by reads that may overlap.
+fn read_short(bytes: &[u8]) -> u64 {
+    match bytes.len() {
+        0 => 0,
+        1..=3 => {
+            let [first, middle, last] = [0, bytes.len() / 2, bytes.len() - 1].map(|at| bytes[at]);
+            u64::from(first) | u64::from(middle) << 8 | u64::from(last) << 16
+        }
+        len => read_u32(bytes, 0) | read_u32(bytes, len - 4) << 32,
     }
 }

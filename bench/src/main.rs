@@ -20,6 +20,7 @@
 //! dashmap, scc and flurry was compiled, and run, over stand-ins alone, which have the signatures
 //! of their documentation. If a signature is another one by now, the compiler says so in `maps.rs`.
 
+mod draw;
 mod grow;
 mod hasher;
 mod maps;
@@ -27,7 +28,7 @@ mod plan;
 mod soak;
 mod work;
 
-use maps::Map;
+use maps::{Map, TextMap};
 use plan::{Plan, Soak, Workload, Writes};
 use std::io::{self, Write};
 use std::process::ExitCode;
@@ -39,6 +40,9 @@ const CHECKED: (u32, u32) = (64, 2);
 /// The same when workloads are timed.
 const TIMED: [(u32, u32); 2] = [(0x1000, 64), (0x1_0000, 4)];
 
+/// How many keys a map has that is timed at few workloads, and does not fit in a cache.
+const LARGE: u32 = 0x10_0000;
+
 /// In how many rounds a key is written that is alone in its map.
 const ALONE: u32 = 0x4_0000;
 
@@ -47,7 +51,7 @@ const GROWN: u32 = 0x1_0000;
 const GROWN_TO: [u32; 3] = [0x1000, 0x1_0000, 0x10_0000];
 
 /// How many keys a map is made for, and how often they are inserted.
-const FILLED: [(u32, u32); 2] = [(0x1_0000, 1), (1000, 1001)];
+const FILLED: [(u32, u32); 3] = [(0x1_0000, 1), (LARGE, 1), (1000, 1001)];
 
 /// How many calls a soak makes, and what they do at how many keys.
 const SOAKED: u32 = 100_000_000;
@@ -67,6 +71,8 @@ struct Subject {
     pins_each_call: bool,
     by_one: fn(Plan) -> Measure,
     by_threads: fn(Plan) -> Measure,
+    texts_by_one: fn(Plan) -> Measure,
+    texts_by_threads: fn(Plan) -> Measure,
     grow: fn(u32) -> Printed,
     from_empty: fn(u32) -> Printed,
     filled: fn(u32, u32) -> Printed,
@@ -74,13 +80,15 @@ struct Subject {
 }
 
 impl Subject {
-    fn of<M: Map>() -> Subject {
+    fn of<M: Map, T: TextMap>() -> Subject {
         Subject {
             name: M::NAME,
             computes: M::COMPUTES,
             pins_each_call: M::PINS_EACH_CALL,
             by_one: work::by_one::<M>,
             by_threads: work::by_threads::<M>,
+            texts_by_one: work::texts_by_one::<T>,
+            texts_by_threads: work::texts_by_threads::<T>,
             grow: grow::grow::<M>,
             from_empty: grow::from_empty::<M>,
             filled: grow::filled::<M>,
@@ -96,22 +104,37 @@ impl Subject {
             _ => true,
         }
     }
+
+    /// Measures a plan by one thread, and by four if its workload has that. Each measure has the
+    /// name of its line.
+    fn measures(&self, plan: Plan) -> Vec<(String, Measure)> {
+        let (by_one, by_threads) = if plan.workload.has_texts() {
+            (self.texts_by_one, self.texts_by_threads)
+        } else {
+            (self.by_one, self.by_threads)
+        };
+        let mut all = vec![(self.name.to_string(), by_one(plan))];
+        if plan.workload.has_threads() {
+            all.push((format!("{}-threads", self.name), by_threads(plan)));
+        }
+        all
+    }
 }
 
 /// Returns the maps that this program was built with.
 fn subjects() -> Vec<Subject> {
     vec![
         #[cfg(feature = "papaya")]
-        Subject::of::<maps::papaya_maps::Papaya>(),
+        Subject::of::<maps::papaya_maps::Papaya, maps::papaya_maps::PapayaTexts>(),
         #[cfg(feature = "papaya")]
-        Subject::of::<maps::papaya_maps::PapayaPinACall>(),
+        Subject::of::<maps::papaya_maps::PapayaPinACall, maps::papaya_maps::PapayaTextsPinACall>(),
         #[cfg(feature = "dashmap")]
-        Subject::of::<maps::dashmap_maps::Dashmap>(),
+        Subject::of::<maps::dashmap_maps::Dashmap, maps::dashmap_maps::DashmapTexts>(),
         #[cfg(feature = "scc")]
-        Subject::of::<maps::scc_maps::Scc>(),
+        Subject::of::<maps::scc_maps::Scc, maps::scc_maps::SccTexts>(),
         #[cfg(feature = "flurry")]
-        Subject::of::<maps::flurry_maps::Flurry>(),
-        Subject::of::<maps::StdRwLock>(),
+        Subject::of::<maps::flurry_maps::Flurry, maps::flurry_maps::FlurryTexts>(),
+        Subject::of::<maps::StdRwLock, maps::StdTexts>(),
     ]
 }
 
@@ -137,12 +160,8 @@ fn check(subjects: &[Subject]) -> Printed {
         };
         let mut sums = Vec::new();
         for subject in subjects.iter().filter(|it| it.does(workload)) {
-            sums.push((subject.name.to_string(), (subject.by_one)(plan).sum));
-            if workload != Workload::Iterate {
-                sums.push((
-                    format!("{}-threads", subject.name),
-                    (subject.by_threads)(plan).sum,
-                ));
+            for (name, measure) in subject.measures(plan) {
+                sums.push((name, measure.sum));
             }
         }
         if sums.is_empty() {
@@ -174,18 +193,15 @@ fn time_workload(subjects: &[Subject], plan: Plan) -> Printed {
         print(maps::Idle::NAME, work::by_one::<maps::Idle>(plan))?;
     }
     for subject in subjects.iter().filter(|it| it.does(plan.workload)) {
-        print(subject.name, (subject.by_one)(plan))?;
-        if plan.workload != Workload::Iterate {
-            print(
-                &format!("{}-threads", subject.name),
-                (subject.by_threads)(plan),
-            )?;
+        for (name, measure) in subject.measures(plan) {
+            print(&name, measure)?;
         }
     }
     Ok(())
 }
 
-/// Times each workload, and one key that is replaced or counted again and again.
+/// Times each workload, lookups in large maps, and one key that is replaced or counted again and
+/// again.
 fn time(subjects: &[Subject]) -> Printed {
     for (keys, rounds) in TIMED {
         for workload in Workload::ALL {
@@ -198,6 +214,16 @@ fn time(subjects: &[Subject]) -> Printed {
                 },
             )?;
         }
+    }
+    for workload in [Workload::GetHit, Workload::GetMiss] {
+        time_workload(
+            subjects,
+            Plan {
+                workload,
+                keys: LARGE,
+                rounds: 1,
+            },
+        )?;
     }
     for workload in [Workload::InsertReplace, Workload::UpdateOrInsert] {
         time_workload(
@@ -224,6 +250,7 @@ fn run(words: &[&str]) -> Option<Printed> {
             .try_for_each(|keys| subjects.iter().try_for_each(|it| (it.grow)(*keys))),
         ["reclaim"] => each
             .try_for_each(|it| (it.from_empty)(GROWN))
+            .and_then(|()| subjects.iter().try_for_each(|it| (it.from_empty)(LARGE)))
             .and_then(|()| {
                 FILLED.iter().try_for_each(|(keys, rounds)| {
                     subjects
@@ -289,13 +316,9 @@ mod tests {
                 rounds: CHECKED.1,
             };
             for subject in subjects().iter().filter(|it| it.does(workload)) {
-                assert_eq!(
-                    (subject.by_one)(plan).sum,
-                    wanted,
-                    "{} at {}",
-                    subject.name,
-                    workload.name()
-                );
+                for (name, measure) in subject.measures(plan) {
+                    assert_eq!(measure.sum, wanted, "{name} at {}", workload.name());
+                }
             }
         }
     }
@@ -306,5 +329,21 @@ mod tests {
         let mut hasher = hasher::Folding::default().build_hasher();
         hasher.write_u64(1);
         assert_eq!(hasher.finish(), 0x03d2_a734_2c2b_3f13);
+    }
+
+    const HASHES: [(&str, u64); 5] = [
+        ("", 0xbd82_6d18_fab4_bbca),
+        ("red", 0xf5cd_4919_37e7_b80c),
+        ("password", 0x2d5f_fb79_6380_cc2d),
+        ("alphabetical", 0xccbc_c985_4b0f_573f),
+        ("the quick brown fox.", 0x44e3_db20_e27e_094b),
+    ];
+
+    /// The hashes of texts of 0, 3, 8, 12 and 20 bytes, worked out in the same way.
+    #[test]
+    fn hashes_of_texts_are_those_of_fold_hasher() {
+        for (text, hash) in HASHES {
+            assert_eq!(hasher::Folding::default().hash_one(text), hash, "{text}");
+        }
     }
 }

@@ -61,6 +61,42 @@ pub trait Map: Sized + Sync {
     }
 }
 
+/// A map from texts to counters that threads share.
+pub trait TextMap: Sized + Sync {
+    /// A thread makes its calls by this: a guard with the map, or the map alone.
+    type Pinned<'a>
+    where
+        Self: 'a;
+
+    /// Returns an empty map with room for `capacity` keys.
+    fn new(capacity: usize) -> Self;
+
+    fn pin(&self) -> Self::Pinned<'_>;
+
+    /// Inserts a text that the map does not have, and its counter's value.
+    fn put(map: &Self::Pinned<'_>, text: String, value: u64);
+
+    /// Returns what `use_it` returns for the counter of a text, if the map has the text.
+    fn find(
+        map: &Self::Pinned<'_>,
+        text: &str,
+        use_it: impl FnOnce(&AtomicU64) -> u64,
+    ) -> Option<u64>;
+
+    #[inline(always)]
+    fn load(map: &Self::Pinned<'_>, text: &str) -> Option<u64> {
+        Self::find(map, text, |counter| counter.load(Ordering::SeqCst))
+    }
+
+    /// Adds one to the counter of a text, and returns its new value.
+    #[inline(always)]
+    fn add(map: &Self::Pinned<'_>, text: &str) -> Option<u64> {
+        Self::find(map, text, |counter| {
+            counter.fetch_add(1, Ordering::SeqCst).wrapping_add(1)
+        })
+    }
+}
+
 /// No map: each call is one load, without which the compiler would leave the loop out.
 pub struct Idle(AtomicU64);
 
@@ -172,6 +208,34 @@ impl Map for StdRwLock {
     }
 }
 
+/// The standard library's map of texts behind its lock.
+pub struct StdTexts(RwLock<HashMap<String, AtomicU64, Folding>>);
+
+impl TextMap for StdTexts {
+    type Pinned<'a> = &'a StdTexts;
+
+    fn new(capacity: usize) -> StdTexts {
+        StdTexts(RwLock::new(HashMap::with_capacity_and_hasher(
+            capacity,
+            Folding::default(),
+        )))
+    }
+
+    fn pin(&self) -> &StdTexts {
+        self
+    }
+
+    fn put(map: &&StdTexts, text: String, value: u64) {
+        let mut map = map.0.write().expect(POISONED);
+        map.insert(text, AtomicU64::new(value));
+    }
+
+    #[inline(always)]
+    fn find(map: &&StdTexts, text: &str, use_it: impl FnOnce(&AtomicU64) -> u64) -> Option<u64> {
+        map.0.read().expect(POISONED).get(text).map(use_it)
+    }
+}
+
 /// The calls that are written alike for papaya and flurry: both pin a map, and then lend its values.
 #[cfg(any(feature = "papaya", feature = "flurry"))]
 macro_rules! calls_of_a_pinned_map {
@@ -203,16 +267,42 @@ macro_rules! calls_of_a_pinned_map {
     };
 }
 
+/// The same for their maps of texts.
+#[cfg(any(feature = "papaya", feature = "flurry"))]
+macro_rules! calls_of_a_pinned_map_of_texts {
+    () => {
+        #[inline(always)]
+        fn pin(&self) -> Self::Pinned<'_> {
+            self.0.pin()
+        }
+
+        fn put(map: &Self::Pinned<'_>, text: String, value: u64) {
+            map.insert(text, AtomicU64::new(value));
+        }
+
+        #[inline(always)]
+        fn find(
+            map: &Self::Pinned<'_>,
+            text: &str,
+            use_it: impl FnOnce(&AtomicU64) -> u64,
+        ) -> Option<u64> {
+            map.get(text).map(use_it)
+        }
+    };
+}
+
 #[cfg(feature = "papaya")]
 pub mod papaya_maps {
     //! papaya, with a guard that a thread holds over all its calls, and with a guard for each call.
-    use super::{Folding, Map, Mode};
+    use super::{Folding, Map, Mode, TextMap};
     use papaya::{Compute, HashMap, HashMapRef, LocalGuard, Operation, ResizeMode};
+    use std::hash::Hash;
+    use std::sync::atomic::AtomicU64;
 
-    type Numbers = HashMap<u64, u64, Folding>;
     type Held<'a> = HashMapRef<'a, u64, u64, Folding, LocalGuard<'a>>;
+    type HeldTexts<'a> = HashMapRef<'a, String, AtomicU64, Folding, LocalGuard<'a>>;
 
-    fn made(capacity: usize, mode: Mode) -> Numbers {
+    fn made<K: Hash + Eq, V>(capacity: usize, mode: Mode) -> HashMap<K, V, Folding> {
         let mode = match mode {
             Mode::Default => ResizeMode::Incremental(64),
             Mode::Blocking => ResizeMode::Blocking,
@@ -232,7 +322,7 @@ pub mod papaya_maps {
     }
 
     /// The map, pinned once. What it replaces and removes is freed after its guard is dropped.
-    pub struct Papaya(Numbers);
+    pub struct Papaya(HashMap<u64, u64, Folding>);
 
     impl Map for Papaya {
         type Pinned<'a> = Held<'a>;
@@ -316,13 +406,55 @@ pub mod papaya_maps {
             1
         }
     }
+
+    /// The map of texts, pinned once.
+    pub struct PapayaTexts(HashMap<String, AtomicU64, Folding>);
+
+    impl TextMap for PapayaTexts {
+        type Pinned<'a> = HeldTexts<'a>;
+
+        fn new(capacity: usize) -> PapayaTexts {
+            PapayaTexts(made(capacity, Mode::Default))
+        }
+
+        calls_of_a_pinned_map_of_texts!();
+    }
+
+    /// The map of texts, pinned for each call.
+    pub struct PapayaTextsPinACall(PapayaTexts);
+
+    impl TextMap for PapayaTextsPinACall {
+        type Pinned<'a> = &'a PapayaTexts;
+
+        fn new(capacity: usize) -> PapayaTextsPinACall {
+            PapayaTextsPinACall(PapayaTexts::new(capacity))
+        }
+
+        fn pin(&self) -> &PapayaTexts {
+            &self.0
+        }
+
+        fn put(map: &&PapayaTexts, text: String, value: u64) {
+            PapayaTexts::put(&map.pin(), text, value);
+        }
+
+        #[inline(always)]
+        fn find(
+            map: &&PapayaTexts,
+            text: &str,
+            use_it: impl FnOnce(&AtomicU64) -> u64,
+        ) -> Option<u64> {
+            PapayaTexts::find(&map.pin(), text, use_it)
+        }
+    }
 }
 
 #[cfg(feature = "dashmap")]
 pub mod dashmap_maps {
     //! dashmap, which locks one of its shards for each call.
-    use super::{Folding, Map, Mode};
+    use super::{Folding, Map, Mode, TextMap};
     use dashmap::DashMap;
+    use std::sync::atomic::AtomicU64;
 
     pub struct Dashmap(DashMap<u64, u64, Folding>);
 
@@ -371,13 +503,44 @@ pub mod dashmap_maps {
                 .fold(0, |sum, entry| sum.wrapping_add(*entry.value()))
         }
     }
+
+    pub struct DashmapTexts(DashMap<String, AtomicU64, Folding>);
+
+    impl TextMap for DashmapTexts {
+        type Pinned<'a> = &'a DashmapTexts;
+
+        fn new(capacity: usize) -> DashmapTexts {
+            DashmapTexts(DashMap::with_capacity_and_hasher(
+                capacity,
+                Folding::default(),
+            ))
+        }
+
+        fn pin(&self) -> &DashmapTexts {
+            self
+        }
+
+        fn put(map: &&DashmapTexts, text: String, value: u64) {
+            map.0.insert(text, AtomicU64::new(value));
+        }
+
+        #[inline(always)]
+        fn find(
+            map: &&DashmapTexts,
+            text: &str,
+            use_it: impl FnOnce(&AtomicU64) -> u64,
+        ) -> Option<u64> {
+            map.0.get(text).map(|counter| use_it(&counter))
+        }
+    }
 }
 
 #[cfg(feature = "scc")]
 pub mod scc_maps {
     //! scc's `HashMap`, which locks a bucket for each call. A lookup is `read`, which shares it.
-    use super::{Folding, Map, Mode};
+    use super::{Folding, Map, Mode, TextMap};
     use scc::hash_map::Entry;
+    use std::sync::atomic::AtomicU64;
 
     pub struct Scc(scc::HashMap<u64, u64, Folding>);
 
@@ -439,13 +602,45 @@ pub mod scc_maps {
             sum
         }
     }
+
+    pub struct SccTexts(scc::HashMap<String, AtomicU64, Folding>);
+
+    impl TextMap for SccTexts {
+        type Pinned<'a> = &'a SccTexts;
+
+        fn new(capacity: usize) -> SccTexts {
+            SccTexts(scc::HashMap::with_capacity_and_hasher(
+                capacity,
+                Folding::default(),
+            ))
+        }
+
+        fn pin(&self) -> &SccTexts {
+            self
+        }
+
+        fn put(map: &&SccTexts, text: String, value: u64) {
+            // The text is not there, so it is not refused.
+            let _ = map.0.insert(text, AtomicU64::new(value));
+        }
+
+        #[inline(always)]
+        fn find(
+            map: &&SccTexts,
+            text: &str,
+            use_it: impl FnOnce(&AtomicU64) -> u64,
+        ) -> Option<u64> {
+            map.0.read(text, |_, counter| use_it(counter))
+        }
+    }
 }
 
 #[cfg(feature = "flurry")]
 pub mod flurry_maps {
     //! flurry, with a guard that a thread holds over all its calls.
-    use super::{Folding, Map, Mode};
+    use super::{Folding, Map, Mode, TextMap};
     use flurry::HashMapRef;
+    use std::sync::atomic::AtomicU64;
 
     type Held<'a> = HashMapRef<'a, u64, u64, Folding>;
 
@@ -476,5 +671,20 @@ pub mod flurry_maps {
                 }
             }
         }
+    }
+
+    pub struct FlurryTexts(flurry::HashMap<String, AtomicU64, Folding>);
+
+    impl TextMap for FlurryTexts {
+        type Pinned<'a> = HashMapRef<'a, String, AtomicU64, Folding>;
+
+        fn new(capacity: usize) -> FlurryTexts {
+            FlurryTexts(flurry::HashMap::with_capacity_and_hasher(
+                capacity,
+                Folding::default(),
+            ))
+        }
+
+        calls_of_a_pinned_map_of_texts!();
     }
 }

@@ -29,11 +29,23 @@ pub enum Workload {
     Iterate,
     /// Takes a guard and drops it, and makes no call.
     Enter,
+    /// Looks up a key that the map has, in which each key was replaced once.
+    WornHit,
+    /// Looks up a key that such a map does not have.
+    WornMiss,
+    /// Looks up by `&str` a text that a map from texts to counters has.
+    TextHit,
+    /// Looks up a text that it does not have.
+    TextMiss,
+    /// Looks up a text that it has, and adds 1 to its counter.
+    Registry,
+    /// Looks up keys that the map has, or inserts them again, as they were drawn.
+    Zipf,
 }
 
 impl Workload {
     /// All workloads, in the order in which they run.
-    pub const ALL: [Workload; 10] = [
+    pub const ALL: [Workload; 16] = [
         Workload::GetHit,
         Workload::GetMiss,
         Workload::InsertFresh,
@@ -44,6 +56,12 @@ impl Workload {
         Workload::Compute,
         Workload::Iterate,
         Workload::Enter,
+        Workload::WornHit,
+        Workload::WornMiss,
+        Workload::TextHit,
+        Workload::TextMiss,
+        Workload::Registry,
+        Workload::Zipf,
     ];
 
     /// Returns the name in the printed lines.
@@ -59,7 +77,33 @@ impl Workload {
             Workload::Compute => "compute",
             Workload::Iterate => "iterate",
             Workload::Enter => "enter",
+            Workload::WornHit => "worn-hit",
+            Workload::WornMiss => "worn-miss",
+            Workload::TextHit => "text-hit",
+            Workload::TextMiss => "text-miss",
+            Workload::Registry => "registry",
+            Workload::Zipf => "zipf",
         }
+    }
+
+    /// Returns whether its map has texts for keys, and counters for values.
+    pub fn has_texts(self) -> bool {
+        matches!(
+            self,
+            Workload::TextHit | Workload::TextMiss | Workload::Registry
+        )
+    }
+
+    /// Returns whether four threads do it too.
+    pub fn has_threads(self) -> bool {
+        !matches!(
+            self,
+            Workload::Iterate
+                | Workload::WornHit
+                | Workload::WornMiss
+                | Workload::TextHit
+                | Workload::TextMiss
+        )
     }
 }
 
@@ -93,11 +137,12 @@ impl Plan {
         }
     }
 
-    /// Returns how many keys a map has before the first round.
-    pub fn filled(self) -> u32 {
+    /// Returns how many times all keys are inserted before the first round.
+    pub fn fills(self) -> u32 {
         match self.workload {
             Workload::InsertFresh => 0,
-            _ => self.keys,
+            Workload::WornHit | Workload::WornMiss => 2,
+            _ => 1,
         }
     }
 
@@ -125,12 +170,20 @@ impl Plan {
     #[inline(always)]
     pub fn action_at(self, number: u64, round: u32) -> Action {
         match self.workload {
-            Workload::GetHit | Workload::Iterate | Workload::Enter => Action::Get(number),
-            Workload::GetMiss => Action::Get(number.wrapping_add(u64::from(self.keys))),
-            Workload::InsertFresh => Action::Insert(number, number),
-            Workload::InsertReplace | Workload::UpdateOrInsert | Workload::Compute => {
-                Action::Insert(number, value_after(number, round))
+            Workload::GetHit
+            | Workload::Iterate
+            | Workload::Enter
+            | Workload::WornHit
+            | Workload::TextHit
+            | Workload::Zipf => Action::Get(number),
+            Workload::GetMiss | Workload::WornMiss | Workload::TextMiss => {
+                Action::Get(number.wrapping_add(u64::from(self.keys)))
             }
+            Workload::InsertFresh => Action::Insert(number, number),
+            Workload::InsertReplace
+            | Workload::UpdateOrInsert
+            | Workload::Compute
+            | Workload::Registry => Action::Insert(number, value_after(number, round)),
             Workload::RemoveInsert => Action::Renew(number),
             Workload::Mixed => {
                 if number % MIXED == 0 {

@@ -1,5 +1,6 @@
 //! The work of a thread at a map, and how several threads share it.
-use crate::maps::{Map, Mode};
+use crate::draw::Draw;
+use crate::maps::{Map, Mode, TextMap};
 use crate::plan::{key_of, Action, Part, Plan, Workload, THREADS};
 use std::thread;
 use std::time::Instant;
@@ -40,22 +41,27 @@ pub fn step<M: Map>(pinned: &M::Pinned<'_>, action: Action) -> u64 {
 }
 
 /// Makes the steps of one thread, pinned once, and returns their sum.
-fn work<M: Map>(map: &M, plan: Plan, part: Part) -> u64 {
+fn work<M: Map>(map: &M, plan: Plan, draws: &[Draw], part: Part) -> u64 {
     let pinned = map.pin();
     match plan.workload {
-        Workload::UpdateOrInsert | Workload::Compute => counts::<M>(&pinned, plan, part),
+        Workload::UpdateOrInsert | Workload::Compute | Workload::Registry => {
+            counts::<M>(&pinned, plan, part)
+        }
         Workload::Iterate => iterations::<M>(&pinned, plan),
         Workload::Enter => entries::<M>(&pinned, plan, part),
-        _ => rounds::<M>(&pinned, plan, part),
+        _ => rounds::<M>(&pinned, plan, draws, part),
     }
 }
 
-fn rounds<M: Map>(pinned: &M::Pinned<'_>, plan: Plan, part: Part) -> u64 {
+fn rounds<M: Map>(pinned: &M::Pinned<'_>, plan: Plan, draws: &[Draw], part: Part) -> u64 {
     let mut sum: u64 = 0;
     let (_, rounds) = plan.maps();
     for round in 0..rounds {
         for turn in part.start..part.end {
-            let action = plan.action_at(plan.number_at(turn), round);
+            let action = match plan.workload {
+                Workload::Zipf => plan.drawn_at(draws, turn, round),
+                _ => plan.action_at(plan.number_at(turn), round),
+            };
             sum = sum.wrapping_add(step::<M>(pinned, action));
         }
     }
@@ -103,39 +109,97 @@ fn made<M: Map>(plan: Plan) -> Vec<M> {
     (0..maps)
         .map(|_| {
             let map = M::new(plan.capacity(), Mode::Default);
-            fill(&map, plan.filled());
+            for _ in 0..plan.fills() {
+                fill(&map, plan.keys);
+            }
             map
         })
         .collect()
 }
 
 /// Makes one thread's part of a plan's rounds at all maps.
-fn work_at_all<M: Map>(all: &[M], plan: Plan, part: Part) -> u64 {
-    all.iter()
-        .fold(0, |sum: u64, map| sum.wrapping_add(work(map, plan, part)))
+fn work_at_all<M: Map>(all: &[M], plan: Plan, draws: &[Draw], part: Part) -> u64 {
+    all.iter().fold(0, |sum: u64, map| {
+        sum.wrapping_add(work(map, plan, draws, part))
+    })
 }
 
-/// Measures the rounds of a plan by one thread.
-pub fn by_one<M: Map>(plan: Plan) -> Measure {
-    let all = made::<M>(plan);
+/// Measures what one thread does.
+fn timed_by_one(plan: Plan, work: impl Fn(Part) -> u64) -> Measure {
     let start = Instant::now();
-    let sum = work_at_all(&all, plan, Part::whole(plan.keys));
+    let sum = work(Part::whole(plan.keys));
     Measure {
         nanoseconds: start.elapsed().as_nanos(),
         sum,
     }
 }
 
-/// Measures the rounds of a plan by four threads. Their start and their end are in the time.
-pub fn by_threads<M: Map>(plan: Plan) -> Measure {
-    let all = made::<M>(plan);
+/// Measures what four threads do. Their start and their end are in the time.
+fn timed_by_threads(plan: Plan, work: impl Fn(Part) -> u64 + Sync) -> Measure {
     let start = Instant::now();
-    let sums = in_threads(&|thread| work_at_all(&all, plan, Part::of_thread(plan.keys, thread)));
+    let sums = in_threads(&|thread| work(Part::of_thread(plan.keys, thread)));
     let sum = sums.into_iter().fold(0, u64::wrapping_add);
     Measure {
         nanoseconds: start.elapsed().as_nanos(),
         sum,
     }
+}
+
+/// Measures the rounds of a plan by one thread.
+pub fn by_one<M: Map>(plan: Plan) -> Measure {
+    let (all, draws) = (made::<M>(plan), plan.draws());
+    timed_by_one(plan, |part| work_at_all(&all, plan, &draws, part))
+}
+
+/// Measures the rounds of a plan by four threads.
+pub fn by_threads<M: Map>(plan: Plan) -> Measure {
+    let (all, draws) = (made::<M>(plan), plan.draws());
+    timed_by_threads(plan, |part| work_at_all(&all, plan, &draws, part))
+}
+
+/// Makes the map of a plan whose keys are texts, and the texts of its keys and of as many others.
+fn made_of_texts<T: TextMap>(plan: Plan) -> (T, Vec<String>) {
+    let texts: Vec<String> = (0..2 * u64::from(plan.keys))
+        .map(|number| key_of(number).to_string())
+        .collect();
+    let map = T::new(plan.capacity());
+    let pinned = map.pin();
+    for (text, number) in texts.iter().zip(0..u64::from(plan.keys)) {
+        T::put(&pinned, text.clone(), number);
+    }
+    drop(pinned);
+    (map, texts)
+}
+
+/// Makes the steps of one thread at a map whose keys are texts, and returns their sum.
+fn work_at_texts<T: TextMap>((map, texts): &(T, Vec<String>), plan: Plan, part: Part) -> u64 {
+    let pinned = map.pin();
+    let mut sum: u64 = 0;
+    let (_, rounds) = plan.maps();
+    for round in 0..rounds {
+        for turn in part.start..part.end {
+            let found = match plan.action_at(plan.number_at(turn), round) {
+                Action::Get(number) => T::load(&pinned, &texts[number as usize]),
+                Action::Insert(number, _) | Action::Renew(number) => {
+                    T::add(&pinned, &texts[number as usize])
+                }
+            };
+            sum = sum.wrapping_add(weight(found));
+        }
+    }
+    sum
+}
+
+/// Measures the rounds of a plan whose keys are texts by one thread.
+pub fn texts_by_one<T: TextMap>(plan: Plan) -> Measure {
+    let made = made_of_texts::<T>(plan);
+    timed_by_one(plan, |part| work_at_texts(&made, plan, part))
+}
+
+/// Measures the rounds of a plan whose keys are texts by four threads.
+pub fn texts_by_threads<T: TextMap>(plan: Plan) -> Measure {
+    let made = made_of_texts::<T>(plan);
+    timed_by_threads(plan, |part| work_at_texts(&made, plan, part))
 }
 
 /// Calls `work` for each thread, and returns the results in order. As in `papaya-bench`, the

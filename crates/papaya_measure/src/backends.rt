@@ -1,7 +1,7 @@
 //! The maps and sets on which the workloads are run.
 use crate::collections::{Collection, Shared, all, run, run_in_threads};
 use crate::idle::Idle;
-use crate::{entered, rivals, seq, shared};
+use crate::{entered, rivals, seq, shared, texts};
 use papaya_plan::plan::{Plan, Workload};
 use papaya_shell::failure::Failure;
 use std::alloc::Global;
@@ -75,6 +75,16 @@ impl Backend {
     /// The sets, which are run behind the maps.
     pub const SETS: &'static [Backend] = &[Backend::SeqSet, Backend::Set];
 
+    /// The backends that are run at many keys, where it takes long to fill a map.
+    pub const FEW: &'static [Backend] = &[
+        Backend::Loop,
+        Backend::Seq,
+        Backend::Threads,
+        Backend::Session,
+        Backend::PinACall,
+        Backend::Std,
+    ];
+
     /// Returns the name in what is printed.
     pub fn name(self) -> &'static str {
         match self {
@@ -96,23 +106,38 @@ impl Backend {
         }
     }
 
+    /// Returns whether it is a set.
+    fn is_set(self) -> bool {
+        matches!(self, Backend::SeqSet | Backend::Set)
+    }
+
+    /// Returns whether it is the kit's map, alone or behind a lock.
+    fn is_of_kit(self) -> bool {
+        matches!(
+            self,
+            Backend::Std
+                | Backend::RwLock
+                | Backend::RwLockThreads
+                | Backend::Mutex
+                | Backend::MutexThreads
+        )
+    }
+
+    /// Returns whether one thread makes calls on it, in a way that no other backend stands for.
+    fn is_single(self) -> bool {
+        matches!(
+            self,
+            Backend::Loop | Backend::Seq | Backend::Session | Backend::PinACall | Backend::Std
+        )
+    }
+
     /// Returns whether this workload is run on it.
     pub fn does(self, workload: Workload) -> bool {
         match workload {
             // a set has no values
-            Workload::UpdateOrInsert => !matches!(self, Backend::SeqSet | Backend::Set),
+            Workload::UpdateOrInsert | Workload::Zipf => !self.is_set(),
             // nor has the kit's map this call
-            Workload::Compute => matches!(
-                self,
-                Backend::Loop
-                    | Backend::Seq
-                    | Backend::Shared
-                    | Backend::Threads
-                    | Backend::Session
-                    | Backend::PinACall
-                    | Backend::Entered
-                    | Backend::EnteredThreads
-            ),
+            Workload::Compute => !self.is_set() && !self.is_of_kit(),
             // an iteration is one thread's, and needs one pin
             Workload::Iterate => matches!(
                 self,
@@ -128,12 +153,58 @@ impl Backend {
                 self,
                 Backend::Loop | Backend::Entered | Backend::EnteredThreads
             ),
+            Workload::WornHit | Workload::WornMiss | Workload::TextHit | Workload::TextMiss => {
+                self.is_single()
+            }
+            // threads add to counters at once
+            Workload::Registry => {
+                self.is_single()
+                    || matches!(
+                        self,
+                        Backend::Threads | Backend::RwLock | Backend::RwLockThreads
+                    )
+            }
             _ => true,
         }
     }
 
     /// Makes the maps or sets of a plan, and then measures only its rounds.
     pub fn measure<R: Clock + Threads + Wait + Sync>(
+        self,
+        rt: &R,
+        alloc: Global,
+        plan: Plan,
+    ) -> Result<Measure, Failure> {
+        match plan.workload {
+            Workload::TextHit | Workload::TextMiss | Workload::Registry => {
+                self.measure_texts(rt, alloc, plan)
+            }
+            _ => self.measure_numbers(rt, alloc, plan),
+        }
+    }
+
+    /// Measures a plan on maps whose keys are texts.
+    fn measure_texts<R: Clock + Threads + Wait + Sync>(
+        self,
+        rt: &R,
+        alloc: Global,
+        plan: Plan,
+    ) -> Result<Measure, Failure> {
+        match self {
+            Backend::Loop => by_one::<R, Idle>(rt, alloc, plan),
+            Backend::Seq => by_one::<R, texts::Seq>(rt, alloc, plan),
+            Backend::Threads => by_several::<R, texts::Pinned>(rt, alloc, plan),
+            Backend::Session => by_one::<R, texts::BySession>(rt, alloc, plan),
+            Backend::PinACall => by_one::<R, texts::PinACall>(rt, alloc, plan),
+            Backend::Std => by_one::<R, texts::Std>(rt, alloc, plan),
+            Backend::RwLock => by_one::<R, texts::Locked>(rt, alloc, plan),
+            Backend::RwLockThreads => by_several::<R, texts::Locked>(rt, alloc, plan),
+            _ => Err(Failure::Arguments),
+        }
+    }
+
+    /// Measures a plan on maps and sets whose keys are numbers.
+    fn measure_numbers<R: Clock + Threads + Wait + Sync>(
         self,
         rt: &R,
         alloc: Global,
@@ -165,9 +236,10 @@ fn by_one<R: Clock + Wait, C: Collection>(
     alloc: Global,
     plan: Plan,
 ) -> Result<Measure, Failure> {
+    let draws = plan.draws(alloc)?;
     let mut all = all::<R, C>(rt, alloc, plan)?;
     let start = now(rt)?;
-    let sum = run(rt, all.as_mut_slice(), plan);
+    let sum = run(rt, all.as_mut_slice(), plan, draws.as_slice());
     ended(rt, start, sum)
 }
 
@@ -177,9 +249,10 @@ fn by_several<R: Clock + Threads + Wait + Sync, C: Collection + Shared + Sync>(
     alloc: Global,
     plan: Plan,
 ) -> Result<Measure, Failure> {
+    let draws = plan.draws(alloc)?;
     let all = all::<R, C>(rt, alloc, plan)?;
     let start = now(rt)?;
-    let sum = run_in_threads(rt, alloc, all.as_slice(), plan);
+    let sum = run_in_threads(rt, alloc, all.as_slice(), plan, draws.as_slice());
     ended(rt, start, sum)
 }
 

@@ -1,5 +1,6 @@
 //! The common interface of the maps and sets that are measured.
 use crate::steps::Work;
+use papaya_plan::draw::Draw;
 use papaya_plan::plan::{Part, Plan, THREADS};
 use papaya_shell::failure::Failure;
 use papaya_words::probe::ResizeMode;
@@ -39,7 +40,9 @@ pub(crate) trait Shared {
 /// Returns a collection as it is before the first round.
 fn made<R: Wait, C: Collection>(rt: &R, alloc: Global, plan: Plan) -> Result<C, Failure> {
     let mut made = C::empty(rt, alloc, plan.capacity())?;
-    made.alone(rt, Work::Fill(plan.filled()))?;
+    for _ in 0..plan.fills() {
+        made.alone(rt, Work::Fill(plan.keys))?;
+    }
     Ok(made)
 }
 
@@ -62,8 +65,9 @@ pub(crate) fn run<R: Wait, C: Collection>(
     rt: &R,
     all: &mut [C],
     plan: Plan,
+    draws: &[Draw],
 ) -> Result<u64, Failure> {
-    let work = Work::Rounds(plan, Part::whole(plan.keys));
+    let work = Work::Rounds(plan, draws, Part::whole(plan.keys));
     let mut sum: u64 = 0;
     for one in all {
         sum = sum.wrapping_add(one.alone(rt, work)?);
@@ -71,11 +75,11 @@ pub(crate) fn run<R: Wait, C: Collection>(
     Ok(sum)
 }
 
-/// Runs the part of one thread in the rounds of all; returns the sum of its steps' results.
-fn run_part<R: Wait, C: Shared>(rt: &R, all: &[C], plan: Plan, part: Part) -> Result<u64, Failure> {
+/// Runs the work of one thread on all; returns the sum of its steps' results.
+fn run_part<R: Wait, C: Shared>(rt: &R, all: &[C], work: Work) -> Result<u64, Failure> {
     let mut sum: u64 = 0;
     for one in all {
-        sum = sum.wrapping_add(one.beside(rt, Work::Rounds(plan, part))?);
+        sum = sum.wrapping_add(one.beside(rt, work)?);
     }
     Ok(sum)
 }
@@ -86,12 +90,16 @@ pub(crate) fn run_in_threads<R: Threads + Wait + Sync, C: Shared + Sync>(
     alloc: Global,
     all: &[C],
     plan: Plan,
+    draws: &[Draw],
 ) -> Result<u64, Failure> {
     let sums = thread::map_indices(
         rt,
         alloc,
         THREADS as usize,
-        &|thread| { run_part(rt, all, plan, Part::of_thread(plan.keys, thread as u32)) },
+        &|thread| {
+            let part = Part::of_thread(plan.keys, thread as u32);
+            run_part(rt, all, Work::Rounds(plan, draws, part))
+        },
     )?;
     let mut sum: u64 = 0;
     for part in &sums {

@@ -17,3 +17,4 @@ mod shared;
 pub mod shared_growth;
 pub mod soak;
 mod steps;
+mod texts;

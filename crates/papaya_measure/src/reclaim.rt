@@ -17,19 +17,21 @@ pub(crate) trait Reclaimed: Collection {
     fn give_back<R: Wait>(&mut self, rt: &R) -> Result<(), Failure>;
 }
 
-/// Fills the map that was made since this time; returns the nanoseconds since then.
+/// Fills the map that was made since this time; returns it, and the nanoseconds since then.
 fn fill_since<R: Clock + Wait, C: Collection>(
     rt: &R,
     start: Instant,
     made: Result<C, Failure>,
     keys: u32,
-) -> Result<u128, Failure> {
+) -> Result<(C, u128), Failure> {
     let mut map = made?;
     map.alone(rt, Work::Fill(keys))?;
-    elapsed(rt, start)
+    let took = elapsed(rt, start)?;
+    Ok((map, took))
 }
 
-/// Makes a map without room, and fills it with this many keys, for which it grows.
+/// Makes a map without room, and fills it with this many keys, for which it grows. It is dropped
+/// after its line is printed, so that `tools/bytes` finds what it holds.
 fn time_growing<R: Clock + Wait, C: Collection, W: Write>(
     rt: &R,
     alloc: Global,
@@ -38,7 +40,7 @@ fn time_growing<R: Clock + Wait, C: Collection, W: Write>(
     output: &mut W,
 ) -> Result<(), Failure> {
     let start = now(rt)?;
-    let took = fill_since(rt, start, C::empty(rt, alloc, 0), keys)?;
+    let (_map, took) = fill_since(rt, start, C::empty(rt, alloc, 0), keys)?;
     let numbers = [u128::from(keys), took];
     print_line("from-empty", backend.name(), keys, &numbers, output)
 }
@@ -53,7 +55,8 @@ fn time_blocking<R: Clock + Wait, M: Growing, W: Write>(
 ) -> Result<(), Failure> {
     let start = now(rt)?;
     let made = M::empty_in(rt, alloc, ResizeMode::Blocking);
-    let numbers = [u128::from(keys), fill_since(rt, start, made, keys)?];
+    let (_map, took) = fill_since(rt, start, made, keys)?;
+    let numbers = [u128::from(keys), took];
     print_line(
         "from-empty-blocking",
         backend.name(),
@@ -64,8 +67,8 @@ fn time_blocking<R: Clock + Wait, M: Growing, W: Write>(
 }
 
 /// Prints the time that it takes to fill a map from empty with this many keys: a map for one
-/// caller, the kit's, and a shared one.
-pub fn time_from_empty<R: Clock + Wait, W: Write>(
+/// caller, a shared one, and the kit's.
+pub fn time_grown<R: Clock + Wait, W: Write>(
     rt: &R,
     alloc: Global,
     keys: u32,
@@ -73,7 +76,17 @@ pub fn time_from_empty<R: Clock + Wait, W: Write>(
 ) -> Result<(), Failure> {
     time_growing::<R, seq::Map, W>(rt, alloc, Backend::Seq, keys, output)?;
     time_growing::<R, shared::Map, W>(rt, alloc, Backend::Shared, keys, output)?;
-    time_growing::<R, rivals::Map, W>(rt, alloc, Backend::Std, keys, output)?;
+    time_growing::<R, rivals::Map, W>(rt, alloc, Backend::Std, keys, output)
+}
+
+/// Prints the same, and the time of a shared map by other calls, and of maps in `Blocking`.
+pub fn time_from_empty<R: Clock + Wait, W: Write>(
+    rt: &R,
+    alloc: Global,
+    keys: u32,
+    output: &mut W,
+) -> Result<(), Failure> {
+    time_grown(rt, alloc, keys, output)?;
     time_growing::<R, shared::BySession, W>(rt, alloc, Backend::Session, keys, output)?;
     time_growing::<R, shared::PinACall, W>(rt, alloc, Backend::PinACall, keys, output)?;
     time_blocking::<R, seq::Map, W>(rt, alloc, Backend::Seq, keys, output)?;

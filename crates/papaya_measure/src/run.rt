@@ -6,7 +6,7 @@ ghost use Rattle.papaya_plan.specs.Arguments.{AskFor};
 use crate::backends::Backend;
 use crate::growth::time_growth;
 use crate::lines::{print_line, written};
-use crate::reclaim::{time_from_empty, time_reclaim};
+use crate::reclaim::{time_from_empty, time_grown, time_reclaim};
 use crate::shared_growth::time_shared_growth;
 use crate::soak::time_soak;
 use papaya_plan::answers::compare;
@@ -30,6 +30,9 @@ const CHECKED: (u32, u32) = (64, 2);
 /// The number of keys of a map that is timed, and the number of rounds.
 const TIMED: [(u32, u32); 2] = [(0x1000, 64), (0x1_0000, 4)];
 
+/// The number of keys of a map that is timed at few workloads, which does not fit in a cache.
+const LARGE: u32 = 0x10_0000;
+
 /// The number of rounds in which one key is written that is alone in its map.
 const ALONE: u32 = 0x4_0000;
 
@@ -40,7 +43,7 @@ const GROWN: u32 = 0x1_0000;
 const GROWN_TO: [u32; 3] = [0x1000, 0x1_0000, 0x10_0000];
 
 /// The number of keys of a map that is reclaimed, and the rounds in which they were inserted.
-const RECLAIMED: [(u32, u32); 2] = [(0x1_0000, 1), (1000, 1001)];
+const RECLAIMED: [(u32, u32); 3] = [(0x1_0000, 1), (LARGE, 1), (1000, 1001)];
 
 /// The number of operations of each map that is kept at work.
 const SOAKED: u32 = 100_000_000;
@@ -109,6 +112,34 @@ fn check<R: Clock + Threads + Wait + Sync, W: Write>(
     written(output.flush())
 }
 
+/// Prints the time that each of these backends takes for one workload, if it runs it.
+fn time_backends<R: Clock + Threads + Wait + Sync, W: Write>(
+    rt: &R,
+    alloc: Global,
+    backends: &[Backend],
+    plan: Plan,
+    output: &mut W,
+) -> Result<(), Failure> {
+    for backend in backends {
+        if backend.does(plan.workload) {
+            let measure = backend.measure(rt, alloc, plan)?;
+            let numbers = [
+                u128::from(plan.steps()),
+                measure.nanoseconds,
+                u128::from(measure.checksum),
+            ];
+            print_line(
+                plan.workload.name(),
+                backend.name(),
+                plan.keys,
+                &numbers,
+                output,
+            )?;
+        }
+    }
+    Ok(())
+}
+
 /// Prints the time that each backend takes for one workload, if it runs it.
 pub fn time_workload<R: Clock + Threads + Wait + Sync, W: Write>(
     rt: &R,
@@ -117,23 +148,24 @@ pub fn time_workload<R: Clock + Threads + Wait + Sync, W: Write>(
     output: &mut W,
 ) -> Result<(), Failure> {
     for backends in [Backend::LOOP, Backend::MAPS, Backend::SETS] {
-        for backend in backends {
-            if backend.does(plan.workload) {
-                let measure = backend.measure(rt, alloc, plan)?;
-                let numbers = [
-                    u128::from(plan.steps()),
-                    measure.nanoseconds,
-                    u128::from(measure.checksum),
-                ];
-                print_line(
-                    plan.workload.name(),
-                    backend.name(),
-                    plan.keys,
-                    &numbers,
-                    output,
-                )?;
-            }
-        }
+        time_backends(rt, alloc, backends, plan, output)?;
+    }
+    Ok(())
+}
+
+/// Times lookups in maps of many keys, by few backends.
+fn time_large<R: Clock + Threads + Wait + Sync, W: Write>(
+    rt: &R,
+    alloc: Global,
+    output: &mut W,
+) -> Result<(), Failure> {
+    for workload in [Workload::GetHit, Workload::GetMiss] {
+        let plan = Plan {
+            workload,
+            keys: LARGE,
+            rounds: 1,
+        };
+        time_backends(rt, alloc, Backend::FEW, plan, output)?;
     }
     Ok(())
 }
@@ -154,6 +186,7 @@ fn time<R: Clock + Threads + Wait + Sync, W: Write>(
             time_workload(rt, alloc, plan, output)?;
         }
     }
+    time_large(rt, alloc, output)?;
     for workload in [Workload::InsertReplace, Workload::UpdateOrInsert] {
         let plan = Plan {
             workload,
@@ -190,6 +223,7 @@ fn reclaim<R: Clock + Wait, W: Write>(
     output: &mut W,
 ) -> Result<(), Failure> {
     time_from_empty(rt, alloc, GROWN, output)?;
+    time_grown(rt, alloc, LARGE, output)?;
     for plan in RECLAIMED {
         time_reclaim(rt, alloc, plan, output)?;
     }

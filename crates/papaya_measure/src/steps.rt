@@ -2,6 +2,7 @@
 use papaya_call::answers::Operation;
 use papaya_keys::compute::Compute;
 use papaya_plan::action::Action;
+use papaya_plan::draw::Draw;
 use papaya_plan::plan::{Part, Plan, Workload, key_of};
 use papaya_shell::failure::Failure;
 use std::sync::Wait;
@@ -13,9 +14,11 @@ pub(crate) trait Target {
 
     fn put_in<R: Wait>(&mut self, rt: &R, key: u64, value: u64) -> Result<u64, Failure>;
 
-    fn take_out<R: Wait>(&mut self, rt: &R, key: u64) -> Result<u64, Failure>;
+    fn take_out<R: Wait>(&mut self, _rt: &R, _key: u64) -> Result<u64, Failure> {
+        Err(Failure::Arguments)
+    }
 
-    /// Counts the value of a key one up by `update_or_insert`, and returns it.
+    /// Counts the value of a key one up by `update_or_insert`, or its counter, and returns it.
     fn count_up<R: Wait>(&mut self, _rt: &R, _key: u64) -> Result<u64, Failure> {
         Err(Failure::Arguments)
     }
@@ -66,23 +69,25 @@ pub(crate) fn with_value(sum: u64, entry: (&u64, &u64)) -> u64 {
 
 /// The work of one thread.
 #[derive(Clone, Copy)]
-pub(crate) enum Work {
+pub(crate) enum Work<'a> {
     /// Inserts the keys of this many numbers, each with its number.
     Fill(u32),
-    /// Makes the steps of a part in the rounds of a plan.
-    Rounds(Plan, Part),
+    /// Makes the steps of a part in the rounds of a plan, which has these draws.
+    Rounds(Plan, &'a [Draw], Part),
 }
 
-impl Work {
+impl Work<'_> {
     /// Does the work; returns the sum of the calls' results.
     pub(crate) fn at<R: Wait, T: Target>(self, rt: &R, target: &mut T) -> Result<u64, Failure> {
         match self {
             Work::Fill(keys) => fill(rt, target, keys),
-            Work::Rounds(plan, part) => match plan.workload {
-                Workload::UpdateOrInsert | Workload::Compute => counts(rt, target, plan, part),
+            Work::Rounds(plan, draws, part) => match plan.workload {
+                Workload::UpdateOrInsert | Workload::Compute | Workload::Registry => {
+                    counts(rt, target, plan, part)
+                }
                 Workload::Iterate => walks(rt, target, plan),
                 Workload::Enter => entries(rt, target, plan, part),
-                _ => rounds(rt, target, plan, part),
+                _ => rounds(rt, target, plan, draws, part),
             },
         }
     }
@@ -100,13 +105,17 @@ fn rounds<R: Wait, T: Target>(
     rt: &R,
     target: &mut T,
     plan: Plan,
+    draws: &[Draw],
     part: Part,
 ) -> Result<u64, Failure> {
     let mut sum: u64 = 0;
     let (_, rounds) = plan.maps();
     for round in 0..rounds {
         for turn in part.start..part.end {
-            let action = plan.action_at(plan.number_at(turn), round);
+            let action = match plan.workload {
+                Workload::Zipf => plan.drawn_at(draws, turn, round),
+                _ => plan.action_at(plan.number_at(turn), round),
+            };
             sum = sum.wrapping_add(step(rt, target, action)?);
         }
     }

@@ -21,6 +21,7 @@ pub enum Action {
 
 impl Plan {
     /// Returns the action of the step at the key of this number in this round, by whichever call.
+    /// Steps of `Zipf` that were drawn are those of [`Plan::drawn_at`].
     #[inline(always)]
     pub fn action_at(self, number: u64, round: u32) -> Action
         ensures hit { self.workload ≡ workload.GetHit → result ≡ Get number }
@@ -39,14 +40,31 @@ impl Plan {
             → result ≡ Insert number ((number + (round + 1)) % 2 ^ 64) }
         ensures walk { self.workload ≡ workload.Iterate → result ≡ Get number }
         ensures enter { self.workload ≡ workload.Enter → result ≡ Get number }
+        ensures worn_hit { self.workload ≡ workload.WornHit → result ≡ Get number }
+        ensures worn_miss { self.workload ≡ workload.WornMiss
+            → result ≡ Get ((number + self.keys) % 2 ^ 64) }
+        ensures text_hit { self.workload ≡ workload.TextHit → result ≡ Get number }
+        ensures text_miss { self.workload ≡ workload.TextMiss
+            → result ≡ Get ((number + self.keys) % 2 ^ 64) }
+        ensures registry { self.workload ≡ workload.Registry
+            → result ≡ Insert number ((number + (round + 1)) % 2 ^ 64) }
+        ensures zipf { self.workload ≡ workload.Zipf → result ≡ Get number }
     {
         match self.workload {
-            Workload::GetHit | Workload::Iterate | Workload::Enter => Action::Get(number),
-            Workload::GetMiss => Action::Get(number.wrapping_add(u64::from(self.keys))),
-            Workload::InsertFresh => Action::Insert(number, number),
-            Workload::InsertReplace | Workload::UpdateOrInsert | Workload::Compute => {
-                Action::Insert(number, value_after(number, round))
+            Workload::GetHit
+            | Workload::Iterate
+            | Workload::Enter
+            | Workload::WornHit
+            | Workload::TextHit
+            | Workload::Zipf => Action::Get(number),
+            Workload::GetMiss | Workload::WornMiss | Workload::TextMiss => {
+                Action::Get(number.wrapping_add(u64::from(self.keys)))
             }
+            Workload::InsertFresh => Action::Insert(number, number),
+            Workload::InsertReplace
+            | Workload::UpdateOrInsert
+            | Workload::Compute
+            | Workload::Registry => Action::Insert(number, value_after(number, round)),
             Workload::RemoveInsert => Action::Renew(number),
             Workload::Mixed => {
                 if number % MIXED == 0 {

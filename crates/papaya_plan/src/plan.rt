@@ -1,7 +1,7 @@
 //! The work that is done on the maps, and how often.
 ghost use Rattle.std.specs.Prelude.{◌≡◌, ◌≢◌, cond, ◌+◌, ◌*◌, ◌/◌, ◌%◌, ◌^◌, ◌<◌, ◌≤◌, ◌-◌, min};
 ghost use Rattle.std.specs.Int.{IsPowerOfTwo};
-ghost use Rattle.papaya_plan.specs.declared.plan.Workload.TheVariants.{InsertFresh};
+ghost use Rattle.papaya_plan.specs.declared.plan.Workload.TheVariants.{InsertFresh, WornHit, WornMiss};
 ghost use Rattle.papaya_plan.specs.Plan.{uses_up};
 
 /// The number of threads that work at once, if there are several.
@@ -30,11 +30,23 @@ pub enum Workload {
     Iterate,
     /// Enters the map and leaves it, and makes no call.
     Enter,
+    /// Looks up a key that the map has, in which each key was replaced once.
+    WornHit,
+    /// Looks up a key that such a map does not have.
+    WornMiss,
+    /// Looks up by `&str` a text that a map from texts to counters has.
+    TextHit,
+    /// Looks up a text that it does not have.
+    TextMiss,
+    /// Looks up a text that it has, and adds 1 to its counter.
+    Registry,
+    /// Looks up keys that the map has, or inserts them again, as they were drawn.
+    Zipf,
 }
 
 impl Workload {
     /// All workloads, in the order in which they are run.
-    pub const ALL: [Workload; 10] = [
+    pub const ALL: [Workload; 16] = [
         Workload::GetHit,
         Workload::GetMiss,
         Workload::InsertFresh,
@@ -45,6 +57,12 @@ impl Workload {
         Workload::Compute,
         Workload::Iterate,
         Workload::Enter,
+        Workload::WornHit,
+        Workload::WornMiss,
+        Workload::TextHit,
+        Workload::TextMiss,
+        Workload::Registry,
+        Workload::Zipf,
     ];
 
     /// Returns the name in what is printed.
@@ -60,6 +78,12 @@ impl Workload {
             Workload::Compute => "compute",
             Workload::Iterate => "iterate",
             Workload::Enter => "enter",
+            Workload::WornHit => "worn-hit",
+            Workload::WornMiss => "worn-miss",
+            Workload::TextHit => "text-hit",
+            Workload::TextMiss => "text-miss",
+            Workload::Registry => "registry",
+            Workload::Zipf => "zipf",
         }
     }
 }
@@ -87,14 +111,17 @@ impl Plan {
         }
     }
 
-    /// Returns how many entries a map has before the first round.
-    pub fn filled(self) -> u32
+    /// Returns how many times all keys are inserted before the first round.
+    pub fn fills(self) -> u32
         ensures none { self.workload ≡ InsertFresh → result ≡ 0 }
-        ensures all { self.workload ≢ InsertFresh → result ≡ self.keys }
+        ensures worn { self.workload ≡ WornHit → result ≡ 2 }
+        ensures worn_too { self.workload ≡ WornMiss → result ≡ 2 }
+        ensures some { self.workload ≢ InsertFresh → 0 < result }
     {
         match self.workload {
             Workload::InsertFresh => 0,
-            _ => self.keys,
+            Workload::WornHit | Workload::WornMiss => 2,
+            _ => 1,
         }
     }
 
@@ -134,6 +161,14 @@ pub fn key_of(number: u64) -> u64
     ensures back { (result * 1847824006677864389) % 2 ^ 64 ≡ number }
 {
     number.wrapping_mul(3_787_392_781)
+}
+
+/// Returns the number of a key.
+#[inline(always)]
+pub fn number_of(key: u64) -> u64
+    ensures { result ≡ (key * 1847824006677864389) % 2 ^ 64 }
+{
+    key.wrapping_mul(1_847_824_006_677_864_389)
 }
 
 /// The turns of one of several parts: from the first to below the second.

@@ -20,7 +20,8 @@ use std::thread::Threads;
 /// counts 1. The second round of replacements finds each value 1 greater, that of mixed steps the
 /// seven values at multiples of ten. In a set each key found counts 1: mixed steps look up 57 keys.
 /// The result of a count or a compute is 1 more in the first round, and 2 in the second. To enter a
-/// map and make no call counts 1.
+/// map and make no call counts 1. A worn map has the same values. The 128 numbers that are drawn sum
+/// to 1738, by a model of the draws apart from the program.
 const CHECKED: &str = "\
 get-hit: seq 4032 shared 4032 threads 4032 session 4032 pin-a-call 4032 \
     entered 4032 entered-threads 4032 \
@@ -53,7 +54,16 @@ compute: seq 4224 shared 4224 threads 4224 session 4224 pin-a-call 4224 \
     entered 4224 entered-threads 4224\n\
 iterate: seq 4032 shared 4032 session 4032 std 4032\n\
 iterate: seq-set 128 set 128\n\
-enter: entered 128 entered-threads 128\n";
+enter: entered 128 entered-threads 128\n\
+worn-hit: seq 4032 session 4032 pin-a-call 4032 std 4032\n\
+worn-miss: seq 128 session 128 pin-a-call 128 std 128\n\
+text-hit: seq 4032 session 4032 pin-a-call 4032 std 4032\n\
+text-miss: seq 128 session 128 pin-a-call 128 std 128\n\
+registry: seq 4224 threads 4224 session 4224 pin-a-call 4224 \
+    std 4224 rwlock 4224 rwlock-threads 4224\n\
+zipf: seq 1738 shared 1738 threads 1738 session 1738 pin-a-call 1738 \
+    entered 1738 entered-threads 1738 \
+    std 1738 rwlock 1738 rwlock-threads 1738 mutex 1738 mutex-threads 1738\n";
 
 /// Asserts that this was written, in a run with these arguments.
 fn has_written<A: Abort>(rt: &A, found: &[u8], wanted: &str, args: &[String]) {
@@ -222,10 +232,23 @@ const ENTRIES: [&str; 3] = [
     "enter/entered-threads/8 24 # 24",
 ];
 
+/// A text's counter has 1 more in each round, so these values sum to 84 and 48.
+const REGISTRY: [&str; 8] = [
+    "registry/loop/8 24 # 318140993604",
+    "registry/seq/8 24 # 132",
+    "registry/threads/8 24 # 132",
+    "registry/session/8 24 # 132",
+    "registry/pin-a-call/8 24 # 132",
+    "registry/std/8 24 # 132",
+    "registry/rwlock/8 24 # 132",
+    "registry/rwlock-threads/8 24 # 132",
+];
+
 #[test]
 fn lines_of_time(rt: HostRuntime) -> Result<(), Fail> {
     prints_lines(&rt, rt.alloc(), Workload::GetHit, &GETS)?;
-    prints_lines(&rt, rt.alloc(), Workload::Enter, &ENTRIES)
+    prints_lines(&rt, rt.alloc(), Workload::Enter, &ENTRIES)?;
+    prints_lines(&rt, rt.alloc(), Workload::Registry, &REGISTRY)
 }
 
 /// Asserts that a growth prints a line of these parts: a name, 40 keys, two times of which the
